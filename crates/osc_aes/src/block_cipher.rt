@@ -1,0 +1,14 @@
+//! A block cipher, as the modes of operation see one.
+
+ghost use Rattle.std.specs.Prelude.{◌≡◌, ℕ, List};
+ghost use Rattle.osc_aes.specs.Aes128.{aes128};
+
+/// AES-128 (FIPS 197, 5.1) under one key, however the key is kept.
+pub trait BlockCipher {
+    /// The 16 bytes of the key.
+    ghost cipher_key: { Self → List ℕ };
+
+    /// Encrypts one block in its place; it stands in the order in which it is sent (FIPS 197, 3.4).
+    fn encrypt(&self, block: &mut [u8; 16])
+        ensures { block.new ≡ aes128 (cipher_key self.now) block.old };
+}

@@ -1,0 +1,24 @@
+//! AES-128 (FIPS 197): each cipher turns a block into `aes128 key block`, where `aes128` is the standard's own
+//! text in `specs/`.
+//!
+//! ```
+//! let cipher = TableAes::new(&key);
+//! cipher.encrypt(&mut block);
+//! ```
+#![tactic(auto)]
+
+mod block_cipher;
+mod key_schedule;
+mod laws;
+mod plain;
+mod round_words;
+mod substitution_box;
+mod table;
+
+pub use block_cipher::BlockCipher;
+pub use laws::{encrypted_length, product_with_inverse};
+pub use plain::PlainAes;
+pub use table::TableAes;
+
+#[cfg(test)]
+mod tests;

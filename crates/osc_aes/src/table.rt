@@ -1,0 +1,212 @@
+//! AES-128 by tables of words (Daemen and Rijmen, AES Proposal: Rijndael, 5.2.1). A column is a word whose highest
+//! byte stands in row 0.
+
+ghost use Rattle.std.specs.Prelude.{◌≡◌, ◌+◌, ◌*◌, ◌<◌, ◌≤◌, ℕ, List, [], ◌∷◌, length, slice_index, bit_xor};
+ghost use Rattle.std.specs.Int.{byte_at, to_be_bytes, w32};
+ghost use Rattle.osc_aes.specs.SubstitutionBox.{substitute};
+ghost use Rattle.osc_aes.specs.Aes128.{block_of, cipher, expanded_key, mix_columns, shift_rows, state_of, sub_bytes, word_at};
+ghost use Rattle.osc_aes.specs.RoundWords.{AreWordsOf, add_round_words, block_of_words, key_of_words, mixed_byte};
+
+use crate::block_cipher::BlockCipher;
+use crate::key_schedule::expand;
+use crate::round_words::{table_0, table_1, table_2, table_3};
+use crate::substitution_box::substitute_byte;
+use byteorder::{BigEndian, ByteOrder};
+
+/// AES-128 under one key, by tables. It keeps the words w0 to w43 of the key as numbers.
+#[derive(Drop)]
+pub struct TableAes {
+    // Word w(4i + c) stands at 11c + i: with the words of a column side by side, the rounds stay in general
+    // registers.
+    words: [u32; 44],
+    ghost expanded: { AreWordsOf words (expanded_key (key_of_words words)) },
+}
+
+impl TableAes {
+    /// Expands a key of 16 bytes, in the order in which FIPS 197 prints it (5.2).
+    pub fn new(key: &[u8; 16]) -> TableAes
+        ensures { ⟦<TableAes as BlockCipher>⟧.cipher_key result ≡ key.now }
+    {
+        TableAes {
+            words: round_key_words(&expand(key)),
+        }
+    }
+}
+
+impl BlockCipher for TableAes {
+    ghost cipher_key = { λ s. key_of_words s.words };
+
+    fn encrypt(&self, block: &mut [u8; 16]) {
+        let columns = cipher(&self.words, block);
+        BigEndian::write_u32_into(&columns, block);
+    }
+}
+
+// An expanded key as numbers, column by column.
+fn round_key_words(bytes: &[u8; 176]) -> [u32; 44]
+    ensures { AreWordsOf result bytes.now }
+{
+    let mut words = [0u32; 44];
+    for k in 0..44 {
+        words[k] = read_word(bytes, 4 * (k % 11) + k / 11);
+    }
+    words
+}
+
+// Word `index` of some bytes.
+#[inline(always)]
+fn read_word(bytes: &[u8], index: usize) -> u32
+    requires { 4 * index + 4 ≤ length bytes.now }
+    ensures { to_be_bytes w32 result ≡ word_at bytes.now index }
+{
+    BigEndian::read_u32(&bytes[4 * index..])
+}
+
+// The word of round key `round` that is added to a column.
+#[inline(always)]
+fn key_word(words: &[u32; 44], round: usize, column: usize) -> u32
+    requires round { round < 11 }
+    requires column { column < 4 }
+    ensures { result ≡ slice_index words.now (11 * column + round) }
+{
+    words[11 * column + round]
+}
+
+// The columns of the block after all rounds.
+fn cipher(words: &[u32; 44], block: &[u8; 16]) -> [u32; 4]
+    ensures { (w : List ℕ) → AreWordsOf words.now w
+        → block_of_words result ≡ cipher w block.now }
+{
+    let mut columns = first_columns(block, words);
+    for round in 0..9 {
+        let next = next_columns(columns, words, round + 1);
+        columns = next;
+    }
+    last_columns(columns, words)
+}
+
+// The block's columns with the first round key added.
+#[inline(always)]
+fn first_columns(block: &[u8; 16], words: &[u32; 44]) -> [u32; 4]
+    ensures { block_of_words result
+        ≡ block_of (add_round_words words.now 0 (state_of block.now)) }
+{
+    [
+        first_word(block, 0, key_word(words, 0, 0)),
+        first_word(block, 1, key_word(words, 0, 1)),
+        first_word(block, 2, key_word(words, 0, 2)),
+        first_word(block, 3, key_word(words, 0, 3)),
+    ]
+}
+
+// A column of the block with its word of the key added.
+#[inline(always)]
+fn first_word(block: &[u8; 16], column: usize, key: u32) -> u32
+    requires { column < 4 }
+    ensures row0 { byte_at 3 result ≡ bit_xor (slice_index block.now (4 * column)) (byte_at 3 key) }
+    ensures row1 { byte_at 2 result ≡ bit_xor (slice_index block.now (4 * column + 1)) (byte_at 2 key) }
+    ensures row2 { byte_at 1 result ≡ bit_xor (slice_index block.now (4 * column + 2)) (byte_at 1 key) }
+    ensures row3 { byte_at 0 result ≡ bit_xor (slice_index block.now (4 * column + 3)) (byte_at 0 key) }
+{
+    read_word(block, column) ^ key
+}
+
+// The columns after one more round of all four steps.
+#[inline(always)]
+fn next_columns(columns: [u32; 4], words: &[u32; 44], round: usize) -> [u32; 4]
+    requires { round < 11 }
+    ensures { block_of_words result
+        ≡ block_of (add_round_words words.now round
+        (mix_columns (shift_rows (sub_bytes (state_of (block_of_words columns)))))) }
+{
+    let [a, b, c, d] = columns;
+    [
+        mixed_word(a, b, c, d, key_word(words, round, 0)),
+        mixed_word(b, c, d, a, key_word(words, round, 1)),
+        mixed_word(c, d, a, b, key_word(words, round, 2)),
+        mixed_word(d, a, b, c, key_word(words, round, 3)),
+    ]
+}
+
+// A column of a round: rows 0 to 3 come from the columns a, b, c and d, since row r is turned left by r.
+#[inline(always)]
+fn mixed_word(a: u32, b: u32, c: u32, d: u32, key: u32) -> u32
+    ensures row0 { byte_at 3 result
+        ≡ bit_xor (mixed_byte (byte_at 3 a) (byte_at 2 b) (byte_at 1 c) (byte_at 0 d)) (byte_at 3 key) }
+    ensures row1 { byte_at 2 result
+        ≡ bit_xor (mixed_byte (byte_at 2 b) (byte_at 1 c) (byte_at 0 d) (byte_at 3 a)) (byte_at 2 key) }
+    ensures row2 { byte_at 1 result
+        ≡ bit_xor (mixed_byte (byte_at 1 c) (byte_at 0 d) (byte_at 3 a) (byte_at 2 b)) (byte_at 1 key) }
+    ensures row3 { byte_at 0 result
+        ≡ bit_xor (mixed_byte (byte_at 0 d) (byte_at 3 a) (byte_at 2 b) (byte_at 1 c)) (byte_at 0 key) }
+{
+    (table_0(byte3(a)) ^ table_1(byte2(b))) ^ (table_2(byte1(c)) ^ table_3(byte0(d))) ^ key
+}
+
+// The columns after the last round, which mixes none.
+#[inline(always)]
+fn last_columns(columns: [u32; 4], words: &[u32; 44]) -> [u32; 4]
+    ensures { block_of_words result
+        ≡ block_of (add_round_words words.now 10
+        (shift_rows (sub_bytes (state_of (block_of_words columns))))) }
+{
+    let [a, b, c, d] = columns;
+    [
+        last_word(a, b, c, d, key_word(words, 10, 0)),
+        last_word(b, c, d, a, key_word(words, 10, 1)),
+        last_word(c, d, a, b, key_word(words, 10, 2)),
+        last_word(d, a, b, c, key_word(words, 10, 3)),
+    ]
+}
+
+// A column of the last round.
+#[inline(always)]
+fn last_word(a: u32, b: u32, c: u32, d: u32, key: u32) -> u32
+    ensures row0 { byte_at 3 result ≡ bit_xor (substitute (byte_at 3 a)) (byte_at 3 key) }
+    ensures row1 { byte_at 2 result ≡ bit_xor (substitute (byte_at 2 b)) (byte_at 2 key) }
+    ensures row2 { byte_at 1 result ≡ bit_xor (substitute (byte_at 1 c)) (byte_at 1 key) }
+    ensures row3 { byte_at 0 result ≡ bit_xor (substitute (byte_at 0 d)) (byte_at 0 key) }
+{
+    let row0 = substitute_byte(byte3(a));
+    let row1 = substitute_byte(byte2(b));
+    let row2 = substitute_byte(byte1(c));
+    let row3 = substitute_byte(byte0(d));
+    word_of(row0, row1, row2, row3) ^ key
+}
+
+// The word with these bytes, the highest first: by std, whose law tells them back.
+#[inline(always)]
+fn word_of(row0: u8, row1: u8, row2: u8, row3: u8) -> u32
+    ensures { to_be_bytes w32 result ≡ row0 ∷ row1 ∷ row2 ∷ row3 ∷ [] }
+{
+    u32::from_be_bytes([row0, row1, row2, row3])
+}
+
+// Byte 3, the highest, to byte 0 of a word.
+#[inline(always)]
+fn byte3(word: u32) -> u8
+    ensures { result ≡ byte_at 3 word }
+{
+    (word >> 24) as u8
+}
+
+#[inline(always)]
+fn byte2(word: u32) -> u8
+    ensures { result ≡ byte_at 2 word }
+{
+    ((word >> 16) & 0xff) as u8
+}
+
+#[inline(always)]
+fn byte1(word: u32) -> u8
+    ensures { result ≡ byte_at 1 word }
+{
+    ((word >> 8) & 0xff) as u8
+}
+
+#[inline(always)]
+fn byte0(word: u32) -> u8
+    ensures { result ≡ byte_at 0 word }
+{
+    (word & 0xff) as u8
+}
