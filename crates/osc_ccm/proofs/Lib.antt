@@ -1,0 +1,6 @@
+pub mod Xor
+pub mod PaddedBlocks
+pub mod Streams
+pub mod Macs
+pub mod Tags
+pub mod Protections

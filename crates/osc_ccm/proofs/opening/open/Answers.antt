@@ -1,0 +1,74 @@
+use Rattle.std.proofs.Common.{ℕ, List, ◌≡◌, ◌+◌, ◌-◌, true, false, length, refl, ap, arith, ◌∙◌, sym, length-take}
+use Rattle.osc_ccm.proofs.Protections.{length-ccm, opens, opens_only, received, restored, right_tag}
+use Rattle.osc_ccm.proofs.opening.open.Goals as goal
+
+pub returns-then-buf-lt-TAG_LEN-clause-only : goal.returns-then-buf-lt-TAG_LEN-clause-only
+returns-then-buf-lt-TAG_LEN-clause-only g c = λ m short e.
+    let protection = length-ccm c.encrypted_length.ensures (g.C.BlockCipher.cipher_key c.args.cipher.now) c.args.nonce.now c.args.aad.now m in
+    omega (arith, protection, ap (λ (l : List ℕ). length l) e)
+
+pub returns-then-buf-clause-only : goal.returns-then-buf-clause-only
+returns-then-buf-clause-only g c = λ m short e.
+    let protection = length-ccm c.encrypted_length.ensures (g.C.BlockCipher.cipher_key c.args.cipher.now) c.args.nonce.now c.args.aad.now m in
+    omega (arith, protection, ap (λ (l : List ℕ). length l) e)
+
+pub returns-then-is_same_tag-clause-opened : goal.returns-then-is_same_tag-clause-opened
+returns-then-is_same_tag-clause-opened g c =
+    let whole = c.encrypted_length.ensures in
+    let key = g.C.BlockCipher.cipher_key c.args.cipher.now in
+    let n = length c.args.buf.now - 8 in
+    let long : length c.args.buf.now ≡ n + 8 = omega arith in
+    let front : length c.add_key_stream.new.message ≡ n = omega (arith, length-take n c.args.buf.now) in
+    let there = received whole key c.args.nonce.now c.args.aad.now c.args.buf.now c.add_key_stream.new.message c.encrypted_tag-tag.result n long front
+    c.add_key_stream.ensures c.encrypted_tag-tag.ensures in
+    opens whole key c.args.nonce.now c.args.aad.now c.args.buf.now c.add_key_stream.new.message c.encrypted_tag-tag.result n long front
+    c.add_key_stream.ensures c.encrypted_tag-tag.ensures
+    (c.if-is_same_tag.ensures.0 refl ∙ there)
+
+pub returns-then-is_same_tag-clause-only : goal.returns-then-is_same_tag-clause-only
+returns-then-is_same_tag-clause-only g c = λ m short e.
+    let whole = c.encrypted_length.ensures in
+    let key = g.C.BlockCipher.cipher_key c.args.cipher.now in
+    let n = length c.args.buf.now - 8 in
+    let long : length c.args.buf.now ≡ n + 8 = omega arith in
+    let front : length c.add_key_stream.new.message ≡ n = omega (arith, length-take n c.args.buf.now) in
+    opens_only whole key c.args.nonce.now c.args.aad.now c.args.buf.now c.add_key_stream.new.message c.encrypted_tag-tag.result n long front
+    c.add_key_stream.ensures c.encrypted_tag-tag.ensures m e
+
+pub returns-then-is_same_tag-clause-bad_tag : goal.returns-then-is_same_tag-clause-bad_tag
+returns-then-is_same_tag-clause-bad_tag g c = (λ e. cc, λ none. absurd (none.2 _ (returns-then-is_same_tag-clause-opened g c)))
+
+pub returns-clause-only : goal.returns-clause-only
+returns-clause-only g c = λ m short e.
+    let whole = c.encrypted_length.ensures in
+    let key = g.C.BlockCipher.cipher_key c.args.cipher.now in
+    let n = length c.args.buf.now - 8 in
+    let long : length c.args.buf.now ≡ n + 8 = omega arith in
+    let front : length c.add_key_stream.new.message ≡ n = omega (arith, length-take n c.args.buf.now) in
+    let there = received whole key c.args.nonce.now c.args.aad.now c.args.buf.now c.add_key_stream.new.message c.encrypted_tag-tag.result n long front
+    c.add_key_stream.ensures c.encrypted_tag-tag.ensures in
+    let hit : false ≡ true = c.if-is_same_tag.ensures.1 (right_tag whole key c.args.nonce.now c.args.aad.now c.args.buf.now c.add_key_stream.new.message c.encrypted_tag-tag.result n long front
+    c.add_key_stream.ensures c.encrypted_tag-tag.ensures m e ∙ sym there) in
+    cc
+
+pub returns-clause-bad_tag : goal.returns-clause-bad_tag
+returns-clause-bad_tag g c = (
+  λ _. (
+    omega arith,
+    omega arith,
+    λ m e.
+        let protection = length-ccm c.encrypted_length.ensures (g.C.BlockCipher.cipher_key c.args.cipher.now) c.args.nonce.now c.args.aad.now m in
+        returns-clause-only g c m (omega (arith, protection, ap (λ (l : List ℕ). length l) e)) e,
+  ),
+  λ _. refl,
+)
+
+pub returns-clause-same : goal.returns-clause-same
+returns-clause-same g c =
+    let whole = c.encrypted_length.ensures in
+    let key = g.C.BlockCipher.cipher_key c.args.cipher.now in
+    let n = length c.args.buf.now - 8 in
+    let long : length c.args.buf.now ≡ n + 8 = omega arith in
+    let front : length c.add_key_stream.new.message ≡ n = omega (arith, length-take n c.args.buf.now) in
+    restored whole key c.args.nonce.now c.args.aad.now c.args.buf.now c.add_key_stream.new.message c.encrypted_tag-tag.result n long front
+    c.add_key_stream.ensures c.encrypted_tag-tag.ensures c.add_key_stream-2.new.message c.add_key_stream-2.ensures

@@ -1,0 +1,25 @@
+//! AES-CCM (RFC 3610) with a tag of 8 bytes and a nonce of 13, in the caller's buffer: AES-CCM-16-64-128 of
+//! RFC 8152. What sealing makes is `ccm key nonce aad m`, the standard's own text in `specs/`, and opening
+//! answers m exactly if the whole buffer is that.
+//!
+//! ```
+//! let cipher = TableAes::new(&key);
+//! let sealed_len = seal(&cipher, &nonce, aad, &mut buf, plaintext_len)?;
+//! let plaintext_len = open(&cipher, &nonce, aad, &mut buf[..sealed_len])?;
+//! ```
+#![tactic(auto)]
+
+mod blocks;
+mod key_stream;
+mod laws;
+mod opening;
+mod sealing;
+mod tag;
+
+pub use blocks::{MOST_AAD, MOST_PLAINTEXT, NONCE_LEN, TAG_LEN};
+pub use laws::{one_plaintext, sealed_length};
+pub use opening::{OpenError, open};
+pub use sealing::{SealError, seal};
+
+#[cfg(test)]
+mod tests;

@@ -1,0 +1,76 @@
+//! Opening (RFC 3610, 2.5), said by what sealing makes.
+
+ghost use Rattle.std.specs.Prelude.{◌≡◌, ◌↔◌, ℕ, List, ◌+◌, ◌<◌, ◌≤◌, length, take, drop, IsOkAnd, IfOk, OnErr};
+ghost use Rattle.osc_ccm.specs.Ccm.{ccm};
+
+use crate::blocks::{MOST_PLAINTEXT, TAG_LEN};
+use crate::key_stream::add_key_stream;
+use crate::tag::{encrypted_tag, is_same_tag};
+use osc_aes::{BlockCipher, encrypted_length};
+use std::fmt;
+
+/// Why nothing was opened, in the order in which it is judged.
+#[derive(Clone, Copy, Debug, PartialEq, Eq)]
+pub enum OpenError {
+    /// The buffer has fewer bytes than a tag.
+    Short,
+    /// The buffer has more bytes than the longest plaintext and its tag.
+    TooLong,
+    /// The buffer is the protection of no plaintext under this key, nonce and additional data.
+    BadTag,
+}
+
+/// Opens the whole of `buf` in its place: leaves the plaintext in front, and answers its length; the last 8 bytes
+/// stay (RFC 3610, 2.5). A refusal tells nothing of how far the bytes agreed.
+pub fn open<C: BlockCipher>(
+    cipher: &C,
+    nonce: &[u8; 13],
+    aad: &[u8],
+    buf: &mut [u8],
+) -> Result<usize, OpenError>
+    requires { length aad.now ≤ 65279 }
+
+    ensures length { IfOk result (λ len. len + 8 ≡ length buf.old) }
+    ensures opened { IfOk result (λ len. buf.old
+        ≡ ccm (C.cipher_key cipher.now) nonce.now aad.now (take len buf.new)) }
+    ensures tag_stays { IfOk result (λ len. drop len buf.new ≡ drop len buf.old) }
+
+    // Whatever plaintext the buffer protects, that is what opens.
+    ensures only { (m : List ℕ) → length m ≤ 65535
+        → buf.old ≡ ccm (C.cipher_key cipher.now) nonce.now aad.now m
+        → IsOkAnd result (λ len. take len buf.new ≡ m) }
+
+    ensures short { (result ≡ Err OpenError.Short) ↔ (length buf.old < 8) }
+    ensures too_long { (result ≡ Err OpenError.TooLong) ↔ (65543 < length buf.old) }
+    ensures bad_tag { (result ≡ Err OpenError.BadTag)
+        ↔ ((8 ≤ length buf.old) × (length buf.old ≤ 65543)
+        × ((m : List ℕ) → buf.old ≡ ccm (C.cipher_key cipher.now) nonce.now aad.now m → ⊥)) }
+    ensures same { OnErr result (buf.new ≡ buf.old) }
+{
+    encrypted_length();
+    if buf.len() < TAG_LEN {
+        return Err(OpenError::Short);
+    }
+    if buf.len() > MOST_PLAINTEXT + TAG_LEN {
+        return Err(OpenError::TooLong);
+    }
+    let len = buf.len() - TAG_LEN;
+    add_key_stream(cipher, nonce, &mut buf[..len]);
+    let tag = encrypted_tag(cipher, nonce, aad, &buf[..len]);
+    if is_same_tag(&tag, &buf[len..]) {
+        return Ok(len);
+    }
+    // The key stream once more puts the bytes back.
+    add_key_stream(cipher, nonce, &mut buf[..len]);
+    Err(OpenError::BadTag)
+}
+
+impl fmt::Display for OpenError {
+    fn fmt<W: fmt::Write>(&self, f: &mut fmt::Formatter<W>) -> fmt::Result {
+        f.write_str(match self {
+            OpenError::Short => "Short",
+            OpenError::TooLong => "TooLong",
+            OpenError::BadTag => "BadTag",
+        })
+    }
+}

@@ -1,0 +1,63 @@
+//! Sealing (RFC 3610, 2.2 to 2.4).
+
+ghost use Rattle.std.specs.Prelude.{◌≡◌, ◌↔◌, ◌+◌, ◌++◌, ◌<◌, ◌≤◌, length, take, drop, IsOk, IfOk, OnOk, OnErr};
+ghost use Rattle.osc_ccm.specs.Ccm.{ccm};
+
+use crate::blocks::{MOST_PLAINTEXT, TAG_LEN};
+use crate::key_stream::add_key_stream;
+use crate::tag::encrypted_tag;
+use osc_aes::{BlockCipher, encrypted_length};
+use std::fmt;
+
+/// Why nothing was sealed, in the order in which it is judged.
+#[derive(Clone, Copy, Debug, PartialEq, Eq)]
+pub enum SealError {
+    /// The plaintext has more than 65,535 bytes.
+    TooLong,
+    /// The buffer has no room for the tag behind the plaintext.
+    NoRoom,
+}
+
+/// Replaces the first `len` bytes of `buf`, the plaintext, by their protection, and answers its length, which is
+/// `len + 8` (RFC 3610, 2.4). Bytes behind it stay. The caller sees to it that no nonce serves twice under one key.
+pub fn seal<C: BlockCipher>(
+    cipher: &C,
+    nonce: &[u8; 13],
+    aad: &[u8],
+    buf: &mut [u8],
+    len: usize,
+) -> Result<usize, SealError>
+    requires aad { length aad.now ≤ 65279 }
+    requires plaintext { len ≤ length buf.old }
+
+    ensures length { IfOk result (λ sealed_len. sealed_len ≡ len + 8) }
+    ensures sealed { OnOk result (buf.new
+        ≡ ccm (C.cipher_key cipher.now) nonce.now aad.now (take len buf.old) ++ drop (len + 8) buf.old) }
+
+    ensures too_long { (result ≡ Err SealError.TooLong) ↔ (65535 < len) }
+    ensures no_room { (result ≡ Err SealError.NoRoom)
+        ↔ ((len ≤ 65535) × (length buf.old < len + 8)) }
+    ensures succeeds { len ≤ 65535 → len + 8 ≤ length buf.old → IsOk result }
+    ensures same { OnErr result (buf.new ≡ buf.old) }
+{
+    encrypted_length();
+    if len > MOST_PLAINTEXT {
+        return Err(SealError::TooLong);
+    }
+    if buf.len() - len < TAG_LEN {
+        return Err(SealError::NoRoom);
+    }
+    let tag = encrypted_tag(cipher, nonce, aad, &buf[..len]);
+    add_key_stream(cipher, nonce, &mut buf[..len]);
+    buf[len..len + TAG_LEN].copy_from_slice(&tag);
+    Ok(len + TAG_LEN)
+}
+
+impl fmt::Display for SealError {
+    fn fmt<W: fmt::Write>(&self, f: &mut fmt::Formatter<W>) -> fmt::Result {
+        f.write_str(match self {
+            SealError::TooLong => "TooLong",
+            SealError::NoRoom => "NoRoom",
+        })
+    }
+}
