@@ -7,6 +7,7 @@ use crate::blocks::{MOST_PLAINTEXT, TAG_LEN};
 use crate::key_stream::add_key_stream;
 use crate::tag::{encrypted_tag, is_same_tag};
 use osc_aes::{BlockCipher, encrypted_length};
+use std::error::Error;
 use std::fmt;
 
 /// Why nothing was opened, in the order in which it is judged.
@@ -66,6 +67,11 @@ pub fn open<C: BlockCipher>(
 }
 
 impl fmt::Display for OpenError {
+    ghost use Rattle.std.specs.Prelude.{Some};
+    ghost use Rattle.osc_ccm.specs.Text.{open_error_name};
+
+    ghost output = { λ error. Some (open_error_name error) };
+
     fn fmt<W: fmt::Write>(&self, f: &mut fmt::Formatter<W>) -> fmt::Result {
         f.write_str(match self {
             OpenError::Short => "Short",
@@ -74,3 +80,5 @@ impl fmt::Display for OpenError {
         })
     }
 }
+
+impl Error for OpenError {}

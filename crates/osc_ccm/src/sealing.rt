@@ -7,6 +7,7 @@ use crate::blocks::{MOST_PLAINTEXT, TAG_LEN};
 use crate::key_stream::add_key_stream;
 use crate::tag::encrypted_tag;
 use osc_aes::{BlockCipher, encrypted_length};
+use std::error::Error;
 use std::fmt;
 
 /// Why nothing was sealed, in the order in which it is judged.
@@ -54,6 +55,11 @@ pub fn seal<C: BlockCipher>(
 }
 
 impl fmt::Display for SealError {
+    ghost use Rattle.std.specs.Prelude.{Some};
+    ghost use Rattle.osc_ccm.specs.Text.{seal_error_name};
+
+    ghost output = { λ error. Some (seal_error_name error) };
+
     fn fmt<W: fmt::Write>(&self, f: &mut fmt::Formatter<W>) -> fmt::Result {
         f.write_str(match self {
             SealError::TooLong => "TooLong",
@@ -61,3 +67,5 @@ impl fmt::Display for SealError {
         })
     }
 }
+
+impl Error for SealError {}

@@ -1,0 +1,13 @@
+pub mod Bytes
+pub mod Pieces
+pub mod Parts
+pub mod Walks
+pub mod Faults
+pub mod Made
+pub mod OneReading
+pub mod OneFault
+pub mod OneInner
+pub mod EachReading
+pub mod Texts
+pub mod Payloads
+pub mod Converses

@@ -1,0 +1,11 @@
+use Rattle.osc_coap.proofs.Texts.{text_ascends}
+use Rattle.osc_coap.proofs.laws.options_ascend.Goals as goal
+
+pub returns-clause-spelling : goal.returns-clause-spelling
+returns-clause-spelling c = text_ascends
+
+pub returns-clause-datagram : goal.returns-clause-datagram
+returns-clause-datagram c = λ p bytes h. text_ascends 0 p.options h.spelled h.spells
+
+pub returns-clause-inner : goal.returns-clause-inner
+returns-clause-inner c = λ p bytes h. text_ascends 0 p.options h.spelled h.spells

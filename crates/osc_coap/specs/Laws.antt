@@ -1,0 +1,92 @@
+-- What holds of all lists of options, messages, plaintexts and byte lists (RFC 7252, 3 and 3.1; RFC 8613,
+-- 5.3): the contracts of the functions of laws.rt.
+use Rattle.std.specs.Prelude.{◌≡◌, ◌≢◌, ◌-◌, ◌≤◌, ◌⊎◌, ◌++◌, ℕ, List, [], ◌∷◌, length, take, drop}
+use Rattle.osc_coap.specs.declared.format_error.Fault.{Fault}
+use Rattle.osc_coap.specs.OptionSpelling.{Entry, AreBytes, Spells, Ascends, spelling_length}
+use Rattle.osc_coap.specs.Datagram.{Parts, IsDatagram, datagram_length}
+use Rattle.osc_coap.specs.Inner.{InnerParts, IsInner, inner_length}
+use Rattle.osc_coap.specs.Fault.{HasFault, HasInnerFault}
+
+-- a byte list spells one list of options at most after a number (RFC 7252, 3.1)
+abbrev pub SpellsOneList : Type 0
+SpellsOneList = (d : ℕ) (xs ys : List Entry) (text : List ℕ) → Spells d xs text → Spells d ys text → xs ≡ ys
+
+-- a list of options has one text at most after a number (RFC 7252, 3.1)
+abbrev pub ListHasOneText : Type 0
+ListHasOneText = (d : ℕ) (entries : List Entry) (text other : List ℕ) → AreBytes text → AreBytes other → Spells d entries text → Spells d entries other → text ≡ other
+
+-- the parts of a message have one datagram at most (RFC 7252, 3)
+abbrev pub PartsHaveOneDatagram : Type 0
+PartsHaveOneDatagram = (p : Parts) (bytes other : List ℕ) → IsDatagram p bytes → IsDatagram p other → bytes ≡ other
+
+-- the parts of a plaintext have one byte list at most (RFC 8613, 5.3)
+abbrev pub PartsHaveOneInner : Type 0
+PartsHaveOneInner = (p : InnerParts) (bytes other : List ℕ) → IsInner p bytes → IsInner p other → bytes ≡ other
+
+-- a byte list is the datagram of one message at most (RFC 7252, 3)
+abbrev pub IsOneDatagram : Type 0
+IsOneDatagram = (p q : Parts) (bytes : List ℕ) → IsDatagram p bytes → IsDatagram q bytes → p ≡ q
+
+-- a byte list has one first fault at most, at one place (RFC 7252, 3)
+abbrev pub HasOneFault : Type 0
+HasOneFault = (bytes : List ℕ) (f g : Fault) (place other : ℕ) → HasFault bytes f place → HasFault bytes g other → (f ≡ g) × (place ≡ other)
+
+-- no datagram has a fault (RFC 7252, 3)
+abbrev pub IsNeverBoth : Type 0
+IsNeverBoth = (p : Parts) (bytes : List ℕ) (f : Fault) (place : ℕ) → IsDatagram p bytes → HasFault bytes f place → ⊥
+
+-- each byte list is a datagram or has a fault (RFC 7252, 3)
+abbrev pub IsDatagramOrFault : Type 0
+IsDatagramOrFault = (bytes : List ℕ) → AreBytes bytes → ((p : Parts) × IsDatagram p bytes) ⊎ ((f : Fault) × (place : ℕ) × HasFault bytes f place)
+
+-- a byte list is one plaintext at most (RFC 8613, 5.3)
+abbrev pub IsOneInner : Type 0
+IsOneInner = (p q : InnerParts) (bytes : List ℕ) → IsInner p bytes → IsInner q bytes → p ≡ q
+
+-- a byte list has one first fault at most as a plaintext (RFC 8613, 5.3)
+abbrev pub HasOneInnerFault : Type 0
+HasOneInnerFault = (bytes : List ℕ) (f g : Fault) (place other : ℕ) → HasInnerFault bytes f place → HasInnerFault bytes g other → (f ≡ g) × (place ≡ other)
+
+-- no plaintext has a fault (RFC 8613, 5.3)
+abbrev pub IsNeverBothInner : Type 0
+IsNeverBothInner = (p : InnerParts) (bytes : List ℕ) (f : Fault) (place : ℕ) → IsInner p bytes → HasInnerFault bytes f place → ⊥
+
+-- each byte list is a plaintext or has a fault as one (RFC 8613, 5.3)
+abbrev pub IsInnerOrFault : Type 0
+IsInnerOrFault = (bytes : List ℕ) → AreBytes bytes → ((p : InnerParts) × IsInner p bytes) ⊎ ((f : Fault) × (place : ℕ) × HasInnerFault bytes f place)
+
+-- a payload that isn't empty is the end of its datagram (RFC 7252, 3)
+abbrev pub PayloadIsTheEnd : Type 0
+PayloadIsTheEnd = (p : Parts) (bytes : List ℕ) → IsDatagram p bytes → p.payload ≢ [] → (length p.payload ≤ length bytes) × (drop (length bytes - length p.payload) bytes ≡ p.payload)
+
+-- other bytes of the payload's length in its place make the message with that payload (RFC 7252, 3)
+abbrev pub PayloadCanBeReplaced : Type 0
+PayloadCanBeReplaced = (p : Parts) (bytes other : List ℕ) → IsDatagram p bytes → p.payload ≢ [] → AreBytes other → length other ≡ length p.payload → IsDatagram (record p { payload = other }) (take (length bytes - length p.payload) bytes ++ other)
+
+-- a marker and a payload behind a message without one make the message with it (RFC 7252, 3)
+abbrev pub PayloadCanBeAdded : Type 0
+PayloadCanBeAdded = (p : Parts) (payload bytes : List ℕ) → IsDatagram p bytes → p.payload ≡ [] → p.code ≢ 0 → AreBytes payload → payload ≢ [] → length (bytes ++ (255 ∷ payload)) ≤ 65535 → IsDatagram (record p { payload = payload }) (bytes ++ (255 ∷ payload))
+
+-- the options that a byte list spells stand in ascending number (RFC 7252, 3.1)
+abbrev pub SpelledOptionsAscend : Type 0
+SpelledOptionsAscend = (d : ℕ) (entries : List Entry) (text : List ℕ) → Spells d entries text → Ascends d entries
+
+-- the options of a message stand in ascending number (RFC 7252, 3.1)
+abbrev pub OptionsAscend : Type 0
+OptionsAscend = (p : Parts) (bytes : List ℕ) → IsDatagram p bytes → Ascends 0 p.options
+
+-- the options of a plaintext stand in ascending number (RFC 8613, 5.3)
+abbrev pub InnerOptionsAscend : Type 0
+InnerOptionsAscend = (p : InnerParts) (bytes : List ℕ) → IsInner p bytes → Ascends 0 p.options
+
+-- a list of options tells the length of its text (RFC 7252, 3.1)
+abbrev pub SpellingHasItsLength : Type 0
+SpellingHasItsLength = (d : ℕ) (entries : List Entry) (text : List ℕ) → AreBytes text → Spells d entries text → length text ≡ spelling_length d entries
+
+-- the parts of a message tell the length of its datagram (RFC 7252, 3)
+abbrev pub DatagramHasItsLength : Type 0
+DatagramHasItsLength = (p : Parts) (bytes : List ℕ) → IsDatagram p bytes → length bytes ≡ datagram_length p
+
+-- the parts of a plaintext tell its length (RFC 8613, 5.3)
+abbrev pub InnerHasItsLength : Type 0
+InnerHasItsLength = (p : InnerParts) (bytes : List ℕ) → IsInner p bytes → length bytes ≡ inner_length p

@@ -1,0 +1,11 @@
+pub mod OptionSpelling
+pub mod Datagram
+pub mod Inner
+pub mod Fault
+pub mod Text
+pub mod Laws
+pub mod Views
+pub mod Reading
+pub mod Seen
+pub mod Ends
+pub mod Callers

@@ -1,0 +1,87 @@
+//! The head of a datagram: its first four bytes (RFC 7252, 3).
+//!
+//!     | version 2, type 2, token length 4 bits | code | message ID, high byte first, two bytes |
+
+ghost use Rattle.std.specs.Prelude.{◌≡◌, ◌<◌, ◌≤◌, ◌+◌, length, IfOk, IfErr};
+ghost use Rattle.osc_coap.specs.Datagram.{kind_number};
+ghost use Rattle.osc_coap.specs.Fault.{HasFault};
+ghost use Rattle.osc_coap.specs.Seen.{ReadsHead};
+
+use crate::format_error::{Fault, FormatError, MOST_DATAGRAM};
+use crate::message::Kind;
+use byteorder::{BigEndian, ByteOrder};
+
+/// The bytes in front of the token.
+pub(crate) const HEAD_LEN: usize = 4;
+
+/// The most bytes of a token; the lengths 9 to 15 are reserved.
+const MOST_TOKEN: usize = 8;
+
+/// The fields in the first four bytes.
+#[derive(Clone, Copy)]
+pub(crate) struct Head {
+    pub(crate) kind: Kind,
+    pub(crate) code: u8,
+    pub(crate) message_id: u16,
+    pub(crate) token_len: usize,
+}
+
+/// The kind that two bits of the head name.
+fn kind_of(bits: u8) -> Kind
+    requires { bits < 4 }
+    ensures { kind_number result ≡ bits }
+{
+    match bits {
+        0 => Kind::Con,
+        1 => Kind::Non,
+        2 => Kind::Ack,
+        _ => Kind::Rst,
+    }
+}
+
+/// Reads the first four bytes.
+pub(crate) fn read_head(bytes: &[u8]) -> Result<Head, FormatError>
+    ensures read { IfOk result (λ h. ReadsHead h bytes.now) }
+    ensures fault { IfErr result (λ e. HasFault bytes.now e.fault e.place) }
+{
+    if bytes.len() > MOST_DATAGRAM {
+        return Err(Fault::DatagramTooLong.at(MOST_DATAGRAM));
+    }
+    if bytes.len() < HEAD_LEN {
+        return Err(Fault::Short.at(0));
+    }
+    let first = bytes[0];
+    if first / 64 != 1 {
+        return Err(Fault::Version.at(0));
+    }
+    let token_len = usize::from(first % 16);
+    if token_len > MOST_TOKEN {
+        return Err(Fault::TokenLength.at(0));
+    }
+    Ok(Head {
+        kind: kind_of(first / 16 % 4),
+        code: bytes[1],
+        message_id: BigEndian::read_u16(&bytes[2..HEAD_LEN]),
+        token_len,
+    })
+}
+
+/// Where the token ends. An empty message, of code 0.00, is its head alone (RFC 7252, 4.1).
+pub(crate) fn token_end(head: &Head, bytes: &[u8]) -> Result<usize, FormatError>
+    requires { ReadsHead head.now bytes.now }
+    ensures end { IfOk result (λ end. (end ≡ 4 + head.now.token_len) × (end ≤ length bytes.now)) }
+    ensures alone { IfOk result (λ end. head.now.code ≡ 0 → length bytes.now ≡ 4) }
+    ensures fault { IfErr result (λ e. HasFault bytes.now e.fault e.place) }
+{
+    if head.code == 0 && head.token_len != 0 {
+        return Err(Fault::EmptyWithRest.at(0));
+    }
+    if head.code == 0 && bytes.len() > HEAD_LEN {
+        return Err(Fault::EmptyWithRest.at(HEAD_LEN));
+    }
+    let end = HEAD_LEN + head.token_len;
+    if bytes.len() < end {
+        return Err(Fault::TokenCut.at(HEAD_LEN));
+    }
+    Ok(end)
+}

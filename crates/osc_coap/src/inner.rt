@@ -1,0 +1,34 @@
+//! The plaintext of a protected message as it was read (RFC 8613, 5.3).
+
+ghost use Rattle.std.specs.Prelude.{◌≡◌};
+ghost use Rattle.osc_coap.specs.Reading.{IsSpelling};
+
+use crate::options::Options;
+
+/// What a protected message says. Its options and its payload lie in the plaintext that it was read from.
+#[derive(Clone, Copy, Debug, PartialEq, Eq)]
+pub struct Inner<'a> {
+    /// The code as one byte: class in the upper three bits, detail in the lower five.
+    pub code: u8,
+    pub(crate) options: &'a [u8],
+    pub(crate) payload: &'a [u8],
+    ghost spelled: { IsSpelling 0 options.now },
+}
+
+impl<'a> Inner<'a> {
+    ghost use Rattle.osc_coap.specs.Views.{inner_parts_of, options_left};
+
+    /// The options in the order of the plaintext, each one's number and value.
+    pub fn options(&self) -> Options<'a>
+        ensures { options_left result ≡ (inner_parts_of self.now).options }
+    {
+        Options::new(self.options)
+    }
+
+    /// The bytes behind the marker, or none where there is no marker.
+    pub fn payload(&self) -> &'a [u8]
+        ensures { result.now ≡ (inner_parts_of self.now).payload }
+    {
+        self.payload
+    }
+}

@@ -1,0 +1,33 @@
+//! CoAP messages (RFC 7252, 3) and the plaintexts of protected ones (RFC 8613, 5.3): reading them.
+//!
+//! ```rust
+//! use osc_coap::{Kind, parse};
+//!
+//! // A confirmable GET for `tv1` at `localhost` (RFC 8613, C.4).
+//! let message = parse(b"\x44\x01\x5d\x1f\x00\x00\x39\x74\x39localhost\x83tv1")?;
+//! assert_eq!(rt; message.kind, Kind::Con);
+//! assert_eq!(rt; message.options().next(), Some((3, b"localhost".as_slice())));
+//! ```
+#![tactic(auto)]
+
+mod body;
+mod format_error;
+mod head;
+mod inner;
+mod laws;
+mod message;
+mod option_header;
+mod options;
+mod parsing;
+#[cfg(test)]
+mod tests;
+
+pub use crate::format_error::{Fault, FormatError, MOST_DATAGRAM};
+pub use crate::inner::Inner;
+pub use crate::laws::{
+    lengths_by_parts, one_datagram, one_inner, one_spelling, one_text, options_ascend,
+    payload_stands_last,
+};
+pub use crate::message::{Kind, Message, Token};
+pub use crate::options::Options;
+pub use crate::parsing::{parse, parse_inner};

@@ -1,0 +1,54 @@
+//! A message as it was read (RFC 7252, 3).
+
+ghost use Rattle.std.specs.Prelude.{◌≡◌};
+ghost use Rattle.osc_coap.specs.Reading.{IsSpelling};
+
+use crate::options::Options;
+use arrayvec::ArrayVec;
+
+/// What a message is for (RFC 7252, 4): confirmable, non-confirmable, acknowledgement or reset.
+#[derive(Clone, Copy, Debug, PartialEq, Eq)]
+pub enum Kind {
+    /// The receiver is to acknowledge it.
+    Con,
+    /// The receiver needn't acknowledge it.
+    Non,
+    /// It acknowledges the message with its message ID.
+    Ack,
+    /// It says that the message with its message ID could not be used.
+    Rst,
+}
+
+/// What ties a response to its request: 0 to 8 bytes, chosen by the client.
+pub type Token = ArrayVec<u8, 8>;
+
+/// A message. Its options and its payload lie in the datagram that it was read from.
+#[derive(Debug, Drop, PartialEq, Eq)]
+pub struct Message<'a> {
+    pub kind: Kind,
+    /// The code as one byte: class in the upper three bits, detail in the lower five.
+    pub code: u8,
+    pub message_id: u16,
+    pub token: Token,
+    pub(crate) options: &'a [u8],
+    pub(crate) payload: &'a [u8],
+    ghost spelled: { IsSpelling 0 options.now },
+}
+
+impl<'a> Message<'a> {
+    ghost use Rattle.osc_coap.specs.Views.{parts_of, options_left};
+
+    /// The options in the order of the datagram, each one's number and value.
+    pub fn options(&self) -> Options<'a>
+        ensures { options_left result ≡ (parts_of self.now).options }
+    {
+        Options::new(self.options)
+    }
+
+    /// The bytes behind the marker, or none where there is no marker.
+    pub fn payload(&self) -> &'a [u8]
+        ensures { result.now ≡ (parts_of self.now).payload }
+    {
+        self.payload
+    }
+}

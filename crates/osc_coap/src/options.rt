@@ -1,0 +1,105 @@
+//! The options of a message, one after the other.
+
+ghost use Rattle.std.specs.Prelude.{◌≡◌, ◌<◌, [], ◌∷◌, IfNone, IfSome};
+ghost use Rattle.osc_coap.specs.Reading.{option_at, Gives, IsSpelling, options_in};
+ghost use Rattle.osc_coap.specs.Seen.{seen_item};
+
+use crate::format_error::Fault;
+use crate::option_header::{RESERVED_NIBBLE, pieces_of};
+
+/// The largest number of an option. Own rule: what two bytes can hold.
+const LARGEST_NUMBER: u32 = 65_535;
+
+/// An option, and the bytes after it.
+#[derive(Clone, Copy)]
+pub(crate) struct Item<'a> {
+    pub(crate) number: u16,
+    pub(crate) value: &'a [u8],
+    pub(crate) rest: &'a [u8],
+}
+
+/// The option at the front of the bytes, after one with the number `after`, or its fault.
+#[tactic(auto, unfolding(crate::specs::Reading::option_at, crate::specs::Reading::numbered))]
+pub(crate) fn take_option(after: u16, bytes: &[u8]) -> Result<Item<'_>, Fault>
+    ensures { Gives seen_item result (option_at after bytes.now) }
+{
+    let [first, rest @ ..] = bytes else {
+        return Err(Fault::OptionCut);
+    };
+    let delta_nibble = *first / 16;
+    let length_nibble = *first % 16;
+    if delta_nibble == RESERVED_NIBBLE || length_nibble == RESERVED_NIBBLE {
+        return Err(Fault::Nibble15);
+    }
+    let Some(pieces) = pieces_of(delta_nibble, length_nibble, rest) else {
+        return Err(Fault::OptionCut);
+    };
+    // The number is the sum of the deltas so far (RFC 7252, 3.1).
+    let number = u32::from(after) + pieces.delta;
+    if number > LARGEST_NUMBER {
+        return Err(Fault::NumberTooLarge);
+    }
+    Ok(Item {
+        number: number as u16,
+        value: pieces.value,
+        rest: pieces.rest,
+    })
+}
+
+/// The first of the options that the bytes spell, or None where they spell none.
+fn first_item(after: u16, bytes: &[u8]) -> Option<Item<'_>>
+    requires { IsSpelling after bytes.now }
+    ensures none { IfNone result (options_in after bytes.now ≡ []) }
+    ensures first { IfSome result (λ item. options_in after bytes.now ≡ (item.number, item.value.now) ∷ options_in item.number item.rest.now) }
+    ensures spelled { IfSome result (λ item. IsSpelling item.number item.rest.now) }
+{
+    if bytes.is_empty() {
+        return None;
+    }
+    match take_option(after, bytes) {
+        Ok(item) => Some(item),
+        Err(_) => unreachable!(),
+    }
+}
+
+/// The options of a message or of a plaintext, in ascending number: each one's number and value. They
+/// were found to be well formed when the message was read.
+#[derive(Clone, Copy, Debug)]
+pub struct Options<'a> {
+    number: u16,
+    rest: &'a [u8],
+    ghost spelled: { IsSpelling number rest.now },
+}
+
+impl<'a> Options<'a> {
+    ghost use Rattle.osc_coap.specs.Views.{options_left};
+
+    /// The options that the bytes spell.
+    pub(crate) fn new(bytes: &'a [u8]) -> Options<'a>
+        requires { IsSpelling 0 bytes.now }
+        ensures { options_left result ≡ options_in 0 bytes.entry.now }
+    {
+        Options {
+            number: 0,
+            rest: bytes,
+        }
+    }
+}
+
+impl<'a> Iterator for Options<'a> {
+    ghost use Rattle.std.specs.Iterator.{YieldsFirstBy, item_count};
+    ghost use Rattle.osc_coap.specs.Views.{options_left, seen_option};
+
+    type Item = (u16, &'a [u8]);
+
+    ghost next_gives = { YieldsFirstBy seen_option options_left };
+
+    ghost remaining = { item_count options_left };
+
+    fn next(&mut self) -> Option<(u16, &'a [u8])> {
+        let item = first_item(self.number, self.rest)?;
+        self.number = item.number;
+        self.rest = item.rest;
+        Some((item.number, item.value))
+    }
+}
