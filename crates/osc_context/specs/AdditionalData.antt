@@ -1,0 +1,19 @@
+-- The additional data of a request and of its response (RFC 8613, 5.4). Of the two arrays the
+-- external_aad stands inside, as a byte string, and the COSE structure of Encrypt0 outside
+-- (RFC 8152, 5.3). kid and n, the number, are those of the request.
+use Rattle.std.specs.Prelude.{ℕ, List, [], ◌∷◌, codes}
+use Rattle.osc_context.specs.Cbor.{cbor_bytes, cbor_text, cbor_number, cbor_array}
+use Rattle.osc_context.specs.PartialIv.{partial_iv_of}
+
+-- the algorithm AES-CCM-16-64-128 by its COSE number (RFC 8152, 10.2)
+abbrev pub algorithm : ℕ
+algorithm = 10
+
+-- the inner array: version, algorithms, kid, Partial IV, no class I options (RFC 8613, 5.4)
+abbrev pub external_aad_of : List ℕ → ℕ → List ℕ
+external_aad_of kid n =
+    cbor_array (cbor_number 1 ∷ cbor_array (cbor_number algorithm ∷ []) ∷ cbor_bytes kid ∷ cbor_bytes (partial_iv_of n) ∷ cbor_bytes [] ∷ [])
+
+-- the outer array: Encrypt0, an empty protected header, the external_aad as a byte string (RFC 8613, 5.4)
+unfoldable pub additional_data_of : List ℕ → ℕ → List ℕ
+additional_data_of kid n = cbor_array (cbor_text (codes "Encrypt0") ∷ cbor_bytes [] ∷ cbor_bytes (external_aad_of kid n) ∷ [])

@@ -1,0 +1,42 @@
+//! The nonce (RFC 8613, 5.2): the identifier and the Partial IV of whoever made it, xor the Common IV.
+
+ghost use Rattle.std.specs.Prelude.{◌≡◌, ◌++◌, ◌-◌, ◌≤◌, take, drop, length};
+ghost use Rattle.osc_context.specs.Nonce.{nonce_of, nonce_text};
+ghost use Rattle.osc_context.specs.Views.{number_of};
+
+use crate::identifier::Kid;
+use crate::partial_iv::Piv;
+
+/// Answers the nonce. The identifier is of whoever made the Partial IV, also in a response (RFC 8613, 5.2).
+pub fn nonce(common_iv: &[u8; 13], owner: &Kid, partial_iv: Piv) -> [u8; 13]
+    ensures { result ≡ nonce_of common_iv.now owner.now (number_of partial_iv) }
+{
+    let text = nonce_text(owner, partial_iv);
+    let mut nonce = [0u8; 13];
+    for i in 0..13 {
+        nonce[i] = common_iv[i] ^ text[i];
+    }
+    nonce
+}
+
+/// The length of the identifier, then the identifier and the Partial IV, each at the end of its place.
+fn nonce_text(owner: &Kid, partial_iv: Piv) -> [u8; 13]
+    ensures { result ≡ nonce_text owner.now (number_of partial_iv) }
+{
+    let id = owner.bytes();
+    let partial_iv = partial_iv.bytes();
+    let mut text = [0u8; 13];
+    text[0] = id.len() as u8;
+    put_before(&mut text, 8, id);
+    put_before(&mut text, 13, partial_iv.as_slice());
+    text
+}
+
+/// Copies the bytes to where they end in front of a place.
+fn put_before(text: &mut [u8], end: usize, bytes: &[u8])
+    requires starts { length bytes.now ≤ end }
+    requires ends { end ≤ length text.old }
+    ensures { text.new ≡ take (end - length bytes.now) text.old ++ (bytes.now ++ drop end text.old) }
+{
+    text[end - bytes.len()..end].copy_from_slice(bytes);
+}

@@ -1,0 +1,104 @@
+//! The Partial IV (RFC 8613, 5): the number of a message, high byte first, with no leading zero byte.
+
+ghost use Rattle.std.specs.Prelude.{◌≡◌, ◌-◌, ◌+◌, ◌^◌, ◌<◌, ◌≤◌, length, drop, IsSome, IfSome, IfNone};
+ghost use Rattle.arrayvec.specs.ArrayVec.{array_vec_len};
+ghost use Rattle.osc_context.specs.PartialIv.{last_bytes, partial_iv_of, spelled_number, IsShortest};
+
+use arrayvec::ArrayVec;
+
+/// The first number that no Partial IV holds.
+const NUMBER_LIMIT: u64 = 1 << 40;
+
+/// The number of a Partial IV, below 2^40. Whoever seals under one keeps it fresh.
+#[derive(Clone, Copy, Debug, PartialEq, Eq)]
+pub struct Piv {
+    number: u64,
+    pub ghost in_range: { number < 2 ^ 40 },
+}
+
+impl Piv {
+    ghost use Rattle.osc_context.specs.Views.{number_of};
+
+    /// The Partial IV of this number, or None from 2^40 up, which 5 bytes can't spell (RFC 8613, 5).
+    pub fn new(number: u64) -> Option<Piv>
+        ensures made { IfSome result (λ piv. number_of piv ≡ number) }
+        ensures in_range { IsSome result → number < 2 ^ 40 }
+        ensures too_large { IfNone result (2 ^ 40 ≤ number) }
+    {
+        if number < NUMBER_LIMIT {
+            Some(Piv { number })
+        } else {
+            None
+        }
+    }
+
+    /// The number that up to 5 bytes spell, high byte first.
+    pub(crate) fn of_bytes(bytes: &[u8]) -> Piv
+        requires { length bytes.now ≤ 5 }
+        ensures { number_of result ≡ spelled_number bytes.now }
+    {
+        let mut number = 0u64;
+        for byte in bytes {
+            number = number * 256 + u64::from(*byte);
+        }
+        Piv { number }
+    }
+
+    /// Answers the number, as a sender counts it.
+    pub fn number(self) -> u64
+        ensures value { result ≡ number_of self }
+        ensures in_range { result < 2 ^ 40 }
+    {
+        self.number
+    }
+
+    /// Answers the Partial IV as it stands in a message: high byte first, with no leading zero byte,
+    /// and 0 as one byte (RFC 8613, 5).
+    pub fn bytes(self) -> ArrayVec<u8, 5>
+        ensures value { result.items ≡ partial_iv_of (number_of self) }
+        ensures shortest { IsShortest result.items (number_of self) }
+        ensures some { 0 < array_vec_len result }
+        ensures short { array_vec_len result ≤ 5 }
+    {
+        let all = all_bytes(self.number);
+        let skipped = 5 - byte_len(self.number);
+        let mut bytes = ArrayVec::new();
+        bytes.try_extend_from_slice(&all[skipped..]).unwrap();
+        bytes
+    }
+}
+
+/// How many bytes the number takes without leading zeros.
+#[tactic(auto, unfolding(crate::specs::PartialIv::partial_iv_of))]
+pub(crate) fn byte_len(number: u64) -> usize
+    requires { number < 2 ^ 40 }
+    ensures bytes { drop (5 - result) (last_bytes 5 number) ≡ partial_iv_of number }
+    ensures value { result ≡ length (partial_iv_of number) }
+    ensures most { result ≤ 5 }
+    ensures least { 0 < result }
+{
+    if number < 1 << 8 {
+        1
+    } else if number < 1 << 16 {
+        2
+    } else if number < 1 << 24 {
+        3
+    } else if number < 1 << 32 {
+        4
+    } else {
+        5
+    }
+}
+
+/// The last 5 bytes of the number, high byte first.
+fn all_bytes(number: u64) -> [u8; 5]
+    ensures { result ≡ last_bytes 5 number }
+{
+    [
+        (number / 0x1_0000_0000 % 0x100) as u8,
+        (number / 0x100_0000 % 0x100) as u8,
+        (number / 0x1_0000 % 0x100) as u8,
+        (number / 0x100 % 0x100) as u8,
+        (number % 0x100) as u8,
+    ]
+}

@@ -1,0 +1,3 @@
+mod limits;
+mod option_values;
+mod requests;
