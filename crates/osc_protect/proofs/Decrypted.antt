@@ -1,0 +1,73 @@
+-- Decrypting the payload where it lies.
+use Rattle.std.proofs.Common.{◌≡◌, ℕ, ◌+◌, ◌-◌, ◌<◌, ◌≤◌, List, ◌++◌, length, take, drop, sym, ap, subst, ◌∙◌, arith, get_or, length-take, take-append-drop}
+use Rattle.std.proofs.lemmas.List.{get_or-append_right}
+use Rattle.std.proofs.lemmas.List.Elements.{All-from_get_or}
+use Rattle.std.proofs.lemmas.Grind.{common_steps}
+use borrow.Rule.Slice.PartMut.{put_mid, mid_of}
+use Rattle.osc_coap.specs.OptionSpelling.{AreBytes}
+use Rattle.osc_coap.specs.Datagram.{IsDatagram}
+use Rattle.osc_coap.specs.Laws.{PayloadIsTheEnd, PayloadCanBeReplaced}
+use Rattle.osc_context.specs.Views.{number_of}
+use Rattle.osc_protect.specs.Head.{Head, HasHead}
+use Rattle.osc_protect.specs.Protection.{RequestSide, request_cipher}
+use Rattle.osc_protect.specs.Refusals.{Names}
+use Rattle.osc_protect.specs.Opening.{Decrypts}
+use Rattle.osc_protect.specs.declared.opening.Place.{Place}
+
+-- the part from a place to the end
+mid_last : (a : ℕ) (xs : List ℕ) → mid_of a (length xs - a) xs ≡ drop a xs
+mid_last a xs = grind (arith, common_steps)
+
+-- a list after a write to that part
+put_last : (a : ℕ) (xs ys : List ℕ) → a ≤ length xs → put_mid a (length xs - a) xs ys ≡ take a xs ++ ys
+put_last a xs ys h = grind (arith, common_steps)
+
+-- the part that was written is of bytes, where the whole is
+pub part_bytes : (a : ℕ) (xs ys : List ℕ) → a ≤ length xs → ((i : ℕ) → get_or (put_mid a (length xs - a) xs ys) i 0 < 256) → AreBytes ys
+part_bytes a xs ys h fits =
+    All-from_get_or (λ b. b < 256) ys 0 (λ i lt.
+    let at : a + i - a ≡ i = omega arith in
+    let long : length (take a xs) ≡ a = omega (arith, length-take a xs) in
+    let same : get_or (put_mid a (length xs - a) xs ys) (a + i) 0 ≡ get_or ys i 0 =
+    ap (λ (l : List ℕ). get_or l (a + i) 0) (put_last a xs ys h)
+    ∙ get_or-append_right (take a xs) ys a (a + i) 0 long (omega arith)
+    ∙ ap (λ (j : ℕ). get_or ys j 0) at in
+    let fit = fits (a + i) in
+    omega (arith, same, fit))
+
+-- the part of the datagram behind the head is its payload
+pub part_is : (last : PayloadIsTheEnd) (d : List ℕ) (h : Head) → HasHead d h → mid_of (length d - length h.payload) (length d - (length d - length h.payload)) d ≡ h.payload
+part_is last d h x =
+    mid_last (length d - length h.payload) d
+    ∙ ap (λ (z : List ℕ). drop (length d - length z) d) x.2.payload
+    ∙ (last x.0 d x.1 x.2.filled).1
+    ∙ sym x.2.payload
+
+-- a datagram whose payload was decrypted where it lies
+pub decrypts : (last : PayloadIsTheEnd) (other : PayloadCanBeReplaced) (s : RequestSide) (d old ys : List ℕ) (h : Head) (place : Place) (x : HasHead d h) → AreBytes ys → Names h s
+    → old ≡ h.payload → length ys ≡ length old → place.len + 8 ≡ length old → old ≡ request_cipher s h.number (take place.len ys) → drop place.len ys ≡ drop place.len old → number_of place.number ≡ h.number
+    → Decrypts s d place (put_mid (length d - length h.payload) (length d - (length d - length h.payload)) d ys)
+decrypts last other s d old ys h place x bytes names is same long sealed tag number =
+    let p = x.0 in
+    let n = place.len in
+    let front : length (take n ys) ≡ n = omega (arith, length-take n ys) in
+    let whole : old ≡ p.payload = is ∙ x.2.payload in
+    let made : ys ≡ take n ys ++ drop (length (take n ys)) p.payload =
+    sym (take-append-drop n ys) ∙ ap (λ (z : List ℕ). take n ys ++ z) (tag ∙ ap (drop n) whole ∙ ap (λ (k : ℕ). drop k p.payload) (sym front)) in
+    let all : length ys ≡ length p.payload = same ∙ ap length whole in
+    let at : put_mid (length d - length h.payload) (length d - (length d - length h.payload)) d ys ≡ take (length d - length p.payload) d ++ ys =
+    put_last (length d - length h.payload) d ys (omega arith) ∙ ap (λ (z : List ℕ). take (length d - length z) d ++ ys) x.2.payload in
+    let put = other p d ys x.1 x.2.filled bytes all in
+    record {
+      outer = p;
+      head = h;
+      plaintext = take n ys;
+      datagram = x.1;
+      shows = x.2;
+      names = names;
+      seals = sym is ∙ sealed;
+      left = subst (λ (z : List ℕ). IsDatagram (record p { payload = z }) (put_mid (length d - length h.payload) (length d - (length d - length h.payload)) d ys)) made
+          (subst (λ (z : List ℕ). IsDatagram (record p { payload = ys }) z) (sym at) put);
+      number = number;
+      len = sym front;
+    }

@@ -1,0 +1,3 @@
+pub mod Exact
+pub mod Decrypted
+pub mod ReadAfter

@@ -1,0 +1,14 @@
+use Rattle.osc_protect.proofs.laws.layer_laws.Goals as goal
+
+pub returns : goal.returns
+returns c = record {
+  one = c.one_datagram.ensures.one;
+  never_both = c.one_datagram.ensures.never_both;
+  one_fault = c.one_datagram.ensures.one_fault;
+  inner_one = c.one_inner.ensures.one;
+  inner_never_both = c.one_inner.ensures.never_both;
+  one_value = c.one_option_value.ensures.value;
+  value_number = c.one_option_value.ensures.number;
+  one_plaintext = c.one_plaintext.ensures;
+  sealed_length = c.sealed_length.ensures;
+}

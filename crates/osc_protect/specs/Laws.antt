@@ -1,0 +1,37 @@
+-- What the layers below hold of all bytes, and what follows of requests (RFC 8613, 8.2): the contracts of laws.rt.
+use Rattle.std.specs.Prelude.{◌≡◌, ◌<◌, ◌^◌, ℕ, List}
+use Rattle.osc_coap.specs.Inner.{InnerParts}
+use Rattle.osc_coap.specs.Laws.{IsOneDatagram, HasOneFault, IsNeverBoth, IsOneInner, IsNeverBothInner}
+use Rattle.osc_context.specs.Laws.{OneValue, ValueNumberInRange}
+use Rattle.osc_ccm.specs.Ccm.{HasOnePlaintext, HasTagLength}
+use Rattle.osc_protect.specs.Head.{Head, HasHead, HeadRefuses}
+use Rattle.osc_protect.specs.Protection.{RequestSide, ProtectsRequest}
+use Rattle.osc_protect.specs.Refusals.{Refuses}
+use Rattle.osc_protect.specs.declared.head_error.HeadError.{HeadError}
+use Rattle.osc_protect.specs.declared.unprotect_error.UnprotectError.{UnprotectError}
+
+-- the laws of the layers below, one field each (RFC 7252, 3; RFC 8613, 5.3 and 6.1; RFC 3610, 2)
+pub record LayerLaws : Type 0 where
+  pub one : IsOneDatagram
+  pub never_both : IsNeverBoth
+  pub one_fault : HasOneFault
+  pub inner_one : IsOneInner
+  pub inner_never_both : IsNeverBothInner
+  pub one_value : OneValue
+  pub value_number : ValueNumberInRange
+  pub one_plaintext : HasOnePlaintext
+  pub sealed_length : HasTagLength
+
+-- a datagram has one head, with a number below 2 ^ 40, or one refusal of it, never both (RFC 8613, 8.2)
+pub record OneHead : Type 0 where
+  pub head : (d : List ℕ) (h k : Head) → HasHead d h → HasHead d k → h ≡ k
+  pub never_both : (d : List ℕ) (h : Head) (e : HeadError) → HasHead d h → HeadRefuses d e → ⊥
+  pub refusal : (d : List ℕ) (e f : HeadError) → HeadRefuses d e → HeadRefuses d f → e ≡ f
+  pub in_range : (d : List ℕ) (h : Head) → HasHead d h → h.number < 2 ^ 40
+
+-- a datagram protects one message under one number, or has one refusal, never both (RFC 8613, 8.2)
+pub record OneRequest : Type 0 where
+  pub number : (s : RequestSide) (d : List ℕ) (n k : ℕ) (m l : InnerParts) → ProtectsRequest s n m d → ProtectsRequest s k l d → n ≡ k
+  pub message : (s : RequestSide) (d : List ℕ) (n k : ℕ) (m l : InnerParts) → ProtectsRequest s n m d → ProtectsRequest s k l d → m ≡ l
+  pub never_both : (s : RequestSide) (d : List ℕ) (n : ℕ) (m : InnerParts) (e : UnprotectError) → ProtectsRequest s n m d → Refuses s d e → ⊥
+  pub refusal : (s : RequestSide) (d : List ℕ) (e f : UnprotectError) → Refuses s d e → Refuses s d f → e ≡ f

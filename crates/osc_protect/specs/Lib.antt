@@ -1,0 +1,9 @@
+pub mod Found
+pub mod Message
+pub mod Head
+pub mod Protection
+pub mod Refusals
+pub mod Opening
+pub mod Laws
+pub mod Text
+pub mod Views

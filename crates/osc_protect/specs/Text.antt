@@ -1,0 +1,31 @@
+-- How refusals print: each by its name, a format fault by its own text.
+use Rattle.std.specs.Prelude.{ℕ, List, codes}
+use Rattle.osc_coap.specs.Text.{error_text}
+use Rattle.osc_protect.specs.declared.head_error.HeadError.{HeadError}
+use Rattle.osc_protect.specs.declared.head_error.HeadError.TheVariants as heads
+use Rattle.osc_protect.specs.declared.unprotect_error.UnprotectError.{UnprotectError}
+use Rattle.osc_protect.specs.declared.unprotect_error.UnprotectError.TheVariants.{Format, NotThatKind, NoOscore, Undecodable, WrongContext, Tag, Inner}
+
+-- a refusal to read a head, as it prints (own rule)
+abbrev pub head_error_text : HeadError → List ℕ
+head_error_text (heads.Format e) = error_text e
+head_error_text heads.NotThatKind = codes "NotThatKind"
+head_error_text heads.NoOscore = codes "NoOscore"
+head_error_text heads.Undecodable = codes "Undecodable"
+
+-- a refusal to open, as it prints (own rule)
+abbrev pub unprotect_error_text : UnprotectError → List ℕ
+unprotect_error_text (Format e) = error_text e
+unprotect_error_text NotThatKind = codes "NotThatKind"
+unprotect_error_text NoOscore = codes "NoOscore"
+unprotect_error_text Undecodable = codes "Undecodable"
+unprotect_error_text WrongContext = codes "WrongContext"
+unprotect_error_text Tag = codes "Tag"
+unprotect_error_text Inner = codes "Inner"
+
+-- the refusal to open that a refusal to read the head becomes (own rule)
+abbrev pub lifted : HeadError → UnprotectError
+lifted (heads.Format e) = Format e
+lifted heads.NotThatKind = NotThatKind
+lifted heads.NoOscore = NoOscore
+lifted heads.Undecodable = Undecodable

@@ -1,0 +1,37 @@
+//! Why a datagram has no head of a protected request.
+
+use osc_coap::FormatError;
+use std::error::Error;
+use std::fmt;
+
+/// Why a datagram has no head of a protected request, in the order in which it is judged.
+#[derive(Clone, Copy, Debug, PartialEq, Eq)]
+pub enum HeadError {
+    /// The bytes are no CoAP message.
+    Format(FormatError),
+    /// The message is not CON or NON with a request code.
+    NotThatKind,
+    /// There is no OSCORE option.
+    NoOscore,
+    /// There are two or more OSCORE options, or one whose value can't be read, or lacks a Partial IV or a kid; or there is
+    /// no payload, or an option for proxies.
+    Undecodable,
+}
+
+impl fmt::Display for HeadError {
+    ghost use Rattle.std.specs.Prelude.{Some};
+    ghost use Rattle.osc_protect.specs.Text.{head_error_text};
+
+    ghost output = { λ error. Some (head_error_text error) };
+
+    fn fmt<W: fmt::Write>(&self, f: &mut fmt::Formatter<W>) -> fmt::Result {
+        match self {
+            HeadError::Format(error) => write!(f, "{error}"),
+            HeadError::NotThatKind => f.write_str("NotThatKind"),
+            HeadError::NoOscore => f.write_str("NoOscore"),
+            HeadError::Undecodable => f.write_str("Undecodable"),
+        }
+    }
+}
+
+impl Error for HeadError {}

@@ -1,0 +1,117 @@
+//! Options found by their numbers (RFC 7252, 5.10; RFC 8613, 2 and 4.1).
+
+ghost use Rattle.std.specs.Prelude.{◌≡◌, ◌≤◌, [], ◌∷◌, length, Some, None, MatchOption};
+ghost use Rattle.osc_coap.specs.Views.{options_left};
+ghost use Rattle.osc_protect.specs.Message.{first_of, has_number, is_barred, is_proxy, values_at};
+
+use osc_coap::Options;
+
+pub(crate) const URI_HOST: u16 = 3;
+
+pub(crate) const OBSERVE: u16 = 6;
+
+pub(crate) const URI_PORT: u16 = 7;
+
+pub(crate) const OSCORE: u16 = 9;
+
+pub(crate) const BLOCK_2: u16 = 23;
+
+pub(crate) const BLOCK_1: u16 = 27;
+
+pub(crate) const PROXY_URI: u16 = 35;
+
+pub(crate) const PROXY_SCHEME: u16 = 39;
+
+/// Goes on behind the next option of this number, and gives its value.
+fn next_at<'a>(options: &mut Options<'a>, wanted: u16) -> Option<&'a [u8]>
+    ensures { MatchOption result
+        (values_at wanted (options_left options.old) ≡ [])
+        (λ value. values_at wanted (options_left options.old)
+        ≡ value.now ∷ values_at wanted (options_left options.new)) }
+{
+    while let Some((number, value)) = options.next() {
+        if number == wanted {
+            return Some(value);
+        }
+    }
+    None
+}
+
+/// The value of the first option of this number.
+pub(crate) fn first_value<'a>(options: Options<'a>, wanted: u16) -> Option<&'a [u8]>
+    ensures { MatchOption result
+        (first_of (values_at wanted (options_left options.entry)) ≡ None)
+        (λ value. first_of (values_at wanted (options_left options.entry)) ≡ Some value.now) }
+{
+    let mut left = options;
+    next_at(&mut left, wanted)
+}
+
+/// How many options of one number there are, and the value of a single one.
+#[derive(Clone, Copy, Debug)]
+pub(crate) enum Found<'a> {
+    Nothing,
+    One(&'a [u8]),
+    More,
+}
+
+ghost use Rattle.osc_protect.specs.Found.{Finds};
+
+/// Looks for the options of this number.
+pub(crate) fn only_value<'a>(options: Options<'a>, wanted: u16) -> Found<'a>
+    ensures { Finds result (values_at wanted (options_left options.entry)) }
+{
+    let mut options = options;
+    let Some(value) = next_at(&mut options, wanted) else {
+        return Found::Nothing;
+    };
+    match next_at(&mut options, wanted) {
+        None => Found::One(value),
+        Some(_) => Found::More,
+    }
+}
+
+/// Whether an option of this number is for proxies.
+fn is_proxy(number: u16) -> bool
+    ensures { result ≡ is_proxy number }
+{
+    number == PROXY_URI || number == PROXY_SCHEME
+}
+
+/// Whether an option of this number may not stand inside. Own rule: the options that a proxy or the caller's CoAP stack
+/// acts on, and those that a block-wise transfer or Observe would need.
+fn is_barred(number: u16) -> bool
+    ensures { result ≡ is_barred number }
+{
+    number == URI_HOST
+        || number == OBSERVE
+        || number == URI_PORT
+        || number == OSCORE
+        || number == BLOCK_2
+        || number == BLOCK_1
+        || is_proxy(number)
+}
+
+/// Whether one of the options is for proxies.
+pub(crate) fn has_proxy(options: Options<'_>) -> bool
+    ensures { result ≡ has_number is_proxy (options_left options.entry) }
+{
+    for (number, _) in options {
+        if is_proxy(number) {
+            return true;
+        }
+    }
+    false
+}
+
+/// Whether one of the options may not stand inside.
+pub(crate) fn has_barred(options: Options<'_>) -> bool
+    ensures { result ≡ has_number is_barred (options_left options.entry) }
+{
+    for (number, _) in options {
+        if is_barred(number) {
+            return true;
+        }
+    }
+    false
+}
