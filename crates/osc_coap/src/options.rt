@@ -50,7 +50,8 @@ pub(crate) fn take_option(after: u16, bytes: &[u8]) -> Result<Item<'_>, Fault>
 fn first_item(after: u16, bytes: &[u8]) -> Option<Item<'_>>
     requires { IsSpelling after bytes.now }
     ensures none { IfNone result (options_in after bytes.now ≡ []) }
-    ensures first { IfSome result (λ item. options_in after bytes.now ≡ (item.number, item.value.now) ∷ options_in item.number item.rest.now) }
+    ensures first { IfSome result (λ item. options_in after bytes.now
+        ≡ (item.number, item.value.now) ∷ options_in item.number item.rest.now) }
     ensures spelled { IfSome result (λ item. IsSpelling item.number item.rest.now) }
 {
     if bytes.is_empty() {

@@ -42,7 +42,8 @@ pub fn open_request<'b>(
     // Whatever message the datagram protects, that is what opens.
     ensures only { (n : ℕ) (m : InnerParts) → ProtectsRequest (request_side_of opener.now) n m datagram.old
         → IsOkAnd result (λ o. (opened_number o ≡ Some n) × (message_of o ≡ m)) }
-    ensures exactly { (e : UnprotectError) → Refuses (request_side_of opener.now) datagram.old e → IsErrOf result e }
+    ensures exactly { (e : UnprotectError) → Refuses (request_side_of opener.now) datagram.old e
+        → IsErrOf result e }
 {
     one_request();
     open_both(opener, datagram)
@@ -60,13 +61,16 @@ fn open_both<'b>(opener: &Opener, datagram: &'b mut [u8]) -> Result<Opened<'b>, 
 /// Decrypts a request in its datagram: every refusal of `open_request` but `Inner` is answered here, and leaves the
 /// datagram as it came. At Ok the payload is the plaintext, and behind it the old tag.
 pub fn decrypt_request(opener: &Opener, datagram: &mut [u8]) -> Result<Place, UnprotectError>
-    ensures decrypted { IfOk result (λ place. Decrypts (request_side_of opener.now) datagram.old place datagram.new) }
+    ensures decrypted { IfOk result
+        (λ place. Decrypts (request_side_of opener.now) datagram.old place datagram.new) }
     ensures placed { IfOk result (λ place. IsDecrypted datagram.new place) }
     ensures refused { IfErr result (λ e. RefusesToDecrypt (request_side_of opener.now) datagram.old e) }
     ensures unchanged { OnErr result (datagram.new ≡ datagram.old) }
 
-    ensures only { (n : ℕ) (m : InnerParts) → ProtectsRequest (request_side_of opener.now) n m datagram.old → IsOk result }
-    ensures exactly { (e : UnprotectError) → RefusesToDecrypt (request_side_of opener.now) datagram.old e → IsErrOf result e }
+    ensures only { (n : ℕ) (m : InnerParts)
+        → ProtectsRequest (request_side_of opener.now) n m datagram.old → IsOk result }
+    ensures exactly { (e : UnprotectError)
+        → RefusesToDecrypt (request_side_of opener.now) datagram.old e → IsErrOf result e }
 {
     one_head();
     one_request();
@@ -75,7 +79,8 @@ pub fn decrypt_request(opener: &Opener, datagram: &mut [u8]) -> Result<Place, Un
 
 /// Decrypts a request's payload, if its head names the context.
 fn decrypt(opener: &Opener, datagram: &mut [u8]) -> Result<Place, UnprotectError>
-    ensures decrypted { IfOk result (λ place. Decrypts (request_side_of opener.now) datagram.old place datagram.new) }
+    ensures decrypted { IfOk result
+        (λ place. Decrypts (request_side_of opener.now) datagram.old place datagram.new) }
     ensures refused { IfErr result (λ e. RefusesToDecrypt (request_side_of opener.now) datagram.old e) }
     ensures unchanged { OnErr result (datagram.new ≡ datagram.old) }
 {

@@ -1,7 +1,7 @@
 //! What a protected request says to whoever has no key (RFC 8613, 8.2, steps 1 and 2). It is read by itself, since a
 //! server needs it to find the context by which the rest is opened.
 
-ghost use Rattle.std.specs.Prelude.{◌≡◌, ◌≢◌, ◌<◌, ◌^◌, [], IfOk, IfErr, IsOkAnd, IsErrOf, List, ℕ};
+ghost use Rattle.std.specs.Prelude.{IfOk, IfErr, IsOkAnd, IsErrOf, List, ℕ, ◌≡◌};
 ghost use Rattle.osc_coap.specs.Views.{parts_of};
 ghost use Rattle.osc_protect.specs.declared.head_error.HeadError.{HeadError};
 
