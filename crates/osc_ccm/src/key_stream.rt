@@ -21,6 +21,7 @@ pub(crate) fn add_key_stream<C: BlockCipher>(cipher: &C, nonce: &[u8; 13], messa
     requires { length message.old ≤ 65535 }
     ensures { message.new ≡ encrypted (C.cipher_key cipher.now) nonce.now message.old }
 {
+    // For the proof alone: a block of the key stream has 16 bytes.
     encrypted_length();
     for i in 0..message.len().div_ceil(16) {
         let block = stream_block(cipher, nonce, i + 1);

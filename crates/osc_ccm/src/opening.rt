@@ -48,6 +48,7 @@ pub fn open<C: BlockCipher>(
         × ((m : List ℕ) → buf.old ≡ ccm (C.cipher_key cipher.now) nonce.now aad.now m → ⊥)) }
     ensures same { OnErr result (buf.new ≡ buf.old) }
 {
+    // For the proof alone: a block of the key stream has 16 bytes.
     encrypted_length();
     if buf.len() < TAG_LEN {
         return Err(OpenError::Short);

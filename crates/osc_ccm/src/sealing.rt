@@ -41,6 +41,7 @@ pub fn seal<C: BlockCipher>(
     ensures succeeds { len ≤ 65535 → len + 8 ≤ length buf.old → IsOk result }
     ensures same { OnErr result (buf.new ≡ buf.old) }
 {
+    // For the proof alone: a block of the key stream has 16 bytes.
     encrypted_length();
     if len > MOST_PLAINTEXT {
         return Err(SealError::TooLong);

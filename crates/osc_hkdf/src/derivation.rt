@@ -1,0 +1,62 @@
+//! HKDF (RFC 5869).
+
+ghost use Rattle.std.specs.Prelude.{◌≡◌, ◌↔◌, ◌<◌, length, IsErr, OnOk, OnErr};
+ghost use Rattle.osc_hkdf.specs.Hkdf.{expand_of, extract_of};
+
+use crate::mac::hmac_sha256;
+use std::error::Error;
+use std::fmt;
+
+/// The bytes of a block of output.
+const OUTPUT_BLOCK_LEN: usize = 32;
+
+/// The most bytes of output: as many blocks as one byte counts (RFC 5869, 2.3).
+pub const MOST_OUTPUT: usize = 255 * 32;
+
+/// More output was asked for than one byte can count blocks of.
+#[derive(Clone, Copy, Debug, PartialEq, Eq)]
+pub struct TooLong;
+
+/// The pseudorandom key of a salt and a secret; an absent salt is the empty one, since both are filled with zeros
+/// (RFC 5869, 2.2).
+pub fn extract(salt: &[u8], secret: &[u8]) -> [u8; 32]
+    ensures { result ≡ extract_of salt.now secret.now }
+{
+    hmac_sha256(salt, &[secret])
+}
+
+/// Fills `out` with output of a pseudorandom key in a context, or refuses and leaves it (RFC 5869, 2.3).
+pub fn expand(prk: &[u8; 32], info: &[u8], out: &mut [u8]) -> Result<(), TooLong>
+    ensures filled { OnOk result (out.new ≡ expand_of prk.now info.now (length out.old)) }
+    ensures too_long { IsErr result ↔ (8160 < length out.old) }
+    ensures same { OnErr result (out.new ≡ out.old) }
+{
+    if out.len() > MOST_OUTPUT {
+        return Err(TooLong);
+    }
+    let mut last = [0u8; 32];
+    let mut used = 0;
+    for i in 0..out.len().div_ceil(OUTPUT_BLOCK_LEN) {
+        let counter = [(i + 1) as u8];
+        let block = hmac_sha256(prk, &[&last[..used], info, &counter]);
+        let start = OUTPUT_BLOCK_LEN * i;
+        let end = (start + OUTPUT_BLOCK_LEN).min(out.len());
+        out[start..end].copy_from_slice(&block[..end - start]);
+        last = block;
+        used = OUTPUT_BLOCK_LEN;
+    }
+    Ok(())
+}
+
+impl fmt::Display for TooLong {
+    ghost use Rattle.std.specs.Prelude.{Some};
+    ghost use Rattle.osc_hkdf.specs.Text.{too_long_name};
+
+    ghost output = { λ _. Some too_long_name };
+
+    fn fmt<W: fmt::Write>(&self, f: &mut fmt::Formatter<W>) -> fmt::Result {
+        f.write_str("TooLong")
+    }
+}
+
+impl Error for TooLong {}

@@ -1,0 +1,16 @@
+//! HMAC and HKDF over SHA-256 (RFC 2104, RFC 5869), by the SHA-256 of the crate `sha2`.
+//!
+//! ```
+//! let prk = extract(salt, secret);
+//! expand(&prk, info, &mut key)?;
+//! ```
+#![tactic(auto)]
+
+mod derivation;
+mod mac;
+
+pub use derivation::{MOST_OUTPUT, TooLong, expand, extract};
+pub use mac::hmac_sha256;
+
+#[cfg(test)]
+mod tests;
