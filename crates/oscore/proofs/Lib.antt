@@ -1,0 +1,4 @@
+pub mod Appending
+pub mod OpenTexts
+pub mod LocalCommands
+pub mod HexWords

@@ -1,0 +1,5 @@
+pub mod Calls
+pub mod Hex
+pub mod Lines
+pub mod Opening
+pub mod Written

@@ -1,0 +1,68 @@
+-- How values print (own rule: a name, one space, the value, a newline). name and text are characters, bytes any bytes.
+use Rattle.std.specs.Prelude.{ℕ, ◌/◌, ◌%◌, List, [], ◌∷◌, ◌++◌, Option, Some, None, codes}
+use Rattle.std.specs.Fmt.{decimal}
+use Rattle.std.specs.Int.{to_be_bytes, w16}
+use Rattle.hex.specs.Hex.{encode_lower}
+use Rattle.osc_coap.specs.declared.message.Kind.{Kind}
+use Rattle.osc_coap.specs.declared.message.Kind.TheVariants.{Con, Non, Ack, Rst}
+use Rattle.osc_coap.specs.OptionSpelling.{Entry}
+use Rattle.osc_protect.specs.declared.unprotect_error.UnprotectError.{UnprotectError}
+use Rattle.osc_protect.specs.Text.{unprotect_error_text}
+
+-- bytes in hex of lower case, and a dash for none (own rule)
+abbrev pub bytes_text : List ℕ → List ℕ
+bytes_text [] = codes "-"
+bytes_text (b ∷ bytes) = encode_lower (b ∷ bytes)
+
+-- the name of a message's kind (RFC 7252, 4)
+abbrev pub kind_text : Kind → List ℕ
+kind_text Con = codes "CON"
+kind_text Non = codes "NON"
+kind_text Ack = codes "ACK"
+kind_text Rst = codes "RST"
+
+-- a code as its class, a dot and two digits of detail (RFC 7252, 3)
+abbrev pub code_text : ℕ → List ℕ
+code_text code = decimal (code / 32) ++ (codes "." ++ (decimal (code % 32 / 10) ++ decimal (code % 32 % 10)))
+
+-- a number in decimal, and a dash where there is none (own rule)
+abbrev pub number_text : Option ℕ → List ℕ
+number_text None = codes "-"
+number_text (Some n) = decimal n
+
+-- the line of a name and a text (own rule)
+abbrev pub text_line : List ℕ → List ℕ → List ℕ
+text_line name text = name ++ (codes " " ++ (text ++ codes "\n"))
+
+-- the line of a name and bytes (own rule)
+abbrev pub bytes_line : List ℕ → List ℕ → List ℕ
+bytes_line name bytes = text_line name (bytes_text bytes)
+
+-- the line of a message's kind (own rule)
+abbrev pub kind_line : Kind → List ℕ
+kind_line kind = text_line (codes "kind") (kind_text kind)
+
+-- the line of a message ID: its two bytes, high byte first (own rule)
+abbrev pub message_id_line : ℕ → List ℕ
+message_id_line n = bytes_line (codes "mid") (to_be_bytes w16 n)
+
+-- the line of a code (own rule)
+abbrev pub code_line : ℕ → List ℕ
+code_line code = text_line (codes "code") (code_text code)
+
+-- the line of a message's number, where it has one (own rule)
+abbrev pub number_line : Option ℕ → List ℕ
+number_line n = text_line (codes "number") (number_text n)
+
+-- the line of a name and bytes, or no line where there are none (own rule)
+abbrev pub part_lines : List ℕ → Option (List ℕ) → List (List ℕ)
+part_lines name None = []
+part_lines name (Some bytes) = bytes_line name bytes ∷ []
+
+-- the line of an option: its number, and its value (own rule)
+abbrev pub option_line : Entry → List ℕ
+option_line entry = text_line (codes "option") (decimal entry.0 ++ (codes " " ++ bytes_text entry.1))
+
+-- the line of a refusal to open: its name, and a format fault's place (own rule)
+abbrev pub refused_line : UnprotectError → List ℕ
+refused_line e = text_line (codes "refused:") (unprotect_error_text e)

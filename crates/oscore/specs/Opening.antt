@@ -1,0 +1,47 @@
+-- What `open` prints (RFC 8613, 8.2; own rule: the lines). s is what the protection of a request takes of a context, d a
+-- datagram, n a request's number, p the parts of a datagram, m the message that it protects.
+use Rattle.std.specs.Prelude.{◌≡◌, ℕ, List, [], ◌∷◌, ◌++◌, map, Option, Some, codes}
+use Rattle.osc_coap.specs.declared.message.Kind.{Kind}
+use Rattle.osc_coap.specs.OptionSpelling.{Entry}
+use Rattle.osc_coap.specs.Datagram.{Parts, IsDatagram}
+use Rattle.osc_coap.specs.Inner.{InnerParts}
+use Rattle.osc_protect.specs.Message.{values_at, first_of}
+use Rattle.osc_protect.specs.Protection.{RequestSide, ProtectsRequest}
+use Rattle.osc_protect.specs.Refusals.{Refuses}
+use Rattle.osc_protect.specs.Views.{shown, message_of, opened_number}
+use Rattle.osc_protect.specs.declared.opened.Opened.{Opened}
+use Rattle.osc_protect.specs.declared.unprotect_error.UnprotectError.{UnprotectError}
+use Rattle.oscore.specs.Lines.{kind_line, message_id_line, code_line, number_line, bytes_line, part_lines, option_line, refused_line}
+
+-- what `open` prints of a datagram that opens, one field a row (own rule)
+pub record Printed : Type 0 where
+  pub kind : Kind
+  pub message_id : ℕ
+  pub token : List ℕ
+  pub code : ℕ
+  pub number : Option ℕ
+  pub uri_host : Option (List ℕ)
+  pub uri_port : Option (List ℕ)
+  pub options : List Entry
+  pub payload : List ℕ
+
+-- the lines of head, code and number (own rule)
+abbrev pub head_lines : Printed → List (List ℕ)
+head_lines x = kind_line x.kind ∷ message_id_line x.message_id ∷ bytes_line (codes "token") x.token ∷ code_line x.code ∷ number_line x.number ∷ []
+
+-- all lines of a datagram that opens, in their order (own rule)
+abbrev pub opened_lines : Printed → List (List ℕ)
+opened_lines x = head_lines x ++ (part_lines (codes "uri-host") x.uri_host ++ (part_lines (codes "uri-port") x.uri_port ++ (map option_line x.options ++ (bytes_line (codes "payload") x.payload ∷ []))))
+
+-- head, Uri-Host and Uri-Port of the datagram, the rest of what it protects (RFC 8613, 8.2)
+abbrev pub printed_of : Parts → ℕ → InnerParts → Printed
+printed_of p n m = record { kind = p.kind; message_id = p.message_id; token = p.token; code = m.code; number = Some n; uri_host = first_of (values_at 3 p.options); uri_port = first_of (values_at 7 p.options); options = m.options; payload = m.payload }
+
+-- what `open` prints of a datagram, and the status: 2 for a refusal (RFC 8613, 8.2)
+pub data OpenText (s : RequestSide) (d : List ℕ) (lines : List (List ℕ)) (status : ℕ) : Type 0 where
+  opened : (p : Parts) (n : ℕ) (m : InnerParts) → IsDatagram p d → ProtectsRequest s n m d → lines ≡ opened_lines (printed_of p n m) → status ≡ 0 → OpenText s d lines status
+  refused : (e : UnprotectError) → Refuses s d e → lines ≡ refused_line e ∷ [] → status ≡ 2 → OpenText s d lines status
+
+-- what was opened, as it is printed (how the code is seen)
+abbrev pub seen : Opened → Printed
+seen o = record { kind = o.kind; message_id = o.message_id; token = o.token.items; code = o.code; number = opened_number o; uri_host = shown o.uri_host; uri_port = shown o.uri_port; options = (message_of o).options; payload = o.payload.now }

@@ -1,0 +1,30 @@
+//! The command `oscore`: OSCORE (RFC 8613) on datagrams that are words of hex. `command` does all of it, over any reader
+//! and two writers; `main` is `command` on the standard streams.
+//!
+//! ```sh
+//! oscore open --key f0910ed7295e6ad4b54fc793154302ff --iv 4622d4dd6d944168eefb54987c 44025d1f00003974396c6f63616c686f7374620914ff612f1092f1776f1c1668b3825e
+//! ```
+#![tactic(auto)]
+
+mod command;
+mod fault;
+mod hex_word;
+mod lines;
+mod opening;
+#[cfg(test)]
+mod tests;
+mod words;
+
+use crate::command::{command, report};
+use crate::words::program_words;
+use std::process::ExitCode;
+
+fn main(rt: HostRuntime) -> ExitCode {
+    let alloc = rt.alloc();
+    let (mut out, mut err) = (rt.stdout(), rt.stderr());
+    let status = match program_words(&rt) {
+        Ok(words) => command(alloc, &words, &mut rt.stdin(), &mut out, &mut err),
+        Err(fault) => report(&fault, &mut err),
+    };
+    ExitCode::from(status)
+}
