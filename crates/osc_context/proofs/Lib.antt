@@ -12,3 +12,5 @@ pub mod Decided
 pub mod WrittenValues
 pub mod Readings
 pub mod KnownLengths
+pub mod SameContexts
+pub mod ContextRefusals

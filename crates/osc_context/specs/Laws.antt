@@ -1,6 +1,7 @@
--- Laws over the definitions alone: of nonces (RFC 8613, 5.2), and of values of the OSCORE option
--- and their refusals (RFC 8613, 6.1).
--- iv is a Common IV, a and b identifiers, n and m numbers, p and q what values say.
+-- Laws over the definitions alone: of refused contexts (RFC 8613, 3.2), of nonces (RFC 8613, 5.2), and of values of the
+-- OSCORE option and their refusals (RFC 8613, 6.1).
+-- g is what a context would be derived from, iv is a Common IV, a and b identifiers, n and m numbers, p and q what values
+-- say.
 use Rattle.std.specs.Prelude.{◌≡◌, ℕ, ◌^◌, ◌<◌, ◌≤◌, ◌⊎◌, List, length, IfSome}
 use Rattle.std.specs.List.{All}
 use Rattle.osc_context.specs.declared.option_error.OptionError.{OptionError}
@@ -8,6 +9,13 @@ use Rattle.osc_context.specs.Nonce.{nonce_of}
 use Rattle.osc_context.specs.AdditionalData.{additional_data_of}
 use Rattle.osc_context.specs.OscoreValue.{OscoreParts, IsOscoreValue}
 use Rattle.osc_context.specs.OptionRefusal.{Refuses, IsFirstRefusal}
+use Rattle.osc_context.specs.ContextRefusal.{RefusesFirst}
+use Rattle.osc_context.specs.declared.context_error.ContextError.{ContextError}
+use Rattle.osc_context.specs.declared.parameters.Params.{Params}
+
+-- own rule: of the refusals of a context one is the first
+abbrev pub OneContextRefusal : Type 0
+OneContextRefusal = (g : Params) (e f : ContextError) → RefusesFirst g e → RefusesFirst g f → e ≡ f
 
 -- over one Common IV a nonce is of one identifier and one number (RFC 8613, 5.2)
 abbrev pub OneNonce : Type 0

@@ -2,6 +2,9 @@ pub mod PartialIv
 pub mod Nonce
 pub mod Cbor
 pub mod AdditionalData
+pub mod SecurityContext
+pub mod Derivation
+pub mod ContextRefusal
 pub mod OscoreValue
 pub mod OptionRefusal
 pub mod Views

@@ -17,7 +17,7 @@ use arrayvec::ArrayVec;
 const OSCORE_VERSION: u8 = 1;
 
 /// AES-CCM-16-64-128, the one algorithm here (RFC 8152, 10.2).
-const ALGORITHM: u8 = 10;
+pub(crate) const ALGORITHM: u8 = 10;
 
 /// Answers the additional data of a request and of its response. Identifier and number are those of
 /// the request, also for the response (RFC 8613, 5.4).

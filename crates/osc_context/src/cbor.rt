@@ -2,7 +2,7 @@
 
 ghost use Rattle.std.specs.Prelude.{◌≡◌, ◌+◌, ◌<◌, ◌≤◌, ◌++◌, length};
 ghost use Rattle.arrayvec.specs.ArrayVec.{array_vec_len};
-ghost use Rattle.osc_context.specs.Cbor.{cbor_head, cbor_bytes, cbor_text, cbor_number};
+ghost use Rattle.osc_context.specs.Cbor.{cbor_head, cbor_bytes, cbor_text, cbor_number, cbor_nil};
 
 use arrayvec::ArrayVec;
 
@@ -14,6 +14,9 @@ const TEXT: u8 = 0x60;
 
 /// The major type of an array.
 const ARRAY: u8 = 0x80;
+
+/// What stands where there is no value.
+const NIL: u8 = 0xf6;
 
 /// From here on a length stands in a byte of its own.
 const LONG: u8 = 24;
@@ -53,6 +56,14 @@ pub(crate) fn push_number<const CAP: usize>(out: &mut ArrayVec<u8, CAP>, n: u8)
     ensures { out.new.items ≡ out.old.items ++ cbor_number n }
 {
     out.push(n);
+}
+
+/// Appends nil.
+pub(crate) fn push_nil<const CAP: usize>(out: &mut ArrayVec<u8, CAP>)
+    requires room { array_vec_len out.old < CAP }
+    ensures { out.new.items ≡ out.old.items ++ cbor_nil }
+{
+    out.push(NIL);
 }
 
 /// Appends a length behind its major type.

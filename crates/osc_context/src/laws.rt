@@ -1,6 +1,11 @@
 //! Laws over the definitions alone, each the contract of a function that does nothing.
 
-ghost use Rattle.osc_context.specs.Laws.{OneNonce, NonceLen, AdditionalDataLen, OneSpelling, OneValue, ValueNumberInRange, ValueFits, NeverBoth, OneRefusal, ValueOrRefusal};
+ghost use Rattle.osc_context.specs.Laws.{OneContextRefusal, OneNonce, NonceLen, AdditionalDataLen, OneSpelling, OneValue, ValueNumberInRange, ValueFits, NeverBoth, OneRefusal, ValueOrRefusal};
+
+/// A context that is refused is refused for one reason first (RFC 8613, 3.2 and 3.3; own rule: the limits).
+pub fn one_context_refusal()
+    ensures { OneContextRefusal }
+{}
 
 /// Over one Common IV a nonce is of one identifier and one number (RFC 8613, 5.2).
 pub fn one_nonce()

@@ -25,20 +25,27 @@
 
 mod additional_data;
 mod cbor;
+mod context;
+mod context_error;
+mod derivation;
 mod identifier;
 mod laws;
 mod nonces;
 mod option_error;
 mod option_parts;
 mod oscore_option;
+mod parameters;
 mod partial_iv;
 
 pub use additional_data::aad;
+pub use context::Context;
+pub use context_error::ContextError;
 pub use identifier::{IdContext, Kid};
-pub use laws::{known_lengths, one_nonce, one_option_value, value_or_refusal};
+pub use laws::{known_lengths, one_context_refusal, one_nonce, one_option_value, value_or_refusal};
 pub use nonces::nonce;
 pub use option_error::OptionError;
 pub use oscore_option::OscoreOption;
+pub use parameters::Params;
 pub use partial_iv::Piv;
 
 #[cfg(test)]

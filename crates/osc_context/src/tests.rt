@@ -1,3 +1,4 @@
+mod contexts;
 mod limits;
 mod option_values;
 mod requests;

@@ -9,7 +9,8 @@ use Rattle.osc_coap.specs.Datagram.{IsDatagram}
 use Rattle.osc_coap.specs.Laws.{PayloadIsTheEnd, PayloadCanBeReplaced}
 use Rattle.osc_context.specs.Views.{number_of}
 use Rattle.osc_protect.specs.Head.{Head, HasHead}
-use Rattle.osc_protect.specs.Protection.{RequestSide, request_cipher}
+use Rattle.osc_context.specs.SecurityContext.{SecurityContext}
+use Rattle.osc_protect.specs.Protection.{request_cipher}
 use Rattle.osc_protect.specs.Refusals.{Names}
 use Rattle.osc_protect.specs.Opening.{Decrypts}
 use Rattle.osc_protect.specs.declared.opening.Place.{Place}
@@ -44,7 +45,7 @@ part_is last d h x =
     ∙ sym x.2.payload
 
 -- a datagram whose payload was decrypted where it lies
-pub decrypts : (last : PayloadIsTheEnd) (other : PayloadCanBeReplaced) (s : RequestSide) (d old ys : List ℕ) (h : Head) (place : Place) (x : HasHead d h) → AreBytes ys → Names h s
+pub decrypts : (last : PayloadIsTheEnd) (other : PayloadCanBeReplaced) (s : SecurityContext) (d old ys : List ℕ) (h : Head) (place : Place) (x : HasHead d h) → AreBytes ys → Names h s
     → old ≡ h.payload → length ys ≡ length old → place.len + 8 ≡ length old → old ≡ request_cipher s h.number (take place.len ys) → drop place.len ys ≡ drop place.len old → number_of place.number ≡ h.number
     → Decrypts s d place (put_mid (length d - length h.payload) (length d - (length d - length h.payload)) d ys)
 decrypts last other s d old ys h place x bytes names is same long sealed tag number =

@@ -9,7 +9,8 @@ use Rattle.osc_context.specs.OscoreValue.{OscoreParts, IsOscoreValue}
 use Rattle.osc_protect.specs.Message.{is_request_code, has_number, is_barred}
 use Rattle.osc_protect.specs.Head.{Head, ShowsHead, HasHead, HeadRefuses, MessageRefuses, IsUndecodable, value_of_request}
 use Rattle.osc_protect.specs.Text.{lifted}
-use Rattle.osc_protect.specs.Protection.{RequestSide, ProtectsRequest, request_cipher}
+use Rattle.osc_context.specs.SecurityContext.{SecurityContext}
+use Rattle.osc_protect.specs.Protection.{ProtectsRequest, request_cipher}
 use Rattle.osc_protect.specs.Refusals.{Names, Seals, IsBadInner, Refuses}
 use Rattle.osc_protect.specs.Laws.{LayerLaws, OneHead, OneRequest}
 use Rattle.osc_protect.specs.declared.head_error.HeadError.{HeadError}
@@ -129,16 +130,16 @@ module _ (laws : LayerLaws) where
   -- ---- requests
 
   -- a refusal of a head, or one that comes after it
-  abbrev After : RequestSide → Head → UnprotectError → Type 0
+  abbrev After : SecurityContext → Head → UnprotectError → Type 0
   After s h e =
       ((e ≡ WrongContext) × (Names h s → ⊥))
       ⊎ ((e ≡ Tag) × Names h s × ((m : List ℕ) → Seals s h m → ⊥))
       ⊎ ((e ≡ Inner) × Names h s × (m : List ℕ) × Seals s h m × IsBadInner m)
 
-  abbrev Parted : RequestSide → List ℕ → UnprotectError → Type 0
+  abbrev Parted : SecurityContext → List ℕ → UnprotectError → Type 0
   Parted s d e = ((f : HeadError) × HeadRefuses d f × (e ≡ lifted f)) ⊎ ((h : Head) × HasHead d h × After s h e)
 
-  parted : (s : RequestSide) (d : List ℕ) (e : UnprotectError) → Refuses s d e → Parted s d e
+  parted : (s : SecurityContext) (d : List ℕ) (e : UnprotectError) → Refuses s d e → Parted s d e
   parted s d (Format e) r = inl (heads.Format e, r, refl)
   parted s d NotThatKind r = inl (heads.NotThatKind, r, refl)
   parted s d NoOscore r = inl (heads.NoOscore, r, refl)
@@ -147,7 +148,7 @@ module _ (laws : LayerLaws) where
   parted s d Tag r = inr (r.0, r.1, inr (inl (refl, r.2, r.3)))
   parted s d Inner r = inr (r.0, r.1, inr (inr (refl, r.2, r.3, r.4, r.5)))
 
-  after_one : (s : RequestSide) (h : Head) (e f : UnprotectError) → After s h e → After s h f → e ≡ f
+  after_one : (s : SecurityContext) (h : Head) (e f : UnprotectError) → After s h e → After s h f → e ≡ f
   after_one s h e f (inl x) (inl y) = x.0 ∙ sym y.0
   after_one s h e f (inl x) (inr (inl y)) = absurd (x.1 y.1)
   after_one s h e f (inl x) (inr (inr y)) = absurd (x.1 y.1)
@@ -158,17 +159,17 @@ module _ (laws : LayerLaws) where
   after_one s h e f (inr (inr x)) (inr (inl y)) = absurd (y.2 x.2 x.3)
   after_one s h e f (inr (inr x)) (inr (inr y)) = x.0 ∙ sym y.0
 
-  parted_one : (s : RequestSide) (d : List ℕ) (e f : UnprotectError) → Parted s d e → Parted s d f → e ≡ f
+  parted_one : (s : SecurityContext) (d : List ℕ) (e f : UnprotectError) → Parted s d e → Parted s d f → e ≡ f
   parted_one s d e f (inl x) (inl y) = x.2 ∙ ap lifted (refusal_one d x.0 y.0 x.1 y.1) ∙ sym y.2
   parted_one s d e f (inl x) (inr y) = absurd (head_never d y.0 x.0 y.1 x.1)
   parted_one s d e f (inr x) (inl y) = absurd (head_never d x.0 y.0 x.1 y.1)
   parted_one s d e f (inr x) (inr y) = after_one s y.0 e f (subst (λ (h : Head). After s h e) (heads_one d x.0 y.0 x.1 y.1) x.2) y.2
 
   -- the head of a protection
-  abbrev head_of_protection : (s : RequestSide) (n : ℕ) (m : InnerParts) (d : List ℕ) → ProtectsRequest s n m d → Head
+  abbrev head_of_protection : (s : SecurityContext) (n : ℕ) (m : InnerParts) (d : List ℕ) → ProtectsRequest s n m d → Head
   head_of_protection s n m d x = record { kind = x.outer.kind; message_id = x.outer.message_id; token = x.outer.token; kid = s.client; kid_context = s.id_context; number = n; payload = x.outer.payload }
 
-  protection_head : (s : RequestSide) (n : ℕ) (m : InnerParts) (d : List ℕ) (x : ProtectsRequest s n m d) → HasHead d (head_of_protection s n m d x)
+  protection_head : (s : SecurityContext) (n : ℕ) (m : InnerParts) (d : List ℕ) (x : ProtectsRequest s n m d) → HasHead d (head_of_protection s n m d x)
   unfolding request_cipher
   protection_head s n m d x =
       let long = laws.sealed_length _ _ _ x.plaintext in
@@ -200,7 +201,7 @@ module _ (laws : LayerLaws) where
         | inr wrong ↦ cc
       ]
 
-  after_never : (s : RequestSide) (n : ℕ) (m : InnerParts) (d : List ℕ) (e : UnprotectError) (x : ProtectsRequest s n m d) → After s (head_of_protection s n m d x) e → ⊥
+  after_never : (s : SecurityContext) (n : ℕ) (m : InnerParts) (d : List ℕ) (e : UnprotectError) (x : ProtectsRequest s n m d) → After s (head_of_protection s n m d x) e → ⊥
   unfolding request_cipher
   after_never s n m d e x (inl y) = y.1 (refl, refl)
   after_never s n m d e x (inr (inl y)) = y.2 x.plaintext x.sealed
@@ -208,14 +209,14 @@ module _ (laws : LayerLaws) where
       let same : y.2 ≡ x.plaintext = laws.one_plaintext _ _ _ y.2 x.plaintext (sym y.3 ∙ x.sealed) in
       bad_never m x.plaintext x.spells x.code x.allowed (subst IsBadInner same y.4)
 
-  parted_never : (s : RequestSide) (n : ℕ) (m : InnerParts) (d : List ℕ) (e : UnprotectError) → ProtectsRequest s n m d → Parted s d e → ⊥
+  parted_never : (s : SecurityContext) (n : ℕ) (m : InnerParts) (d : List ℕ) (e : UnprotectError) → ProtectsRequest s n m d → Parted s d e → ⊥
   parted_never s n m d e x (inl y) = head_never d (head_of_protection s n m d x) y.0 (protection_head s n m d x) y.1
   parted_never s n m d e x (inr y) = after_never s n m d e x (subst (λ (h : Head). After s h e) (heads_one d y.0 (head_of_protection s n m d x) y.1 (protection_head s n m d x)) y.2)
 
-  numbers_one : (s : RequestSide) (d : List ℕ) (n k : ℕ) (m l : InnerParts) → ProtectsRequest s n m d → ProtectsRequest s k l d → n ≡ k
+  numbers_one : (s : SecurityContext) (d : List ℕ) (n k : ℕ) (m l : InnerParts) → ProtectsRequest s n m d → ProtectsRequest s k l d → n ≡ k
   numbers_one s d n k m l x y = ap (λ (h : Head). h.number) (heads_one d (head_of_protection s n m d x) (head_of_protection s k l d y) (protection_head s n m d x) (protection_head s k l d y))
 
-  messages_one : (s : RequestSide) (d : List ℕ) (n k : ℕ) (m l : InnerParts) → ProtectsRequest s n m d → ProtectsRequest s k l d → m ≡ l
+  messages_one : (s : SecurityContext) (d : List ℕ) (n k : ℕ) (m l : InnerParts) → ProtectsRequest s n m d → ProtectsRequest s k l d → m ≡ l
   unfolding request_cipher
   messages_one s d n k m l x y =
       let payloads : x.outer.payload ≡ y.outer.payload = ap (λ (p : Parts). p.payload) (laws.one x.outer y.outer d x.datagram y.datagram) in

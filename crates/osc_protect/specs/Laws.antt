@@ -5,7 +5,8 @@ use Rattle.osc_coap.specs.Laws.{IsOneDatagram, HasOneFault, IsNeverBoth, IsOneIn
 use Rattle.osc_context.specs.Laws.{OneValue, ValueNumberInRange}
 use Rattle.osc_ccm.specs.Ccm.{HasOnePlaintext, HasTagLength}
 use Rattle.osc_protect.specs.Head.{Head, HasHead, HeadRefuses}
-use Rattle.osc_protect.specs.Protection.{RequestSide, ProtectsRequest}
+use Rattle.osc_context.specs.SecurityContext.{SecurityContext}
+use Rattle.osc_protect.specs.Protection.{ProtectsRequest}
 use Rattle.osc_protect.specs.Refusals.{Refuses}
 use Rattle.osc_protect.specs.declared.head_error.HeadError.{HeadError}
 use Rattle.osc_protect.specs.declared.unprotect_error.UnprotectError.{UnprotectError}
@@ -31,7 +32,7 @@ pub record OneHead : Type 0 where
 
 -- a datagram protects one message under one number, or has one refusal, never both (RFC 8613, 8.2)
 pub record OneRequest : Type 0 where
-  pub number : (s : RequestSide) (d : List ℕ) (n k : ℕ) (m l : InnerParts) → ProtectsRequest s n m d → ProtectsRequest s k l d → n ≡ k
-  pub message : (s : RequestSide) (d : List ℕ) (n k : ℕ) (m l : InnerParts) → ProtectsRequest s n m d → ProtectsRequest s k l d → m ≡ l
-  pub never_both : (s : RequestSide) (d : List ℕ) (n : ℕ) (m : InnerParts) (e : UnprotectError) → ProtectsRequest s n m d → Refuses s d e → ⊥
-  pub refusal : (s : RequestSide) (d : List ℕ) (e f : UnprotectError) → Refuses s d e → Refuses s d f → e ≡ f
+  pub number : (s : SecurityContext) (d : List ℕ) (n k : ℕ) (m l : InnerParts) → ProtectsRequest s n m d → ProtectsRequest s k l d → n ≡ k
+  pub message : (s : SecurityContext) (d : List ℕ) (n k : ℕ) (m l : InnerParts) → ProtectsRequest s n m d → ProtectsRequest s k l d → m ≡ l
+  pub never_both : (s : SecurityContext) (d : List ℕ) (n : ℕ) (m : InnerParts) (e : UnprotectError) → ProtectsRequest s n m d → Refuses s d e → ⊥
+  pub refusal : (s : SecurityContext) (d : List ℕ) (e f : UnprotectError) → Refuses s d e → Refuses s d f → e ≡ f

@@ -1,5 +1,5 @@
--- What opening a request gives, and what it leaves (RFC 8613, 8.2). s is what the protection of a request takes of a
--- context, d, old and new are datagrams, o is what was opened.
+-- What opening a request gives, and what it leaves (RFC 8613, 8.2). s is a security context, d, old and new are
+-- datagrams, o is what was opened.
 use Rattle.std.specs.Prelude.{◌≡◌, ◌≤◌, ℕ, ◌++◌, List, length, take, drop, Some, true, false}
 use Rattle.osc_coap.specs.Views.{options_left}
 use Rattle.osc_coap.specs.Datagram.{Parts, IsDatagram}
@@ -7,7 +7,8 @@ use Rattle.osc_coap.specs.Inner.{IsInner}
 use Rattle.osc_context.specs.Views.{number_of}
 use Rattle.osc_protect.specs.Message.{is_request_code, has_number, is_barred, values_at, first_of}
 use Rattle.osc_protect.specs.Head.{Head, ShowsHead}
-use Rattle.osc_protect.specs.Protection.{RequestSide, ProtectsRequest}
+use Rattle.osc_context.specs.SecurityContext.{SecurityContext}
+use Rattle.osc_protect.specs.Protection.{ProtectsRequest}
 use Rattle.osc_protect.specs.Refusals.{Names, Seals, IsBadInner, Refuses}
 use Rattle.osc_protect.specs.Views.{shown, message_of, opened_number}
 use Rattle.osc_protect.specs.declared.opened.Opened.{Opened}
@@ -24,7 +25,7 @@ pub record ShowsOuter (p : Parts) (o : Opened) : Type 0 where
   pub uri_port : shown o.uri_port ≡ first_of (values_at 7 p.options)
 
 -- the datagram protects what was opened, and shows the rest outside (RFC 8613, 8.2)
-pub record Opens (s : RequestSide) (d : List ℕ) (o : Opened) : Type 0 where
+pub record Opens (s : SecurityContext) (d : List ℕ) (o : Opened) : Type 0 where
   pub number : ℕ
   pub number_is : opened_number o ≡ Some number
   pub protects : ProtectsRequest s number (message_of o) d
@@ -33,7 +34,7 @@ pub record Opens (s : RequestSide) (d : List ℕ) (o : Opened) : Type 0 where
   pub shows : ShowsOuter outer o
 
 -- of the old datagram the payload became the plaintext and the old tag, all else stayed (RFC 8613, 8.2)
-pub record Decrypts (s : RequestSide) (old : List ℕ) (place : Place) (new : List ℕ) : Type 0 where
+pub record Decrypts (s : SecurityContext) (old : List ℕ) (place : Place) (new : List ℕ) : Type 0 where
   pub outer : Parts
   pub head : Head
   pub plaintext : List ℕ
@@ -65,8 +66,8 @@ RefusesInner d place e = (e ≡ Inner) × (p : Parts) × IsDatagram p d × IsBad
 
 -- each datagram that was decrypted to this one protects what was read of it (RFC 8613, 8.2)
 abbrev pub OpensAfter : Place → List ℕ → Opened → Type 0
-OpensAfter place new o = (s : RequestSide) (old : List ℕ) → Decrypts s old place new → Opens s old o
+OpensAfter place new o = (s : SecurityContext) (old : List ℕ) → Decrypts s old place new → Opens s old o
 
 -- each datagram that was decrypted to this one protects a bad plaintext (RFC 8613, 8.2)
 abbrev pub RefusesAfter : Place → List ℕ → UnprotectError → Type 0
-RefusesAfter place new e = (e ≡ Inner) × ((s : RequestSide) (old : List ℕ) → Decrypts s old place new → Refuses s old e)
+RefusesAfter place new e = (e ≡ Inner) × ((s : SecurityContext) (old : List ℕ) → Decrypts s old place new → Refuses s old e)

@@ -1,23 +1,17 @@
--- What contracts see of heads, of opened messages and of an Opener: numbers and lists, without where the bytes lie.
-use Rattle.std.specs.Prelude.{ℕ, List, Option, None}
+-- What contracts see of heads and of opened messages: numbers and lists, without where the bytes lie.
+use Rattle.std.specs.Prelude.{ℕ, List, Option}
 use Rattle.std.specs.Option.{option_map}
 use Rattle.std.specs.Borrow.{Bor}
 use Rattle.osc_coap.specs.Views.{options_left}
 use Rattle.osc_coap.specs.Inner.{InnerParts}
 use Rattle.osc_context.specs.Views.{number_of}
 use Rattle.osc_protect.specs.Head.{Head}
-use Rattle.osc_protect.specs.Protection.{RequestSide}
-use Rattle.osc_protect.specs.declared.opener.Opener.{Opener}
 use Rattle.osc_protect.specs.declared.request_head.RequestHead.{RequestHead}
 use Rattle.osc_protect.specs.declared.opened.Opened.{Opened}
 
 -- the bytes of a part, where it is there (how the code is seen)
 abbrev pub shown : Option (Bor (List ℕ)) → Option (List ℕ)
 shown part = option_map (λ bytes. bytes.now) part
-
--- what an Opener knows: a client without ID Context (how the code is seen)
-abbrev pub request_side_of : Opener → RequestSide
-request_side_of o = record { client = o.client; client_key = o.client_key; common_iv = o.common_iv; id_context = None }
 
 -- the head that was read (how the code is seen)
 abbrev pub seen_head : RequestHead → Head

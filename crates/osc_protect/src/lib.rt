@@ -1,8 +1,8 @@
 //! Opening one protected request (RFC 8613, 8.2), in the datagram that carries it, with no state.
 //!
 //! ```
-//! let opener = Opener::new(key, common_iv, kid)?;
-//! let opened = open_request(&opener, &mut datagram)?;
+//! let context = Context::derive(Params { secret, salt, id_context: None, sender, recipient })?;
+//! let opened = open_request(&context, &mut datagram)?;
 //! for (number, value) in opened.inner() { .. }
 //! ```
 #![tactic(auto)]
@@ -10,7 +10,6 @@
 mod head_error;
 mod laws;
 mod opened;
-mod opener;
 mod opening;
 mod option_search;
 mod request_head;
@@ -20,7 +19,6 @@ mod unprotect_error;
 pub use head_error::HeadError;
 pub use laws::{one_head, one_request};
 pub use opened::Opened;
-pub use opener::Opener;
 pub use opening::{Place, decrypt_request, open_request, read_request};
 pub use request_head::{RequestHead, head_of_request};
 pub use unprotect_error::UnprotectError;

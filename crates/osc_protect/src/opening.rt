@@ -3,15 +3,14 @@
 
 ghost use Rattle.std.specs.Prelude.{◌≡◌, ◌≢◌, ◌≤◌, ◌+◌, ℕ, List, length, take, drop, Some, IfOk, IfErr, IfSome, IfNone, OnErr, IsOk, IsOkAnd, IsErrOf, true, false};
 ghost use Rattle.osc_coap.specs.Inner.{InnerParts};
-ghost use Rattle.osc_context.specs.Views.{number_of};
+ghost use Rattle.osc_context.specs.Views.{as_server, number_of};
 ghost use Rattle.osc_protect.specs.Protection.{ProtectsRequest, request_cipher};
 ghost use Rattle.osc_protect.specs.Refusals.{Names, Refuses, RefusesToDecrypt};
-ghost use Rattle.osc_protect.specs.Views.{message_of, opened_number, request_side_of, seen_head};
+ghost use Rattle.osc_protect.specs.Views.{message_of, opened_number, seen_head, shown};
 ghost use Rattle.osc_protect.specs.declared.unprotect_error.UnprotectError.{UnprotectError};
 
 use crate::laws::{one_head, one_request};
 use crate::opened::Opened;
-use crate::opener::Opener;
 use crate::option_search::{URI_HOST, URI_PORT, first_value, has_barred};
 use crate::request_head::{RequestHead, head_of_request};
 use crate::requests::is_request_code;
@@ -19,7 +18,7 @@ use crate::unprotect_error::UnprotectError;
 use osc_aes::TableAes;
 use osc_ccm::{open, sealed_length};
 use osc_coap::{one_datagram, parse, parse_inner, payload_stands_last};
-use osc_context::{Piv, aad, nonce};
+use osc_context::{Context, Piv, aad, nonce};
 
 /// Where the plaintext lies in a datagram that was decrypted: `decrypt_request` gives it, for `read_request` alone.
 #[derive(Clone, Copy, Debug)]
@@ -33,55 +32,55 @@ ghost use Rattle.osc_protect.specs.Opening.{Decrypts, IsDecrypted, Opens, OpensA
 /// Opens a request in its datagram: `decrypt_request`, then `read_request`. The first refusal in the order of
 /// `UnprotectError` is answered. Those two say what the datagram holds afterwards.
 pub fn open_request<'b>(
-    opener: &Opener,
+    context: &Context,
     datagram: &'b mut [u8],
 ) -> Result<Opened<'b>, UnprotectError>
-    ensures opened { IfOk result (λ o. Opens (request_side_of opener.now) datagram.old o) }
-    ensures refused { IfErr result (λ e. Refuses (request_side_of opener.now) datagram.old e) }
+    ensures opened { IfOk result (λ o. Opens (as_server context.now) datagram.old o) }
+    ensures refused { IfErr result (λ e. Refuses (as_server context.now) datagram.old e) }
 
     // Whatever message the datagram protects, that is what opens.
-    ensures only { (n : ℕ) (m : InnerParts) → ProtectsRequest (request_side_of opener.now) n m datagram.old
+    ensures only { (n : ℕ) (m : InnerParts) → ProtectsRequest (as_server context.now) n m datagram.old
         → IsOkAnd result (λ o. (opened_number o ≡ Some n) × (message_of o ≡ m)) }
-    ensures exactly { (e : UnprotectError) → Refuses (request_side_of opener.now) datagram.old e
+    ensures exactly { (e : UnprotectError) → Refuses (as_server context.now) datagram.old e
         → IsErrOf result e }
 {
     one_request();
-    open_both(opener, datagram)
+    open_both(context, datagram)
 }
 
 /// Both halves, one after the other.
-fn open_both<'b>(opener: &Opener, datagram: &'b mut [u8]) -> Result<Opened<'b>, UnprotectError>
-    ensures opened { IfOk result (λ o. Opens (request_side_of opener.now) datagram.old o) }
-    ensures refused { IfErr result (λ e. Refuses (request_side_of opener.now) datagram.old e) }
+fn open_both<'b>(context: &Context, datagram: &'b mut [u8]) -> Result<Opened<'b>, UnprotectError>
+    ensures opened { IfOk result (λ o. Opens (as_server context.now) datagram.old o) }
+    ensures refused { IfErr result (λ e. Refuses (as_server context.now) datagram.old e) }
 {
-    let place = decrypt_request(opener, datagram)?;
+    let place = decrypt_request(context, datagram)?;
     read_request(datagram, place)
 }
 
 /// Decrypts a request in its datagram: every refusal of `open_request` but `Inner` is answered here, and leaves the
 /// datagram as it came. At Ok the payload is the plaintext, and behind it the old tag.
-pub fn decrypt_request(opener: &Opener, datagram: &mut [u8]) -> Result<Place, UnprotectError>
+pub fn decrypt_request(context: &Context, datagram: &mut [u8]) -> Result<Place, UnprotectError>
     ensures decrypted { IfOk result
-        (λ place. Decrypts (request_side_of opener.now) datagram.old place datagram.new) }
+        (λ place. Decrypts (as_server context.now) datagram.old place datagram.new) }
     ensures placed { IfOk result (λ place. IsDecrypted datagram.new place) }
-    ensures refused { IfErr result (λ e. RefusesToDecrypt (request_side_of opener.now) datagram.old e) }
+    ensures refused { IfErr result (λ e. RefusesToDecrypt (as_server context.now) datagram.old e) }
     ensures unchanged { OnErr result (datagram.new ≡ datagram.old) }
 
     ensures only { (n : ℕ) (m : InnerParts)
-        → ProtectsRequest (request_side_of opener.now) n m datagram.old → IsOk result }
+        → ProtectsRequest (as_server context.now) n m datagram.old → IsOk result }
     ensures exactly { (e : UnprotectError)
-        → RefusesToDecrypt (request_side_of opener.now) datagram.old e → IsErrOf result e }
+        → RefusesToDecrypt (as_server context.now) datagram.old e → IsErrOf result e }
 {
     one_head();
     one_request();
-    decrypt(opener, datagram)
+    decrypt(context, datagram)
 }
 
 /// Decrypts a request's payload, if its head names the context.
-fn decrypt(opener: &Opener, datagram: &mut [u8]) -> Result<Place, UnprotectError>
+fn decrypt(context: &Context, datagram: &mut [u8]) -> Result<Place, UnprotectError>
     ensures decrypted { IfOk result
-        (λ place. Decrypts (request_side_of opener.now) datagram.old place datagram.new) }
-    ensures refused { IfErr result (λ e. RefusesToDecrypt (request_side_of opener.now) datagram.old e) }
+        (λ place. Decrypts (as_server context.now) datagram.old place datagram.new) }
+    ensures refused { IfErr result (λ e. RefusesToDecrypt (as_server context.now) datagram.old e) }
     ensures unchanged { OnErr result (datagram.new ≡ datagram.old) }
 {
     payload_stands_last();
@@ -90,41 +89,53 @@ fn decrypt(opener: &Opener, datagram: &mut [u8]) -> Result<Place, UnprotectError
         Err(error) => return Err(UnprotectError::from(error)),
     };
     // The context is asked before the tag is checked (RFC 8613, 8.2).
-    if !is_named(&head, opener) {
+    if !is_named(&head, context) {
         return Err(UnprotectError::WrongContext);
     }
     let number = head.number;
     let start = datagram.len() - head.payload.len();
-    match decrypt_payload(opener, number, &mut datagram[start..]) {
+    match decrypt_payload(context, number, &mut datagram[start..]) {
         Some(len) => Ok(Place { number, len }),
         None => Err(UnprotectError::Tag),
     }
 }
 
-/// Whether the head names the context: its client, and no ID Context.
-fn is_named(head: &RequestHead<'_>, opener: &Opener) -> bool
-    ensures yes { result ≡ true → Names (seen_head head.now) (request_side_of opener.now) }
-    ensures no { result ≡ false → Names (seen_head head.now) (request_side_of opener.now) → ⊥ }
+/// Whether the head names the context: the other end, and the ID Context or none.
+fn is_named(head: &RequestHead<'_>, context: &Context) -> bool
+    ensures yes { result ≡ true → Names (seen_head head.now) (as_server context.now) }
+    ensures no { result ≡ false → Names (seen_head head.now) (as_server context.now) → ⊥ }
 {
-    head.kid_context.is_none() && head.kid == opener.client().bytes()
+    head.kid == context.recipient().bytes() && is_in_id_context(head.kid_context, context)
+}
+
+/// Whether there is a kid context exactly if the context has an ID Context, with the same bytes.
+fn is_in_id_context(kid_context: Option<&[u8]>, context: &Context) -> bool
+    ensures yes { result ≡ true → shown kid_context.entry ≡ (as_server context.now).id_context }
+    ensures no { result ≡ false → shown kid_context.entry ≡ (as_server context.now).id_context → ⊥ }
+{
+    match (kid_context, context.id_context()) {
+        (None, None) => true,
+        (Some(kid_context), Some(id_context)) => kid_context == id_context.bytes(),
+        _ => false,
+    }
 }
 
 /// Decrypts a request's payload where it lies, and says how long the plaintext is.
 #[tactic(auto, unfolding(crate::specs::Protection::request_cipher))]
-fn decrypt_payload(opener: &Opener, number: Piv, payload: &mut [u8]) -> Option<usize>
+fn decrypt_payload(context: &Context, number: Piv, payload: &mut [u8]) -> Option<usize>
     requires { length payload.old ≤ 65535 }
     ensures long { IfSome result (λ n. n + 8 ≡ length payload.old) }
     ensures sealed { IfSome result (λ n. payload.old
-        ≡ request_cipher (request_side_of opener.now) (number_of number) (take n payload.new)) }
+        ≡ request_cipher (as_server context.now) (number_of number) (take n payload.new)) }
     ensures tag { IfSome result (λ n. drop n payload.new ≡ drop n payload.old) }
     ensures refused { IfNone result ((m : List ℕ)
-        → payload.old ≢ request_cipher (request_side_of opener.now) (number_of number) m) }
+        → payload.old ≢ request_cipher (as_server context.now) (number_of number) m) }
     ensures unchanged { IfNone result (payload.new ≡ payload.old) }
 {
     sealed_length();
-    let cipher = TableAes::new(opener.client_key());
-    let nonce = nonce(opener.common_iv(), opener.client(), number);
-    let aad = aad(opener.client(), number);
+    let cipher = TableAes::new(context.recipient_key());
+    let nonce = nonce(context.common_iv(), context.recipient(), number);
+    let aad = aad(context.recipient(), number);
     open(&cipher, &nonce, aad.as_slice(), payload).ok()
 }
 

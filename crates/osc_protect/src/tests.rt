@@ -4,16 +4,39 @@ mod hostile;
 mod insides;
 mod vectors;
 
-use crate::{Opener, UnprotectError, open_request};
+use crate::{UnprotectError, open_request};
+use osc_context::{Context, Params};
 use std::process::Abort;
 
-// RFC 8613, C.1: the client's key and the Common IV; the client's identifier is empty.
-const KEY: [u8; 16] = [
-    0xf0, 0x91, 0x0e, 0xd7, 0x29, 0x5e, 0x6a, 0xd4, 0xb5, 0x4f, 0xc7, 0x93, 0x15, 0x43, 0x02, 0xff,
-];
+// RFC 8613, C.1 to C.3: the servers' contexts. The third is of the same identifiers as the first, in an ID Context.
+const SECRET: [u8; 16] = [1, 2, 3, 4, 5, 6, 7, 8, 9, 10, 11, 12, 13, 14, 15, 16];
 
-const COMMON_IV: [u8; 13] = [
-    0x46, 0x22, 0xd4, 0xdd, 0x6d, 0x94, 0x41, 0x68, 0xee, 0xfb, 0x54, 0x98, 0x7c,
+const SALT: [u8; 8] = [0x9e, 0x7c, 0xa9, 0x22, 0x23, 0x78, 0x63, 0x40];
+
+const ID_CONTEXT: [u8; 8] = [0x37, 0xcb, 0xf3, 0x21, 0x00, 0x17, 0xa2, 0xd3];
+
+const SERVERS: [Params<'static>; 3] = [
+    Params {
+        secret: &SECRET,
+        salt: &SALT,
+        id_context: None,
+        sender: &[1],
+        recipient: &[],
+    },
+    Params {
+        secret: &SECRET,
+        salt: &[],
+        id_context: None,
+        sender: &[1],
+        recipient: &[0],
+    },
+    Params {
+        secret: &SECRET,
+        salt: &SALT,
+        id_context: Some(&ID_CONTEXT),
+        sender: &[1],
+        recipient: &[],
+    },
 ];
 
 // RFC 8613, C.4, as it is sent, and with its plaintext in place of its ciphertext; C.5 and C.6 as they are sent.
@@ -41,12 +64,17 @@ const REQUEST_WITH_KID_CONTEXT: [u8; 44] = [
     0xcd, 0x72, 0x73, 0xfd, 0x33, 0x1a, 0xc4, 0x5c, 0xff, 0xbe, 0x55, 0xc3,
 ];
 
-fn opener(rt: &impl Abort, kid: &[u8]) -> Opener {
-    Opener::new(KEY, COMMON_IV, kid).expect(rt, "a kid of at most 7 bytes")
+fn derived(rt: &impl Abort, params: Params<'_>) -> Context {
+    Context::derive(params).ok().expect(rt, "a context")
 }
 
-fn outcome_of(opener: &Opener, datagram: &mut [u8]) -> Result<(), UnprotectError> {
-    match open_request(opener, datagram) {
+/// The server of C.1.
+fn server(rt: &impl Abort) -> Context {
+    derived(rt, SERVERS[0])
+}
+
+fn outcome_of(context: &Context, datagram: &mut [u8]) -> Result<(), UnprotectError> {
+    match open_request(context, datagram) {
         Ok(_) => Ok(()),
         Err(error) => Err(error),
     }

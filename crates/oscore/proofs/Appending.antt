@@ -1,12 +1,12 @@
 -- One write after another.
-use Rattle.std.proofs.Common.{◌≡◌, ℕ, suc, ◌+◌, ◌≤◌, List, [], ◌∷◌, ◌++◌, length, take, Option, Result, Ok, Err, refl, sym, ap, subst, ◌∙◌, append_assoc, arith, inl, inr}
+use Rattle.std.proofs.Common.{◌≡◌, ℕ, suc, ◌+◌, ◌≤◌, List, [], ◌∷◌, ◌++◌, length, take, Option, Some, None, IfSome, Result, Ok, Err, refl, sym, ap, subst, ◌∙◌, append_assoc, arith, inl, inr}
 use Rattle.std.specs.Io.KnownBytes.{Appends}
 use Rattle.std.proofs.KnownBytes.{Appends-nil, Appends-trans}
-use Rattle.std.proofs.lemmas.List.{append-nil, take_at, take-append-le, take_all}
+use Rattle.std.proofs.lemmas.List.{append-nil, take-append-le, take_all}
 use Rattle.std.proofs.lemmas.Bool.{cases_lt}
 use Rattle.oscore.specs.declared.fault.Fault.{Fault}
 use Rattle.oscore.specs.declared.fault.Fault.TheVariants.{Usage, Words, Input, Memory, Write}
-use Rattle.oscore.specs.Written.{text_of, AppendsFront, Stops, Writes}
+use Rattle.oscore.specs.Written.{text_of, Stops, Writes}
 
 -- of the whole lines all but the rest are written
 pub record SoFar (old now : Option (List ℕ)) (whole rest : List (List ℕ)) : Type 0 where
@@ -63,3 +63,8 @@ so_far_done old now whole s = subst (λ (t : List (List ℕ)). Appends old now (
 pub so_far_writes : (old now new : Option (List ℕ)) (whole rest : List (List ℕ)) (r : Result (Unit {0}) Fault) → SoFar old now whole rest → Writes now new rest r → Writes old new whole r
 so_far_writes old now new whole rest (Ok x) s w = let t = so_far_more old now new whole rest [] (subst (SoFar old now whole) (sym (append-nil rest)) s) w in so_far_done old new whole t
 so_far_writes old now new whole rest (Err e) s w = so_far_error old now new whole rest [] e (subst (SoFar old now whole) (sym (append-nil rest)) s) w
+
+-- a text that could not be made: nothing is written of its lines
+pub none_written : (text : Option (List ℕ)) (lines : List ℕ → List (List ℕ)) (old : Option (List ℕ)) → IfSome text (λ t. Stops old old (lines t) Memory)
+none_written None lines old = tt
+none_written (Some t) lines old = (0, Appends-nil old)

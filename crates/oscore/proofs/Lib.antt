@@ -1,4 +1,5 @@
 pub mod Appending
+pub mod ContextTexts
 pub mod OpenTexts
 pub mod LocalCommands
 pub mod HexWords

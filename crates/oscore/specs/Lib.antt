@@ -1,5 +1,6 @@
 pub mod Calls
 pub mod Hex
 pub mod Lines
+pub mod Contexts
 pub mod Opening
 pub mod Written

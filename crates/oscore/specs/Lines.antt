@@ -6,8 +6,6 @@ use Rattle.hex.specs.Hex.{encode_lower}
 use Rattle.osc_coap.specs.declared.message.Kind.{Kind}
 use Rattle.osc_coap.specs.declared.message.Kind.TheVariants.{Con, Non, Ack, Rst}
 use Rattle.osc_coap.specs.OptionSpelling.{Entry}
-use Rattle.osc_protect.specs.declared.unprotect_error.UnprotectError.{UnprotectError}
-use Rattle.osc_protect.specs.Text.{unprotect_error_text}
 
 -- bytes in hex of lower case, and a dash for none (own rule)
 abbrev pub bytes_text : List ℕ → List ℕ
@@ -63,6 +61,6 @@ part_lines name (Some bytes) = bytes_line name bytes ∷ []
 abbrev pub option_line : Entry → List ℕ
 option_line entry = text_line (codes "option") (decimal entry.0 ++ (codes " " ++ bytes_text entry.1))
 
--- the line of a refusal to open: its name, and a format fault's place (own rule)
-abbrev pub refused_line : UnprotectError → List ℕ
-refused_line e = text_line (codes "refused:") (unprotect_error_text e)
+-- the line of a refusal: its text, which is its name, and a format fault's place (own rule)
+abbrev pub refused_line : List ℕ → List ℕ
+refused_line text = text_line (codes "refused:") text

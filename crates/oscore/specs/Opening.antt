@@ -1,16 +1,21 @@
--- What `open` prints (RFC 8613, 8.2; own rule: the lines). s is what the protection of a request takes of a context, d a
--- datagram, n a request's number, p the parts of a datagram, m the message that it protects.
+-- What `open` prints (RFC 8613, 8.2; own rule: the lines). s is a security context, g what it is derived from, d a datagram,
+-- n a request's number, p the parts of a datagram, m the message that it protects.
 use Rattle.std.specs.Prelude.{◌≡◌, ℕ, List, [], ◌∷◌, ◌++◌, map, Option, Some, codes}
 use Rattle.osc_coap.specs.declared.message.Kind.{Kind}
 use Rattle.osc_coap.specs.OptionSpelling.{Entry}
 use Rattle.osc_coap.specs.Datagram.{Parts, IsDatagram}
 use Rattle.osc_coap.specs.Inner.{InnerParts}
 use Rattle.osc_protect.specs.Message.{values_at, first_of}
-use Rattle.osc_protect.specs.Protection.{RequestSide, ProtectsRequest}
+use Rattle.osc_context.specs.SecurityContext.{SecurityContext}
+use Rattle.osc_context.specs.Views.{server_context_of}
+use Rattle.osc_context.specs.declared.parameters.Params.{Params}
+use Rattle.osc_protect.specs.Protection.{ProtectsRequest}
+use Rattle.osc_protect.specs.Text.{unprotect_error_text}
 use Rattle.osc_protect.specs.Refusals.{Refuses}
 use Rattle.osc_protect.specs.Views.{shown, message_of, opened_number}
 use Rattle.osc_protect.specs.declared.opened.Opened.{Opened}
 use Rattle.osc_protect.specs.declared.unprotect_error.UnprotectError.{UnprotectError}
+use Rattle.oscore.specs.Contexts.{InContext, Told}
 use Rattle.oscore.specs.Lines.{kind_line, message_id_line, code_line, number_line, bytes_line, part_lines, option_line, refused_line}
 
 -- what `open` prints of a datagram that opens, one field a row (own rule)
@@ -37,10 +42,14 @@ opened_lines x = head_lines x ++ (part_lines (codes "uri-host") x.uri_host ++ (p
 abbrev pub printed_of : Parts → ℕ → InnerParts → Printed
 printed_of p n m = record { kind = p.kind; message_id = p.message_id; token = p.token; code = m.code; number = Some n; uri_host = first_of (values_at 3 p.options); uri_port = first_of (values_at 7 p.options); options = m.options; payload = m.payload }
 
--- what `open` prints of a datagram, and the status: 2 for a refusal (RFC 8613, 8.2)
-pub data OpenText (s : RequestSide) (d : List ℕ) (lines : List (List ℕ)) (status : ℕ) : Type 0 where
-  opened : (p : Parts) (n : ℕ) (m : InnerParts) → IsDatagram p d → ProtectsRequest s n m d → lines ≡ opened_lines (printed_of p n m) → status ≡ 0 → OpenText s d lines status
-  refused : (e : UnprotectError) → Refuses s d e → lines ≡ refused_line e ∷ [] → status ≡ 2 → OpenText s d lines status
+-- what `open` prints of a datagram under a context, and the status: 2 for a refusal (RFC 8613, 8.2)
+pub data DatagramText (s : SecurityContext) (d : List ℕ) (lines : List (List ℕ)) (status : ℕ) : Type 0 where
+  opened : (p : Parts) (n : ℕ) (m : InnerParts) → IsDatagram p d → ProtectsRequest s n m d → lines ≡ opened_lines (printed_of p n m) → status ≡ 0 → DatagramText s d lines status
+  refused : (e : UnprotectError) → Refuses s d e → lines ≡ refused_line (unprotect_error_text e) ∷ [] → status ≡ 2 → DatagramText s d lines status
+
+-- what `open` prints of a datagram: the other end of its context is the client (RFC 8613, 8.2)
+abbrev pub OpenText : Params → List ℕ → Told
+OpenText g d = InContext g (DatagramText (server_context_of g) d)
 
 -- what was opened, as it is printed (how the code is seen)
 abbrev pub seen : Opened → Printed

@@ -16,9 +16,9 @@ pub enum Wrong {
     /// The word spells no bytes.
     #[error("bad hex")]
     BadHex,
-    /// The word spells another number of bytes than this.
-    #[error("not {0}")]
-    Length(&'static str),
+    /// No call has that name.
+    #[error("unknown")]
+    Unknown,
 }
 
 /// Why the command ends with status 1. Each prints on one line.
@@ -39,6 +39,11 @@ pub enum Fault {
     /// A write to standard output failed.
     #[error("cannot write: {}", .0.kind())]
     Write(io::Error),
+}
+
+/// The fault of one word, named by its place in the call.
+pub(crate) fn input_fault(word: &'static str, wrong: Wrong) -> Fault {
+    Fault::Input { word, wrong }
 }
 
 impl From<AllocError> for Fault {

@@ -1,6 +1,6 @@
 //! How values print: each line is made whole, and then written.
 
-ghost use Rattle.std.specs.Prelude.{◌≡◌, ◌∷◌, [], IfOk, string_bytes, map, option_map, codes};
+ghost use Rattle.std.specs.Prelude.{◌≡◌, ◌∷◌, [], IfOk, IfSome, string_bytes, map, option_map, codes};
 ghost use Rattle.osc_coap.specs.Views.{options_left};
 ghost use Rattle.osc_context.specs.Views.{number_of};
 ghost use Rattle.osc_protect.specs.Views.{message_of, shown};
@@ -11,8 +11,9 @@ ghost use Rattle.oscore.specs.Written.{Writes};
 use crate::fault::Fault;
 use osc_coap::{Kind, Options, Token};
 use osc_context::Piv;
-use osc_protect::{Opened, UnprotectError};
+use osc_protect::Opened;
 use std::alloc::{AllocError, Global};
+use std::fmt::Display;
 use std::io::Write;
 
 /// The bytes in hex, or a dash for none.
@@ -189,16 +190,19 @@ pub(crate) fn put_opened<W: Write>(
     put_bytes(alloc, "payload", opened.payload, out)
 }
 
-/// Writes the line of a refusal, by its name.
-pub(crate) fn put_refused<W: Write>(
+/// Writes the line of a refusal, by its name, and answers its status.
+pub(crate) fn put_refused<D: Display + Drop, W: Write>(
     alloc: Global,
-    refusal: UnprotectError,
+    refusal: D,
     out: &mut W,
-) -> Result<(), Fault>
-    ensures { Writes (W.contents out.old) (W.contents out.new) (refused_line refusal ∷ []) result }
+) -> Result<u8, Fault>
+    ensures written { IfSome (D.output refusal)
+        (λ text. Writes (W.contents out.old) (W.contents out.new) (refused_line text ∷ []) result) }
+    ensures status { IfOk result (λ s. s ≡ 2) }
 {
     let text = format!(in alloc; "{refusal}")?;
-    put_text(alloc, "refused:", text.as_str(), out)
+    put_text(alloc, "refused:", text.as_str(), out)?;
+    Ok(2)
 }
 
 /// Writes the help that was asked for.

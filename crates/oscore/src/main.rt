@@ -2,11 +2,13 @@
 //! and two writers; `main` is `command` on the standard streams.
 //!
 //! ```sh
-//! oscore open --key f0910ed7295e6ad4b54fc793154302ff --iv 4622d4dd6d944168eefb54987c 44025d1f00003974396c6f63616c686f7374620914ff612f1092f1776f1c1668b3825e
+//! oscore open --secret 0102030405060708090a0b0c0d0e0f10 --salt 9e7ca92223786340 --sender 01 44025d1f00003974396c6f63616c686f7374620914ff612f1092f1776f1c1668b3825e
 //! ```
 #![tactic(auto)]
 
 mod command;
+mod context_words;
+mod derivation;
 mod fault;
 mod hex_word;
 mod lines;

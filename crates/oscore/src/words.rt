@@ -4,16 +4,20 @@ ghost use Rattle.std.specs.Prelude.{◌≡◌, IfOk, false, true};
 ghost use Rattle.clap.specs.Matches.{has_subcommand};
 ghost use Rattle.oscore.specs.Calls.{IsLocal, NeedsSubcommand};
 
-use crate::fault::Fault;
+use crate::fault::{Fault, Wrong, input_fault};
+use crate::hex_word::{HexError, read_hex};
 use clap::{Arg, ArgAction, ArgMatches, Command, Error};
 use std::alloc::{AllocError, Global};
 use std::env;
 use std::rt::Env;
 
-const ABOUT: &str = "Opens CoAP requests that OSCORE (RFC 8613) protects.";
+const ABOUT: &str =
+    "Derives contexts of OSCORE (RFC 8613), and opens the CoAP requests that it protects.";
 
 const EXAMPLE: &str = "Example:
-  oscore open --key f0910ed7295e6ad4b54fc793154302ff --iv 4622d4dd6d944168eefb54987c 44025d1f00003974396c6f63616c686f7374620914ff612f1092f1776f1c1668b3825e";
+  oscore open --secret 0102030405060708090a0b0c0d0e0f10 --salt 9e7ca92223786340 --sender 01 44025d1f00003974396c6f63616c686f7374620914ff612f1092f1776f1c1668b3825e";
+
+const ABOUT_DERIVE: &str = "Derives a context, and prints its keys and its Common IV.";
 
 const ABOUT_OPEN: &str = "Opens a protected request, and prints what it says, one part a line.";
 
@@ -46,23 +50,53 @@ fn datagram_word<'a>(alloc: Global) -> Arg<'a>
         .help("The datagram, in hex")
 }
 
+/// A command with the options of a context. This end is the sender.
+fn with_context<'a>(command: Command<'a>, alloc: Global) -> Result<Command<'a>, AllocError>
+    requires { IsLocal command }
+    ensures { IfOk result IsLocal }
+{
+    let secret = hex_option(alloc, "secret", "The Master Secret, 1 to 64 bytes").required(true);
+    let salt = hex_option(
+        alloc,
+        "salt",
+        "The Master Salt, 0 to 64 bytes [default: none]",
+    );
+    let sender = hex_option(
+        alloc,
+        "sender",
+        "This end's identifier, 0 to 7 bytes [default: none]",
+    );
+    let recipient = hex_option(
+        alloc,
+        "recipient",
+        "The other end's identifier, 0 to 7 bytes [default: none]",
+    );
+    let id_context = hex_option(
+        alloc,
+        "id-context",
+        "The ID Context, 1 to 32 bytes, where there is one",
+    );
+    command
+        .arg(secret)?
+        .arg(salt)?
+        .arg(sender)?
+        .arg(recipient)?
+        .arg(id_context)
+}
+
+fn derive_command<'a>(alloc: Global) -> Result<Command<'a>, AllocError>
+    ensures { IfOk result IsLocal }
+{
+    with_context(Command::new(alloc, "derive").about(ABOUT_DERIVE), alloc)
+}
+
 fn open_command<'a>(alloc: Global) -> Result<Command<'a>, AllocError>
     ensures { IfOk result IsLocal }
 {
-    let key = hex_option(alloc, "key", "The client's key, 16 bytes").required(true);
-    let iv = hex_option(alloc, "iv", "The Common IV, 13 bytes").required(true);
-    let kid = hex_option(
-        alloc,
-        "kid",
-        "The client's identifier, 0 to 7 bytes [default: none]",
-    );
-    Command::new(alloc, "open")
+    let command = Command::new(alloc, "open")
         .about(ABOUT_OPEN)
-        .after_help(EXAMPLE)
-        .arg(key)?
-        .arg(iv)?
-        .arg(kid)?
-        .arg(datagram_word(alloc))
+        .after_help(EXAMPLE);
+    with_context(command, alloc)?.arg(datagram_word(alloc))
 }
 
 /// All that the words of a call can ask for.
@@ -74,6 +108,7 @@ fn program<'a>(alloc: Global) -> Result<Command<'a>, AllocError>
         .bin_name("oscore")?
         .about(ABOUT)
         .after_help(EXAMPLE)
+        .subcommand(derive_command(alloc)?)?
         .subcommand(open_command(alloc)?)?;
     Ok(command.subcommand_required(true))
 }
@@ -85,4 +120,26 @@ pub fn read_words<'a>(alloc: Global, words: &'a [String]) -> Result<ArgMatches<'
 {
     let command = program(alloc)?;
     command.try_get_matches_from(words)
+}
+
+/// The bytes that a word spells, or the fault that names the word's place in the call.
+pub(crate) fn bytes_of(alloc: Global, name: &'static str, word: &str) -> Result<Vec<u8>, Fault> {
+    match read_hex(alloc, word) {
+        Ok(bytes) => Ok(bytes),
+        Err(HexError::Memory) => Err(Fault::Memory),
+        Err(HexError::BadHex) => Err(input_fault(name, Wrong::BadHex)),
+    }
+}
+
+/// The bytes of a word that the call can't be without. The words were read, so it is there.
+pub(crate) fn required_bytes(
+    alloc: Global,
+    matches: &ArgMatches<'_>,
+    id: &str,
+    name: &'static str,
+) -> Result<Vec<u8>, Fault> {
+    match matches.get_str(id) {
+        Some(word) => bytes_of(alloc, name, word),
+        None => Err(input_fault(name, Wrong::Missing)),
+    }
 }

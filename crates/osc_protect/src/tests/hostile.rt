@@ -1,6 +1,6 @@
 //! C.4 of RFC 8613 cut to each length, and with each bit turned.
 
-use super::{REQUEST, opener, outcome_of};
+use super::{REQUEST, outcome_of, server};
 use crate::UnprotectError;
 use osc_coap::{Fault, FormatError};
 
@@ -38,13 +38,13 @@ fn the_request_cut_to_each_length(rt: HostRuntime) {
         cut_row(23, 34, Err(UnprotectError::Tag)),
         cut_row(35, 35, Ok(())),
     ];
-    let opener = opener(&rt, &[]);
+    let server = server(&rt);
     let mut tried = 0u32;
     for row in &rows {
         assert!(rt; row.longest <= 35);
         for len in row.shortest..row.longest + 1 {
             let mut datagram = REQUEST;
-            let outcome = outcome_of(&opener, &mut datagram[..len]);
+            let outcome = outcome_of(&server, &mut datagram[..len]);
             assert_eq!(rt; outcome, row.outcome, "cut to {len}");
             if outcome.is_err() {
                 assert_eq!(rt; datagram.as_slice(), REQUEST.as_slice(), "cut to {len}");
@@ -115,7 +115,7 @@ fn class_of(outcome: Result<(), UnprotectError>) -> usize {
 
 #[test]
 fn the_request_with_each_bit_turned(rt: HostRuntime) {
-    let opener = opener(&rt, &[]);
+    let server = server(&rt);
     let mut totals = [0u32; 7];
     for row in &turned_rows() {
         assert!(rt; row.last < 35);
@@ -127,7 +127,7 @@ fn the_request_with_each_bit_turned(rt: HostRuntime) {
                 let mut datagram = REQUEST;
                 datagram[byte] ^= bit;
                 let before = datagram;
-                let outcome = outcome_of(&opener, &mut datagram);
+                let outcome = outcome_of(&server, &mut datagram);
                 assert_eq!(rt; outcome, row.outcome, "bit {bit} of byte {byte}");
                 if outcome.is_err() {
                     assert_eq!(rt;

@@ -1,10 +1,10 @@
 //! Datagrams made here: values of the OSCORE option, and plaintexts under a valid tag.
 
-use super::{COMMON_IV, KEY, REQUEST, opener, outcome_of};
+use super::{REQUEST, outcome_of, server};
 use crate::UnprotectError;
 use osc_aes::TableAes;
 use osc_ccm::seal;
-use osc_context::{Kid, Piv, aad, nonce};
+use osc_context::{Piv, aad, nonce};
 use std::process::Abort;
 use std::test::Fail;
 
@@ -39,13 +39,13 @@ fn values_of_the_option(rt: HostRuntime) {
         ("bytes and no kid flag", &[0x01, 0x14, 0xaa], undecodable),
         ("no kid", &[0x01, 0x14], undecodable),
     ];
-    let opener = opener(&rt, &[]);
+    let server = server(&rt);
     for (name, value, wanted) in rows {
         let mut buf = [0u8; 64];
         let len = compose(&rt, value, &REQUEST[22..], &mut buf);
         assert!(rt; len <= 64);
         let before = buf;
-        let outcome = outcome_of(&opener, &mut buf[..len]);
+        let outcome = outcome_of(&server, &mut buf[..len]);
         assert_eq!(rt; outcome, wanted, "{name}");
         if outcome.is_err() {
             assert_eq!(rt; buf.as_slice(), before.as_slice(), "{name}");
@@ -73,20 +73,19 @@ fn plaintexts_under_a_valid_tag(rt: HostRuntime) -> Result<(), Fail> {
         ("Proxy-Uri", &[0x01, 0xd0, 0x16], inner),
         ("Proxy-Scheme", &[0x01, 0xd0, 0x1a], inner),
     ];
-    let client = Kid::new(&[]).ok_or("a kid of no bytes")?;
     let number = Piv::new(20).ok_or("a small number")?;
-    let opener = opener(&rt, &[]);
+    let server = server(&rt);
     for (name, plaintext, wanted) in rows {
         let mut payload = [0u8; 40];
         let len = plaintext.len();
         assert!(rt; len <= 32);
         payload[..len].copy_from_slice(plaintext);
-        let cipher = TableAes::new(&KEY);
-        let nonce = nonce(&COMMON_IV, &client, number);
+        let cipher = TableAes::new(server.recipient_key());
+        let nonce = nonce(server.common_iv(), server.recipient(), number);
         let sealed = seal(
             &cipher,
             &nonce,
-            aad(&client, number).as_slice(),
+            aad(server.recipient(), number).as_slice(),
             &mut payload,
             len,
         );
@@ -94,7 +93,7 @@ fn plaintexts_under_a_valid_tag(rt: HostRuntime) -> Result<(), Fail> {
         let mut buf = [0u8; 64];
         let end = compose(&rt, &[0x09, 0x14], &payload[..len + 8], &mut buf);
         assert!(rt; end == 12 + len + 8);
-        assert_eq!(rt; outcome_of(&opener, &mut buf[..end]), wanted, "{name}");
+        assert_eq!(rt; outcome_of(&server, &mut buf[..end]), wanted, "{name}");
         assert_eq!(rt; &buf[12..12 + len], plaintext, "{name}");
         assert_eq!(rt; &buf[12 + len..end], &payload[len..len + 8], "{name}");
     }

@@ -1,12 +1,12 @@
 //! The printed datagrams, and printed names.
 
 use super::{
-    COMMON_IV, DECRYPTED, KEY, REQUEST, REQUEST_OF_ANOTHER_CLIENT, REQUEST_WITH_KID_CONTEXT,
-    opener, outcome_of,
+    DECRYPTED, ID_CONTEXT, REQUEST, REQUEST_OF_ANOTHER_CLIENT, REQUEST_WITH_KID_CONTEXT, SERVERS,
+    derived, outcome_of, server,
 };
-use crate::{Opened, Opener, UnprotectError, head_of_request, one_head, one_request, open_request};
+use crate::{Opened, UnprotectError, head_of_request, one_head, one_request, open_request};
 use osc_coap::{Fault, FormatError, Kind};
-use osc_context::Piv;
+use osc_context::{Params, Piv};
 use std::process::Abort;
 use std::test::Fail;
 
@@ -22,9 +22,9 @@ fn check_request(rt: &impl Abort, opened: &Opened<'_>, name: &str) {
 
 #[test]
 fn the_printed_request_opens(rt: HostRuntime) {
-    let opener = opener(&rt, &[]);
+    let server = server(&rt);
     let mut datagram = REQUEST;
-    match open_request(&opener, &mut datagram) {
+    match open_request(&server, &mut datagram) {
         Err(error) => assert!(rt; false, "{error}"),
         Ok(opened) => {
             check_request(&rt, &opened, "C.4");
@@ -50,55 +50,104 @@ fn the_head_is_read_without_a_key(rt: HostRuntime) {
             assert_eq!(rt; head.message_id, 0x2f8e);
             assert_eq!(rt; head.token.as_slice(), [0xef, 0x9b, 0xbf, 0x7a].as_slice());
             assert!(rt; head.kid.is_empty());
-            let id_context = [0x37, 0xcb, 0xf3, 0x21, 0x00, 0x17, 0xa2, 0xd3];
-            assert_eq!(rt; head.kid_context, Some(id_context.as_slice()));
+            assert_eq!(rt; head.kid_context, Some(ID_CONTEXT.as_slice()));
             assert_eq!(rt; head.number.number(), 20);
         }
     }
 }
 
-// A context that a datagram names or doesn't, by the kid that the Opener was made with.
+// RFC 8613, C.4 to C.6, at the servers of C.1 to C.3, and at servers that they don't name (RFC 8613, 8.2).
+#[derive(Clone, Copy)]
+struct Naming {
+    name: &'static str,
+    server: Params<'static>,
+    sent: &'static [u8],
+    outcome: Result<(), UnprotectError>,
+}
+
+fn naming_rows() -> [Naming; 9] {
+    let wrong = Err(UnprotectError::WrongContext);
+    let [first, second, third] = SERVERS;
+    let row = |name, server, sent, outcome| Naming {
+        name,
+        server,
+        sent,
+        outcome,
+    };
+    [
+        row("C.4 at C.1", first, REQUEST.as_slice(), Ok(())),
+        row(
+            "C.5 at C.2",
+            second,
+            REQUEST_OF_ANOTHER_CLIENT.as_slice(),
+            Ok(()),
+        ),
+        row(
+            "C.6 at C.3",
+            third,
+            REQUEST_WITH_KID_CONTEXT.as_slice(),
+            Ok(()),
+        ),
+        row(
+            "another kid",
+            first,
+            REQUEST_OF_ANOTHER_CLIENT.as_slice(),
+            wrong,
+        ),
+        row(
+            "a longer kid",
+            Params {
+                recipient: &[1; 7],
+                sender: &[2],
+                ..first
+            },
+            REQUEST.as_slice(),
+            wrong,
+        ),
+        row(
+            "a kid context and no ID Context",
+            first,
+            REQUEST_WITH_KID_CONTEXT.as_slice(),
+            wrong,
+        ),
+        row(
+            "an ID Context and no kid context",
+            third,
+            REQUEST.as_slice(),
+            wrong,
+        ),
+        row(
+            "another ID Context",
+            Params {
+                id_context: Some(&ID_CONTEXT[1..]),
+                ..third
+            },
+            REQUEST_WITH_KID_CONTEXT.as_slice(),
+            wrong,
+        ),
+        row(
+            "the same identifiers, and another salt",
+            Params { salt: &[], ..first },
+            REQUEST.as_slice(),
+            Err(UnprotectError::Tag),
+        ),
+    ]
+}
+
 #[test]
-fn another_context_is_refused(rt: HostRuntime) {
-    let rows: [(&str, &[u8], &[u8], Result<(), UnprotectError>); 5] = [
-        ("C.4 at its client", &[], &REQUEST, Ok(())),
-        (
-            "C.4 at client 01",
-            &[1],
-            &REQUEST,
-            Err(UnprotectError::WrongContext),
-        ),
-        (
-            "C.4 at a client of 7 bytes",
-            &[1; 7],
-            &REQUEST,
-            Err(UnprotectError::WrongContext),
-        ),
-        (
-            "C.5 at the client of C.4",
-            &[],
-            &REQUEST_OF_ANOTHER_CLIENT,
-            Err(UnprotectError::WrongContext),
-        ),
-        (
-            "C.6 at the client of C.4",
-            &[],
-            &REQUEST_WITH_KID_CONTEXT,
-            Err(UnprotectError::WrongContext),
-        ),
-    ];
-    for (name, kid, sent, wanted) in rows {
-        let opener = opener(&rt, kid);
+fn each_context_opens_its_own(rt: HostRuntime) {
+    for row in &naming_rows() {
+        let (name, sent) = (row.name, row.sent);
+        let server = derived(&rt, row.server);
         let mut buf = [0u8; 44];
         assert!(rt; sent.len() <= 44);
         buf[..sent.len()].copy_from_slice(sent);
-        let outcome = outcome_of(&opener, &mut buf[..sent.len()]);
-        assert_eq!(rt; outcome, wanted, "{name}");
+        let outcome = outcome_of(&server, &mut buf[..sent.len()]);
+        assert_eq!(rt; outcome, row.outcome, "{name}");
         if outcome.is_err() {
             assert_eq!(rt; &buf[..sent.len()], sent, "{name}");
         }
     }
-    assert!(rt; Opener::new(KEY, COMMON_IV, &[1; 8]).is_none());
 }
 
 #[test]

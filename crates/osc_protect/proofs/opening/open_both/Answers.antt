@@ -1,9 +1,9 @@
-use Rattle.osc_protect.specs.Views.{request_side_of}
+use Rattle.osc_context.specs.Views.{as_server}
 use Rattle.osc_protect.proofs.ReadAfter.{all_open, all_refuse}
 use Rattle.osc_protect.proofs.opening.open_both.Goals as goal
 
 pub returns-clause-opened : goal.returns-clause-opened
-returns-clause-opened c = all_open (request_side_of c.args.opener.now) c.args.datagram.now c.decrypt_request.new.datagram c.in_ok-place.place c.in_ok-place.ensures.decrypted c.read_request.result c.read_request.ensures.opened
+returns-clause-opened c = all_open (as_server c.args.context.now) c.args.datagram.now c.decrypt_request.new.datagram c.in_ok-place.place c.in_ok-place.ensures.decrypted c.read_request.result c.read_request.ensures.opened
 
 pub returns-clause-refused : goal.returns-clause-refused
-returns-clause-refused c = all_refuse (request_side_of c.args.opener.now) c.args.datagram.now c.decrypt_request.new.datagram c.in_ok-place.place c.in_ok-place.ensures.decrypted c.read_request.result c.read_request.ensures.refused
+returns-clause-refused c = all_refuse (as_server c.args.context.now) c.args.datagram.now c.decrypt_request.new.datagram c.in_ok-place.place c.in_ok-place.ensures.decrypted c.read_request.result c.read_request.ensures.refused

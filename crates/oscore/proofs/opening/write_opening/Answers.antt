@@ -1,28 +1,18 @@
-use Rattle.std.proofs.Common.{◌∷◌, [], refl}
-use Rattle.std.proofs.lemmas.Result.{err_from_is_err_and}
+use Rattle.std.proofs.Common.{◌∷◌, [], refl, subst}
+use Rattle.osc_context.specs.ContextRefusal.{context_error_text}
+use Rattle.osc_context.specs.SecurityContext.{SecurityContext}
+use Rattle.oscore.specs.Contexts.InContext.{in_context, no_context}
 use Rattle.oscore.specs.Lines.{refused_line}
-use Rattle.oscore.specs.Opening.{opened_lines, seen}
-use Rattle.oscore.proofs.OpenTexts.{text_of_opened, text_of_refused}
+use Rattle.oscore.specs.Opening.{DatagramText}
 use Rattle.oscore.proofs.opening.write_opening.Goals as goal
 
-pub returns-in_err-put_opened-in-Ok : goal.returns-in_err-put_opened-in-Ok
-returns-in_err-put_opened-in-Ok g c =
-    let p = err_from_is_err_and c.from_residual.result c.from_residual.ensures.1 in
-    let o = c.in-Ok.opened in
-    rw (p.1, p.2) (opened_lines (seen o), 0, text_of_opened _ _ o c.in-Ok.ensures.opened, c.in_err-put_opened-in-Ok.ensures, tt)
+pub returns-in-Ok : goal.returns-in-Ok
+returns-in-Ok g c =
+    let w = c.write_datagram.ensures in
+    let text = subst (λ (s : SecurityContext). DatagramText s c.args.datagram.now (w.0) (w.1)) c.in-Ok.ensures.server w.2 in
+    (w.0, w.1, in_context (c.in-Ok.ensures.accepted refl) text, w.3, w.4)
 
-pub returns-in_err-put_refused-in-Err : goal.returns-in_err-put_refused-in-Err
-returns-in_err-put_refused-in-Err g c =
-    let p = err_from_is_err_and c.from_residual-in_err-put_refused-in-Err.result c.from_residual-in_err-put_refused-in-Err.ensures.1 in
+pub returns-in-Err : goal.returns-in-Err
+returns-in-Err g c =
     let e = c.in-Err.refusal in
-    rw (p.1, p.2) (refused_line e ∷ [], 2, text_of_refused _ _ e c.in-Err.ensures.refused, c.in_err-put_refused-in-Err.ensures, tt)
-
-pub returns-in_ok-put_opened-in-Ok : goal.returns-in_ok-put_opened-in-Ok
-returns-in_ok-put_opened-in-Ok g c =
-    let o = c.in-Ok.opened in
-    (opened_lines (seen o), 0, text_of_opened _ _ o c.in-Ok.ensures.opened, c.in_ok-put_opened-in-Ok.ensures, refl)
-
-pub returns-in_ok-put_refused-in-Err : goal.returns-in_ok-put_refused-in-Err
-returns-in_ok-put_refused-in-Err g c =
-    let e = c.in-Err.refusal in
-    (refused_line e ∷ [], 2, text_of_refused _ _ e c.in-Err.ensures.refused, c.in_ok-put_refused-in-Err.ensures, refl)
+    (refused_line (context_error_text e) ∷ [], 2, no_context e c.in-Err.ensures.refused refl refl, c.put_refused.ensures.written, c.put_refused.ensures.status)

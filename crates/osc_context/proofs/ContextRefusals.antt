@@ -1,0 +1,20 @@
+-- A context has one first refusal.
+use Rattle.std.proofs.Common.{◌≡◌, arith, inl, inr}
+use Rattle.std.proofs.lemmas.Bool.{cases_lt}
+use Rattle.osc_context.specs.declared.context_error.ContextError.{ContextError}
+use Rattle.osc_context.specs.declared.parameters.Params.{Params}
+use Rattle.osc_context.specs.ContextRefusal.{RefusesFirst, context_rank}
+
+-- no two refusals have one rank
+same_rank : (e f : ContextError) → context_rank e ≡ context_rank f → e ≡ f
+same_rank e f = grind (arith)
+
+-- two first refusals are one
+pub one_context_refusal : (g : Params) (e f : ContextError) → RefusesFirst g e → RefusesFirst g f → e ≡ f
+one_context_refusal g e f he hf = elim (cases_lt (context_rank e) (context_rank f)) [
+  | inl lt ↦ absurd (hf.first e lt he.holds)
+  | inr le ↦ elim (cases_lt (context_rank f) (context_rank e)) [
+    | inl lt ↦ absurd (he.first f lt hf.holds)
+    | inr ge ↦ same_rank e f (omega arith)
+  ]
+]

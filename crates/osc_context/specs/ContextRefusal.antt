@@ -1,0 +1,60 @@
+-- Why no context is derived (RFC 8613, 3.2 and 3.3; own rules: the limits), a word for each reason, in the order in which
+-- they are judged. g is what a context would be derived from.
+use Rattle.std.specs.Prelude.{◌≡◌, ◌⊎◌, ℕ, ◌<◌, List, length, codes}
+use Rattle.std.specs.Option.{option_copied, IsSomeAnd}
+use Rattle.osc_context.specs.declared.context_error.ContextError.{ContextError}
+use Rattle.osc_context.specs.declared.context_error.ContextError.TheVariants.{SecretLength, SaltLength, IdTooLong, SameIds, IdContextLength}
+use Rattle.osc_context.specs.declared.parameters.Params.{Params}
+
+-- a Master Secret of no bytes, or of more than 64 (own rule)
+abbrev pub HasBadSecret : Params → Type 0
+HasBadSecret g = (length g.secret.now ≡ 0) ⊎ (64 < length g.secret.now)
+
+-- a Master Salt of more than 64 bytes (own rule)
+abbrev pub HasLongSalt : Params → Type 0
+HasLongSalt g = 64 < length g.salt.now
+
+-- an identifier that has no room in a nonce (RFC 8613, 3.3)
+abbrev pub HasLongId : Params → Type 0
+HasLongId g = (7 < length g.sender.now) ⊎ (7 < length g.recipient.now)
+
+-- two ends with one identifier (RFC 8613, 3.3)
+abbrev pub HasSameIds : Params → Type 0
+HasSameIds g = g.sender.now ≡ g.recipient.now
+
+-- an ID Context of no bytes, or of more than 32 (own rule)
+abbrev pub HasBadIdContext : Params → Type 0
+HasBadIdContext g = IsSomeAnd (option_copied g.id_context) (λ bytes. (length bytes ≡ 0) ⊎ (32 < length bytes))
+
+-- the condition of each refusal, whatever else is wrong (RFC 8613, 3.2 and 3.3)
+abbrev pub RefusesParams : Params → ContextError → Type 0
+RefusesParams g SecretLength = HasBadSecret g
+RefusesParams g SaltLength = HasLongSalt g
+RefusesParams g IdTooLong = HasLongId g
+RefusesParams g SameIds = HasSameIds g
+RefusesParams g IdContextLength = HasBadIdContext g
+
+-- own rule: the place of a refusal in the order of judging
+abbrev pub context_rank : ContextError → ℕ
+context_rank SecretLength = 0
+context_rank SaltLength = 1
+context_rank IdTooLong = 2
+context_rank SameIds = 3
+context_rank IdContextLength = 4
+
+-- own rule: no refusal that is judged before this place holds
+abbrev pub PassesBelow : ℕ → Params → Type 0
+PassesBelow k g = (f : ContextError) → context_rank f < k → ¬ RefusesParams g f
+
+-- own rule: the refusal holds, and none judged before it does
+pub record RefusesFirst (g : Params) (e : ContextError) : Type 0 where
+  pub holds : RefusesParams g e
+  pub first : PassesBelow (context_rank e) g
+
+-- the text that a refusal prints: its name (how the code is seen)
+abbrev pub context_error_text : ContextError → List ℕ
+context_error_text SecretLength = codes "SecretLength"
+context_error_text SaltLength = codes "SaltLength"
+context_error_text IdTooLong = codes "IdTooLong"
+context_error_text SameIds = codes "SameIds"
+context_error_text IdContextLength = codes "IdContextLength"

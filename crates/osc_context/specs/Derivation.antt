@@ -1,0 +1,40 @@
+-- Keys and the Common IV (RFC 8613, 3.2.1). secret and salt are the Master Secret and the Master Salt, id_context is the
+-- ID Context where there is one, id an identifier, type a text, len a number of bytes.
+use Rattle.std.specs.Prelude.{ℕ, List, [], ◌∷◌, Option, Some, None, codes}
+use Rattle.osc_hkdf.specs.Hkdf.{expand_of, extract_of}
+use Rattle.osc_context.specs.AdditionalData.{algorithm}
+use Rattle.osc_context.specs.Cbor.{cbor_bytes, cbor_text, cbor_number, cbor_nil, cbor_array}
+use Rattle.osc_context.specs.SecurityContext.{SecurityContext}
+
+-- the ID Context as a byte string, or nil where there is none (RFC 8613, 3.2.1)
+abbrev pub cbor_id_context : Option (List ℕ) → List ℕ
+cbor_id_context None = cbor_nil
+cbor_id_context (Some bytes) = cbor_bytes bytes
+
+-- the info: the array of identifier, ID Context, algorithm, type and length (RFC 8613, 3.2.1)
+unfoldable pub info_of : List ℕ → Option (List ℕ) → List ℕ → ℕ → List ℕ
+info_of id id_context type len =
+    cbor_array (cbor_bytes id ∷ cbor_id_context id_context ∷ cbor_number algorithm ∷ cbor_text type ∷ cbor_number len ∷ [])
+
+-- the output of HKDF for an info, under salt and secret (RFC 8613, 3.2.1)
+abbrev pub output_of : List ℕ → List ℕ → List ℕ → ℕ → List ℕ
+output_of secret salt info len = expand_of (extract_of salt secret) info len
+
+-- the key of the end with the identifier, 16 bytes (RFC 8613, 3.2.1)
+unfoldable pub key_of : List ℕ → List ℕ → Option (List ℕ) → List ℕ → List ℕ
+key_of secret salt id_context id = output_of secret salt (info_of id id_context (codes "Key") 16) 16
+
+-- the Common IV, 13 bytes, of which the identifier is empty (RFC 8613, 3.2.1)
+unfoldable pub common_iv_of : List ℕ → List ℕ → Option (List ℕ) → List ℕ
+common_iv_of secret salt id_context = output_of secret salt (info_of [] id_context (codes "IV") 13) 13
+
+-- the context of a client and a server with these identifiers (RFC 8613, 3.2)
+abbrev pub context_of : List ℕ → List ℕ → Option (List ℕ) → List ℕ → List ℕ → SecurityContext
+context_of secret salt id_context client server = record {
+  client = client;
+  client_key = key_of secret salt id_context client;
+  server = server;
+  server_key = key_of secret salt id_context server;
+  common_iv = common_iv_of secret salt id_context;
+  id_context = id_context;
+}

@@ -1,0 +1,162 @@
+//! A security context, as one of its two ends holds it (RFC 8613, 3.1).
+
+ghost use Rattle.std.specs.Prelude.{◌≡◌, ◌≢◌, IfOk, IfErr, IsOk, IsErrOf};
+ghost use Rattle.std.specs.Option.{option_copied, option_map};
+ghost use Rattle.osc_context.specs.ContextRefusal.{PassesBelow, RefusesFirst, RefusesParams};
+ghost use Rattle.osc_context.specs.declared.context_error.ContextError.{ContextError};
+
+use crate::context_error::ContextError;
+use crate::derivation::{derive_common_iv, derive_key};
+use crate::identifier::{IdContext, Kid};
+use crate::parameters::Params;
+use osc_hkdf::extract;
+
+/// The most bytes of a Master Secret; own rule.
+const MOST_SECRET: usize = 64;
+
+/// The most bytes of a Master Salt; own rule.
+const MOST_SALT: usize = 64;
+
+/// A security context: identifiers and keys of both ends, the Common IV, and the ID Context where there is one. This end is
+/// the sender. It has no `Debug`, so that no key is printed by accident.
+#[derive(Drop)]
+pub struct Context {
+    sender_id: Kid,
+    recipient_id: Kid,
+    id_context: Option<IdContext>,
+    sender_key: [u8; 16],
+    recipient_key: [u8; 16],
+    common_iv: [u8; 13],
+    pub ghost differ: { sender_id ≢ recipient_id },
+}
+
+impl Context {
+    ghost use Rattle.osc_context.specs.Views.{as_client, as_server, client_context_of, server_context_of};
+
+    /// Derives keys and Common IV by HKDF (RFC 8613, 3.2.1). The first refusal in the order of [`ContextError`] is answered.
+    pub fn derive(params: Params<'_>) -> Result<Context, ContextError>
+        ensures client { IfOk result (λ c. as_client c ≡ client_context_of params.entry) }
+        ensures server { IfOk result (λ c. as_server c ≡ server_context_of params.entry) }
+        ensures accepted { IsOk result → (e : ContextError) → ¬ RefusesParams params.entry e }
+        ensures accepts { ((e : ContextError) → ¬ RefusesParams params.entry e) → IsOk result }
+        ensures refused { IfErr result (λ e. RefusesFirst params.entry e) }
+        ensures refuses { (e : ContextError) → RefusesFirst params.entry e → IsErrOf result e }
+    {
+        Context::derive_judged(params)
+    }
+
+    /// Derives a context, or finds why not.
+    fn derive_judged(params: Params<'_>) -> Result<Context, ContextError>
+        ensures client { IfOk result (λ c. as_client c ≡ client_context_of params.entry) }
+        ensures passed { IsOk result → PassesBelow 5 params.entry }
+        ensures refused { IfErr result (λ e. RefusesFirst params.entry e) }
+    {
+        check_lengths(params)?;
+        let (sender, recipient) = identifiers(params)?;
+        let id_context = id_context_of(params)?;
+        let prk = extract(params.salt, params.secret);
+        Ok(Context {
+            sender_key: derive_key(&prk, params.id_context, params.sender),
+            recipient_key: derive_key(&prk, params.id_context, params.recipient),
+            common_iv: derive_common_iv(&prk, params.id_context),
+            sender_id: sender,
+            recipient_id: recipient,
+            id_context,
+        })
+    }
+
+    /// The identifier of this end.
+    pub fn sender(&self) -> &Kid
+        ensures value { result.now ≡ (as_client self.now).client }
+        ensures differ { (as_client self.now).client ≢ (as_client self.now).server }
+    {
+        &self.sender_id
+    }
+
+    /// The identifier of the other end.
+    pub fn recipient(&self) -> &Kid
+        ensures value { result.now ≡ (as_server self.now).client }
+        ensures differ { (as_server self.now).client ≢ (as_server self.now).server }
+    {
+        &self.recipient_id
+    }
+
+    /// The ID Context, where there is one.
+    pub fn id_context(&self) -> Option<&IdContext>
+        ensures { option_copied result ≡ (as_client self.now).id_context }
+    {
+        self.id_context.as_ref()
+    }
+
+    /// The key under which this end seals.
+    pub fn sender_key(&self) -> &[u8; 16]
+        ensures { result.now ≡ (as_client self.now).client_key }
+    {
+        &self.sender_key
+    }
+
+    /// The key under which the other end seals.
+    pub fn recipient_key(&self) -> &[u8; 16]
+        ensures { result.now ≡ (as_server self.now).client_key }
+    {
+        &self.recipient_key
+    }
+
+    /// The Common IV, of which each nonce is made.
+    pub fn common_iv(&self) -> &[u8; 13]
+        ensures { result.now ≡ (as_client self.now).common_iv }
+    {
+        &self.common_iv
+    }
+}
+
+/// Judges the lengths of secret and salt.
+fn check_lengths(params: Params<'_>) -> Result<(), ContextError>
+    ensures passed { IsOk result → PassesBelow 2 params.entry }
+    ensures refused { IfErr result (λ e. RefusesFirst params.entry e) }
+{
+    if params.secret.is_empty() || params.secret.len() > MOST_SECRET {
+        return Err(ContextError::SecretLength);
+    }
+    if params.salt.len() > MOST_SALT {
+        return Err(ContextError::SaltLength);
+    }
+    Ok(())
+}
+
+/// The two identifiers, sender first.
+fn identifiers(params: Params<'_>) -> Result<(Kid, Kid), ContextError>
+    requires { PassesBelow 2 params }
+    ensures sender { IfOk result (λ ids. ids.0 ≡ params.entry.sender.now) }
+    ensures recipient { IfOk result (λ ids. ids.1 ≡ params.entry.recipient.now) }
+    ensures differ { IfOk result (λ ids. ids.0 ≢ ids.1) }
+    ensures passed { IsOk result → PassesBelow 4 params.entry }
+    ensures refused { IfErr result (λ e. RefusesFirst params.entry e) }
+{
+    let Some(sender) = Kid::new(params.sender) else {
+        return Err(ContextError::IdTooLong);
+    };
+    let Some(recipient) = Kid::new(params.recipient) else {
+        return Err(ContextError::IdTooLong);
+    };
+    if sender == recipient {
+        return Err(ContextError::SameIds);
+    }
+    Ok((sender, recipient))
+}
+
+/// The ID Context, where one is given.
+fn id_context_of(params: Params<'_>) -> Result<Option<IdContext>, ContextError>
+    requires { PassesBelow 4 params }
+    ensures value { IfOk result (λ id_context. id_context ≡ option_copied params.entry.id_context) }
+    ensures passed { IsOk result → PassesBelow 5 params.entry }
+    ensures refused { IfErr result (λ e. RefusesFirst params.entry e) }
+{
+    match params.id_context {
+        None => Ok(None),
+        Some(bytes) => match IdContext::new(bytes) {
+            None => Err(ContextError::IdContextLength),
+            id_context => Ok(id_context),
+        },
+    }
+}

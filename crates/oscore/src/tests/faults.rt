@@ -1,0 +1,195 @@
+//! Faults of the words, and help.
+
+use super::{REQUEST, SALT, SECRET, is_one_line, run_of};
+use std::test::Fail;
+
+// Own rule: words that are no call are status 1, and one line on standard error.
+const USAGES: [(&str, &[&str]); 13] = [
+    ("no words", &["oscore"]),
+    ("not even a name", &[]),
+    ("an unknown call", &["oscore", "seal"]),
+    ("no secret", &["oscore", "derive", "--recipient", "01"]),
+    (
+        "a derivation of a request",
+        &["oscore", "derive", "--secret", SECRET, "--request", "1"],
+    ),
+    (
+        "a derivation with a number",
+        &["oscore", "derive", "--secret", SECRET, "--sequence", "1"],
+    ),
+    (
+        "a derivation of a datagram",
+        &["oscore", "derive", "--secret", SECRET, REQUEST],
+    ),
+    ("no datagram", &["oscore", "open", "--secret", SECRET]),
+    (
+        "an opening with a number",
+        &[
+            "oscore",
+            "open",
+            "--secret",
+            SECRET,
+            "--sequence",
+            "1",
+            REQUEST,
+        ],
+    ),
+    (
+        "an opening with a key",
+        &["oscore", "open", "--secret", SECRET, "--key", "00", REQUEST],
+    ),
+    (
+        "an option twice",
+        &[
+            "oscore", "open", "--secret", SECRET, "--salt", SALT, "--salt", SALT, REQUEST,
+        ],
+    ),
+    (
+        "an option with no value",
+        &["oscore", "open", REQUEST, "--secret"],
+    ),
+    (
+        "two datagrams",
+        &["oscore", "open", "--secret", SECRET, REQUEST, REQUEST],
+    ),
+];
+
+#[test]
+fn wrong_calls_are_one_line(rt: HostRuntime) -> Result<(), Fail> {
+    for (name, words) in USAGES {
+        let ran = run_of(rt.alloc(), words)?;
+        assert_eq!(rt; ran.status, 1, "{name}");
+        assert!(rt; ran.out.is_empty(), "{name}: {:?}", ran.out);
+        assert!(rt; is_one_line(ran.err.as_slice()), "{name}: {:?}", ran.err);
+    }
+    Ok(())
+}
+
+// Own rule: hex is read in the order of the options, and the first that is bad is named.
+const BAD_HEX: [(&[&str], &str); 8] = [
+    (
+        &[
+            "oscore",
+            "open",
+            "--secret",
+            "0",
+            "--salt",
+            "x",
+            "--sender",
+            "x",
+            "--recipient",
+            "x",
+            "--id-context",
+            "x",
+            "x",
+        ],
+        "oscore: --secret: bad hex\n",
+    ),
+    (
+        &[
+            "oscore",
+            "open",
+            "x",
+            "--id-context",
+            "x",
+            "--recipient",
+            "x",
+            "--sender",
+            "x",
+            "--salt",
+            "x",
+            "--secret",
+            "00",
+        ],
+        "oscore: --salt: bad hex\n",
+    ),
+    (
+        &[
+            "oscore",
+            "open",
+            "--secret",
+            "00",
+            "--sender",
+            "0g",
+            "--recipient",
+            "x",
+            "--id-context",
+            "x",
+            "x",
+        ],
+        "oscore: --sender: bad hex\n",
+    ),
+    (
+        &[
+            "oscore",
+            "open",
+            "--secret",
+            "00",
+            "--recipient",
+            "-",
+            "--id-context",
+            "x",
+            "x",
+        ],
+        "oscore: --recipient: bad hex\n",
+    ),
+    (
+        &[
+            "oscore",
+            "open",
+            "--secret",
+            "00",
+            "--id-context",
+            "010",
+            "x",
+        ],
+        "oscore: --id-context: bad hex\n",
+    ),
+    (
+        &["oscore", "open", "--secret", "00", "400100010"],
+        "oscore: DATAGRAM: bad hex\n",
+    ),
+    (
+        &["oscore", "open", "--secret", "00", "4001000g"],
+        "oscore: DATAGRAM: bad hex\n",
+    ),
+    (
+        &["oscore", "open", "--secret", "00", "-"],
+        "oscore: DATAGRAM: bad hex\n",
+    ),
+];
+
+#[test]
+fn bad_hex_is_named(rt: HostRuntime) -> Result<(), Fail> {
+    for (words, line) in BAD_HEX {
+        let ran = run_of(rt.alloc(), words)?;
+        assert_eq!(rt; ran.status, 1, "{line}");
+        assert!(rt; ran.out.is_empty(), "{line}: {:?}", ran.out);
+        assert!(rt;
+            ran.err.as_slice() == line.as_bytes(),
+            "{line}: {:?}",
+            ran.err
+        );
+    }
+    Ok(())
+}
+
+// Each way to ask for help.
+const HELPS: [&[&str]; 5] = [
+    &["oscore", "--help"],
+    &["oscore", "open", "--help"],
+    &["oscore", "derive", "--help"],
+    &["oscore", "help"],
+    &["oscore", "help", "open"],
+];
+
+#[test]
+fn help_is_no_fault(rt: HostRuntime) -> Result<(), Fail> {
+    for words in HELPS {
+        let ran = run_of(rt.alloc(), words)?;
+        assert_eq!(rt; ran.status, 0, "{words:?}");
+        assert!(rt; !ran.out.is_empty(), "{words:?}");
+        assert!(rt; ran.err.is_empty(), "{words:?}: {:?}", ran.err);
+    }
+    Ok(())
+}
