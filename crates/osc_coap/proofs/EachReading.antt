@@ -7,9 +7,11 @@ use Rattle.osc_coap.specs.declared.format_error.Fault.TheVariants.{DatagramTooLo
 use Rattle.osc_coap.specs.declared.message.Kind.{Kind}
 use Rattle.osc_coap.specs.declared.message.Kind.TheVariants.{Con, Non, Ack, Rst}
 use Rattle.osc_coap.proofs.Walks.{EndsAt, walk_sound}
+use Rattle.osc_coap.proofs.Texts.{text_ascends}
+use Rattle.osc_coap.specs.Reading.{options_in}
 use Rattle.osc_coap.proofs.Faults.{fault_behind_end, fault_behind_code}
 use Rattle.osc_coap.proofs.Made.{datagram_made, inner_made}
-use Rattle.osc_coap.specs.OptionSpelling.{Entry, AreBytes, Spells, last_number}
+use Rattle.osc_coap.specs.OptionSpelling.{Entry, Ascends, AreBytes, Spells, last_number}
 use Rattle.osc_coap.specs.Inner.{InnerParts, IsInner}
 use Rattle.osc_coap.specs.Fault.{HasItemFault, HasHead, HasFault, HasCode, HasInnerFault}
 use Rattle.osc_coap.specs.Ends.{IsBody}
@@ -107,3 +109,7 @@ inner_reads (a ∷ rest) small =
             | inr x ↦ inr (x.0, 1 + x.1, fault_behind_code (a ∷ rest) x.0 (1 + x.1) whole (x.1, refl, x.2))
           ]
     ]
+
+-- options that were read ascend
+pub read_ascends : (d : ℕ) (bytes : List ℕ) → Ascends d (options_in d bytes)
+read_ascends d bytes = text_ascends d (options_in d bytes) _ (walk_sound (length bytes) d bytes (omega arith)).spells

@@ -11,3 +11,8 @@ pub mod EachReading
 pub mod Texts
 pub mod Payloads
 pub mod Converses
+pub mod Placed
+pub mod OptionTexts
+pub mod Drafts
+pub mod Refusals
+pub mod Grown

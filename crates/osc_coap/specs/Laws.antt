@@ -2,6 +2,8 @@
 -- 5.3): the contracts of the functions of laws.rt.
 use Rattle.std.specs.Prelude.{◌≡◌, ◌≢◌, ◌-◌, ◌≤◌, ◌⊎◌, ◌++◌, ℕ, List, [], ◌∷◌, length, take, drop}
 use Rattle.osc_coap.specs.declared.format_error.Fault.{Fault}
+use Rattle.osc_coap.specs.declared.message.Message.{Message}
+use Rattle.osc_coap.specs.Views.{parts_of}
 use Rattle.osc_coap.specs.OptionSpelling.{Entry, AreBytes, Spells, Ascends, spelling_length}
 use Rattle.osc_coap.specs.Datagram.{Parts, IsDatagram, datagram_length}
 use Rattle.osc_coap.specs.Inner.{InnerParts, IsInner, inner_length}
@@ -78,6 +80,10 @@ OptionsAscend = (p : Parts) (bytes : List ℕ) → IsDatagram p bytes → Ascend
 -- the options of a plaintext stand in ascending number (RFC 8613, 5.3)
 abbrev pub InnerOptionsAscend : Type 0
 InnerOptionsAscend = (p : InnerParts) (bytes : List ℕ) → IsInner p bytes → Ascends 0 p.options
+
+-- the options of a message that was read stand in ascending number (RFC 7252, 3.1)
+abbrev pub ReadOptionsAscend : Type 0
+ReadOptionsAscend = (m : Message) → Ascends 0 (parts_of m).options
 
 -- a list of options tells the length of its text (RFC 7252, 3.1)
 abbrev pub SpellingHasItsLength : Type 0

@@ -8,4 +8,8 @@ pub mod Views
 pub mod Reading
 pub mod Seen
 pub mod Ends
+pub mod OptionText
+pub mod Writing
+pub mod Writer
+pub mod Class
 pub mod Callers

@@ -9,7 +9,7 @@ use crate::format_error::{Fault, FormatError};
 use crate::options::take_option;
 
 /// What stands in front of a payload (RFC 7252, 3).
-const PAYLOAD_MARKER: u8 = 0xff;
+pub(crate) const PAYLOAD_MARKER: u8 = 0xff;
 
 /// The bytes of the options, and the payload.
 #[derive(Clone, Copy)]

@@ -2,13 +2,18 @@
 //!
 //!     | version 2, type 2, token length 4 bits | code | message ID, high byte first, two bytes |
 
-ghost use Rattle.std.specs.Prelude.{◌≡◌, ◌<◌, ◌≤◌, ◌+◌, length, IfOk, IfErr};
-ghost use Rattle.osc_coap.specs.Datagram.{kind_number};
+ghost use Rattle.std.specs.Prelude.{◌≡◌, ◌<◌, ◌≤◌, ◌+◌, ◌++◌, length, IfOk, IfErr};
+ghost use Rattle.arrayvec.specs.ArrayVec.{array_vec_len};
+ghost use Rattle.osc_coap.specs.Datagram.{kind_number, head};
+ghost use Rattle.osc_coap.specs.OptionSpelling.{AreBytes};
+ghost use Rattle.osc_coap.specs.OptionText.{placed};
+ghost use Rattle.osc_coap.specs.Writing.{bare};
 ghost use Rattle.osc_coap.specs.Fault.{HasFault};
 ghost use Rattle.osc_coap.specs.Seen.{ReadsHead};
 
 use crate::format_error::{Fault, FormatError, MOST_DATAGRAM};
-use crate::message::Kind;
+use crate::message::{Kind, Token};
+use crate::placing::put;
 use byteorder::{BigEndian, ByteOrder};
 
 /// The bytes in front of the token.
@@ -84,4 +89,45 @@ pub(crate) fn token_end(head: &Head, bytes: &[u8]) -> Result<usize, FormatError>
         return Err(Fault::TokenCut.at(HEAD_LEN));
     }
     Ok(end)
+}
+
+/// The two bits of the head that name a kind.
+fn bits_of(kind: Kind) -> u8
+    ensures value { result ≡ kind_number kind }
+    ensures small { result < 4 }
+{
+    match kind {
+        Kind::Con => 0,
+        Kind::Non => 1,
+        Kind::Ack => 2,
+        Kind::Rst => 3,
+    }
+}
+
+/// How many bytes a head and a token take: what `Writer::begin` asks for, 4 to 12 (RFC 7252, 3).
+pub fn head_len(token: &Token) -> usize
+    ensures value { result ≡ 4 + array_vec_len token.now }
+    ensures most { result ≤ 12 }
+{
+    HEAD_LEN + token.len()
+}
+
+/// Writes a head and a token into the front, and answers where they end.
+pub(crate) fn put_head(
+    buf: &mut [u8],
+    kind: Kind,
+    code: u8,
+    message_id: u16,
+    token: &Token,
+) -> usize
+    requires { 4 + array_vec_len token.now ≤ length buf.old }
+    ensures written { buf.new ≡ placed 0 (head (bare kind code message_id token.now.items) ++ token.now.items) buf.old }
+    ensures end { result ≡ 4 + array_vec_len token.now }
+    ensures short { array_vec_len token.now ≤ 8 }
+    ensures bytes { AreBytes buf.new }
+{
+    let first = 64 + 16 * bits_of(kind) + token.len() as u8;
+    let id = message_id.to_be_bytes();
+    let end = put(buf, 0, &[first, code, id[0], id[1]]);
+    put(buf, end, token.as_slice())
 }

@@ -1,7 +1,7 @@
 //! What holds of all lists of options, datagrams and plaintexts. A call of such a function does nothing:
 //! its contract is there for the proof of its caller.
 
-ghost use Rattle.osc_coap.specs.Laws.{SpellsOneList, ListHasOneText, PartsHaveOneDatagram, PartsHaveOneInner, IsOneDatagram, HasOneFault, IsNeverBoth, IsDatagramOrFault, IsOneInner, HasOneInnerFault, IsNeverBothInner, IsInnerOrFault, PayloadIsTheEnd, PayloadCanBeReplaced, PayloadCanBeAdded, SpelledOptionsAscend, OptionsAscend, InnerOptionsAscend, SpellingHasItsLength, DatagramHasItsLength, InnerHasItsLength};
+ghost use Rattle.osc_coap.specs.Laws.{SpellsOneList, ListHasOneText, PartsHaveOneDatagram, PartsHaveOneInner, IsOneDatagram, HasOneFault, IsNeverBoth, IsDatagramOrFault, IsOneInner, HasOneInnerFault, IsNeverBothInner, IsInnerOrFault, PayloadIsTheEnd, PayloadCanBeReplaced, PayloadCanBeAdded, SpelledOptionsAscend, OptionsAscend, InnerOptionsAscend, ReadOptionsAscend, SpellingHasItsLength, DatagramHasItsLength, InnerHasItsLength};
 
 /// A spelling is of one list of options (RFC 7252, 3.1).
 pub fn one_spelling()
@@ -45,6 +45,7 @@ pub fn options_ascend()
     ensures spelling { SpelledOptionsAscend }
     ensures datagram { OptionsAscend }
     ensures inner { InnerOptionsAscend }
+    ensures read { ReadOptionsAscend }
 {}
 
 /// The length of a spelling, of a datagram and of a plaintext follows from what they say (RFC 7252, 3;

@@ -1,4 +1,5 @@
-//! CoAP messages (RFC 7252, 3) and the plaintexts of protected ones (RFC 8613, 5.3): reading them.
+//! CoAP messages (RFC 7252, 3) and the plaintexts of protected ones (RFC 8613, 5.3): reading and writing
+//! them.
 //!
 //! ```rust
 //! use osc_coap::{Kind, parse};
@@ -11,23 +12,33 @@
 #![tactic(auto)]
 
 mod body;
+mod class;
 mod format_error;
 mod head;
 mod inner;
 mod laws;
 mod message;
 mod option_header;
+pub mod option_numbers;
 mod options;
 mod parsing;
+mod placing;
 #[cfg(test)]
 mod tests;
+mod write_error;
+mod writer;
 
+pub use crate::class::{Class, class_of};
 pub use crate::format_error::{Fault, FormatError, MOST_DATAGRAM};
+pub use crate::head::head_len;
 pub use crate::inner::Inner;
 pub use crate::laws::{
     lengths_by_parts, one_datagram, one_inner, one_spelling, one_text, options_ascend,
     payload_stands_last,
 };
 pub use crate::message::{Kind, Message, Token};
+pub use crate::option_header::option_len;
 pub use crate::options::Options;
 pub use crate::parsing::{parse, parse_inner};
+pub use crate::write_error::WriteError;
+pub use crate::writer::Writer;

@@ -37,6 +37,7 @@ pub struct Message<'a> {
 
 impl<'a> Message<'a> {
     ghost use Rattle.osc_coap.specs.Views.{parts_of, options_left};
+    ghost use Rattle.osc_coap.specs.Datagram.{Parts};
 
     /// The options in the order of the datagram, each one's number and value.
     pub fn options(&self) -> Options<'a>
@@ -50,5 +51,18 @@ impl<'a> Message<'a> {
         ensures { result.now ≡ (parts_of self.now).payload }
     {
         self.payload
+    }
+    /// The same code, options and payload under another head.
+    pub fn with_head(&self, kind: Kind, message_id: u16, token: Token) -> Message<'a>
+        ensures { parts_of result ≡ record (parts_of self.now) { kind = kind; message_id = message_id; token = token.items } }
+    {
+        Message {
+            kind,
+            code: self.code,
+            message_id,
+            token,
+            options: self.options,
+            payload: self.payload,
+        }
     }
 }

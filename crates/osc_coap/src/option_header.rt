@@ -3,11 +3,14 @@
 //!
 //!     | delta nibble, length nibble | extended delta | extended length | value |
 
-ghost use Rattle.std.specs.Prelude.{◌≡◌, ◌<◌, ◌+◌, ℕ, IfSome};
+ghost use Rattle.std.specs.Prelude.{◌≡◌, ◌<◌, ◌≤◌, ◌+◌, ℕ, length, IfSome};
 ghost use Rattle.std.specs.Option.{option_map};
 ghost use Rattle.osc_coap.specs.Reading.{number_at, pieces_at};
 ghost use Rattle.osc_coap.specs.Seen.{seen_number, seen_pieces};
+ghost use Rattle.osc_coap.specs.OptionSpelling.{extended_length, option_length};
+ghost use Rattle.osc_coap.specs.OptionText.{placed, nibble, extended, option_text};
 
+use crate::placing::put;
 use byteorder::{BigEndian, ByteOrder};
 
 /// One extended byte follows, and stands for itself plus `ONE_BYTE_BASE`.
@@ -24,6 +27,9 @@ const ONE_BYTE_BASE: u32 = 13;
 
 /// The least number that takes two extended bytes.
 const TWO_BYTES_BASE: u32 = 13 + 256;
+
+/// The most bytes of a value: two extended bytes can say no larger length.
+pub(crate) const MOST_VALUE: usize = 13 + 256 + 65_535;
 
 /// The delta of an option, its value, and the bytes after it.
 #[derive(Clone, Copy)]
@@ -66,4 +72,79 @@ pub(crate) fn pieces_of(delta_nibble: u8, length_nibble: u8, bytes: &[u8]) -> Op
     }
     let (value, rest) = rest.split_at(value_len);
     Some(Pieces { delta, value, rest })
+}
+
+/// The nibble that stands for a number.
+fn nibble_of(n: u32) -> u8
+    ensures value { result ≡ nibble n }
+    ensures small { result < 15 }
+{
+    if n < ONE_BYTE_BASE {
+        n as u8
+    } else if n < TWO_BYTES_BASE {
+        ONE_BYTE
+    } else {
+        TWO_BYTES
+    }
+}
+
+/// How many extended bytes a number takes.
+fn extended_len(n: u32) -> usize
+    ensures value { result ≡ extended_length n }
+    ensures small { result ≤ 2 }
+{
+    if n < ONE_BYTE_BASE {
+        0
+    } else if n < TWO_BYTES_BASE {
+        1
+    } else {
+        2
+    }
+}
+
+/// How many bytes an option takes, its value included.
+pub(crate) fn option_size(delta: u32, value_len: u32) -> usize
+    ensures { result ≡ option_length delta value_len }
+{
+    1 + extended_len(delta) + extended_len(value_len) + value_len as usize
+}
+
+/// How many bytes an option takes, its value included, by its delta, which is its number less the number
+/// of the option before (or 0), and the length of its value in bytes (RFC 7252, 3.1).
+pub fn option_len(delta: u16, length: u16) -> usize
+    ensures { result ≡ option_length delta length }
+{
+    option_size(u32::from(delta), u32::from(length))
+}
+
+/// Writes the extended bytes of a number, and answers where they end.
+fn put_extended(buf: &mut [u8], place: usize, n: u32) -> usize
+    requires small { n < 65805 }
+    requires room { place + extended_length n ≤ length buf.old }
+    ensures written { buf.new ≡ placed place (extended n) buf.old }
+    ensures end { result ≡ place + length (extended n) }
+{
+    if n < ONE_BYTE_BASE {
+        place
+    } else if n < TWO_BYTES_BASE {
+        put(buf, place, &[(n - ONE_BYTE_BASE) as u8])
+    } else {
+        let rest = n - TWO_BYTES_BASE;
+        put(buf, place, &[(rest / 256) as u8, (rest % 256) as u8])
+    }
+}
+
+/// Writes an option: option byte, extended delta, extended length, value. Answers where it ends.
+pub(crate) fn put_option(buf: &mut [u8], place: usize, delta: u16, value: &[u8]) -> usize
+    requires short { length value.now ≤ 65804 }
+    requires room { place + option_length delta (length value.now) ≤ length buf.old }
+    ensures written { buf.new ≡ placed place (option_text delta value.now) buf.old }
+    ensures end { result ≡ place + option_length delta (length value.now) }
+{
+    let delta = u32::from(delta);
+    let value_len = value.len() as u32;
+    let end = put(buf, place, &[16 * nibble_of(delta) + nibble_of(value_len)]);
+    let end = put_extended(buf, end, delta);
+    let end = put_extended(buf, end, value_len);
+    put(buf, end, value)
 }

@@ -5,14 +5,14 @@ use crate::{Fault, FormatError, parse, parse_inner};
 use std::test::Fail;
 
 #[derive(Clone, Copy)]
-struct Row {
-    name: &'static str,
-    bytes: &'static [u8],
-    outcome: Result<ExpectedOptions, (Fault, usize)>,
+pub(super) struct Row {
+    pub(super) name: &'static str,
+    pub(super) bytes: &'static [u8],
+    pub(super) outcome: Result<ExpectedOptions, (Fault, usize)>,
 }
 
 // RFC 7252, 3 and 3.1, worked by hand: each fault at its place, and the edges of the nibbles 13 and 14.
-const FORMAT_ROWS: [Row; 12] = [
+pub(super) const FORMAT_ROWS: [Row; 12] = [
     Row {
         name: "no bytes",
         bytes: b"",

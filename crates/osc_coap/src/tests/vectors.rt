@@ -5,9 +5,9 @@ use crate::{Kind, parse};
 use std::test::Fail;
 
 #[derive(Clone, Copy)]
-struct Vector {
-    name: &'static str,
-    bytes: &'static [u8],
+pub(super) struct Vector {
+    pub(super) name: &'static str,
+    pub(super) bytes: &'static [u8],
     kind: Kind,
     code: u8,
     message_id: u16,
@@ -17,7 +17,7 @@ struct Vector {
 }
 
 // RFC 8613, C.4 to C.8; the two last rows are worked by hand from RFC 7252, 3.
-const VECTORS: [Vector; 11] = [
+pub(super) const VECTORS: [Vector; 11] = [
     Vector {
         name: "C.4 plain",
         bytes: b"D\x01\x5d\x1f\x00\x009t9localhost\x83tv1",

@@ -1,4 +1,5 @@
 use Rattle.osc_coap.proofs.Texts.{text_ascends}
+use Rattle.osc_coap.proofs.EachReading.{read_ascends}
 use Rattle.osc_coap.proofs.laws.options_ascend.Goals as goal
 
 pub returns-clause-spelling : goal.returns-clause-spelling
@@ -9,3 +10,6 @@ returns-clause-datagram c = λ p bytes h. text_ascends 0 p.options h.spelled h.s
 
 pub returns-clause-inner : goal.returns-clause-inner
 returns-clause-inner c = λ p bytes h. text_ascends 0 p.options h.spelled h.spells
+
+pub returns-clause-read : goal.returns-clause-read
+returns-clause-read c = λ m. read_ascends 0 m.options.now

@@ -1,0 +1,29 @@
+use Rattle.std.proofs.Common.{◌≡◌, true, rules, List, [], ◌∷◌, ◌++◌, ap, sym, subst, refl, ◌∙◌, append_assoc}
+use Rattle.osc_coap.specs.OptionSpelling.{Entry}
+use Rattle.osc_coap.specs.Views.{options_left}
+use Rattle.osc_coap.specs.Writing.{Draft}
+use Rattle.osc_coap.specs.Writer.{Holds}
+use Rattle.osc_coap.specs.Class.{class, is_outer, outer_options}
+use Rattle.osc_coap.proofs.Drafts.{with_options-push}
+use Rattle.osc_coap.proofs.tests.writers.copy_outer.Goals as goal
+
+-- the options with one of them in front
+outer_more : (entry : Entry) (entries : List Entry) → is_outer (class entry.0) ≡ true → outer_options (entry ∷ entries) ≡ entry ∷ outer_options entries
+outer_more entry entries h = rw h refl
+
+pub loop-number-preserved-in-Continue-1 : goal.loop-number-preserved-in-Continue-1
+loop-number-preserved-in-Continue-1 c = record {
+  can_next = tt;
+  is_finite = tt;
+  same_reference = c.in_ok-option.ensures.same_reference ∙ c.loop-number.invariant.same_reference;
+  so_far = λ draft old h.
+      let so_far = c.loop-number.invariant.so_far draft old h in
+      let more : List Entry = (c.in-Some.number, c.in-Some.value.now) ∷ [] in
+      let is : is_outer (class c.in-Some.number) ≡ true = search rules in (
+        so_far.0 ++ more,
+        subst (λ (d : Draft). Holds c.option.new.self d old) (with_options-push draft so_far.0 c.in-Some.number c.in-Some.value.now) (c.in_ok-option.ensures.taken _ _ so_far.1),
+        so_far.2 ∙ ap (λ (os : List Entry). so_far.0 ++ outer_options os) c.in-Some.ensures.steps
+            ∙ ap (λ (os : List Entry). so_far.0 ++ os) (outer_more (c.in-Some.number, c.in-Some.value.now) (options_left c.next.new.self) is)
+            ∙ sym (append_assoc so_far.0 more _),
+      );
+}

@@ -1,0 +1,127 @@
+-- What stands in a buffer that is written, a datagram (RFC 7252, 3) or a plaintext (RFC 8613, 5.3), and
+-- what can't be added to it. room is the buffer's length; a refusal gives the first reason that holds, in
+-- the order of WriteError.
+use Rattle.std.specs.Prelude.{◌≡◌, ◌≢◌, ℕ, ◌+◌, ◌<◌, ◌≤◌, ◌⊎◌, List, [], ◌∷◌, ◌++◌, length, Result, IsOk, IfErr, IsErrOf}
+use Rattle.osc_coap.specs.declared.message.Kind.{Kind}
+use Rattle.osc_coap.specs.declared.write_error.WriteError.{WriteError}
+use Rattle.osc_coap.specs.declared.write_error.WriteError.TheVariants.{EmptyWithRest, Order, ValueTooLong, NoRoom}
+use Rattle.osc_coap.specs.OptionSpelling.{Entry, AreBytes, Spells, marked, last_number}
+use Rattle.osc_coap.specs.Datagram.{Parts, head, datagram_length}
+use Rattle.osc_coap.specs.Inner.{InnerParts, inner_length}
+
+-- what is written so far: the datagram, or the plaintext, with these parts (how the code is seen)
+pub data Draft : Type 0 where
+  Datagram : Parts → Draft
+  Plaintext : InnerParts → Draft
+
+-- a message of a head and a token alone (RFC 7252, 3)
+abbrev pub bare : Kind → ℕ → ℕ → List ℕ → Parts
+bare kind code message_id token = record { kind = kind; code = code; message_id = message_id; token = token; options = []; payload = [] }
+
+-- a plaintext of a code alone (RFC 8613, 5.3)
+abbrev pub bare_inner : ℕ → InnerParts
+bare_inner code = record { code = code; options = []; payload = [] }
+
+-- the options that are written (how the code is seen)
+abbrev pub options_of : Draft → List Entry
+options_of (Datagram p) = p.options
+options_of (Plaintext p) = p.options
+
+-- the payload that is written (how the code is seen)
+abbrev pub payload_of : Draft → List ℕ
+payload_of (Datagram p) = p.payload
+payload_of (Plaintext p) = p.payload
+
+-- how many bytes are written (RFC 7252, 3; RFC 8613, 5.3)
+abbrev pub length_of : Draft → ℕ
+length_of (Datagram p) = datagram_length p
+length_of (Plaintext p) = inner_length p
+
+-- the same with further options behind those that it has (RFC 7252, 3.1)
+abbrev pub with_options : Draft → List Entry → Draft
+with_options (Datagram p) entries = Datagram (record p { options = p.options ++ entries })
+with_options (Plaintext p) entries = Plaintext (record p { options = p.options ++ entries })
+
+-- the same with one option more (RFC 7252, 3.1)
+abbrev pub with_option : Draft → ℕ → List ℕ → Draft
+with_option draft number value = with_options draft ((number, value) ∷ [])
+
+-- the same with bytes added to its payload, which is empty until then (RFC 7252, 3)
+abbrev pub with_payload : Draft → List ℕ → Draft
+with_payload (Datagram p) bytes = Datagram (record p { payload = p.payload ++ bytes })
+with_payload (Plaintext p) bytes = Plaintext (record p { payload = p.payload ++ bytes })
+
+-- it is a message of code 0.00, which is its head alone; a plaintext never is (RFC 7252, 4.1)
+abbrev pub IsEmptyMessage : Draft → Type 0
+IsEmptyMessage (Datagram p) = p.code ≡ 0
+IsEmptyMessage (Plaintext p) = ⊥
+
+-- an option comes too late: behind a payload, or below the number before it (RFC 7252, 3 and 3.1)
+abbrev pub ComesLate : Draft → ℕ → Type 0
+ComesLate draft number = (payload_of draft ≢ []) ⊎ (number < last_number 0 (options_of draft))
+
+-- it passes the end of the buffer, or 65,535 bytes; own rule: that limit (RFC 7252, 3)
+abbrev pub LacksRoom : ℕ → ℕ → Type 0
+LacksRoom room size = (room < size) ⊎ (65535 < size)
+
+-- it is within the buffer, and within 65,535 bytes; own rule: that limit (RFC 7252, 3)
+abbrev pub HasRoom : ℕ → ℕ → Type 0
+HasRoom room size = (size ≤ room) × (size ≤ 65535)
+
+-- the first of four reasons that holds, in the order in which they are judged (own rule)
+abbrev pub IsFirstOf : (empty late long full : Type 0) → WriteError → Type 0
+IsFirstOf empty late long full EmptyWithRest = empty
+IsFirstOf empty late long full Order = (¬ empty) × late
+IsFirstOf empty late long full ValueTooLong = (¬ empty) × (¬ late) × long
+IsFirstOf empty late long full NoRoom = (¬ empty) × (¬ late) × (¬ long) × full
+
+-- Ok is answered exactly where it can be done, an error exactly where it says why not (own rule)
+pub record IsExact {X : Type 0} (result : Result X WriteError) (can : Type 0) (why : WriteError → Type 0) : Type 0 where
+  pub taken : IsOk result → can
+  pub takes : can → IsOk result
+  pub refused : IfErr result why
+  pub refuses : (e : WriteError) → why e → IsErrOf result e
+
+-- why no datagram with this code and token can begin (own rule)
+abbrev pub RefusesHead : ℕ → ℕ → List ℕ → WriteError → Type 0
+RefusesHead room code token = IsFirstOf ((code ≡ 0) × (token ≢ [])) ⊥ ⊥ (LacksRoom room (4 + length token))
+
+-- a datagram with this code and token can begin (RFC 7252, 3 and 4.1)
+abbrev pub TakesHead : ℕ → ℕ → List ℕ → Type 0
+TakesHead room code token = (code ≡ 0 → token ≡ []) × HasRoom room (4 + length token)
+
+-- why an option can't be added (own rule)
+abbrev pub RefusesOption : ℕ → Draft → ℕ → List ℕ → WriteError → Type 0
+RefusesOption room draft number value = IsFirstOf (IsEmptyMessage draft) (ComesLate draft number) (65804 < length value) (LacksRoom room (length_of (with_option draft number value)))
+
+-- an option can be added (RFC 7252, 3 and 3.1)
+abbrev pub TakesOption : ℕ → Draft → ℕ → List ℕ → Type 0
+TakesOption room draft number value = (¬ IsEmptyMessage draft) × (payload_of draft ≡ []) × (last_number 0 (options_of draft) ≤ number) × HasRoom room (length_of (with_option draft number value))
+
+-- why a payload that isn't empty can't be added (own rule)
+abbrev pub RefusesPayload : ℕ → Draft → List ℕ → WriteError → Type 0
+RefusesPayload room draft bytes = IsFirstOf (IsEmptyMessage draft) (payload_of draft ≢ []) ⊥ (LacksRoom room (length_of (with_payload draft bytes)))
+
+-- a payload that isn't empty can be added (RFC 7252, 3)
+abbrev pub TakesPayload : ℕ → Draft → List ℕ → Type 0
+TakesPayload room draft bytes = (¬ IsEmptyMessage draft) × (payload_of draft ≡ []) × HasRoom room (length_of (with_payload draft bytes))
+
+-- what stands in front of the options (RFC 7252, 3; RFC 8613, 5.3)
+abbrev pub front_of : Draft → List ℕ
+front_of (Datagram p) = head p ++ p.token
+front_of (Plaintext p) = p.code ∷ []
+
+-- the token isn't longer than a head can say (RFC 7252, 3)
+abbrev pub HasFineToken : Draft → Type 0
+HasFineToken (Datagram p) = length p.token ≤ 8
+HasFineToken (Plaintext p) = Unit {0}
+
+-- the bytes are this datagram, or this plaintext (RFC 7252, 3; RFC 8613, 5.3)
+pub record IsDraft (draft : Draft) (bytes : List ℕ) : Type 0 where
+  pub are_bytes : AreBytes bytes
+  pub fits : length bytes ≤ 65535
+  pub token : HasFineToken draft
+  pub spelled : List ℕ
+  pub spells : Spells 0 (options_of draft) spelled
+  pub whole : bytes ≡ front_of draft ++ (spelled ++ marked (payload_of draft))
+  pub empty : IsEmptyMessage draft → length bytes ≡ 4

@@ -1,0 +1,33 @@
+//! How an option is protected (RFC 8613, 4.1).
+
+ghost use Rattle.std.specs.Prelude.{◌≡◌};
+ghost use Rattle.osc_coap.specs.Class.{class};
+
+use crate::option_numbers::{
+    BLOCK1, BLOCK2, ECHO, MAX_AGE, NO_RESPONSE, OBSERVE, OSCORE, PROXY_SCHEME, PROXY_URI, SIZE1,
+    SIZE2, URI_HOST, URI_PORT,
+};
+
+/// Where an option of a protected message stands (RFC 8613, 4.1).
+#[derive(Clone, Copy, Debug, PartialEq, Eq)]
+pub enum Class {
+    /// In the plaintext: encrypted and integrity protected.
+    E,
+    /// Outside of the plaintext, where a proxy can read it: unprotected.
+    U,
+    /// Either has a meaning. Own rule: it is written in the plaintext alone, and dropped where it comes
+    /// outside.
+    Both,
+}
+
+/// The class of the option with this number. Own rule: the table, and E for every number outside of it
+/// (RFC 8613, 4.1).
+pub fn class_of(number: u16) -> Class
+    ensures { result ≡ class number }
+{
+    match number {
+        URI_HOST | URI_PORT | OSCORE | PROXY_URI | PROXY_SCHEME => Class::U,
+        OBSERVE | MAX_AGE | BLOCK2 | BLOCK1 | SIZE2 | SIZE1 | ECHO | NO_RESPONSE => Class::Both,
+        _ => Class::E,
+    }
+}

@@ -1,0 +1,222 @@
+//! Writing a datagram or a plaintext into a caller's buffer, from the front to the payload.
+
+ghost use Rattle.std.specs.Prelude.{◌≡◌, ◌≢◌, ◌≤◌, ◌<◌, ◌+◌, ℕ, List, [], drop, take, length, IsOk, IfOk, OnOk, OnErr, MatchResult};
+ghost use Rattle.arrayvec.specs.ArrayVec.{array_vec_len};
+ghost use Rattle.osc_coap.specs.Datagram.{Parts, IsDatagram};
+ghost use Rattle.osc_coap.specs.Inner.{InnerParts, IsInner};
+ghost use Rattle.osc_coap.specs.Writing.{Draft, Datagram, Plaintext, bare, bare_inner, with_option, with_payload, length_of, IsExact, RefusesHead, TakesHead, RefusesOption, TakesOption, RefusesPayload, TakesPayload};
+
+use crate::body::PAYLOAD_MARKER;
+use crate::format_error::MOST_DATAGRAM;
+use crate::head::{head_len, put_head};
+use crate::message::{Kind, Token};
+use crate::option_header::{MOST_VALUE, option_size, put_option};
+use crate::placing::put;
+use crate::write_error::WriteError;
+
+/// What can follow.
+#[derive(Clone, Copy, PartialEq, Eq)]
+enum Stage {
+    /// Nothing: the code is 0.00, and such a message is its head alone (RFC 7252, 4.1).
+    Alone,
+    /// Options and a payload.
+    Open,
+    /// Nothing: the payload stands there.
+    Closed,
+}
+
+/// Writes a datagram (RFC 7252, 3), or a plaintext (RFC 8613, 5.3), into the front of a buffer. The bytes
+/// behind what is written stay as they are, and a refusal leaves the writer and its bytes.
+#[derive(Drop)]
+pub struct Writer<'a> {
+    buf: &'a mut [u8],
+    len: usize,
+    number: u16,
+    stage: Stage,
+    ghost within: { len ≤ length buf.now },
+    ghost fits: { len ≤ 65535 },
+}
+
+impl<'a> Writer<'a> {
+    ghost use Rattle.osc_coap.specs.Writer.{Holds, buffer_of, TakesNow, RefusesNow, RefusesLength};
+    ghost use Rattle.osc_coap.specs.declared.write_error.WriteError.TheVariants.{NoRoom};
+
+    /// Begins a datagram. Refuses with EmptyWithRest or NoRoom. A caller whose proof speaks of its own buffer
+    /// takes `begin`.
+    pub fn new(
+        buf: &'a mut [u8],
+        kind: Kind,
+        code: u8,
+        message_id: u16,
+        token: &Token,
+    ) -> Result<Writer<'a>, WriteError>
+        ensures same_reference { IfOk result (λ w. buffer_of w ≡ buf.entry.ghost_name) }
+        ensures made { IfOk result (λ w.
+            Holds w (Datagram (bare kind code message_id token.now.items)) buf.old) }
+        ensures exactly { IsExact result (TakesHead (length buf.old) code token.now.items)
+            (RefusesHead (length buf.old) code token.now.items) }
+    {
+        if code == 0 && !token.is_empty() {
+            return Err(WriteError::EmptyWithRest);
+        }
+        if buf.len() < head_len(token) {
+            return Err(WriteError::NoRoom);
+        }
+        Ok(Writer::begin(buf, kind, code, message_id, token))
+    }
+
+    /// Begins a datagram where there is room for its head and its token (`head_len`).
+    pub fn begin(
+        buf: &'a mut [u8],
+        kind: Kind,
+        code: u8,
+        message_id: u16,
+        token: &Token,
+    ) -> Writer<'a>
+        requires room { 4 + array_vec_len token.now ≤ length buf.old }
+        requires alone { code ≡ 0 → token.now.items ≡ [] }
+        ensures same_reference { buffer_of result ≡ buf.entry.ghost_name }
+        ensures made { Holds result (Datagram (bare kind code message_id token.now.items)) buf.old }
+    {
+        let len = put_head(buf, kind, code, message_id, token);
+        Writer {
+            buf,
+            len,
+            number: 0,
+            stage: if code == 0 { Stage::Alone } else { Stage::Open },
+        }
+    }
+
+    /// Begins a plaintext; its code may be any, also 0.00 (RFC 8613, 5.3). Refuses with NoRoom where the
+    /// buffer is empty. A caller whose proof speaks of its own buffer takes `begin_inner`.
+    pub fn inner(buf: &'a mut [u8], code: u8) -> Result<Writer<'a>, WriteError>
+        ensures same_reference { IfOk result (λ w. buffer_of w ≡ buf.entry.ghost_name) }
+        ensures made { IfOk result (λ w. Holds w (Plaintext (bare_inner code)) buf.old) }
+        ensures exactly { IsExact result (0 < length buf.old) (λ e. (e ≡ NoRoom) × (buf.old ≡ [])) }
+    {
+        if buf.is_empty() {
+            return Err(WriteError::NoRoom);
+        }
+        Ok(Writer::begin_inner(buf, code))
+    }
+
+    /// Begins a plaintext where there is room for its code, one byte (RFC 8613, 5.3).
+    #[tactic(auto, unfolding(crate::specs::Writer::Holds))]
+    pub fn begin_inner(buf: &'a mut [u8], code: u8) -> Writer<'a>
+        requires { 0 < length buf.old }
+        ensures same_reference { buffer_of result ≡ buf.entry.ghost_name }
+        ensures made { Holds result (Plaintext (bare_inner code)) buf.old }
+    {
+        let len = put(buf, 0, &[code]);
+        Writer {
+            buf,
+            len,
+            number: 0,
+            stage: Stage::Open,
+        }
+    }
+
+    /// The delta of an option that can follow, by its number and the length of its value.
+    fn judge_option(&self, number: u16, value_len: usize) -> Result<u16, WriteError>
+        ensures { MatchResult result (TakesNow self.now number value_len) (RefusesNow self.now number value_len) }
+    {
+        match self.stage {
+            Stage::Alone => return Err(WriteError::EmptyWithRest),
+            Stage::Closed => return Err(WriteError::Order),
+            Stage::Open => {}
+        }
+        if number < self.number {
+            return Err(WriteError::Order);
+        }
+        if value_len > MOST_VALUE {
+            return Err(WriteError::ValueTooLong);
+        }
+        let delta = number - self.number;
+        let limit = self.buf.len().min(MOST_DATAGRAM);
+        if limit - self.len < option_size(u32::from(delta), value_len as u32) {
+            return Err(WriteError::NoRoom);
+        }
+        Ok(delta)
+    }
+
+    /// Adds an option behind the others (RFC 7252, 3.1). Refuses, in this order, with EmptyWithRest, Order,
+    /// ValueTooLong or NoRoom.
+    pub fn option(&mut self, number: u16, value: &[u8]) -> Result<(), WriteError>
+        ensures same_reference { buffer_of self.new ≡ buffer_of self.old }
+        ensures taken { OnOk result ((draft : Draft) (old : List ℕ) → Holds self.old draft old
+            → Holds self.new (with_option draft number value.now) old) }
+        ensures unchanged { OnErr result (self.new ≡ self.old) }
+        ensures exactly { (draft : Draft) (old : List ℕ) → Holds self.old draft old
+            → IsExact result (TakesOption (length old) draft number value.now)
+            (RefusesOption (length old) draft number value.now) }
+    {
+        let delta = self.judge_option(number, value.len())?;
+        let buf = &mut *self.buf;
+        self.len = put_option(buf, self.len, delta, value);
+        self.number = number;
+        Ok(())
+    }
+
+    /// Whether a payload of this length, which isn't 0, can follow.
+    fn judge_payload(&self, payload_len: usize) -> Result<(), WriteError>
+        ensures judged { MatchResult result (λ _. self.now.stage ≡ Stage.Open) (RefusesLength self.now payload_len) }
+        ensures room { OnOk result ((self.now.len + (1 + payload_len) ≤ length self.now.buf.now) × (self.now.len + (1 + payload_len) ≤ 65535)) }
+    {
+        match self.stage {
+            Stage::Alone => return Err(WriteError::EmptyWithRest),
+            Stage::Closed => return Err(WriteError::Order),
+            Stage::Open => {}
+        }
+        let limit = self.buf.len().min(MOST_DATAGRAM);
+        if limit - self.len <= payload_len {
+            return Err(WriteError::NoRoom);
+        }
+        Ok(())
+    }
+
+    /// Adds the marker and the payload (RFC 7252, 3). No bytes are always taken, and change nothing; else
+    /// refuses, in this order, with EmptyWithRest, Order or NoRoom.
+    #[tactic(auto, unfolding(crate::specs::Writer::Holds))]
+    pub fn payload(&mut self, bytes: &[u8]) -> Result<(), WriteError>
+        ensures same_reference { buffer_of self.new ≡ buffer_of self.old }
+        ensures taken { OnOk result ((draft : Draft) (old : List ℕ) → Holds self.old draft old
+            → Holds self.new (with_payload draft bytes.now) old) }
+        ensures unchanged { OnErr result (self.new ≡ self.old) }
+        ensures nothing { bytes.now ≡ [] → (IsOk result) × (self.new ≡ self.old) }
+        ensures exactly { (draft : Draft) (old : List ℕ) → Holds self.old draft old → bytes.now ≢ []
+            → IsExact result (TakesPayload (length old) draft bytes.now)
+            (RefusesPayload (length old) draft bytes.now) }
+    {
+        if bytes.is_empty() {
+            return Ok(());
+        }
+        self.judge_payload(bytes.len())?;
+        let buf = &mut *self.buf;
+        let start = put(buf, self.len, &[PAYLOAD_MARKER]);
+        self.len = put(buf, start, bytes);
+        self.stage = Stage::Closed;
+        Ok(())
+    }
+
+    /// How many bytes are written, at the front of the buffer.
+    #[tactic(auto, unfolding(crate::specs::Writer::Holds))]
+    pub fn finish(self) -> usize
+        ensures datagram { (p : Parts) (old : List ℕ) → Holds self.entry (Datagram p) old
+            → IsDatagram p (take result self.exit.0.now) }
+        ensures plaintext { (p : InnerParts) (old : List ℕ) → Holds self.entry (Plaintext p) old
+            → IsInner p (take result self.exit.0.now) }
+        ensures behind { (draft : Draft) (old : List ℕ) → Holds self.entry draft old
+            → drop result self.exit.0.now ≡ drop result old }
+        ensures size { (draft : Draft) (old : List ℕ) → Holds self.entry draft old
+            → (result ≡ length_of draft) × (length self.exit.0.now ≡ length old) }
+        ensures within { result ≤ length self.exit.0.now }
+    {
+        let Writer {
+            buf: _,
+            len,
+            number: _,
+            stage: _,
+        } = self;
+        len
+    }
+}
