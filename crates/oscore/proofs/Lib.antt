@@ -1,5 +1,6 @@
 pub mod Appending
 pub mod ContextTexts
 pub mod OpenTexts
+pub mod ExplainTexts
 pub mod LocalCommands
 pub mod HexWords

@@ -3,4 +3,5 @@ pub mod Hex
 pub mod Lines
 pub mod Contexts
 pub mod Opening
+pub mod Explanation
 pub mod Written

@@ -1,11 +1,15 @@
 -- How values print (own rule: a name, one space, the value, a newline). name and text are characters, bytes any bytes.
-use Rattle.std.specs.Prelude.{ℕ, ◌/◌, ◌%◌, List, [], ◌∷◌, ◌++◌, Option, Some, None, codes}
+use Rattle.std.specs.Prelude.{ℕ, ◌/◌, ◌%◌, List, [], ◌∷◌, ◌++◌, Option, Some, None, option_map, codes}
 use Rattle.std.specs.Fmt.{decimal}
 use Rattle.std.specs.Int.{to_be_bytes, w16}
 use Rattle.hex.specs.Hex.{encode_lower}
 use Rattle.osc_coap.specs.declared.message.Kind.{Kind}
 use Rattle.osc_coap.specs.declared.message.Kind.TheVariants.{Con, Non, Ack, Rst}
 use Rattle.osc_coap.specs.OptionSpelling.{Entry}
+use Rattle.osc_context.specs.OptionRefusal.{name_of}
+use Rattle.osc_context.specs.OscoreValue.{OscoreParts}
+use Rattle.osc_context.specs.PartialIv.{partial_iv_of}
+use Rattle.osc_context.specs.declared.option_error.OptionError.{OptionError}
 
 -- bytes in hex of lower case, and a dash for none (own rule)
 abbrev pub bytes_text : List ℕ → List ℕ
@@ -48,6 +52,10 @@ message_id_line n = bytes_line (codes "mid") (to_be_bytes w16 n)
 abbrev pub code_line : ℕ → List ℕ
 code_line code = text_line (codes "code") (code_text code)
 
+-- the lines of a message's kind, message ID, token and code (own rule)
+abbrev pub head_lines : Kind → ℕ → List ℕ → ℕ → List (List ℕ)
+head_lines kind message_id token code = kind_line kind ∷ message_id_line message_id ∷ bytes_line (codes "token") token ∷ code_line code ∷ []
+
 -- the line of a message's number, where it has one (own rule)
 abbrev pub number_line : Option ℕ → List ℕ
 number_line n = text_line (codes "number") (number_text n)
@@ -60,6 +68,19 @@ part_lines name (Some bytes) = bytes_line name bytes ∷ []
 -- the line of an option: its number, and its value (own rule)
 abbrev pub option_line : Entry → List ℕ
 option_line entry = text_line (codes "option") (decimal entry.0 ++ (codes " " ++ bytes_text entry.1))
+
+-- bytes in hex, a dash for no bytes, and another word where the part is absent (own rule)
+abbrev pub optional_text : Option (List ℕ) → List ℕ
+optional_text None = codes "none"
+optional_text (Some bytes) = bytes_text bytes
+
+-- the line of what a value of the OSCORE option says: Partial IV, kid context and kid (own rule)
+abbrev pub oscore_line : OscoreParts → List ℕ
+oscore_line v = text_line (codes "oscore") (codes "piv " ++ (optional_text (option_map partial_iv_of v.piv) ++ (codes " context " ++ (optional_text v.kid_context ++ (codes " kid " ++ optional_text v.kid)))))
+
+-- the line of a refused value of the OSCORE option: the name of the reason (own rule)
+abbrev pub oscore_fault_line : OptionError → List ℕ
+oscore_fault_line e = text_line (codes "oscore") (codes "fault " ++ name_of e)
 
 -- the line of a refusal: its text, which is its name, and a format fault's place (own rule)
 abbrev pub refused_line : List ℕ → List ℕ

@@ -16,7 +16,7 @@ use Rattle.osc_protect.specs.Views.{shown, message_of, opened_number}
 use Rattle.osc_protect.specs.declared.opened.Opened.{Opened}
 use Rattle.osc_protect.specs.declared.unprotect_error.UnprotectError.{UnprotectError}
 use Rattle.oscore.specs.Contexts.{InContext, Told}
-use Rattle.oscore.specs.Lines.{kind_line, message_id_line, code_line, number_line, bytes_line, part_lines, option_line, refused_line}
+use Rattle.oscore.specs.Lines.{head_lines, number_line, bytes_line, part_lines, option_line, refused_line}
 
 -- what `open` prints of a datagram that opens, one field a row (own rule)
 pub record Printed : Type 0 where
@@ -30,13 +30,9 @@ pub record Printed : Type 0 where
   pub options : List Entry
   pub payload : List ℕ
 
--- the lines of head, code and number (own rule)
-abbrev pub head_lines : Printed → List (List ℕ)
-head_lines x = kind_line x.kind ∷ message_id_line x.message_id ∷ bytes_line (codes "token") x.token ∷ code_line x.code ∷ number_line x.number ∷ []
-
 -- all lines of a datagram that opens, in their order (own rule)
 abbrev pub opened_lines : Printed → List (List ℕ)
-opened_lines x = head_lines x ++ (part_lines (codes "uri-host") x.uri_host ++ (part_lines (codes "uri-port") x.uri_port ++ (map option_line x.options ++ (bytes_line (codes "payload") x.payload ∷ []))))
+opened_lines x = head_lines x.kind x.message_id x.token x.code ++ (number_line x.number ∷ (part_lines (codes "uri-host") x.uri_host ++ (part_lines (codes "uri-port") x.uri_port ++ (map option_line x.options ++ (bytes_line (codes "payload") x.payload ∷ [])))))
 
 -- head, Uri-Host and Uri-Port of the datagram, the rest of what it protects (RFC 8613, 8.2)
 abbrev pub printed_of : Parts → ℕ → InnerParts → Printed

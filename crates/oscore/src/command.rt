@@ -4,6 +4,7 @@ ghost use Rattle.std.specs.Prelude.{◌≡◌, ◌≢◌, ◌⊎◌, IfOk};
 
 use crate::context_words::ContextWords;
 use crate::derivation::derive_text;
+use crate::explanation::explain_text;
 use crate::fault::{Fault, Wrong, input_fault};
 use crate::lines::{put_fault, put_help, usage_text};
 use crate::opening::open_text;
@@ -30,6 +31,14 @@ fn run_open<W: Write>(alloc: Global, matches: &ArgMatches<'_>, out: &mut W) -> R
     open_text(alloc, context.params(), datagram.as_mut_slice(), out)
 }
 
+/// Does what `explain` asks for.
+fn run_explain<W: Write>(alloc: Global, matches: &ArgMatches<'_>, out: &mut W) -> Result<u8, Fault>
+    ensures { IfOk result (λ s. (s ≡ 0) ⊎ (s ≡ 2)) }
+{
+    let datagram = required_bytes(alloc, matches, "datagram", "DATAGRAM")?;
+    explain_text(alloc, datagram.as_slice(), out)
+}
+
 /// Does what the words ask for.
 fn run<W: Write>(alloc: Global, words: &[String], out: &mut W) -> Result<u8, Fault>
     ensures { IfOk result (λ s. (s ≡ 0) ⊎ (s ≡ 2)) }
@@ -38,6 +47,7 @@ fn run<W: Write>(alloc: Global, words: &[String], out: &mut W) -> Result<u8, Fau
         Ok(matches) => match matches.subcommand() {
             Some(("derive", inner)) => run_derive(alloc, inner, out),
             Some(("open", inner)) => run_open(alloc, inner, out),
+            Some(("explain", inner)) => run_explain(alloc, inner, out),
             // No other is there; clap answers `help` by itself.
             Some(_) => Err(input_fault("the call", Wrong::Unknown)),
             None => unreachable!(),

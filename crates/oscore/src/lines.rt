@@ -4,8 +4,8 @@ ghost use Rattle.std.specs.Prelude.{◌≡◌, ◌∷◌, [], IfOk, IfSome, stri
 ghost use Rattle.osc_coap.specs.Views.{options_left};
 ghost use Rattle.osc_context.specs.Views.{number_of};
 ghost use Rattle.osc_protect.specs.Views.{message_of, shown};
-ghost use Rattle.oscore.specs.Lines.{bytes_text, kind_text, code_text, number_text, text_line, bytes_line, kind_line, message_id_line, code_line, number_line, part_lines, option_line, refused_line};
-ghost use Rattle.oscore.specs.Opening.{head_lines, opened_lines, seen};
+ghost use Rattle.oscore.specs.Lines.{bytes_text, kind_text, code_text, number_text, text_line, bytes_line, kind_line, message_id_line, code_line, head_lines, number_line, part_lines, option_line, refused_line};
+ghost use Rattle.oscore.specs.Opening.{opened_lines, seen};
 ghost use Rattle.oscore.specs.Written.{Writes};
 
 use crate::fault::Fault;
@@ -17,7 +17,7 @@ use std::fmt::Display;
 use std::io::Write;
 
 /// The bytes in hex, or a dash for none.
-fn bytes_text(alloc: Global, bytes: &[u8]) -> Result<String, AllocError>
+pub(crate) fn bytes_text(alloc: Global, bytes: &[u8]) -> Result<String, AllocError>
     ensures { IfOk result (λ text. string_bytes text ≡ bytes_text bytes.now) }
 {
     if bytes.is_empty() {
@@ -128,6 +128,23 @@ fn put_code<W: Write>(alloc: Global, code: u8, out: &mut W) -> Result<(), Fault>
     put_text(alloc, "code", text.as_str(), out)
 }
 
+/// Writes the lines of the head, the token and the code.
+pub(crate) fn put_head<W: Write>(
+    alloc: Global,
+    kind: Kind,
+    message_id: u16,
+    token: &Token,
+    code: u8,
+    out: &mut W,
+) -> Result<(), Fault>
+    ensures { Writes (W.contents out.old) (W.contents out.new) (head_lines kind message_id token.now.items code) result }
+{
+    put_kind(alloc, kind, out)?;
+    put_message_id(alloc, message_id, out)?;
+    put_token(alloc, token, out)?;
+    put_code(alloc, code, out)
+}
+
 fn put_number<W: Write>(alloc: Global, number: Option<Piv>, out: &mut W) -> Result<(), Fault>
     ensures { Writes (W.contents out.old) (W.contents out.new) (number_line (option_map number_of number) ∷ []) result }
 {
@@ -164,17 +181,6 @@ fn put_inner<W: Write>(alloc: Global, opened: &Opened<'_>, out: &mut W) -> Resul
     put_options(alloc, opened.inner(), out)
 }
 
-/// Writes the lines of the head, the code and the number.
-fn put_head<W: Write>(alloc: Global, opened: &Opened<'_>, out: &mut W) -> Result<(), Fault>
-    ensures { Writes (W.contents out.old) (W.contents out.new) (head_lines (seen opened.now)) result }
-{
-    put_kind(alloc, opened.kind, out)?;
-    put_message_id(alloc, opened.message_id, out)?;
-    put_token(alloc, &opened.token, out)?;
-    put_code(alloc, opened.code, out)?;
-    put_number(alloc, opened.piv, out)
-}
-
 /// Writes what a datagram says that opened, one part a line.
 pub(crate) fn put_opened<W: Write>(
     alloc: Global,
@@ -183,7 +189,15 @@ pub(crate) fn put_opened<W: Write>(
 ) -> Result<(), Fault>
     ensures { Writes (W.contents out.old) (W.contents out.new) (opened_lines (seen opened.now)) result }
 {
-    put_head(alloc, opened, out)?;
+    put_head(
+        alloc,
+        opened.kind,
+        opened.message_id,
+        &opened.token,
+        opened.code,
+        out,
+    )?;
+    put_number(alloc, opened.piv, out)?;
     put_part(alloc, "uri-host", opened.uri_host, out)?;
     put_part(alloc, "uri-port", opened.uri_port, out)?;
     put_inner(alloc, opened, out)?;

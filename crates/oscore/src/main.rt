@@ -9,10 +9,12 @@
 mod command;
 mod context_words;
 mod derivation;
+mod explanation;
 mod fault;
 mod hex_word;
 mod lines;
 mod opening;
+mod oscore_lines;
 #[cfg(test)]
 mod tests;
 mod words;

@@ -1,11 +1,14 @@
 //! What the command prints, and what it answers.
 
 mod contexts;
+mod explanations;
 mod faults;
 mod openings;
 
 use crate::command::command;
 use std::alloc::{AllocError, Global};
+use std::io;
+use std::io::{ErrorKind, Write};
 use std::process::Abort;
 use std::test::Fail;
 
@@ -72,6 +75,67 @@ fn check_rows<R: Abort + Alloc<A = Global>>(rt: &R, rows: &[Row]) -> Result<(), 
             ran.out
         );
         assert!(rt; ran.err.is_empty(), "{}: {:?}", row.name, ran.err);
+    }
+    Ok(())
+}
+
+/// Takes some writes whole, and then none.
+#[derive(Drop)]
+struct Failing {
+    left: usize,
+    written: Vec<u8>,
+    is_called_again: bool,
+    has_failed: bool,
+}
+
+impl Write for Failing {
+    fn write(&mut self, buf: &[u8]) -> io::Result<usize> {
+        if self.left == 0 {
+            self.is_called_again = self.has_failed;
+            self.has_failed = true;
+            return Err(io::Error::from(ErrorKind::BrokenPipe));
+        }
+        self.left -= 1;
+        self.written.extend_from_slice(buf)?;
+        Ok(buf.len())
+    }
+
+    fn flush(&mut self) -> io::Result<()> {
+        Ok(())
+    }
+}
+
+/// One write a line: the writer that fails at the n-th has the lines before.
+fn check_failing_writes<R: Abort + Alloc<A = Global>>(
+    rt: &R,
+    words: &[&str],
+    lines: &[&str],
+) -> Result<(), Fail> {
+    let alloc = rt.alloc();
+    let words = words_of(alloc, words)?;
+    let mut before = Vec::new(alloc);
+    for (written, line) in lines.iter().enumerate() {
+        let mut input = b"".as_slice();
+        let mut out = Failing {
+            left: written,
+            written: Vec::new(alloc),
+            is_called_again: false,
+            has_failed: false,
+        };
+        let mut err = Vec::new(alloc);
+        let status = command(alloc, words.as_slice(), &mut input, &mut out, &mut err);
+        assert_eq!(rt; status, 1, "after {written} lines");
+        assert!(rt;
+            out.written == before,
+            "after {written} lines: {:?}",
+            out.written
+        );
+        assert!(rt; !out.is_called_again, "after {written} lines");
+        assert!(rt;
+            is_one_line(err.as_slice()),
+            "after {written} lines: {err:?}"
+        );
+        before.extend_from_slice(line.as_bytes())?;
     }
     Ok(())
 }

@@ -12,7 +12,7 @@ use std::env;
 use std::rt::Env;
 
 const ABOUT: &str =
-    "Derives contexts of OSCORE (RFC 8613), and opens the CoAP requests that it protects.";
+    "Derives contexts of OSCORE (RFC 8613), opens the CoAP requests that it protects, and explains datagrams.";
 
 const EXAMPLE: &str = "Example:
   oscore open --secret 0102030405060708090a0b0c0d0e0f10 --salt 9e7ca92223786340 --sender 01 44025d1f00003974396c6f63616c686f7374620914ff612f1092f1776f1c1668b3825e";
@@ -20,6 +20,12 @@ const EXAMPLE: &str = "Example:
 const ABOUT_DERIVE: &str = "Derives a context, and prints its keys and its Common IV.";
 
 const ABOUT_OPEN: &str = "Opens a protected request, and prints what it says, one part a line.";
+
+const ABOUT_EXPLAIN: &str =
+    "Reads a datagram without a key, and prints what it shows and what its OSCORE options say.";
+
+const EXAMPLE_EXPLAIN: &str = "Example:
+  oscore explain 44025d1f00003974396c6f63616c686f7374620914ff612f1092f1776f1c1668b3825e";
 
 /// The words that this program was called with, its own name first.
 pub(crate) fn program_words<R: Env + Alloc<A = Global>>(rt: &R) -> Result<Vec<String>, Fault> {
@@ -99,6 +105,15 @@ fn open_command<'a>(alloc: Global) -> Result<Command<'a>, AllocError>
     with_context(command, alloc)?.arg(datagram_word(alloc))
 }
 
+fn explain_command<'a>(alloc: Global) -> Result<Command<'a>, AllocError>
+    ensures { IfOk result IsLocal }
+{
+    Command::new(alloc, "explain")
+        .about(ABOUT_EXPLAIN)
+        .after_help(EXAMPLE_EXPLAIN)
+        .arg(datagram_word(alloc))
+}
+
 /// All that the words of a call can ask for.
 fn program<'a>(alloc: Global) -> Result<Command<'a>, AllocError>
     ensures local { IfOk result IsLocal }
@@ -109,7 +124,8 @@ fn program<'a>(alloc: Global) -> Result<Command<'a>, AllocError>
         .about(ABOUT)
         .after_help(EXAMPLE)
         .subcommand(derive_command(alloc)?)?
-        .subcommand(open_command(alloc)?)?;
+        .subcommand(open_command(alloc)?)?
+        .subcommand(explain_command(alloc)?)?;
     Ok(command.subcommand_required(true))
 }
 

@@ -4,7 +4,7 @@ use super::{REQUEST, SALT, SECRET, is_one_line, run_of};
 use std::test::Fail;
 
 // Own rule: words that are no call are status 1, and one line on standard error.
-const USAGES: [(&str, &[&str]); 13] = [
+const USAGES: [(&str, &[&str]); 16] = [
     ("no words", &["oscore"]),
     ("not even a name", &[]),
     ("an unknown call", &["oscore", "seal"]),
@@ -52,6 +52,15 @@ const USAGES: [(&str, &[&str]); 13] = [
         "two datagrams",
         &["oscore", "open", "--secret", SECRET, REQUEST, REQUEST],
     ),
+    ("no datagram to explain", &["oscore", "explain"]),
+    (
+        "an explanation under a secret",
+        &["oscore", "explain", "--secret", "00", REQUEST],
+    ),
+    (
+        "two datagrams to explain",
+        &["oscore", "explain", REQUEST, REQUEST],
+    ),
 ];
 
 #[test]
@@ -66,7 +75,7 @@ fn wrong_calls_are_one_line(rt: HostRuntime) -> Result<(), Fail> {
 }
 
 // Own rule: hex is read in the order of the options, and the first that is bad is named.
-const BAD_HEX: [(&[&str], &str); 8] = [
+const BAD_HEX: [(&[&str], &str); 11] = [
     (
         &[
             "oscore",
@@ -157,6 +166,15 @@ const BAD_HEX: [(&[&str], &str); 8] = [
         &["oscore", "open", "--secret", "00", "-"],
         "oscore: DATAGRAM: bad hex\n",
     ),
+    (
+        &["oscore", "explain", "400100010"],
+        "oscore: DATAGRAM: bad hex\n",
+    ),
+    (
+        &["oscore", "explain", "4001000g"],
+        "oscore: DATAGRAM: bad hex\n",
+    ),
+    (&["oscore", "explain", "-"], "oscore: DATAGRAM: bad hex\n"),
 ];
 
 #[test]
@@ -175,12 +193,14 @@ fn bad_hex_is_named(rt: HostRuntime) -> Result<(), Fail> {
 }
 
 // Each way to ask for help.
-const HELPS: [&[&str]; 5] = [
+const HELPS: [&[&str]; 7] = [
     &["oscore", "--help"],
     &["oscore", "open", "--help"],
     &["oscore", "derive", "--help"],
     &["oscore", "help"],
+    &["oscore", "explain", "--help"],
     &["oscore", "help", "open"],
+    &["oscore", "help", "explain"],
 ];
 
 #[test]

@@ -1,12 +1,9 @@
-//! What `open` prints, also where a write fails.
+//! What `open` prints.
 
 use super::{
     ID_CONTEXT, REQUEST, REQUEST_OF_ANOTHER_CLIENT, REQUEST_WITH_KID_CONTEXT, Row, SALT, SECRET,
-    check_rows, is_one_line, words_of,
+    check_failing_writes, check_rows,
 };
-use crate::command::command;
-use std::io;
-use std::io::{ErrorKind, Write};
 use std::test::Fail;
 
 // RFC 8613, C.4 at the server of C.1, line by line.
@@ -156,62 +153,13 @@ fn openings_are_printed(rt: HostRuntime) -> Result<(), Fail> {
     check_rows(&rt, &ROWS)
 }
 
-/// Takes some writes whole, and then none.
-#[derive(Drop)]
-struct Failing {
-    left: usize,
-    written: Vec<u8>,
-    is_called_again: bool,
-    has_failed: bool,
-}
-
-impl Write for Failing {
-    fn write(&mut self, buf: &[u8]) -> io::Result<usize> {
-        if self.left == 0 {
-            self.is_called_again = self.has_failed;
-            self.has_failed = true;
-            return Err(io::Error::from(ErrorKind::BrokenPipe));
-        }
-        self.left -= 1;
-        self.written.extend_from_slice(buf)?;
-        Ok(buf.len())
-    }
-
-    fn flush(&mut self) -> io::Result<()> {
-        Ok(())
-    }
-}
-
-// One write a line: the writer that fails at the n-th has the lines before.
 #[test]
 fn no_line_follows_a_failed_write(rt: HostRuntime) -> Result<(), Fail> {
-    let alloc = rt.alloc();
-    let words = words_of(
-        alloc,
+    check_failing_writes(
+        &rt,
         &[
             "oscore", "open", "--secret", SECRET, "--salt", SALT, "--sender", "01", REQUEST,
         ],
-    )?;
-    let mut before = Vec::new(alloc);
-    for (lines, line) in OPENED.iter().enumerate() {
-        let mut input = b"".as_slice();
-        let mut out = Failing {
-            left: lines,
-            written: Vec::new(alloc),
-            is_called_again: false,
-            has_failed: false,
-        };
-        let mut err = Vec::new(alloc);
-        let status = command(alloc, words.as_slice(), &mut input, &mut out, &mut err);
-        assert_eq!(rt; status, 1, "after {lines} lines");
-        assert!(rt;
-            out.written == before,
-            "after {lines} lines: {:?}",
-            out.written
-        );
-        assert!(rt; !out.is_called_again, "after {lines} lines");
-        assert!(rt; is_one_line(err.as_slice()), "after {lines} lines: {err:?}");
-        before.extend_from_slice(line.as_bytes())?;
-    }
-    Ok(())
+        &OPENED,
+    )
 }
