@@ -1,0 +1,10 @@
+-- The replay window (RFC 8613, 7.4). w is its number of places, floor the least number that can be new, spent the list
+-- of the numbers that were marked, however many, and n the number of a request.
+use Rattle.std.specs.Prelude.{◌≢◌, ℕ, ◌+◌, ◌<◌, ◌≤◌, List}
+use Rattle.std.specs.List.{All}
+
+-- a number at or above the floor, not spent, and less than w below each spent number (RFC 8613, 7.4)
+pub record IsNew (w floor : ℕ) (spent : List ℕ) (n : ℕ) : Type 0 where
+  pub above : floor ≤ n
+  pub unspent : All (λ m. m ≢ n) spent
+  pub within : All (λ m. m < n + w) spent

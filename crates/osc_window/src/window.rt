@@ -1,0 +1,135 @@
+//! The replay window of one context in one life (RFC 8613, 7.4).
+//!
+//!     too old | 31 .. 2 1 0 | new        bit i of the mask stands for the number highest - i,
+//!                         ^ highest      with 64 places from i = 63 on
+
+ghost use Rattle.std.specs.Prelude.{◌≡◌, ◌-◌, ◌<◌, ◌≤◌, ◌==◌, ◌&&◌, ◌||◌, ◌∷◌, [], ℕ, List, IsTrue, not, nat_lt};
+ghost use Rattle.osc_context.specs.Views.{number_of};
+ghost use Rattle.osc_window.specs.declared.window_size.WindowSize.{WindowSize};
+ghost use Rattle.osc_window.specs.SpentMask.{unspent_at};
+ghost use Rattle.osc_window.specs.Views.{takes, size_of};
+ghost use Rattle.osc_window.specs.Taken.{IsFresh, IsFromFloor, Spends, AgreesWith};
+
+use crate::window_size::WindowSize;
+use osc_context::Piv;
+
+/// Which numbers of one context are new in one life (RFC 8613, 7.4). `==` compares what is kept, which can differ
+/// between windows that take the same numbers.
+#[derive(Clone, Copy, Debug, PartialEq, Eq)]
+pub struct Window {
+    // The highest marked number, if one is marked.
+    highest: Option<Piv>,
+    // The numbers from there down that are refused: the lowest bit stands for the highest number.
+    spent_mask: u64,
+    size: WindowSize,
+}
+
+impl Window {
+    /// The window of a context that has never restarted: no number is spent (RFC 8613, 3.2.2).
+    #[tactic(auto, unfolding(crate::specs::Views::takes, crate::specs::Views::size_of))]
+    pub fn fresh(size: WindowSize) -> Window
+        ensures made { IsFresh result size }
+        ensures agrees { AgreesWith result size 0 [] }
+    {
+        Window {
+            highest: None,
+            spent_mask: 0,
+            size,
+        }
+    }
+
+    /// The window of a restarted context, once a request with this number has shown that it is fresh: the number is
+    /// spent, and all below it are too old (RFC 8613, B.1.2).
+    #[tactic(auto, unfolding(crate::specs::Views::takes, crate::specs::Views::size_of))]
+    pub fn from_floor(floor: Piv, size: WindowSize) -> Window
+        ensures made { IsFromFloor result (number_of floor) size }
+        ensures agrees { AgreesWith result size (number_of floor) (number_of floor ∷ []) }
+    {
+        Window {
+            highest: Some(floor),
+            spent_mask: u64::MAX,
+            size,
+        }
+    }
+
+    /// Answers the size that the window was made with.
+    #[tactic(auto, unfolding(crate::specs::Views::size_of))]
+    pub fn size(&self) -> WindowSize
+        ensures { result ≡ size_of self.now }
+    {
+        self.size
+    }
+
+    /// Answers whether the number is new: neither spent nor too old (RFC 8613, 7.4). A number that isn't is a replay.
+    #[tactic(auto, unfolding(crate::specs::Views::takes), using(crate::proofs::Masks::taken_above, crate::proofs::Masks::taken_below))]
+    pub fn is_new(&self, number: Piv) -> bool
+        ensures { result ≡ takes self.now (number_of number) }
+    {
+        match self.highest {
+            None => true,
+            Some(highest) => {
+                let (highest, number) = (highest.number(), number.number());
+                highest < number
+                    || is_unspent(self.spent_mask, highest - number, self.size.places())
+            }
+        }
+    }
+
+    /// Spends a number. Call it once the request has opened, never before its tag is checked (RFC 8613, 7.4).
+    pub fn mark(&mut self, number: Piv)
+        requires { IsTrue (takes self.old (number_of number)) }
+        ensures spends { Spends self.old self.new (number_of number) }
+        ensures agrees { (size : WindowSize) (floor : ℕ) (spent : List ℕ) →
+            AgreesWith self.old size floor spent → AgreesWith self.new size floor (number_of number ∷ spent) }
+    {
+        let Some(highest) = self.highest else {
+            self.highest = Some(number);
+            self.spent_mask = 1;
+            return;
+        };
+        let (from, to) = (highest.number(), number.number());
+        if from < to {
+            // Beyond the highest: it becomes the highest, and the mask moves up by the jump.
+            self.highest = Some(number);
+            self.spent_mask = moved_up(self.spent_mask, to - from, self.size.places());
+        } else {
+            // Inside: its bit is set, and nothing moves.
+            // Too old: never, since no such number is new.
+            self.spent_mask = with_bit(self.spent_mask, from - to);
+        }
+    }
+}
+
+/// Whether the number that lies this far below the highest one is in the window and not marked.
+fn is_unspent(spent_mask: u64, below: u64, places: u64) -> bool
+    requires { places ≤ 64 }
+    ensures { result ≡ unspent_at spent_mask below places }
+{
+    below < places && spent_mask >> below & 1 == 0
+}
+
+/// The mask once the highest number has grown by this jump and is marked itself. A jump of the window's size or more
+/// leaves no older bit.
+#[tactic(auto, using(crate::proofs::Masks::unspent_near, crate::proofs::Masks::unspent_far))]
+fn moved_up(spent_mask: u64, jump: u64, places: u64) -> u64
+    requires jump { 0 < jump }
+    requires places { places ≤ 64 }
+    ensures { (below : ℕ) → unspent_at result below places ≡ (nat_lt 0 below && nat_lt below places
+        && (nat_lt below jump || unspent_at spent_mask (below - jump) places)) }
+{
+    if jump < places {
+        spent_mask << jump | 1
+    } else {
+        1
+    }
+}
+
+/// The mask once the number that lies this far below the highest one is marked.
+#[tactic(auto, using(crate::proofs::Masks::unspent_set))]
+fn with_bit(spent_mask: u64, below: u64) -> u64
+    requires { below < 64 }
+    ensures { (other places : ℕ) →
+        unspent_at result other places ≡ (unspent_at spent_mask other places && not (other == below)) }
+{
+    spent_mask | 1 << below
+}

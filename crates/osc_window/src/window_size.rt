@@ -1,0 +1,28 @@
+//! The sizes of a replay window (RFC 8613, 3.2 and 7.4).
+
+ghost use Rattle.std.specs.Prelude.{◌≡◌, ◌≤◌};
+ghost use Rattle.osc_window.specs.Views.{places_of};
+
+/// The size of a replay window: 32 places, which is the standard's default (RFC 8613, 3.2), or 64 (own rule).
+#[derive(Clone, Copy, Debug, PartialEq, Eq)]
+pub enum WindowSize {
+    /// A number can be new from 31 below the highest one on.
+    Places32,
+    /// A number can be new from 63 below the highest one on.
+    Places64,
+}
+
+impl WindowSize {
+    /// Answers the number of places: a number this far below the highest marked one, or farther, is too old
+    /// (RFC 8613, 7.4).
+    pub fn places(self) -> u64
+        ensures value { result ≡ places_of self }
+        ensures least { 32 ≤ result }
+        ensures most { result ≤ 64 }
+    {
+        match self {
+            WindowSize::Places32 => 32,
+            WindowSize::Places64 => 64,
+        }
+    }
+}
