@@ -2,8 +2,8 @@
 use Rattle.std.proofs.Common.{◌≡◌, ℕ, ◌+◌, ◌-◌, ◌<◌, ◌≤◌, List, ◌++◌, length, take, drop, sym, ap, subst, ◌∙◌, arith, get_or, length-take, take-append-drop}
 use Rattle.std.proofs.lemmas.List.{get_or-append_right}
 use Rattle.std.proofs.lemmas.List.Elements.{All-from_get_or}
-use Rattle.std.proofs.lemmas.Grind.{common_steps}
 use borrow.Rule.Slice.PartMut.{put_mid, mid_of}
+use Rattle.osc_protect.proofs.Placing.{mid_last, put_last}
 use Rattle.osc_coap.specs.OptionSpelling.{AreBytes}
 use Rattle.osc_coap.specs.Datagram.{IsDatagram}
 use Rattle.osc_coap.specs.Laws.{PayloadIsTheEnd, PayloadCanBeReplaced}
@@ -14,14 +14,6 @@ use Rattle.osc_protect.specs.Protection.{request_cipher}
 use Rattle.osc_protect.specs.Refusals.{Names}
 use Rattle.osc_protect.specs.Opening.{Decrypts}
 use Rattle.osc_protect.specs.declared.opening.Place.{Place}
-
--- the part from a place to the end
-mid_last : (a : ℕ) (xs : List ℕ) → mid_of a (length xs - a) xs ≡ drop a xs
-mid_last a xs = grind (arith, common_steps)
-
--- a list after a write to that part
-put_last : (a : ℕ) (xs ys : List ℕ) → a ≤ length xs → put_mid a (length xs - a) xs ys ≡ take a xs ++ ys
-put_last a xs ys h = grind (arith, common_steps)
 
 -- the part that was written is of bytes, where the whole is
 pub part_bytes : (a : ℕ) (xs ys : List ℕ) → a ≤ length xs → ((i : ℕ) → get_or (put_mid a (length xs - a) xs ys) i 0 < 256) → AreBytes ys

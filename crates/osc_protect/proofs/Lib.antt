@@ -1,3 +1,9 @@
+pub mod Placing
 pub mod Exact
 pub mod Decrypted
 pub mod ReadAfter
+pub mod SealedLengths
+pub mod Supported
+pub mod Splits
+pub mod Sealings
+pub mod SealedOpenings

@@ -1,11 +1,15 @@
 -- What the layers below hold of all bytes, and what follows of requests (RFC 8613, 8.2): the contracts of laws.rt.
 use Rattle.std.specs.Prelude.{◌≡◌, ◌<◌, ◌^◌, ℕ, List}
+use Rattle.osc_coap.specs.Datagram.{Parts}
 use Rattle.osc_coap.specs.Inner.{InnerParts}
 use Rattle.osc_coap.specs.Laws.{IsOneDatagram, HasOneFault, IsNeverBoth, IsOneInner, IsNeverBothInner}
 use Rattle.osc_context.specs.Laws.{OneValue, ValueNumberInRange}
 use Rattle.osc_ccm.specs.Ccm.{HasOnePlaintext, HasTagLength}
 use Rattle.osc_protect.specs.Head.{Head, HasHead, HeadRefuses}
 use Rattle.osc_context.specs.SecurityContext.{SecurityContext}
+use Rattle.osc_context.specs.Views.{as_client, as_server}
+use Rattle.osc_context.specs.declared.context.Context.{Context}
+use Rattle.osc_protect.specs.Sealed.{SealsRequest, inside}
 use Rattle.osc_protect.specs.Protection.{ProtectsRequest}
 use Rattle.osc_protect.specs.Refusals.{Refuses}
 use Rattle.osc_protect.specs.declared.head_error.HeadError.{HeadError}
@@ -36,3 +40,12 @@ pub record OneRequest : Type 0 where
   pub message : (s : SecurityContext) (d : List ℕ) (n k : ℕ) (m l : InnerParts) → ProtectsRequest s n m d → ProtectsRequest s k l d → m ≡ l
   pub never_both : (s : SecurityContext) (d : List ℕ) (n : ℕ) (m : InnerParts) (e : UnprotectError) → ProtectsRequest s n m d → Refuses s d e → ⊥
   pub refusal : (s : SecurityContext) (d : List ℕ) (e f : UnprotectError) → Refuses s d e → Refuses s d f → e ≡ f
+
+-- two ends hold one context: what the one seals as the client, the other opens as the server (RFC 8613, 3.1)
+abbrev pub AreMirrored : Context → Context → Type 0
+AreMirrored client server = as_client client ≡ as_server server
+
+-- what is sealed protects the plain message's inside, at the other end, and nothing else (RFC 8613, 8.1 and 8.2)
+pub record SealedOpens : Type 0 where
+  pub opens : (client server : Context) (n : ℕ) (p : Parts) (d : List ℕ) → AreMirrored client server → SealsRequest (as_client client) n p d → ProtectsRequest (as_server server) n (inside p) d
+  pub nothing_else : (client server : Context) (n k : ℕ) (p : Parts) (m : InnerParts) (d : List ℕ) → AreMirrored client server → SealsRequest (as_client client) n p d → ProtectsRequest (as_server server) k m d → (k ≡ n) × (m ≡ inside p)

@@ -3,6 +3,9 @@ pub mod Message
 pub mod Head
 pub mod Protection
 pub mod Refusals
+pub mod Sealed
+pub mod Split
+pub mod SealRefusals
 pub mod Opening
 pub mod Laws
 pub mod Text

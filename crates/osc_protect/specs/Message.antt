@@ -20,9 +20,13 @@ is_request Rst code = false
 abbrev pub is_proxy : ℕ → Bool
 is_proxy n = (n == 35) || (n == 39)
 
+-- own rule: the option is refused where a message is sealed (RFC 8613, 4.1)
+abbrev pub is_unsupported : ℕ → Bool
+is_unsupported n = (n == 6) || (n == 9) || (n == 23) || (n == 27) || (n == 35) || (n == 39)
+
 -- own rule: the option may not stand inside a protected message (RFC 8613, 4.1)
 abbrev pub is_barred : ℕ → Bool
-is_barred n = (n == 3) || (n == 6) || (n == 7) || (n == 9) || (n == 23) || (n == 27) || (n == 35) || (n == 39)
+is_barred n = (n == 3) || (n == 7) || is_unsupported n
 
 -- one of the options has such a number (RFC 7252, 3.1)
 abbrev pub has_number : (ℕ → Bool) → List Entry → Bool
@@ -38,3 +42,8 @@ values_at n (entry ∷ entries) = if entry.0 == n then entry.1 ∷ values_at n e
 abbrev pub first_of : List (List ℕ) → Option (List ℕ)
 first_of [] = None
 first_of (value ∷ values) = Some value
+
+-- the number of the first option that has such a number, where there is one (RFC 7252, 3.1)
+abbrev pub first_number : (ℕ → Bool) → List Entry → Option ℕ
+first_number p [] = None
+first_number p (entry ∷ entries) = if p entry.0 then Some entry.0 else first_number p entries

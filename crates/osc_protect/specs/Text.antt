@@ -1,8 +1,11 @@
 -- How refusals print: each by its name, a format fault by its own text.
-use Rattle.std.specs.Prelude.{ℕ, List, codes}
+use Rattle.std.specs.Prelude.{ℕ, List, ◌++◌, codes}
+use Rattle.std.specs.Fmt.{decimal}
 use Rattle.osc_coap.specs.Text.{error_text}
 use Rattle.osc_protect.specs.declared.head_error.HeadError.{HeadError}
 use Rattle.osc_protect.specs.declared.head_error.HeadError.TheVariants as heads
+use Rattle.osc_protect.specs.declared.protect_error.ProtectError.{ProtectError}
+use Rattle.osc_protect.specs.declared.protect_error.ProtectError.TheVariants as protects
 use Rattle.osc_protect.specs.declared.unprotect_error.UnprotectError.{UnprotectError}
 use Rattle.osc_protect.specs.declared.unprotect_error.UnprotectError.TheVariants.{Format, NotThatKind, NoOscore, Undecodable, WrongContext, Tag, Inner}
 
@@ -29,3 +32,10 @@ lifted (heads.Format e) = Format e
 lifted heads.NotThatKind = NotThatKind
 lifted heads.NoOscore = NoOscore
 lifted heads.Undecodable = Undecodable
+
+-- a refusal to seal, as it prints, with the number of an option (own rule)
+abbrev pub protect_error_text : ProtectError → List ℕ
+protect_error_text protects.NotThatKind = codes "NotThatKind"
+protect_error_text (protects.Unsupported n) = codes "Unsupported " ++ decimal n
+protect_error_text protects.TooLong = codes "TooLong"
+protect_error_text protects.NoRoom = codes "NoRoom"

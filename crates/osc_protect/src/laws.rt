@@ -1,7 +1,7 @@
 //! What holds of all datagrams. A call of such a function does nothing: its contract is there for the proof of its
 //! caller.
 
-ghost use Rattle.osc_protect.specs.Laws.{LayerLaws, OneHead, OneRequest};
+ghost use Rattle.osc_protect.specs.Laws.{LayerLaws, OneHead, OneRequest, SealedOpens};
 
 use osc_ccm::{one_plaintext, sealed_length};
 use osc_coap::{one_datagram, one_inner};
@@ -30,4 +30,12 @@ pub fn one_request()
     ensures { OneRequest }
 {
     layer_laws();
+}
+
+/// What is sealed under a context opens at the other end as the plain message's code, inner options and payload, and as no
+/// other message (RFC 8613, 8.1 and 8.2).
+pub fn sealed_opens()
+    ensures { SealedOpens }
+{
+    one_request();
 }

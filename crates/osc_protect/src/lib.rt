@@ -7,20 +7,28 @@
 //! ```
 #![tactic(auto)]
 
+mod checks;
 mod head_error;
 mod laws;
+mod lengths;
 mod opened;
 mod opening;
 mod option_search;
+mod protect_error;
 mod request_head;
 mod requests;
+mod sealing;
+mod split;
 mod unprotect_error;
 
+pub use checks::check_request;
 pub use head_error::HeadError;
-pub use laws::{one_head, one_request};
+pub use laws::{one_head, one_request, sealed_opens};
 pub use opened::Opened;
 pub use opening::{Place, decrypt_request, open_request, read_request};
+pub use protect_error::ProtectError;
 pub use request_head::{RequestHead, head_of_request};
+pub use sealing::seal_request;
 pub use unprotect_error::UnprotectError;
 
 #[cfg(test)]

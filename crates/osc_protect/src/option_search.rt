@@ -2,7 +2,7 @@
 
 ghost use Rattle.std.specs.Prelude.{◌≡◌, ◌≤◌, [], ◌∷◌, length, Some, None, MatchOption};
 ghost use Rattle.osc_coap.specs.Views.{options_left};
-ghost use Rattle.osc_protect.specs.Message.{first_of, has_number, is_barred, is_proxy, values_at};
+ghost use Rattle.osc_protect.specs.Message.{first_number, first_of, has_number, is_barred, is_proxy, is_unsupported, values_at};
 
 use osc_coap::Options;
 
@@ -78,18 +78,24 @@ fn is_proxy(number: u16) -> bool
     number == PROXY_URI || number == PROXY_SCHEME
 }
 
-/// Whether an option of this number may not stand inside. Own rule: the options that a proxy or the caller's CoAP stack
-/// acts on, and those that a block-wise transfer or Observe would need.
-fn is_barred(number: u16) -> bool
-    ensures { result ≡ is_barred number }
+/// Whether a message with an option of this number can't be sealed. Own rule: Observe and block-wise transfer are left out,
+/// proxies too, and the OSCORE option is made here.
+fn is_unsupported(number: u16) -> bool
+    ensures { result ≡ is_unsupported number }
 {
-    number == URI_HOST
-        || number == OBSERVE
-        || number == URI_PORT
+    number == OBSERVE
         || number == OSCORE
         || number == BLOCK_2
         || number == BLOCK_1
         || is_proxy(number)
+}
+
+/// Whether an option of this number may not stand inside. Own rule: those that can't be sealed, and Uri-Host and Uri-Port,
+/// which stand outside.
+fn is_barred(number: u16) -> bool
+    ensures { result ≡ is_barred number }
+{
+    number == URI_HOST || number == URI_PORT || is_unsupported(number)
 }
 
 /// Whether one of the options is for proxies.
@@ -114,4 +120,16 @@ pub(crate) fn has_barred(options: Options<'_>) -> bool
         }
     }
     false
+}
+
+/// The number of the first of the options with which a message can't be sealed.
+pub(crate) fn first_unsupported(options: Options<'_>) -> Option<u16>
+    ensures { result ≡ first_number is_unsupported (options_left options.entry) }
+{
+    for (number, _) in options {
+        if is_unsupported(number) {
+            return Some(number);
+        }
+    }
+    None
 }

@@ -1,7 +1,8 @@
-//! Openings of requests: the datagrams of RFC 8613, appendix C, whole, cut, turned, and with other insides.
+//! Requests sealed and opened: the datagrams of RFC 8613, appendix C, whole, cut, turned, and with other insides.
 
 mod hostile;
 mod insides;
+mod sealings;
 mod vectors;
 
 use crate::{UnprotectError, open_request};
@@ -66,6 +67,15 @@ const REQUEST_WITH_KID_CONTEXT: [u8; 44] = [
 
 fn derived(rt: &impl Abort, params: Params<'_>) -> Context {
     Context::derive(params).ok().expect(rt, "a context")
+}
+
+/// The other end of a context.
+fn mirrored(params: Params<'_>) -> Params<'_> {
+    Params {
+        sender: params.recipient,
+        recipient: params.sender,
+        ..params
+    }
 }
 
 /// The server of C.1.

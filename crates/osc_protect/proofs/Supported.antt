@@ -1,0 +1,126 @@
+-- The options with which a message can't be sealed.
+use Rattle.std.proofs.Common.{◌≡◌, ℕ, ◌≤◌, ◌==◌, ◌||◌, ◌⊎◌, Bool, true, false, List, [], ◌∷◌, Option, Some, None, Result, Ok, Err, IsOk, IfErr, IsErrOf, refl, sym, ap, subst, ◌∙◌, arith, inl, inr}
+use Rattle.std.specs.Option.{unwrap_or}
+use Rattle.std.proofs.lemmas.Bool.{eqb-true}
+use Rattle.osc_coap.specs.OptionSpelling.{Entry, Ascends}
+use Rattle.osc_coap.specs.Datagram.{Parts}
+use Rattle.osc_protect.specs.Message.{has_number, first_number, is_unsupported}
+use Rattle.osc_protect.specs.SealRefusals.{IsLowestUnsupported, RefusesRequest, CanBeSealed}
+use Rattle.osc_protect.specs.declared.protect_error.ProtectError.{ProtectError}
+use Rattle.osc_protect.specs.declared.protect_error.ProtectError.TheVariants.{NotThatKind, Unsupported, TooLong, NoRoom}
+
+-- a number that is one of two sides
+either : (a b : Bool) → (a || b) ≡ true → (a ≡ true) ⊎ (b ≡ true)
+either true b h = inl refl
+either false b h = inr h
+
+-- a test of the first option, and of the rest
+chosen : (b : Bool) → (b ≡ true) ⊎ (b ≡ false)
+chosen true = inl refl
+chosen false = inr refl
+
+same_some : (n m : ℕ) → Some n ≡ Some m → n ≡ m
+same_some n m h = ap (λ (o : Option ℕ). unwrap_or o 0) h
+
+-- where no option has such a number, none is found
+pub none_first : (p : ℕ → Bool) (entries : List Entry) → first_number p entries ≡ None → has_number p entries ≡ false
+none_first p [] h = refl
+none_first p (entry ∷ entries) h = elim (chosen (p entry.0)) [
+  | inl is ↦ absurd (let bad : Some entry.0 ≡ None = sym (rw is refl) ∙ h in cc)
+  | inr isnt ↦ rw isnt (none_first p entries (sym (rw isnt refl) ∙ h))
+]
+
+-- what is found has such a number, and is there
+pub found_first : (p : ℕ → Bool) (entries : List Entry) (n : ℕ) → first_number p entries ≡ Some n → (p n ≡ true) × (has_number (λ k. k == n) entries ≡ true)
+found_first p [] n h = absurd (cc)
+found_first p (entry ∷ entries) n h = elim (chosen (p entry.0)) [
+  | inl is ↦
+      let e : entry.0 ≡ n = same_some entry.0 n (sym (rw is refl) ∙ h) in
+      (subst (λ (k : ℕ). p k ≡ true) e is, grind (arith))
+  | inr isnt ↦
+      let rest = found_first p entries n (sym (rw isnt refl) ∙ h) in
+      (rest.0, grind (arith))
+]
+
+-- no option that ascends from d has a number below it
+least : (d m : ℕ) (entries : List Entry) → Ascends d entries → has_number (λ k. k == m) entries ≡ true → d ≤ m
+least d m [] up h = absurd (cc)
+least d m (entry ∷ entries) up h = elim (either (entry.0 == m) (has_number (λ k. k == m) entries) h) [
+  | inl e ↦ let same = eqb-true _ _ e in let le = up.0 in omega (arith, same, le)
+  | inr more ↦ let rest = least entry.0 m entries up.2 more in let le = up.0 in omega (arith, rest, le)
+]
+
+-- the first that is found is the lowest
+pub lowest_first : (p : ℕ → Bool) (d : ℕ) (entries : List Entry) (n : ℕ) → Ascends d entries → first_number p entries ≡ Some n
+    → (m : ℕ) → p m ≡ true → has_number (λ k. k == m) entries ≡ true → n ≤ m
+lowest_first p d [] n up h m pm hm = absurd (cc)
+lowest_first p d (entry ∷ entries) n up h m pm hm = elim (chosen (p entry.0)) [
+  | inl is ↦
+      let e : entry.0 ≡ n = same_some entry.0 n (sym (rw is refl) ∙ h) in
+      elim (either (entry.0 == m) (has_number (λ k. k == m) entries) hm) [
+        | inl same ↦ let s = eqb-true _ _ same in omega (arith, s, e)
+        | inr more ↦ let le = least entry.0 m entries up.2 more in omega (arith, le, e)
+      ]
+  | inr isnt ↦ elim (either (entry.0 == m) (has_number (λ k. k == m) entries) hm) [
+    | inl same ↦
+        let s = eqb-true _ _ same in
+        let bad : false ≡ true = sym isnt ∙ ap p s ∙ pm in
+        absurd (cc)
+    | inr more ↦ lowest_first p entry.0 entries n up.2 (sym (rw isnt refl) ∙ h) m pm more
+  ]
+]
+
+-- so it is the lowest that can't be sealed
+pub lowest_unsupported : (entries : List Entry) (n : ℕ) → Ascends 0 entries → first_number is_unsupported entries ≡ Some n → IsLowestUnsupported entries n
+lowest_unsupported entries n up h = record {
+  unsupported = (found_first is_unsupported entries n h).0;
+  among = (found_first is_unsupported entries n h).1;
+  lowest = lowest_first is_unsupported 0 entries n up h;
+}
+
+-- a number that is there, and is such a one, shows that one is there
+has_one : (p : ℕ → Bool) (n : ℕ) (entries : List Entry) → p n ≡ true → has_number (λ k. k == n) entries ≡ true → has_number p entries ≡ true
+has_one p n [] pn h = absurd (cc)
+has_one p n (entry ∷ entries) pn h = elim (either (entry.0 == n) (has_number (λ k. k == n) entries) h) [
+  | inl e ↦ let is : p entry.0 ≡ true = ap p (eqb-true _ _ e) ∙ pn in rw is refl
+  | inr more ↦ let rest = has_one p n entries pn more in elim (chosen (p entry.0)) [
+    | inl is ↦ rw is refl
+    | inr isnt ↦ rw isnt rest
+  ]
+]
+
+-- ---- requests
+
+-- what can be sealed is not refused
+pub never_refused : (p : Parts) (e : ProtectError) → CanBeSealed p → RefusesRequest p e → ⊥
+never_refused p NotThatKind can r = let bad : true ≡ false = sym can.0 ∙ r in cc
+never_refused p (Unsupported n) can r = let bad : false ≡ true = sym can.1 ∙ has_one is_unsupported n p.options r.1.unsupported r.1.among in cc
+never_refused p TooLong can r = r
+never_refused p NoRoom can r = r
+
+-- there is one refusal
+pub one_refusal : (p : Parts) (e f : ProtectError) → RefusesRequest p e → RefusesRequest p f → e ≡ f
+one_refusal p NotThatKind NotThatKind h k = refl
+one_refusal p NotThatKind (Unsupported m) h k = absurd (let bad : true ≡ false = sym k.0 ∙ h in cc)
+one_refusal p NotThatKind TooLong h k = absurd k
+one_refusal p NotThatKind NoRoom h k = absurd k
+one_refusal p (Unsupported n) NotThatKind h k = absurd (let bad : true ≡ false = sym h.0 ∙ k in cc)
+one_refusal p (Unsupported n) (Unsupported m) h k =
+    let a = h.1.lowest m k.1.unsupported k.1.among in
+    let b = k.1.lowest n h.1.unsupported h.1.among in
+    ap Unsupported (omega (arith, a, b))
+one_refusal p (Unsupported n) TooLong h k = absurd k
+one_refusal p (Unsupported n) NoRoom h k = absurd k
+one_refusal p TooLong f h k = absurd h
+one_refusal p NoRoom f h k = absurd h
+
+-- what can be sealed passes
+pub accepts_all : {T : Type 0} (p : Parts) (r : Result T ProtectError) → IfErr r (λ e. RefusesRequest p e) → CanBeSealed p → IsOk r
+accepts_all p (Ok x) refused can = refl
+accepts_all p (Err e) refused can = absurd (never_refused p e can refused)
+
+-- what is refused is answered so
+pub refuses_all : {T : Type 0} (p : Parts) (r : Result T ProtectError) → (IsOk r → CanBeSealed p) → IfErr r (λ e. RefusesRequest p e)
+    → (e : ProtectError) → RefusesRequest p e → IsErrOf r e
+refuses_all p (Ok x) accepted refused e h = absurd (never_refused p e (accepted refl) h)
+refuses_all p (Err f) accepted refused e h = ap Err (one_refusal p f e refused h)

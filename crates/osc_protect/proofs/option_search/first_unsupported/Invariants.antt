@@ -1,0 +1,11 @@
+use Rattle.std.proofs.Common.{◌≡◌}
+use Rattle.osc_coap.specs.Views.{options_left}
+use Rattle.osc_protect.specs.Message.{first_number, is_unsupported}
+use Rattle.osc_protect.proofs.option_search.first_unsupported.Given as goal
+
+abbrev pub invariant-loop-number : goal.invariant-loop-number
+invariant-loop-number l = record {
+  can_next : (goal.iterator-loop-number).can_next l.number-iterator;
+  is_finite : (goal.iterator-loop-number).is_finite l.number-iterator;
+  same : first_number is_unsupported (options_left l.number-iterator) ≡ first_number is_unsupported (options_left l.fn.options);
+}

@@ -1,0 +1,49 @@
+use Rattle.std.proofs.Common.{◌≡◌, ℕ, ◌+◌, ◌<◌, List, [], length, take, drop, refl, sym, subst, ◌∙◌, arith}
+use Rattle.osc_coap.specs.Datagram.{IsDatagram}
+use Rattle.osc_coap.specs.Views.{parts_of}
+use Rattle.osc_context.specs.Views.{as_client, number_of}
+use Rattle.osc_protect.specs.Protection.{request_cipher}
+use Rattle.osc_protect.specs.Sealed.{outside}
+use Rattle.osc_protect.proofs.Placing.{kept, left_behind}
+use Rattle.osc_protect.proofs.sealing.seal_judged.Goals as goal
+
+pub returns-clause-sealed : goal.returns-clause-sealed
+returns-clause-sealed c =
+    let p = parts_of c.args.plain.now in
+    let value = c.args.value.now in
+    let out = c.write_outside-at.new.out in
+    let at = c.write_outside-at.result in
+    let len = c.write_inside-len.result in
+    let buf = c.write_inside-len.new.buf in
+    let room = c.requires.room in
+    let at_is = c.write_outside-at.ensures.len in
+    let same_len = c.write_outside-at.ensures.same_len in
+    let inside : at < length out = omega (arith, room, at_is, same_len) in
+    let both = kept at out buf inside in
+    let front : IsDatagram (outside p 2 value []) _ = subst (λ (z : List ℕ). IsDatagram (outside p 2 value []) z) (sym both.0) c.write_outside-at.ensures.written in
+    let sealed = c.seal_behind.ensures.sealed (outside p 2 value []) front refl (omega arith) in
+    record {
+      request = c.requires.can.0;
+      supported = c.requires.can.1;
+      sealed = record {
+        value = value;
+        reads = c.requires.reads;
+        plaintext = take len buf;
+        spells = c.write_inside-len.ensures.written;
+        datagram =
+            subst (λ (z : ℕ). IsDatagram (outside p 2 value (request_cipher (as_client c.args.context.now) (number_of c.args.number) (take len buf))) (take z c.seal_behind.new.out)) (sym c.seal_behind.ensures.end)
+            (subst (λ (z : List ℕ). IsDatagram (outside p 2 value (request_cipher (as_client c.args.context.now) (number_of c.args.number) (take len z))) (take (at + 9 + len) c.seal_behind.new.out)) both.1 sealed);
+      };
+    }
+
+pub returns-clause-behind : goal.returns-clause-behind
+returns-clause-behind c =
+    let out = c.write_outside-at.new.out in
+    let at = c.write_outside-at.result in
+    let len = c.write_inside-len.result in
+    let room = c.requires.room in
+    let at_is = c.write_outside-at.ensures.len in
+    let same_len = c.write_outside-at.ensures.same_len in
+    let inside : at < length out = omega (arith, room, at_is, same_len) in
+    subst (λ (z : ℕ). drop z c.seal_behind.new.out ≡ drop z c.args.out.now) (sym c.seal_behind.ensures.end)
+    (c.seal_behind.ensures.behind ∙ left_behind c.args.out.now out c.write_inside-len.new.buf at len inside c.write_outside-at.ensures.behind c.write_inside-len.ensures.behind)
