@@ -20,10 +20,12 @@ pub payload_stays : (draft : Draft) (number : ℕ) (value : List ℕ) → payloa
 payload_stays (Datagram p) number value = refl
 payload_stays (Plaintext p) number value = refl
 
+-- an option leaves what stands in front
 front_stays : (draft : Draft) (number : ℕ) (value : List ℕ) → front_of (with_option draft number value) ≡ front_of draft
 front_stays (Datagram p) number value = refl
 front_stays (Plaintext p) number value = refl
 
+-- an option leaves the token
 token_stays : (draft : Draft) (number : ℕ) (value : List ℕ) → HasFineToken draft → HasFineToken (with_option draft number value)
 token_stays (Datagram p) number value h = h
 token_stays (Plaintext p) number value h = tt
@@ -38,6 +40,7 @@ pub length_more : (draft : Draft) (number : ℕ) (value : List ℕ) → length_o
 length_more (Datagram p) number value = omega (arith, spelling_length-push 0 p.options number value)
 length_more (Plaintext p) number value = omega (arith, spelling_length-push 0 p.options number value)
 
+-- more text behind the options
 regrouped : (front spelled more : List ℕ) → (front ++ (spelled ++ [])) ++ more ≡ front ++ ((spelled ++ more) ++ [])
 regrouped front spelled more = simp (append_assoc, append-nil)
 
@@ -66,6 +69,7 @@ draft_option draft number value bytes h filled no_payload le small short are fit
 
 -- ---- a payload
 
+-- the payload with more bytes
 payload_more : (draft : Draft) (bytes : List ℕ) → payload_of (with_payload draft bytes) ≡ payload_of draft ++ bytes
 payload_more (Datagram p) bytes = refl
 payload_more (Plaintext p) bytes = refl
@@ -75,10 +79,12 @@ pub options_stay : (draft : Draft) (bytes : List ℕ) → options_of (with_paylo
 options_stay (Datagram p) bytes = refl
 options_stay (Plaintext p) bytes = refl
 
+-- a payload leaves what stands in front
 front_remains : (draft : Draft) (bytes : List ℕ) → front_of (with_payload draft bytes) ≡ front_of draft
 front_remains (Datagram p) bytes = refl
 front_remains (Plaintext p) bytes = refl
 
+-- a payload leaves the token
 token_remains : (draft : Draft) (bytes : List ℕ) → HasFineToken draft → HasFineToken (with_payload draft bytes)
 token_remains (Datagram p) bytes h = h
 token_remains (Plaintext p) bytes h = tt
@@ -92,10 +98,12 @@ empty_remains (Plaintext p) bytes h = h
 pub payload_now : (draft : Draft) (bytes : List ℕ) → payload_of draft ≡ [] → payload_of (with_payload draft bytes) ≡ bytes
 payload_now draft bytes none = payload_more draft bytes ∙ ap (λ (z : List ℕ). z ++ bytes) none
 
+-- a payload that isn't empty stands behind a marker
 marked_is : (bytes : List ℕ) → bytes ≢ [] → marked bytes ≡ 255 ∷ bytes
 marked_is [] some = absurd (some refl)
 marked_is (x ∷ bytes) some = refl
 
+-- the length of a draft, its payload counted apart
 length_parted : (draft : Draft) (bytes : List ℕ) → length_of (with_payload draft bytes) + length (marked (payload_of draft)) ≡ length_of draft + length (marked (payload_of draft ++ bytes))
 length_parted (Datagram p) bytes = omega arith
 length_parted (Plaintext p) bytes = omega arith
@@ -107,6 +115,7 @@ length_marked draft bytes none some =
     let after : length (marked (payload_of draft ++ bytes)) ≡ length (255 ∷ bytes) = ap (λ (z : List ℕ). length (marked (z ++ bytes))) none ∙ ap length (marked_is bytes some) in
     omega (arith, length_parted draft bytes)
 
+-- a marker and a payload behind the options
 joined : (front spelled more : List ℕ) → (front ++ (spelled ++ [])) ++ more ≡ front ++ (spelled ++ more)
 joined front spelled more = simp (append_assoc, append-nil)
 

@@ -25,7 +25,7 @@ far_placed place n text old far within =
     let near = behind_placed place (place + length text) text old refl within in
     ap (λ (k : ℕ). drop k (placed place text old)) n-is ∙ sym (drop-drop m (place + length text) (placed place text old)) ∙ ap (drop m) near ∙ drop-drop m (place + length text) old ∙ ap (λ (k : ℕ). drop k old) (sym n-is)
 
--- no bytes change nothing
+-- the length stays
 pub length-placed : (place : ℕ) (text old : List ℕ) → place + length text ≤ length old → length (placed place text old) ≡ length old
 length-placed place text old within =
     omega (arith, length-append (take place old) (text ++ drop (place + length text) old), length-append text (drop (place + length text) old), length-take place old, length-drop (place + length text) old)

@@ -121,7 +121,8 @@ pub(crate) fn put_head(
     token: &Token,
 ) -> usize
     requires { 4 + array_vec_len token.now ≤ length buf.old }
-    ensures written { buf.new ≡ placed 0 (head (bare kind code message_id token.now.items) ++ token.now.items) buf.old }
+    ensures written { buf.new
+        ≡ placed 0 (head (bare kind code message_id token.now.items) ++ token.now.items) buf.old }
     ensures end { result ≡ 4 + array_vec_len token.now }
     ensures short { array_vec_len token.now ≤ 8 }
     ensures bytes { AreBytes buf.new }

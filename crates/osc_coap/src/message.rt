@@ -37,7 +37,6 @@ pub struct Message<'a> {
 
 impl<'a> Message<'a> {
     ghost use Rattle.osc_coap.specs.Views.{parts_of, options_left};
-    ghost use Rattle.osc_coap.specs.Datagram.{Parts};
 
     /// The options in the order of the datagram, each one's number and value.
     pub fn options(&self) -> Options<'a>
@@ -52,9 +51,13 @@ impl<'a> Message<'a> {
     {
         self.payload
     }
-    /// The same code, options and payload under another head.
+    /// The same code, options and payload under another head (RFC 7252, 3).
     pub fn with_head(&self, kind: Kind, message_id: u16, token: Token) -> Message<'a>
-        ensures { parts_of result ≡ record (parts_of self.now) { kind = kind; message_id = message_id; token = token.items } }
+        ensures { parts_of result ≡ record (parts_of self.now) {
+          kind = kind;
+          message_id = message_id;
+          token = token.items;
+        } }
     {
         Message {
             kind,

@@ -41,8 +41,8 @@ impl<'a> Writer<'a> {
     ghost use Rattle.osc_coap.specs.Writer.{Holds, buffer_of, TakesNow, RefusesNow, RefusesLength};
     ghost use Rattle.osc_coap.specs.declared.write_error.WriteError.TheVariants.{NoRoom};
 
-    /// Begins a datagram. Refuses with EmptyWithRest or NoRoom. A caller whose proof speaks of its own buffer
-    /// takes `begin`.
+    /// Begins a datagram (RFC 7252, 3). Refuses, in this order, with EmptyWithRest or NoRoom, and then writes
+    /// nothing. A caller whose proof speaks of its own buffer takes `begin`.
     pub fn new(
         buf: &'a mut [u8],
         kind: Kind,
@@ -65,7 +65,8 @@ impl<'a> Writer<'a> {
         Ok(Writer::begin(buf, kind, code, message_id, token))
     }
 
-    /// Begins a datagram where there is room for its head and its token (`head_len`).
+    /// Begins a datagram where there is room for its head and its token (`head_len`); one of code 0.00 has no
+    /// token (RFC 7252, 3 and 4.1).
     pub fn begin(
         buf: &'a mut [u8],
         kind: Kind,
@@ -88,7 +89,7 @@ impl<'a> Writer<'a> {
     }
 
     /// Begins a plaintext; its code may be any, also 0.00 (RFC 8613, 5.3). Refuses with NoRoom where the
-    /// buffer is empty. A caller whose proof speaks of its own buffer takes `begin_inner`.
+    /// buffer is empty, and then writes nothing. A caller whose proof speaks of its own buffer takes `begin_inner`.
     pub fn inner(buf: &'a mut [u8], code: u8) -> Result<Writer<'a>, WriteError>
         ensures same_reference { IfOk result (λ w. buffer_of w ≡ buf.entry.ghost_name) }
         ensures made { IfOk result (λ w. Holds w (Plaintext (bare_inner code)) buf.old) }
@@ -118,7 +119,8 @@ impl<'a> Writer<'a> {
 
     /// The delta of an option that can follow, by its number and the length of its value.
     fn judge_option(&self, number: u16, value_len: usize) -> Result<u16, WriteError>
-        ensures { MatchResult result (TakesNow self.now number value_len) (RefusesNow self.now number value_len) }
+        ensures { MatchResult result (TakesNow self.now number value_len)
+            (RefusesNow self.now number value_len) }
     {
         match self.stage {
             Stage::Alone => return Err(WriteError::EmptyWithRest),
@@ -159,8 +161,10 @@ impl<'a> Writer<'a> {
 
     /// Whether a payload of this length, which isn't 0, can follow.
     fn judge_payload(&self, payload_len: usize) -> Result<(), WriteError>
-        ensures judged { MatchResult result (λ _. self.now.stage ≡ Stage.Open) (RefusesLength self.now payload_len) }
-        ensures room { OnOk result ((self.now.len + (1 + payload_len) ≤ length self.now.buf.now) × (self.now.len + (1 + payload_len) ≤ 65535)) }
+        ensures judged { MatchResult result (λ _. self.now.stage ≡ Stage.Open)
+            (RefusesLength self.now payload_len) }
+        ensures room { OnOk result ((self.now.len + (1 + payload_len) ≤ length self.now.buf.now)
+            × (self.now.len + (1 + payload_len) ≤ 65535)) }
     {
         match self.stage {
             Stage::Alone => return Err(WriteError::EmptyWithRest),
@@ -211,12 +215,7 @@ impl<'a> Writer<'a> {
             → (result ≡ length_of draft) × (length self.exit.0.now ≡ length old) }
         ensures within { result ≤ length self.exit.0.now }
     {
-        let Writer {
-            buf: _,
-            len,
-            number: _,
-            stage: _,
-        } = self;
+        let Writer { len, .. } = self;
         len
     }
 }

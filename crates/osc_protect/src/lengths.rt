@@ -7,9 +7,9 @@ ghost use Rattle.osc_coap.specs.Views.{options_left, parts_of};
 ghost use Rattle.osc_protect.specs.Sealed.{sealed_length};
 ghost use Rattle.osc_protect.specs.SealRefusals.{RefusesLength};
 
-use crate::option_search::OSCORE;
 use crate::protect_error::ProtectError;
 use osc_ccm::TAG_LEN;
+use osc_coap::option_numbers::OSCORE;
 use osc_coap::{Class, MOST_DATAGRAM, Message, Options, class_of, head_len, option_len};
 
 /// How far a list of options has come: the number of its last one, and its bytes so far.

@@ -11,12 +11,13 @@ ghost use Rattle.osc_protect.specs.declared.unprotect_error.UnprotectError.{Unpr
 
 use crate::laws::{one_head, one_request};
 use crate::opened::Opened;
-use crate::option_search::{URI_HOST, URI_PORT, first_value, has_barred};
+use crate::option_search::{first_value, has_barred};
 use crate::request_head::{RequestHead, head_of_request};
 use crate::requests::is_request_code;
 use crate::unprotect_error::UnprotectError;
 use osc_aes::TableAes;
 use osc_ccm::{open, sealed_length};
+use osc_coap::option_numbers::{URI_HOST, URI_PORT};
 use osc_coap::{one_datagram, parse, parse_inner, payload_stands_last};
 use osc_context::{Context, Piv, aad, nonce};
 

@@ -5,22 +5,9 @@ ghost use Rattle.osc_coap.specs.Views.{options_left};
 ghost use Rattle.osc_protect.specs.Message.{first_number, first_of, has_number, is_barred, is_proxy, is_unsupported, values_at};
 
 use osc_coap::Options;
-
-pub(crate) const URI_HOST: u16 = 3;
-
-pub(crate) const OBSERVE: u16 = 6;
-
-pub(crate) const URI_PORT: u16 = 7;
-
-pub(crate) const OSCORE: u16 = 9;
-
-pub(crate) const BLOCK_2: u16 = 23;
-
-pub(crate) const BLOCK_1: u16 = 27;
-
-pub(crate) const PROXY_URI: u16 = 35;
-
-pub(crate) const PROXY_SCHEME: u16 = 39;
+use osc_coap::option_numbers::{
+    BLOCK1, BLOCK2, OBSERVE, OSCORE, PROXY_SCHEME, PROXY_URI, URI_HOST, URI_PORT,
+};
 
 /// Goes on behind the next option of this number, and gives its value.
 fn next_at<'a>(options: &mut Options<'a>, wanted: u16) -> Option<&'a [u8]>
@@ -85,8 +72,8 @@ fn is_unsupported(number: u16) -> bool
 {
     number == OBSERVE
         || number == OSCORE
-        || number == BLOCK_2
-        || number == BLOCK_1
+        || number == BLOCK2
+        || number == BLOCK1
         || is_proxy(number)
 }
 

@@ -7,8 +7,9 @@ ghost use Rattle.osc_protect.specs.declared.head_error.HeadError.{HeadError};
 
 use crate::head_error::HeadError;
 use crate::laws::one_head;
-use crate::option_search::{Found, OSCORE, has_proxy, only_value};
+use crate::option_search::{Found, has_proxy, only_value};
 use crate::requests::is_request;
+use osc_coap::option_numbers::OSCORE;
 use osc_coap::{Kind, Message, Token, parse};
 use osc_context::{OscoreOption, Piv};
 

@@ -18,12 +18,12 @@ ghost use Rattle.osc_protect.specs.declared.protect_error.ProtectError.{ProtectE
 
 use crate::checks::check_request;
 use crate::lengths::judge_length;
-use crate::option_search::OSCORE;
 use crate::protect_error::ProtectError;
 use crate::split::{Side, write_side};
 use arrayvec::ArrayVec;
 use osc_aes::TableAes;
 use osc_ccm::{seal, sealed_length};
+use osc_coap::option_numbers::OSCORE;
 use osc_coap::{Message, Writer, options_ascend, payload_stands_last};
 use osc_context::{Context, OscoreOption, Piv, aad, nonce, one_option_value};
 

@@ -23,7 +23,8 @@ fn write_get(
     segment: &[u8],
     payload: &[u8],
 ) -> Result<usize, WriteError>
-    ensures written { IfOk result (λ n. IsDatagram (a_get message_id token.now.items segment.now payload.now) (take n buf.new)) }
+    ensures written { IfOk result (λ n.
+        IsDatagram (a_get message_id token.now.items segment.now payload.now) (take n buf.new)) }
     ensures behind { IfOk result (λ n. drop n buf.new ≡ drop n buf.old) }
 {
     if buf.len() < head_len(token) {
@@ -100,7 +101,8 @@ pub(super) fn write_outside(
     value: &[u8],
     out: &mut [u8],
 ) -> Result<usize, WriteError>
-    ensures written { IfOk result (λ n. IsDatagram (outside_of (parts_of plain.now) value.now) (take n out.new)) }
+    ensures written { IfOk result (λ n.
+        IsDatagram (outside_of (parts_of plain.now) value.now) (take n out.new)) }
     ensures behind { IfOk result (λ n. drop n out.new ≡ drop n out.old) }
 {
     if out.len() < head_len(&plain.token) {
