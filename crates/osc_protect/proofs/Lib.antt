@@ -7,3 +7,4 @@ pub mod Supported
 pub mod Splits
 pub mod Sealings
 pub mod SealedOpenings
+pub mod SealedForms

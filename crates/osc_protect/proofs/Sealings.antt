@@ -21,7 +21,7 @@ same_length : OneSpelling → (s : SecurityContext) (n : ℕ) (p : Parts) (a b :
 same_length one s n p a b ha hb = ap (sealed_length p) (one (value_of_request n s.id_context s.client) a b ha hb)
 
 -- what is made was not refused
-made_never : OneSpelling → (s : SecurityContext) (n : ℕ) (p : Parts) (room len : ℕ) (e : ProtectError) → CanBeSealed p → Made s n p room len → RefusesToSeal s n p room e → ⊥
+pub made_never : OneSpelling → (s : SecurityContext) (n : ℕ) (p : Parts) (room len : ℕ) (e : ProtectError) → CanBeSealed p → Made s n p room len → RefusesToSeal s n p room e → ⊥
 made_never one s n p room len NotThatKind can made r = never_refused p NotThatKind can r
 made_never one s n p room len (Unsupported k) can made r = never_refused p (Unsupported k) can r
 made_never one s n p room len TooLong can made r =
@@ -39,7 +39,7 @@ fits_never s n p room TooLong fits r = let short = (fits.1 (r.1.0) r.1.1).0 in l
 fits_never s n p room NoRoom fits r = let short = (fits.1 (r.1.0) r.1.1).1 in let long = r.1.2.1 in omega (arith, short, long)
 
 -- there is one refusal
-one_seal_refusal : OneSpelling → (s : SecurityContext) (n : ℕ) (p : Parts) (room : ℕ) (e f : ProtectError) → RefusesToSeal s n p room e → RefusesToSeal s n p room f → e ≡ f
+pub one_seal_refusal : OneSpelling → (s : SecurityContext) (n : ℕ) (p : Parts) (room : ℕ) (e f : ProtectError) → RefusesToSeal s n p room e → RefusesToSeal s n p room f → e ≡ f
 one_seal_refusal one s n p room NotThatKind NotThatKind h k = refl
 one_seal_refusal one s n p room NotThatKind (Unsupported m) h k = one_refusal p NotThatKind (Unsupported m) h k
 one_seal_refusal one s n p room NotThatKind TooLong h k = absurd (never_refused p NotThatKind k.0 h)

@@ -1,5 +1,5 @@
 -- What the layers below hold of all bytes, and what follows of requests (RFC 8613, 8.2): the contracts of laws.rt.
-use Rattle.std.specs.Prelude.{◌≡◌, ◌<◌, ◌^◌, ℕ, List}
+use Rattle.std.specs.Prelude.{◌≡◌, ◌<◌, ◌≤◌, ◌^◌, ℕ, List, length}
 use Rattle.osc_coap.specs.Datagram.{Parts}
 use Rattle.osc_coap.specs.Inner.{InnerParts}
 use Rattle.osc_coap.specs.Laws.{IsOneDatagram, HasOneFault, IsNeverBoth, IsOneInner, IsNeverBothInner}
@@ -12,7 +12,9 @@ use Rattle.osc_context.specs.declared.context.Context.{Context}
 use Rattle.osc_protect.specs.Sealed.{SealsRequest, inside}
 use Rattle.osc_protect.specs.Protection.{ProtectsRequest}
 use Rattle.osc_protect.specs.Refusals.{Refuses}
+use Rattle.osc_protect.specs.SealRefusals.{RefusesToSeal}
 use Rattle.osc_protect.specs.declared.head_error.HeadError.{HeadError}
+use Rattle.osc_protect.specs.declared.protect_error.ProtectError.{ProtectError}
 use Rattle.osc_protect.specs.declared.unprotect_error.UnprotectError.{UnprotectError}
 
 -- the laws of the layers below, one field each (RFC 7252, 3; RFC 8613, 5.3 and 6.1; RFC 3610, 2)
@@ -49,3 +51,9 @@ AreMirrored client server = as_client client ≡ as_server server
 pub record SealedOpens : Type 0 where
   pub opens : (client server : Context) (n : ℕ) (p : Parts) (d : List ℕ) → AreMirrored client server → SealsRequest (as_client client) n p d → ProtectsRequest (as_server server) n (inside p) d
   pub nothing_else : (client server : Context) (n k : ℕ) (p : Parts) (m : InnerParts) (d : List ℕ) → AreMirrored client server → SealsRequest (as_client client) n p d → ProtectsRequest (as_server server) k m d → (k ≡ n) × (m ≡ inside p)
+
+-- a plain request has one sealed form under one number, or one refusal, never both where that form has room (RFC 8613, 8.1)
+pub record OneSealed : Type 0 where
+  pub bytes : (s : SecurityContext) (n : ℕ) (p : Parts) (d e : List ℕ) → SealsRequest s n p d → SealsRequest s n p e → d ≡ e
+  pub never_both : (s : SecurityContext) (n : ℕ) (p : Parts) (room : ℕ) (d : List ℕ) (e : ProtectError) → SealsRequest s n p d → length d ≤ room → RefusesToSeal s n p room e → ⊥
+  pub refusal : (s : SecurityContext) (n : ℕ) (p : Parts) (room : ℕ) (e f : ProtectError) → RefusesToSeal s n p room e → RefusesToSeal s n p room f → e ≡ f

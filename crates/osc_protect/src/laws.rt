@@ -1,10 +1,10 @@
 //! What holds of all datagrams. A call of such a function does nothing: its contract is there for the proof of its
 //! caller.
 
-ghost use Rattle.osc_protect.specs.Laws.{LayerLaws, OneHead, OneRequest, SealedOpens};
+ghost use Rattle.osc_protect.specs.Laws.{LayerLaws, OneHead, OneRequest, OneSealed, SealedOpens};
 
 use osc_ccm::{one_plaintext, sealed_length};
-use osc_coap::{one_datagram, one_inner};
+use osc_coap::{lengths_by_parts, one_datagram, one_inner, one_text};
 use osc_context::one_option_value;
 
 /// What the layers below promise of all bytes.
@@ -38,4 +38,15 @@ pub fn sealed_opens()
     ensures { SealedOpens }
 {
     one_request();
+}
+
+/// A plain request has one sealed form under one number, or one refusal, never both where there is room for that form
+/// (RFC 8613, 8.1).
+pub fn one_sealed()
+    ensures { OneSealed }
+{
+    one_option_value();
+    one_text();
+    lengths_by_parts();
+    sealed_length();
 }

@@ -23,7 +23,7 @@ mod unprotect_error;
 
 pub use checks::check_request;
 pub use head_error::HeadError;
-pub use laws::{one_head, one_request, sealed_opens};
+pub use laws::{one_head, one_request, one_sealed, sealed_opens};
 pub use opened::Opened;
 pub use opening::{Place, decrypt_request, open_request, read_request};
 pub use protect_error::ProtectError;

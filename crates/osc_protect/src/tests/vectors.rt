@@ -4,7 +4,9 @@ use super::{
     DECRYPTED, ID_CONTEXT, REQUEST, REQUEST_OF_ANOTHER_CLIENT, REQUEST_WITH_KID_CONTEXT, SERVERS,
     derived, outcome_of, server,
 };
-use crate::{Opened, UnprotectError, head_of_request, one_head, one_request, open_request};
+use crate::{
+    Opened, UnprotectError, head_of_request, one_head, one_request, one_sealed, open_request,
+};
 use osc_coap::{Fault, FormatError, Kind};
 use osc_context::{Params, Piv};
 use std::process::Abort;
@@ -176,4 +178,5 @@ fn refusals_print_their_names(rt: HostRuntime) -> Result<(), Fail> {
 fn laws_can_be_called() {
     one_head();
     one_request();
+    one_sealed();
 }
