@@ -4,3 +4,5 @@ pub mod OpenTexts
 pub mod ExplainTexts
 pub mod LocalCommands
 pub mod HexWords
+pub mod NumberWords
+pub mod ProtectTexts

@@ -36,6 +36,10 @@ number_text (Some n) = decimal n
 abbrev pub text_line : List ℕ → List ℕ → List ℕ
 text_line name text = name ++ (codes " " ++ (text ++ codes "\n"))
 
+-- the line of bytes alone (own rule)
+abbrev pub hex_line : List ℕ → List ℕ
+hex_line bytes = bytes_text bytes ++ codes "\n"
+
 -- the line of a name and bytes (own rule)
 abbrev pub bytes_line : List ℕ → List ℕ → List ℕ
 bytes_line name bytes = text_line name (bytes_text bytes)

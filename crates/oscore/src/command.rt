@@ -8,7 +8,8 @@ use crate::explanation::explain_text;
 use crate::fault::{Fault, Wrong, input_fault};
 use crate::lines::{put_fault, put_help, usage_text};
 use crate::opening::open_text;
-use crate::words::{read_words, required_bytes};
+use crate::protection::protect_text;
+use crate::words::{read_words, required_bytes, required_number};
 use clap::ArgMatches;
 use clap::error::ErrorKind;
 use std::alloc::Global;
@@ -31,6 +32,16 @@ fn run_open<W: Write>(alloc: Global, matches: &ArgMatches<'_>, out: &mut W) -> R
     open_text(alloc, context.params(), datagram.as_mut_slice(), out)
 }
 
+/// Does what `protect` asks for.
+fn run_protect<W: Write>(alloc: Global, matches: &ArgMatches<'_>, out: &mut W) -> Result<u8, Fault>
+    ensures { IfOk result (λ s. (s ≡ 0) ⊎ (s ≡ 2)) }
+{
+    let context = ContextWords::read(alloc, matches)?;
+    let number = required_number(matches, "sequence", "--sequence")?;
+    let plain = required_bytes(alloc, matches, "datagram", "DATAGRAM")?;
+    protect_text(alloc, context.params(), number, plain.as_slice(), out)
+}
+
 /// Does what `explain` asks for.
 fn run_explain<W: Write>(alloc: Global, matches: &ArgMatches<'_>, out: &mut W) -> Result<u8, Fault>
     ensures { IfOk result (λ s. (s ≡ 0) ⊎ (s ≡ 2)) }
@@ -47,6 +58,7 @@ fn run<W: Write>(alloc: Global, words: &[String], out: &mut W) -> Result<u8, Fau
         Ok(matches) => match matches.subcommand() {
             Some(("derive", inner)) => run_derive(alloc, inner, out),
             Some(("open", inner)) => run_open(alloc, inner, out),
+            Some(("protect", inner)) => run_protect(alloc, inner, out),
             Some(("explain", inner)) => run_explain(alloc, inner, out),
             // No other is there; clap answers `help` by itself.
             Some(_) => Err(input_fault("the call", Wrong::Unknown)),

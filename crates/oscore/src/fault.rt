@@ -16,6 +16,9 @@ pub enum Wrong {
     /// The word spells no bytes.
     #[error("bad hex")]
     BadHex,
+    /// The word is no number, or one from 2^40 up, which no message can have.
+    #[error("not a number below 2^40")]
+    Number,
     /// No call has that name.
     #[error("unknown")]
     Unknown,

@@ -4,7 +4,7 @@ ghost use Rattle.std.specs.Prelude.{◌≡◌, ◌∷◌, [], IfOk, IfSome, stri
 ghost use Rattle.osc_coap.specs.Views.{options_left};
 ghost use Rattle.osc_context.specs.Views.{number_of};
 ghost use Rattle.osc_protect.specs.Views.{message_of, shown};
-ghost use Rattle.oscore.specs.Lines.{bytes_text, kind_text, code_text, number_text, text_line, bytes_line, kind_line, message_id_line, code_line, head_lines, number_line, part_lines, option_line, refused_line};
+ghost use Rattle.oscore.specs.Lines.{bytes_text, kind_text, code_text, number_text, text_line, hex_line, bytes_line, kind_line, message_id_line, code_line, head_lines, number_line, part_lines, option_line, refused_line};
 ghost use Rattle.oscore.specs.Opening.{opened_lines, seen};
 ghost use Rattle.oscore.specs.Written.{Writes};
 
@@ -71,6 +71,16 @@ pub(crate) fn put_text<W: Write>(
     ensures { Writes (W.contents out.old) (W.contents out.new) (text_line name.now text.now ∷ []) result }
 {
     let line = format!(in alloc; "{name} {text}\n")?;
+    out.write_all(line.as_bytes())?;
+    Ok(())
+}
+
+/// Writes the line of bytes in hex alone.
+pub(crate) fn put_hex<W: Write>(alloc: Global, bytes: &[u8], out: &mut W) -> Result<(), Fault>
+    ensures { Writes (W.contents out.old) (W.contents out.new) (hex_line bytes.now ∷ []) result }
+{
+    let text = bytes_text(alloc, bytes)?;
+    let line = format!(in alloc; "{text}\n")?;
     out.write_all(line.as_bytes())?;
     Ok(())
 }

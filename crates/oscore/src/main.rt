@@ -13,8 +13,10 @@ mod explanation;
 mod fault;
 mod hex_word;
 mod lines;
+mod number_word;
 mod opening;
 mod oscore_lines;
+mod protection;
 #[cfg(test)]
 mod tests;
 mod words;

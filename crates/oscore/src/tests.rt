@@ -4,6 +4,7 @@ mod contexts;
 mod explanations;
 mod faults;
 mod openings;
+mod protections;
 
 use crate::command::command;
 use std::alloc::{AllocError, Global};

@@ -6,13 +6,15 @@ ghost use Rattle.oscore.specs.Calls.{IsLocal, NeedsSubcommand};
 
 use crate::fault::{Fault, Wrong, input_fault};
 use crate::hex_word::{HexError, read_hex};
+use crate::number_word::read_number;
 use clap::{Arg, ArgAction, ArgMatches, Command, Error};
+use osc_context::Piv;
 use std::alloc::{AllocError, Global};
 use std::env;
 use std::rt::Env;
 
 const ABOUT: &str =
-    "Derives contexts of OSCORE (RFC 8613), opens the CoAP requests that it protects, and explains datagrams.";
+    "Derives contexts of OSCORE (RFC 8613), protects CoAP requests and opens protected ones, and explains datagrams.";
 
 const EXAMPLE: &str = "Example:
   oscore open --secret 0102030405060708090a0b0c0d0e0f10 --salt 9e7ca92223786340 --sender 01 44025d1f00003974396c6f63616c686f7374620914ff612f1092f1776f1c1668b3825e";
@@ -20,6 +22,12 @@ const EXAMPLE: &str = "Example:
 const ABOUT_DERIVE: &str = "Derives a context, and prints its keys and its Common IV.";
 
 const ABOUT_OPEN: &str = "Opens a protected request, and prints what it says, one part a line.";
+
+const ABOUT_PROTECT: &str =
+    "Protects a plain request under a number that was never used, and prints it in hex.";
+
+const EXAMPLE_PROTECT: &str = "Example:
+  oscore protect --secret 0102030405060708090a0b0c0d0e0f10 --salt 9e7ca92223786340 --recipient 01 --sequence 20 44015d1f00003974396c6f63616c686f737483747631";
 
 const ABOUT_EXPLAIN: &str =
     "Reads a datagram without a key, and prints what it shows and what its OSCORE options say.";
@@ -105,6 +113,29 @@ fn open_command<'a>(alloc: Global) -> Result<Command<'a>, AllocError>
     with_context(command, alloc)?.arg(datagram_word(alloc))
 }
 
+/// The option that is the number of a request.
+fn sequence_option<'a>(alloc: Global) -> Arg<'a>
+    ensures { result.global ≡ false }
+{
+    Arg::new(alloc, "sequence")
+        .long("sequence")
+        .value_name("N")
+        .action(ArgAction::Set)
+        .required(true)
+        .help("The request's number, below 2^40: decimal digits")
+}
+
+fn protect_command<'a>(alloc: Global) -> Result<Command<'a>, AllocError>
+    ensures { IfOk result IsLocal }
+{
+    let command = Command::new(alloc, "protect")
+        .about(ABOUT_PROTECT)
+        .after_help(EXAMPLE_PROTECT);
+    with_context(command, alloc)?
+        .arg(sequence_option(alloc))?
+        .arg(datagram_word(alloc))
+}
+
 fn explain_command<'a>(alloc: Global) -> Result<Command<'a>, AllocError>
     ensures { IfOk result IsLocal }
 {
@@ -125,6 +156,7 @@ fn program<'a>(alloc: Global) -> Result<Command<'a>, AllocError>
         .after_help(EXAMPLE)
         .subcommand(derive_command(alloc)?)?
         .subcommand(open_command(alloc)?)?
+        .subcommand(protect_command(alloc)?)?
         .subcommand(explain_command(alloc)?)?;
     Ok(command.subcommand_required(true))
 }
@@ -156,6 +188,21 @@ pub(crate) fn required_bytes(
 ) -> Result<Vec<u8>, Fault> {
     match matches.get_str(id) {
         Some(word) => bytes_of(alloc, name, word),
+        None => Err(input_fault(name, Wrong::Missing)),
+    }
+}
+
+/// The number of a word that the call can't be without, or the fault that names the word's place in the call.
+pub(crate) fn required_number(
+    matches: &ArgMatches<'_>,
+    id: &str,
+    name: &'static str,
+) -> Result<Piv, Fault> {
+    match matches.get_str(id) {
+        Some(word) => match read_number(word) {
+            Some(number) => Ok(number),
+            None => Err(input_fault(name, Wrong::Number)),
+        },
         None => Err(input_fault(name, Wrong::Missing)),
     }
 }

@@ -4,7 +4,7 @@ use super::{REQUEST, SALT, SECRET, is_one_line, run_of};
 use std::test::Fail;
 
 // Own rule: words that are no call are status 1, and one line on standard error.
-const USAGES: [(&str, &[&str]); 16] = [
+const USAGES: [(&str, &[&str]); 22] = [
     ("no words", &["oscore"]),
     ("not even a name", &[]),
     ("an unknown call", &["oscore", "seal"]),
@@ -61,6 +61,65 @@ const USAGES: [(&str, &[&str]); 16] = [
         "two datagrams to explain",
         &["oscore", "explain", REQUEST, REQUEST],
     ),
+    (
+        "no number",
+        &["oscore", "protect", "--secret", SECRET, REQUEST],
+    ),
+    (
+        "no plain datagram",
+        &["oscore", "protect", "--secret", SECRET, "--sequence", "1"],
+    ),
+    (
+        "two numbers",
+        &[
+            "oscore",
+            "protect",
+            "--secret",
+            SECRET,
+            "--sequence",
+            "1",
+            "--sequence",
+            "1",
+            REQUEST,
+        ],
+    ),
+    (
+        "a number with no value",
+        &[
+            "oscore",
+            "protect",
+            "--secret",
+            SECRET,
+            REQUEST,
+            "--sequence",
+        ],
+    ),
+    (
+        "an unknown option of a protection",
+        &[
+            "oscore",
+            "protect",
+            "--secret",
+            SECRET,
+            "--sequence",
+            "1",
+            "--request",
+            "1",
+            REQUEST,
+        ],
+    ),
+    (
+        "a number with a sign in front",
+        &[
+            "oscore",
+            "protect",
+            "--secret",
+            SECRET,
+            "--sequence",
+            "-1",
+            REQUEST,
+        ],
+    ),
 ];
 
 #[test]
@@ -74,8 +133,8 @@ fn wrong_calls_are_one_line(rt: HostRuntime) -> Result<(), Fail> {
     Ok(())
 }
 
-// Own rule: hex is read in the order of the options, and the first that is bad is named.
-const BAD_HEX: [(&[&str], &str); 11] = [
+// Own rule: words are read in the order of the options, the datagram last, and the first that is bad is named.
+const BAD_WORDS: [(&[&str], &str); 22] = [
     (
         &[
             "oscore",
@@ -175,11 +234,142 @@ const BAD_HEX: [(&[&str], &str); 11] = [
         "oscore: DATAGRAM: bad hex\n",
     ),
     (&["oscore", "explain", "-"], "oscore: DATAGRAM: bad hex\n"),
+    (
+        &[
+            "oscore",
+            "protect",
+            "--secret",
+            "00",
+            "--sequence",
+            "1099511627776",
+            "40010001",
+        ],
+        "oscore: --sequence: not a number below 2^40\n",
+    ),
+    (
+        &[
+            "oscore",
+            "protect",
+            "--secret",
+            "00",
+            "--sequence",
+            "18446744073709551616",
+            "40010001",
+        ],
+        "oscore: --sequence: not a number below 2^40\n",
+    ),
+    (
+        &[
+            "oscore",
+            "protect",
+            "--secret",
+            "00",
+            "--sequence",
+            "+5",
+            "40010001",
+        ],
+        "oscore: --sequence: not a number below 2^40\n",
+    ),
+    (
+        &[
+            "oscore",
+            "protect",
+            "--secret",
+            "00",
+            "--sequence",
+            "",
+            "40010001",
+        ],
+        "oscore: --sequence: not a number below 2^40\n",
+    ),
+    (
+        &[
+            "oscore",
+            "protect",
+            "--secret",
+            "00",
+            "--sequence",
+            " 5",
+            "40010001",
+        ],
+        "oscore: --sequence: not a number below 2^40\n",
+    ),
+    (
+        &[
+            "oscore",
+            "protect",
+            "--secret",
+            "00",
+            "--sequence",
+            "5 ",
+            "40010001",
+        ],
+        "oscore: --sequence: not a number below 2^40\n",
+    ),
+    (
+        &[
+            "oscore",
+            "protect",
+            "--secret",
+            "00",
+            "--sequence",
+            "0x5",
+            "40010001",
+        ],
+        "oscore: --sequence: not a number below 2^40\n",
+    ),
+    (
+        &[
+            "oscore",
+            "protect",
+            "--secret",
+            "00",
+            "--sequence=-1",
+            "40010001",
+        ],
+        "oscore: --sequence: not a number below 2^40\n",
+    ),
+    (
+        &[
+            "oscore",
+            "protect",
+            "--secret",
+            "00",
+            "--sequence",
+            "+5",
+            "x",
+        ],
+        "oscore: --sequence: not a number below 2^40\n",
+    ),
+    (
+        &[
+            "oscore",
+            "protect",
+            "--secret",
+            "0",
+            "--sequence",
+            "+5",
+            "x",
+        ],
+        "oscore: --secret: bad hex\n",
+    ),
+    (
+        &[
+            "oscore",
+            "protect",
+            "--secret",
+            "00",
+            "--sequence",
+            "5",
+            "4001000g",
+        ],
+        "oscore: DATAGRAM: bad hex\n",
+    ),
 ];
 
 #[test]
-fn bad_hex_is_named(rt: HostRuntime) -> Result<(), Fail> {
-    for (words, line) in BAD_HEX {
+fn bad_words_are_named(rt: HostRuntime) -> Result<(), Fail> {
+    for (words, line) in BAD_WORDS {
         let ran = run_of(rt.alloc(), words)?;
         assert_eq!(rt; ran.status, 1, "{line}");
         assert!(rt; ran.out.is_empty(), "{line}: {:?}", ran.out);
@@ -193,12 +383,13 @@ fn bad_hex_is_named(rt: HostRuntime) -> Result<(), Fail> {
 }
 
 // Each way to ask for help.
-const HELPS: [&[&str]; 7] = [
+const HELPS: [&[&str]; 8] = [
     &["oscore", "--help"],
     &["oscore", "open", "--help"],
     &["oscore", "derive", "--help"],
     &["oscore", "help"],
     &["oscore", "explain", "--help"],
+    &["oscore", "protect", "--help"],
     &["oscore", "help", "open"],
     &["oscore", "help", "explain"],
 ];
