@@ -1,10 +1,8 @@
 -- What `explain` prints: a line for each OSCORE option, and the one text of a datagram.
 use Rattle.std.proofs.Common.{◌≡◌, ℕ, ◌<◌, ◌==◌, Bool, true, false, List, [], ◌∷◌, ◌++◌, length, get_or, refl, sym, ap, ◌∙◌, ◌⊎◌, inl, inr, subst, Option, Result, Ok, Err}
 use Rattle.std.specs.Prelude.{if◌then◌else◌, filter, map}
-use Rattle.std.specs.Io.KnownBytes.{Appends}
-use Rattle.std.proofs.lemmas.List.{drop_at}
+use Rattle.std.proofs.lemmas.List.{drop_at, take_at}
 use Rattle.std.proofs.lemmas.List.Elements.{All-drop, All-from_get_or, All-tail, All-take}
-use Rattle.std.proofs.lemmas.List.{take_at}
 use Rattle.osc_coap.specs.Datagram.{Parts, IsDatagram, head}
 use Rattle.osc_coap.specs.Fault.{HasFault}
 use Rattle.osc_coap.specs.Laws.{IsDatagramOrFault}
@@ -22,9 +20,9 @@ use Rattle.oscore.specs.Explanation.{ExplainText, MessageText, ValueLine, ValueL
 use Rattle.oscore.specs.Explanation.ExplainText.{explained, refused}
 use Rattle.oscore.specs.Explanation.ValueLine.{says, faulty}
 use Rattle.oscore.specs.Lines.{oscore_line, oscore_fault_line, refused_line}
-use Rattle.oscore.specs.Written.{Stops, Writes, text_of}
+use Rattle.oscore.specs.Written.{Stops, Writes}
 use Rattle.oscore.specs.declared.fault.Fault.{Fault}
-use Rattle.oscore.proofs.Appending.{SoFar, so_far_none, so_far_more, so_far_error, so_far_done}
+use Rattle.oscore.proofs.Appending.{SoFar, so_far_more, so_far_error}
 
 -- ---- the line of a value
 
@@ -50,7 +48,7 @@ writes_alone value old new r one [] h = absurd h
 writes_alone value old new r one (line ∷ []) h = one line h.0
 writes_alone value old new r one (line ∷ other ∷ lines) h = absurd h.1
 
--- the same with the test of the option's number
+-- lines of some options, parted by whether the first is an OSCORE option
 parted : (is_oscore : Bool) (entry : Entry) (left : List Entry) (lines : List (List ℕ)) → ValueLines (map (λ o. o.1) (if is_oscore then entry ∷ left else left)) lines → (own : List (List ℕ)) × (rest : List (List ℕ)) × ValueLines (map (λ o. o.1) (if is_oscore then entry ∷ [] else [])) own × ValueLines (map (λ o. o.1) left) rest × (lines ≡ own ++ rest)
 parted false entry left lines h = ([], lines, tt, h, refl)
 parted true entry left [] h = absurd h
@@ -70,10 +68,6 @@ Continues old now all left = (lines : List (List ℕ)) → ValueLines (oscore_va
 abbrev pub WritesOwn : Option (List ℕ) → Option (List ℕ) → Entry → Result (Unit {0}) Fault → Type 0
 WritesOwn now new entry r = (own : List (List ℕ)) → ValueLines (oscore_values (entry ∷ [])) own → Writes now new own r
 
--- before the first option
-pub continues_none : (old : Option (List ℕ)) (all : List Entry) → Continues old old all all
-continues_none old all lines h = (lines, so_far_none old lines, h)
-
 -- one option more is written
 pub continues_more : (old now new : Option (List ℕ)) (all left : List Entry) (entry : Entry) → Continues old now all (entry ∷ left) → WritesOwn now new entry (Ok tt) → Continues old new all left
 continues_more old now new all left entry so_far own lines h =
@@ -89,17 +83,6 @@ continues_error old now new all left entry e so_far own lines h =
     let parts = lines_parted entry left before.0 before.2 in
     let reached = subst (SoFar old now lines) parts.4 before.1 in
     so_far_error old now new lines (parts.0) (parts.1) e reached (own (parts.0) parts.2)
-
--- no value has no line
-none_left : (lines : List (List ℕ)) → ValueLines [] lines → lines ≡ []
-none_left [] h = refl
-none_left (line ∷ lines) h = absurd h
-
--- no option is left
-pub continues_all : (old now : Option (List ℕ)) (all : List Entry) → Continues old now all [] → (lines : List (List ℕ)) → ValueLines (oscore_values all) lines → Appends old now (text_of lines)
-continues_all old now all so_far lines h =
-    let before = so_far lines h in
-    so_far_done old now lines (subst (SoFar old now lines) (none_left before.0 before.2) before.1)
 
 -- ---- each datagram has a text
 

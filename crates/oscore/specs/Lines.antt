@@ -73,7 +73,7 @@ part_lines name (Some bytes) = bytes_line name bytes ∷ []
 abbrev pub option_line : Entry → List ℕ
 option_line entry = text_line (codes "option") (decimal entry.0 ++ (codes " " ++ bytes_text entry.1))
 
--- bytes in hex, a dash for no bytes, and another word where the part is absent (own rule)
+-- bytes in hex, a dash for no bytes, and `none` where the part is absent (own rule)
 abbrev pub optional_text : Option (List ℕ) → List ℕ
 optional_text None = codes "none"
 optional_text (Some bytes) = bytes_text bytes

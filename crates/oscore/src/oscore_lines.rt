@@ -12,12 +12,10 @@ ghost use Rattle.oscore.specs.Written.{Writes};
 use crate::fault::Fault;
 use crate::lines::{bytes_text, put_text};
 use osc_coap::Options;
+use osc_coap::option_numbers::OSCORE;
 use osc_context::{OptionError, OscoreOption, Piv};
 use std::alloc::{AllocError, Global};
 use std::io::Write;
-
-/// The number of the OSCORE option (RFC 8613, 2).
-const OSCORE: u16 = 9;
 
 /// The bytes in hex, or a dash for no bytes, where there is such a part.
 fn optional_text(alloc: Global, part: Option<&[u8]>) -> Result<String, AllocError>
