@@ -1,5 +1,5 @@
 -- What is read after decrypting is what the datagram protects.
-use Rattle.std.proofs.Common.{◌≡◌, ℕ, List, ◌++◌, length, take, drop, refl, sym, ap, subst, ◌∙◌, arith, Option, Some, Result, Ok, Err, IfOk, IfErr, IsOk, IsOkAnd, IsErrOf, length-append}
+use Rattle.std.proofs.Common.{◌≡◌, ℕ, List, ◌++◌, length, take, drop, refl, sym, ap, subst, ◌∙◌, Option, Some, Result, Ok, Err, IfOk, IfErr, IsOk, IsOkAnd, IsErrOf}
 use Rattle.std.proofs.lemmas.List.{take_at}
 use Rattle.osc_coap.specs.Datagram.{Parts, IsDatagram}
 use Rattle.osc_coap.specs.Inner.{InnerParts, IsInner}
@@ -9,7 +9,7 @@ use Rattle.osc_context.specs.SecurityContext.{SecurityContext}
 use Rattle.osc_protect.specs.Protection.{ProtectsRequest}
 use Rattle.osc_protect.specs.Refusals.{Names, Seals, IsBadInner, Refuses, RefusesToDecrypt}
 use Rattle.osc_protect.specs.Views.{message_of, opened_number}
-use Rattle.osc_protect.specs.Opening.{ShowsOuter, Opens, Decrypts, IsDecrypted, ReadsInner, RefusesInner, OpensAfter, RefusesAfter}
+use Rattle.osc_protect.specs.Opening.{ShowsOuter, Opens, Decrypts, ReadsInner, RefusesInner, OpensAfter, RefusesAfter}
 use Rattle.osc_coap.specs.Laws.{IsOneDatagram}
 use Rattle.osc_protect.specs.Laws.{OneHead, OneRequest}
 use Rattle.osc_protect.specs.declared.head_error.HeadError.TheVariants as heads
@@ -69,11 +69,6 @@ module _ (one : IsOneDatagram) (s : SecurityContext) (d new : List ℕ) (place :
   refuses_open e r =
       let bad : IsBadInner it.plaintext = subst IsBadInner (front r.1 r.2) r.3 in
       subst (Refuses s d) (sym r.0) (it.head, (it.outer, it.datagram, it.shows), it.names, it.plaintext, it.seals, bad)
-
--- the place of a decrypted datagram lies in its payload
-pub is_decrypted : (s : SecurityContext) (d new : List ℕ) (r : Result Place UnprotectError) → IfOk r (λ place. Decrypts s d place new) → IfOk r (λ place. IsDecrypted new place)
-is_decrypted s d new (Ok place) it = (record it.outer { payload = it.plaintext ++ drop (length it.plaintext) it.outer.payload }, it.left, omega (arith, it.len, length-append it.plaintext (drop (length it.plaintext) it.outer.payload)))
-is_decrypted s d new (Err e) it = it
 
 -- what was read is what the datagram protected, for either outcome of reading
 pub all_open_after : (one : IsOneDatagram) (new : List ℕ) (place : Place) (r : Result Opened UnprotectError) → IfOk r (λ o. ReadsInner new place o) → IfOk r (λ o. OpensAfter place new o)

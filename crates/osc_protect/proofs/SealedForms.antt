@@ -1,8 +1,7 @@
 -- A plain request has one sealed form.
-use Rattle.std.proofs.Common.{◌≡◌, ℕ, suc, ◌+◌, ◌<◌, ◌≤◌, List, [], ◌∷◌, length, refl, sym, ap, subst, ◌∙◌, arith}
+use Rattle.std.proofs.Common.{◌≡◌, ℕ, ◌+◌, List, [], ◌∷◌, length, refl, subst, arith}
 use Rattle.osc_ccm.specs.Ccm.{HasTagLength}
 use Rattle.osc_coap.specs.Datagram.{Parts, IsDatagram}
-use Rattle.osc_coap.specs.Inner.{IsInner, inner_length}
 use Rattle.osc_coap.specs.Laws.{PartsHaveOneDatagram, PartsHaveOneInner, DatagramHasItsLength, InnerHasItsLength}
 use Rattle.osc_coap.specs.OptionSpelling.{marked}
 use Rattle.osc_context.specs.Laws.{OneSpelling}

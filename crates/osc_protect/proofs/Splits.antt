@@ -4,7 +4,7 @@ use Rattle.osc_coap.specs.Class.{class, is_outer, outer_options}
 use Rattle.osc_coap.specs.Datagram.{Parts, datagram_length}
 use Rattle.osc_coap.specs.Inner.{inner_length}
 use Rattle.osc_coap.specs.OptionSpelling.{Entry, Ascends, last_number, spelling_length}
-use Rattle.osc_coap.specs.Writing.{Draft, Datagram, Plaintext, TakesOption, TakesPayload, bare, bare_inner, options_of, length_of, with_option, with_options}
+use Rattle.osc_coap.specs.Writing.{Draft, Datagram, Plaintext, TakesOption, bare, bare_inner, options_of, length_of, with_option, with_options}
 use Rattle.osc_protect.specs.Message.{has_number, is_unsupported}
 use Rattle.osc_protect.specs.Sealed.{inside, outside}
 use Rattle.osc_protect.specs.Split.{TakesAll, options_on, stands_on}
@@ -156,16 +156,3 @@ inside_takes p os room e up in_room in_all =
       ascends = some_ascend (λ entry. stands_on Inside (class entry.0)) 0 p.options up;
       has_room = (omega (arith, in_room), omega (arith, in_all));
     })
-
--- the payload has its room behind them
-pub payload_takes : (p : Parts) (os : List Entry) (room : ℕ) (bytes : List ℕ) → os ≡ p.options → bytes ≡ p.payload → inner_length (inside p) ≤ room → inner_length (inside p) ≤ 65535
-    → TakesPayload room (with_options (Plaintext (bare_inner p.code)) (options_on Inside os)) bytes
-payload_takes p os room bytes e eb in_room in_all =
-    subst (λ (b : List ℕ). TakesPayload room (with_options (Plaintext (bare_inner p.code)) (options_on Inside os)) b) (sym eb)
-    (subst (λ (es : List Entry). TakesPayload room (with_options (Plaintext (bare_inner p.code)) (options_on Inside es)) p.payload) (sym e)
-    (λ x. x, refl, (in_room, in_all)))
-
--- no bytes, or some
-pub some_bytes : (bytes : List ℕ) → (bytes ≡ []) ⊎ (bytes ≢ [])
-some_bytes [] = inl refl
-some_bytes (x ∷ bytes) = inr (λ h. cc h)

@@ -6,6 +6,7 @@ use Rattle.osc_coap.specs.OptionSpelling.{Entry, Ascends}
 use Rattle.osc_coap.specs.Datagram.{Parts}
 use Rattle.osc_protect.specs.Message.{has_number, first_number, is_unsupported}
 use Rattle.osc_protect.specs.SealRefusals.{IsLowestUnsupported, RefusesRequest, CanBeSealed}
+use Rattle.osc_protect.proofs.Splits.{chosen}
 use Rattle.osc_protect.specs.declared.protect_error.ProtectError.{ProtectError}
 use Rattle.osc_protect.specs.declared.protect_error.ProtectError.TheVariants.{NotThatKind, Unsupported, TooLong, NoRoom}
 
@@ -13,11 +14,6 @@ use Rattle.osc_protect.specs.declared.protect_error.ProtectError.TheVariants.{No
 either : (a b : Bool) → (a || b) ≡ true → (a ≡ true) ⊎ (b ≡ true)
 either true b h = inl refl
 either false b h = inr h
-
--- a test of the first option, and of the rest
-chosen : (b : Bool) → (b ≡ true) ⊎ (b ≡ false)
-chosen true = inl refl
-chosen false = inr refl
 
 same_some : (n m : ℕ) → Some n ≡ Some m → n ≡ m
 same_some n m h = ap (λ (o : Option ℕ). unwrap_or o 0) h

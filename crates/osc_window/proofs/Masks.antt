@@ -1,9 +1,9 @@
 -- What a mask leaves unspent, and what a highest number and a mask leave to be taken. w is the number of places.
-use Rattle.std.proofs.Common.{◌≡◌, ℕ, ◌+◌, ◌-◌, ◌*◌, ◌/◌, ◌%◌, ◌^◌, ◌<◌, ◌≤◌, ◌∙◌, sym, ap, arith, add-zero, Bool, true, false, Some, ◌&&◌, ◌||◌, not, bit_or, bit_and}
+use Rattle.std.proofs.Common.{◌≡◌, ℕ, ◌+◌, ◌-◌, ◌*◌, ◌%◌, ◌^◌, ◌<◌, ◌≤◌, ◌∙◌, sym, ap, arith, add-zero, Bool, true, false, Some, ◌&&◌, ◌||◌, not, bit_or}
 use Rattle.std.specs.Prelude.{nat_lt, ◌==◌}
 use Rattle.std.specs.Int.{bit_at, w64}
 use Rattle.std.proofs.lemmas.Nat.{and_mask, pow_pos}
-use Rattle.std.proofs.lemmas.Nat.Bits.{bit_at_cat_low, bit_at_cat_high, bit_at-zero, bit_at_and, bit_at_ones, bit_at-lt, bit_at_set_same, bit_at_set_other, shr_and_one}
+use Rattle.std.proofs.lemmas.Nat.Bits.{bit_at_cat_low, bit_at_cat_high, bit_at-zero, bit_at_and, bit_at_ones, bit_at-lt, bit_at_set_same, bit_at_set_other}
 use Rattle.std.proofs.lemmas.Bool.Decides.{nat_tests}
 use Rattle.osc_window.specs.SpentMask.{unspent_at, taken_by}
 
@@ -24,10 +24,6 @@ kept_below x i h =
     ∙ omega (arith, bit_at_ones 64 i h, bit_at-lt x i)
 
 -- ---- what a mask leaves unspent
-
--- the test of one bit
-pub unspent_shr : (mask below w : ℕ) → below < w → (bit_and (mask / 2 ^ below) 1 == 0) ≡ unspent_at mask below w
-unspent_shr mask below w h = grind (arith, nat_tests, shr_and_one mask below)
 
 -- a bit that is set spends its number alone
 pub unspent_set : (mask below other w : ℕ) → below < 64
