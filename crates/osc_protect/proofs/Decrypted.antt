@@ -1,5 +1,5 @@
 -- Decrypting the payload where it lies.
-use Rattle.std.proofs.Common.{◌≡◌, ℕ, ◌+◌, ◌-◌, ◌<◌, ◌≤◌, List, ◌++◌, length, take, drop, sym, ap, subst, ◌∙◌, arith, get_or, length-take, take-append-drop}
+use Rattle.std.proofs.Common.{◌≡◌, ℕ, ◌+◌, ◌-◌, ◌<◌, ◌≤◌, List, ◌++◌, length, take, drop, sym, ap, subst, option_map, ◌∙◌, arith, get_or, length-take, take-append-drop}
 use Rattle.std.proofs.lemmas.List.{get_or-append_right}
 use Rattle.std.proofs.lemmas.List.Elements.{All-from_get_or}
 use borrow.Rule.Slice.PartMut.{put_mid, mid_of}
@@ -9,9 +9,9 @@ use Rattle.osc_coap.specs.Datagram.{IsDatagram}
 use Rattle.osc_coap.specs.Laws.{PayloadIsTheEnd, PayloadCanBeReplaced}
 use Rattle.osc_context.specs.Views.{number_of}
 use Rattle.osc_protect.specs.Head.{Head, HasHead}
-use Rattle.osc_context.specs.SecurityContext.{SecurityContext}
-use Rattle.osc_protect.specs.Protection.{request_cipher}
+use Rattle.osc_protect.specs.Protection.{Protection}
 use Rattle.osc_protect.specs.Refusals.{Names}
+use Rattle.osc_protect.specs.declared.usage.Usage.{Usage}
 use Rattle.osc_protect.specs.Opening.{Decrypts}
 use Rattle.osc_protect.specs.declared.opening.Place.{Place}
 
@@ -29,18 +29,18 @@ part_bytes a xs ys h fits =
     omega (arith, same, fit))
 
 -- the part of the datagram behind the head is its payload
-pub part_is : (last : PayloadIsTheEnd) (d : List ℕ) (h : Head) → HasHead d h → mid_of (length d - length h.payload) (length d - (length d - length h.payload)) d ≡ h.payload
-part_is last d h x =
+pub part_is : (last : PayloadIsTheEnd) (u : Usage) (d : List ℕ) (h : Head) → HasHead u d h → mid_of (length d - length h.payload) (length d - (length d - length h.payload)) d ≡ h.payload
+part_is last u d h x =
     mid_last (length d - length h.payload) d
     ∙ ap (λ (z : List ℕ). drop (length d - length z) d) x.2.payload
     ∙ (last x.0 d x.1 x.2.filled).1
     ∙ sym x.2.payload
 
 -- a datagram whose payload was decrypted where it lies
-pub decrypts : (last : PayloadIsTheEnd) (other : PayloadCanBeReplaced) (s : SecurityContext) (d old ys : List ℕ) (h : Head) (place : Place) (x : HasHead d h) → AreBytes ys → Names h s
-    → old ≡ h.payload → length ys ≡ length old → place.len + 8 ≡ length old → old ≡ request_cipher s h.number (take place.len ys) → drop place.len ys ≡ drop place.len old → number_of place.number ≡ h.number
-    → Decrypts s d place (put_mid (length d - length h.payload) (length d - (length d - length h.payload)) d ys)
-decrypts last other s d old ys h place x bytes names is same long sealed tag number =
+pub decrypts : {I : Type 0} (last : PayloadIsTheEnd) (other : PayloadCanBeReplaced) (f : Protection I) (i : I) (d old ys : List ℕ) (h : Head) (place : Place) (x : HasHead f.usage d h) → AreBytes ys → Names f h i
+    → old ≡ h.payload → length ys ≡ length old → place.len + 8 ≡ length old → old ≡ f.cipher i (take place.len ys) → drop place.len ys ≡ drop place.len old → option_map number_of place.piv ≡ (f.parts i).piv
+    → Decrypts f d place (put_mid (length d - length h.payload) (length d - (length d - length h.payload)) d ys)
+decrypts last other f i d old ys h place x bytes names is same long sealed tag piv =
     let p = x.0 in
     let n = place.len in
     let front : length (take n ys) ≡ n = omega (arith, length-take n ys) in
@@ -54,6 +54,7 @@ decrypts last other s d old ys h place x bytes names is same long sealed tag num
     record {
       outer = p;
       head = h;
+      number = i;
       plaintext = take n ys;
       datagram = x.1;
       shows = x.2;
@@ -61,6 +62,6 @@ decrypts last other s d old ys h place x bytes names is same long sealed tag num
       seals = sym is ∙ sealed;
       left = subst (λ (z : List ℕ). IsDatagram (record p { payload = z }) (put_mid (length d - length h.payload) (length d - (length d - length h.payload)) d ys)) made
           (subst (λ (z : List ℕ). IsDatagram (record p { payload = ys }) z) (sym at) put);
-      number = number;
+      piv = piv;
       len = sym front;
     }

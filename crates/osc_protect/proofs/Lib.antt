@@ -1,4 +1,5 @@
 pub mod Placing
+pub mod Protections
 pub mod Exact
 pub mod Decrypted
 pub mod ReadAfter

@@ -1,15 +1,14 @@
--- A plain request has one sealed form.
+-- A plain message has one sealed form.
 use Rattle.std.proofs.Common.{◌≡◌, ℕ, ◌+◌, List, [], ◌∷◌, length, refl, subst, arith}
-use Rattle.osc_ccm.specs.Ccm.{HasTagLength}
 use Rattle.osc_coap.specs.Datagram.{Parts, IsDatagram}
 use Rattle.osc_coap.specs.Laws.{PartsHaveOneDatagram, PartsHaveOneInner, DatagramHasItsLength, InnerHasItsLength}
 use Rattle.osc_coap.specs.OptionSpelling.{marked}
 use Rattle.osc_context.specs.Laws.{OneSpelling}
-use Rattle.osc_context.specs.SecurityContext.{SecurityContext}
-use Rattle.osc_protect.specs.Head.{value_of_request}
-use Rattle.osc_protect.specs.Laws.{OneSealed}
-use Rattle.osc_protect.specs.Protection.{request_cipher}
-use Rattle.osc_protect.specs.Sealed.{SealsRequest, inside, outside, sealed_length}
+use Rattle.osc_protect.specs.Laws.{HasOneForm}
+use Rattle.osc_protect.specs.Protection.{Protection}
+use Rattle.osc_protect.specs.Sealed.{IsSealed, inside, outside, sealed_length}
+use Rattle.osc_protect.specs.Usage.{outer_code_of}
+use Rattle.osc_protect.proofs.Protections.{IsSound}
 use Rattle.osc_protect.proofs.Sealings.{made_never, one_seal_refusal}
 
 -- the marker and a payload that isn't empty
@@ -17,32 +16,29 @@ marked_length : (xs : List ℕ) (n : ℕ) → length xs ≡ n + 8 → length (ma
 marked_length [] n h = absurd (omega (arith, h))
 marked_length (x ∷ xs) n h = omega (arith, h)
 
--- what is protected is 8 bytes longer
-cipher_length : HasTagLength → (s : SecurityContext) (n : ℕ) (m : List ℕ) → length (request_cipher s n m) ≡ length m + 8
-unfolding request_cipher
-cipher_length law s n m = law _ _ _ m
+module _ {I : Type 0} (f : Protection I) (sound : IsSound f) where
+  -- what is sealed has the length of its parts
+  form_length : DatagramHasItsLength → InnerHasItsLength → (i : I) (p : Parts) (d : List ℕ) (x : IsSealed f i p d) → length d ≡ sealed_length p x.value
+  form_length law inner i p d x =
+      let m = x.holds.0 in
+      let whole = law (outside p (outer_code_of f.usage) x.value (f.cipher i m)) d x.holds.2 in
+      let plain = inner (inside p) m x.holds.1 in
+      let mark = marked_length (f.cipher i m) (length m) (sound.long i m) in
+      omega (arith, whole, plain, mark)
 
--- what is sealed has the length of its parts
-form_length : DatagramHasItsLength → InnerHasItsLength → HasTagLength → (s : SecurityContext) (n : ℕ) (p : Parts) (d : List ℕ) (x : SealsRequest s n p d) → length d ≡ sealed_length p x.sealed.value
-form_length law inner tag s n p d x =
-    let whole = law (outside p 2 x.sealed.value (request_cipher s n x.sealed.plaintext)) d x.sealed.datagram in
-    let plain = inner (inside p) x.sealed.plaintext x.sealed.spells in
-    let mark = marked_length (request_cipher s n x.sealed.plaintext) (length x.sealed.plaintext) (cipher_length tag s n x.sealed.plaintext) in
-    omega (arith, whole, plain, mark)
+  -- the form is one
+  one_form : OneSpelling → PartsHaveOneInner → PartsHaveOneDatagram → (i : I) (p : Parts) (d e : List ℕ) → IsSealed f i p d → IsSealed f i p e → d ≡ e
+  one_form spelling inner datagram i p d e x y =
+      let value = spelling (f.parts i) x.value y.value x.reads y.reads in
+      let plain = inner (inside p) (x.holds.0) (y.holds.0) x.holds.1 y.holds.1 in
+      let parts : outside p (outer_code_of f.usage) x.value (f.cipher i (x.holds.0)) ≡ outside p (outer_code_of f.usage) y.value (f.cipher i (y.holds.0)) = rw (value, plain) refl in
+      datagram _ d e (subst (λ (q : Parts). IsDatagram q d) parts x.holds.2) y.holds.2
 
--- the form is one
-one_form : OneSpelling → PartsHaveOneInner → PartsHaveOneDatagram → (s : SecurityContext) (n : ℕ) (p : Parts) (d e : List ℕ) → SealsRequest s n p d → SealsRequest s n p e → d ≡ e
-one_form spelling inner datagram s n p d e x y =
-    let value = spelling (value_of_request n s.id_context s.client) x.sealed.value y.sealed.value x.sealed.reads y.sealed.reads in
-    let plain = inner (inside p) x.sealed.plaintext y.sealed.plaintext x.sealed.spells y.sealed.spells in
-    let parts : outside p 2 x.sealed.value (request_cipher s n x.sealed.plaintext) ≡ outside p 2 y.sealed.value (request_cipher s n y.sealed.plaintext) = rw (value, plain) refl in
-    datagram _ d e (subst (λ (q : Parts). IsDatagram q d) parts x.sealed.datagram) y.sealed.datagram
-
-pub forms_law : OneSpelling → PartsHaveOneInner → PartsHaveOneDatagram → DatagramHasItsLength → InnerHasItsLength → HasTagLength → OneSealed
-forms_law spelling inner datagram by_parts inner_by_parts tag = record {
-  bytes = one_form spelling inner datagram;
-  never_both = λ s n p room d e x fits refuses.
-      let len = form_length by_parts inner_by_parts tag s n p d x in
-      made_never spelling s n p room (length d) e (x.request, x.supported) (x.sealed.value, x.sealed.reads, len, x.sealed.datagram.fits, fits) refuses;
-  refusal = one_seal_refusal spelling;
-}
+  pub form_law : OneSpelling → PartsHaveOneInner → PartsHaveOneDatagram → DatagramHasItsLength → InnerHasItsLength → HasOneForm f
+  form_law spelling inner datagram by_parts inner_by_parts = record {
+    bytes = one_form spelling inner datagram;
+    never_both = λ i p room d e x fits refuses.
+        let len = form_length by_parts inner_by_parts i p d x in
+        made_never f i p spelling room (length d) e ((x.used, x.supported), x.value, x.reads, len, x.holds.2.fits, fits) refuses;
+    refusal = λ i p room e g h k. one_seal_refusal f i p spelling room e g h k;
+  }

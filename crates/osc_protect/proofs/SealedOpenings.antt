@@ -1,16 +1,20 @@
 -- What is sealed is a protection.
-use Rattle.std.proofs.Common.{◌≡◌, ℕ, ◌==◌, ◌||◌, Bool, true, false, List, [], ◌∷◌, ◌++◌, refl, subst, arith, inl, inr}
+use Rattle.std.proofs.Common.{◌≡◌, ℕ, ◌==◌, ◌||◌, Bool, true, false, List, [], ◌∷◌, ◌++◌, refl, sym, subst, arith, inl, inr}
 use Rattle.osc_coap.specs.Class.{class, is_inner, is_outer, inner_options, outer_options}
 use Rattle.osc_coap.specs.OptionSpelling.{Entry}
 use Rattle.osc_coap.specs.declared.message.Kind.{Kind}
 use Rattle.osc_coap.specs.declared.message.Kind.TheVariants.{Con, Non, Ack, Rst}
 use Rattle.osc_coap.specs.Datagram.{Parts}
+use Rattle.osc_coap.specs.Inner.{InnerParts}
 use Rattle.osc_context.specs.SecurityContext.{SecurityContext}
 use Rattle.osc_context.specs.Views.{as_client, as_server}
-use Rattle.osc_protect.specs.Message.{is_request, is_request_code, values_at, has_number, is_proxy, is_barred, is_unsupported}
-use Rattle.osc_protect.specs.Protection.{ProtectsRequest, request_cipher}
-use Rattle.osc_protect.specs.Sealed.{inside, outside, SealsRequest}
-use Rattle.osc_protect.specs.Laws.{OneRequest, SealedOpens}
+use Rattle.osc_protect.specs.Message.{values_at, has_number, is_proxy, is_barred, is_unsupported}
+use Rattle.osc_protect.specs.Usage.{is_code_of, is_used, outer_code_of}
+use Rattle.osc_protect.specs.Protection.{Protection, Protects, ProtectsRequest, ProtectsResponse, requests, responses}
+use Rattle.osc_protect.specs.Sealed.{inside, outside, IsSealed}
+use Rattle.osc_protect.specs.Laws.{OneMessage, OneRequest, OneResponse, ProtectsAlone, SealedOpens}
+use Rattle.osc_protect.specs.declared.usage.Usage.{Usage}
+use Rattle.osc_protect.specs.declared.usage.Usage.TheVariants.{Request, Response}
 use Rattle.osc_protect.proofs.Splits.{chosen, neither}
 
 both_false : (a b : Bool) → a ≡ false → b ≡ false → (a || b) ≡ false
@@ -64,34 +68,45 @@ inner_allowed (entry ∷ entries) h =
       | inr isnt ↦ rw isnt rest
     ]
 
--- a request has a request's code, and stays one under the code 0.02
-request_outside : (k : Kind) (code : ℕ) → is_request k code ≡ true → (is_request k 2 ≡ true) × (is_request_code code ≡ true)
-request_outside Con code h = (refl, h)
-request_outside Non code h = (refl, h)
-request_outside Ack code h = absurd (cc)
-request_outside Rst code h = absurd (cc)
+-- a message of a usage has a code of it, and stays one of it under the code outside
+used_outside : (u : Usage) (k : Kind) (code : ℕ) → is_used u k code ≡ true → (is_used u k (outer_code_of u) ≡ true) × (is_code_of u code ≡ true)
+used_outside Request Con code h = (refl, h)
+used_outside Request Non code h = (refl, h)
+used_outside Request Ack code h = absurd (cc)
+used_outside Request Rst code h = absurd (cc)
+used_outside Response Con code h = (refl, h)
+used_outside Response Non code h = (refl, h)
+used_outside Response Ack code h = (refl, h)
+used_outside Response Rst code h = absurd (cc)
 
 -- what is sealed is a protection of the plain message's inside
-seals_protect : (s : SecurityContext) (n : ℕ) (p : Parts) (d : List ℕ) → SealsRequest s n p d → ProtectsRequest s n (inside p) d
-seals_protect s n p d x = record {
-  outer = outside p 2 x.sealed.value (request_cipher s n x.sealed.plaintext);
-  datagram = x.sealed.datagram;
-  request = (request_outside p.kind p.code x.request).0;
-  value = x.sealed.value;
-  single = outer_values p.options x.sealed.value x.supported;
-  reads = x.sealed.reads;
-  direct = outer_direct p.options x.sealed.value x.supported;
-  code = (request_outside p.kind p.code x.request).1;
+seals_protect : {I : Type 0} (f : Protection I) (i : I) (p : Parts) (d : List ℕ) → IsSealed f i p d → Protects f i (inside p) d
+seals_protect f i p d x = record {
+  outer = outside p (outer_code_of f.usage) x.value (f.cipher i (x.holds.0));
+  datagram = x.holds.2;
+  used = (used_outside f.usage p.kind p.code x.used).0;
+  value = x.value;
+  single = outer_values p.options x.value x.supported;
+  reads = x.reads;
+  direct = outer_direct p.options x.value x.supported;
+  code = (used_outside f.usage p.kind p.code x.used).1;
   allowed = inner_allowed p.options x.supported;
-  plaintext = x.sealed.plaintext;
-  spells = x.sealed.spells;
+  plaintext = x.holds.0;
+  spells = x.holds.1;
   sealed = refl;
 }
 
-pub sealed_law : OneRequest → SealedOpens
-sealed_law laws = record {
-  opens = λ client server n p d same x. subst (λ (s : SecurityContext). ProtectsRequest s n (inside p) d) same (seals_protect (as_client client) n p d x);
-  nothing_else = λ client server n k p m d same x y.
-      let z = subst (λ (s : SecurityContext). ProtectsRequest s n (inside p) d) same (seals_protect (as_client client) n p d x) in
-      (laws.number (as_server server) d k n m (inside p) y z, laws.message (as_server server) d k n m (inside p) y z);
+-- and of no other message
+protects_alone : {I : Type 0} (f : Protection I) → OneMessage f → (i : I) (m : InnerParts) (d : List ℕ) → Protects f i m d → ProtectsAlone f i m d
+protects_alone f law i m d x = record {
+  opens = x;
+  nothing_else = λ k l y. (law.number d k i l m y x, law.message d k i l m y x);
+}
+
+pub sealed_law : OneRequest → OneResponse → SealedOpens
+sealed_law request response = record {
+  request = λ client server n p d same x. protects_alone (requests (as_server server)) (request (as_server server)) n (inside p) d
+      (subst (λ (s : SecurityContext). ProtectsRequest s n (inside p) d) same (seals_protect (requests (as_client client)) n p d x));
+  response = λ client server n own p d same x. protects_alone (responses (as_client client) n) (response (as_client client) n) own (inside p) d
+      (subst (λ (s : SecurityContext). ProtectsResponse s n own (inside p) d) (sym same) (seals_protect (responses (as_server server) n) own p d x));
 }

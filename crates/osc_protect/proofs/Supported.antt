@@ -5,7 +5,8 @@ use Rattle.std.proofs.lemmas.Bool.{eqb-true}
 use Rattle.osc_coap.specs.OptionSpelling.{Entry, Ascends}
 use Rattle.osc_coap.specs.Datagram.{Parts}
 use Rattle.osc_protect.specs.Message.{has_number, first_number, is_unsupported}
-use Rattle.osc_protect.specs.SealRefusals.{IsLowestUnsupported, RefusesRequest, CanBeSealed}
+use Rattle.osc_protect.specs.SealRefusals.{IsLowestUnsupported, RefusesPlain, CanBeSealed}
+use Rattle.osc_protect.specs.declared.usage.Usage.{Usage}
 use Rattle.osc_protect.proofs.Splits.{chosen}
 use Rattle.osc_protect.specs.declared.protect_error.ProtectError.{ProtectError}
 use Rattle.osc_protect.specs.declared.protect_error.ProtectError.TheVariants.{NotThatKind, Unsupported, TooLong, NoRoom}
@@ -85,38 +86,39 @@ has_one p n (entry ∷ entries) pn h = elim (either (entry.0 == n) (has_number (
   ]
 ]
 
--- ---- requests
+-- ---- refusals
 
--- what can be sealed is not refused
-pub never_refused : (p : Parts) (e : ProtectError) → CanBeSealed p → RefusesRequest p e → ⊥
-never_refused p NotThatKind can r = let bad : true ≡ false = sym can.0 ∙ r in cc
-never_refused p (Unsupported n) can r = let bad : false ≡ true = sym can.1 ∙ has_one is_unsupported n p.options r.1.unsupported r.1.among in cc
-never_refused p TooLong can r = r
-never_refused p NoRoom can r = r
+module _ (u : Usage) where
+  -- what can be sealed is not refused
+  pub never_refused : (p : Parts) (e : ProtectError) → CanBeSealed u p → RefusesPlain u p e → ⊥
+  never_refused p NotThatKind can r = let bad : true ≡ false = sym can.0 ∙ r in cc
+  never_refused p (Unsupported n) can r = let bad : false ≡ true = sym can.1 ∙ has_one is_unsupported n p.options r.1.unsupported r.1.among in cc
+  never_refused p TooLong can r = r
+  never_refused p NoRoom can r = r
 
--- there is one refusal
-pub one_refusal : (p : Parts) (e f : ProtectError) → RefusesRequest p e → RefusesRequest p f → e ≡ f
-one_refusal p NotThatKind NotThatKind h k = refl
-one_refusal p NotThatKind (Unsupported m) h k = absurd (let bad : true ≡ false = sym k.0 ∙ h in cc)
-one_refusal p NotThatKind TooLong h k = absurd k
-one_refusal p NotThatKind NoRoom h k = absurd k
-one_refusal p (Unsupported n) NotThatKind h k = absurd (let bad : true ≡ false = sym h.0 ∙ k in cc)
-one_refusal p (Unsupported n) (Unsupported m) h k =
-    let a = h.1.lowest m k.1.unsupported k.1.among in
-    let b = k.1.lowest n h.1.unsupported h.1.among in
-    ap Unsupported (omega (arith, a, b))
-one_refusal p (Unsupported n) TooLong h k = absurd k
-one_refusal p (Unsupported n) NoRoom h k = absurd k
-one_refusal p TooLong f h k = absurd h
-one_refusal p NoRoom f h k = absurd h
+  -- there is one refusal
+  pub one_refusal : (p : Parts) (e f : ProtectError) → RefusesPlain u p e → RefusesPlain u p f → e ≡ f
+  one_refusal p NotThatKind NotThatKind h k = refl
+  one_refusal p NotThatKind (Unsupported m) h k = absurd (let bad : true ≡ false = sym k.0 ∙ h in cc)
+  one_refusal p NotThatKind TooLong h k = absurd k
+  one_refusal p NotThatKind NoRoom h k = absurd k
+  one_refusal p (Unsupported n) NotThatKind h k = absurd (let bad : true ≡ false = sym h.0 ∙ k in cc)
+  one_refusal p (Unsupported n) (Unsupported m) h k =
+      let a = h.1.lowest m k.1.unsupported k.1.among in
+      let b = k.1.lowest n h.1.unsupported h.1.among in
+      ap Unsupported (omega (arith, a, b))
+  one_refusal p (Unsupported n) TooLong h k = absurd k
+  one_refusal p (Unsupported n) NoRoom h k = absurd k
+  one_refusal p TooLong f h k = absurd h
+  one_refusal p NoRoom f h k = absurd h
 
--- what can be sealed passes
-pub accepts_all : {T : Type 0} (p : Parts) (r : Result T ProtectError) → IfErr r (λ e. RefusesRequest p e) → CanBeSealed p → IsOk r
-accepts_all p (Ok x) refused can = refl
-accepts_all p (Err e) refused can = absurd (never_refused p e can refused)
+  -- what can be sealed passes
+  pub accepts_all : {T : Type 0} (p : Parts) (r : Result T ProtectError) → IfErr r (λ e. RefusesPlain u p e) → CanBeSealed u p → IsOk r
+  accepts_all p (Ok x) refused can = refl
+  accepts_all p (Err e) refused can = absurd (never_refused p e can refused)
 
--- what is refused is answered so
-pub refuses_all : {T : Type 0} (p : Parts) (r : Result T ProtectError) → (IsOk r → CanBeSealed p) → IfErr r (λ e. RefusesRequest p e)
-    → (e : ProtectError) → RefusesRequest p e → IsErrOf r e
-refuses_all p (Ok x) accepted refused e h = absurd (never_refused p e (accepted refl) h)
-refuses_all p (Err f) accepted refused e h = ap Err (one_refusal p f e refused h)
+  -- what is refused is answered so
+  pub refuses_all : {T : Type 0} (p : Parts) (r : Result T ProtectError) → (IsOk r → CanBeSealed u p) → IfErr r (λ e. RefusesPlain u p e)
+      → (e : ProtectError) → RefusesPlain u p e → IsErrOf r e
+  refuses_all p (Ok x) accepted refused e h = absurd (never_refused p e (accepted refl) h)
+  refuses_all p (Err f) accepted refused e h = ap Err (one_refusal p f e refused h)

@@ -1,18 +1,20 @@
--- What the layers below hold of all bytes, and what follows of requests (RFC 8613, 8.2): the contracts of laws.rt.
-use Rattle.std.specs.Prelude.{◌≡◌, ◌<◌, ◌≤◌, ◌^◌, ℕ, List, length}
+-- What the layers below hold of all bytes, and what follows of requests and responses (RFC 8613, 8): the contracts of
+-- laws.rt. f is a protection, i, j and k are numbers that it knows, u is a usage.
+use Rattle.std.specs.Prelude.{◌≡◌, ◌<◌, ◌≤◌, ◌^◌, ℕ, List, length, Option, IfSome}
 use Rattle.osc_coap.specs.Datagram.{Parts}
 use Rattle.osc_coap.specs.Inner.{InnerParts}
 use Rattle.osc_coap.specs.Laws.{IsOneDatagram, HasOneFault, IsNeverBoth, IsOneInner, IsNeverBothInner}
 use Rattle.osc_context.specs.Laws.{OneValue, ValueNumberInRange}
-use Rattle.osc_ccm.specs.Ccm.{HasOnePlaintext, HasTagLength}
-use Rattle.osc_protect.specs.Head.{Head, HasHead, HeadRefuses}
 use Rattle.osc_context.specs.SecurityContext.{SecurityContext}
 use Rattle.osc_context.specs.Views.{as_client, as_server}
 use Rattle.osc_context.specs.declared.context.Context.{Context}
-use Rattle.osc_protect.specs.Sealed.{SealsRequest, inside}
-use Rattle.osc_protect.specs.Protection.{ProtectsRequest}
+use Rattle.osc_ccm.specs.Ccm.{HasOnePlaintext, HasTagLength}
+use Rattle.osc_protect.specs.Head.{Head, HasHead, HeadRefuses}
+use Rattle.osc_protect.specs.Sealed.{IsSealed, SealsRequest, SealsResponse, inside}
+use Rattle.osc_protect.specs.Protection.{Protection, Protects, requests, responses}
 use Rattle.osc_protect.specs.Refusals.{Refuses}
 use Rattle.osc_protect.specs.SealRefusals.{RefusesToSeal}
+use Rattle.osc_protect.specs.declared.usage.Usage.{Usage}
 use Rattle.osc_protect.specs.declared.head_error.HeadError.{HeadError}
 use Rattle.osc_protect.specs.declared.protect_error.ProtectError.{ProtectError}
 use Rattle.osc_protect.specs.declared.unprotect_error.UnprotectError.{UnprotectError}
@@ -29,31 +31,49 @@ pub record LayerLaws : Type 0 where
   pub one_plaintext : HasOnePlaintext
   pub sealed_length : HasTagLength
 
--- a datagram has one head, with a number below 2 ^ 40, or one refusal of it, never both (RFC 8613, 8.2)
-pub record OneHead : Type 0 where
-  pub head : (d : List ℕ) (h k : Head) → HasHead d h → HasHead d k → h ≡ k
-  pub never_both : (d : List ℕ) (h : Head) (e : HeadError) → HasHead d h → HeadRefuses d e → ⊥
-  pub refusal : (d : List ℕ) (e f : HeadError) → HeadRefuses d e → HeadRefuses d f → e ≡ f
-  pub in_range : (d : List ℕ) (h : Head) → HasHead d h → h.number < 2 ^ 40
+-- a datagram has one head, any number in it below 2 ^ 40, or one refusal of it, never both (RFC 8613, 8.2 and 8.4)
+pub record OneHead (u : Usage) : Type 0 where
+  pub head : (d : List ℕ) (h k : Head) → HasHead u d h → HasHead u d k → h ≡ k
+  pub never_both : (d : List ℕ) (h : Head) (e : HeadError) → HasHead u d h → HeadRefuses u d e → ⊥
+  pub refusal : (d : List ℕ) (e g : HeadError) → HeadRefuses u d e → HeadRefuses u d g → e ≡ g
+  pub in_range : (d : List ℕ) (h : Head) → HasHead u d h → IfSome h.parts.piv (λ n. n < 2 ^ 40)
 
--- a datagram protects one message under one number, or has one refusal, never both (RFC 8613, 8.2)
-pub record OneRequest : Type 0 where
-  pub number : (s : SecurityContext) (d : List ℕ) (n k : ℕ) (m l : InnerParts) → ProtectsRequest s n m d → ProtectsRequest s k l d → n ≡ k
-  pub message : (s : SecurityContext) (d : List ℕ) (n k : ℕ) (m l : InnerParts) → ProtectsRequest s n m d → ProtectsRequest s k l d → m ≡ l
-  pub never_both : (s : SecurityContext) (d : List ℕ) (n : ℕ) (m : InnerParts) (e : UnprotectError) → ProtectsRequest s n m d → Refuses s d e → ⊥
-  pub refusal : (s : SecurityContext) (d : List ℕ) (e f : UnprotectError) → Refuses s d e → Refuses s d f → e ≡ f
+-- a datagram protects one message by one number, or has one refusal, never both (RFC 8613, 8.2 and 8.4)
+pub record OneMessage {I : Type 0} (f : Protection I) : Type 0 where
+  pub number : (d : List ℕ) (i j : I) (m l : InnerParts) → Protects f i m d → Protects f j l d → i ≡ j
+  pub message : (d : List ℕ) (i j : I) (m l : InnerParts) → Protects f i m d → Protects f j l d → m ≡ l
+  pub never_both : (d : List ℕ) (i : I) (m : InnerParts) (e : UnprotectError) → Protects f i m d → Refuses f d e → ⊥
+  pub refusal : (d : List ℕ) (e g : UnprotectError) → Refuses f d e → Refuses f d g → e ≡ g
 
--- two ends hold one context: what the one seals as the client, the other opens as the server (RFC 8613, 3.1)
+-- a datagram protects one request under one number, or has one refusal (RFC 8613, 8.2)
+abbrev pub OneRequest : Type 0
+OneRequest = (s : SecurityContext) → OneMessage (requests s)
+
+-- a datagram protects one response to a request, or has one refusal (RFC 8613, 8.4)
+abbrev pub OneResponse : Type 0
+OneResponse = (s : SecurityContext) (n : ℕ) → OneMessage (responses s n)
+
+-- two ends hold one context: what the one sees as the client, the other sees as the server (RFC 8613, 3.1)
 abbrev pub AreMirrored : Context → Context → Type 0
 AreMirrored client server = as_client client ≡ as_server server
 
--- what is sealed protects the plain message's inside, at the other end, and nothing else (RFC 8613, 8.1 and 8.2)
-pub record SealedOpens : Type 0 where
-  pub opens : (client server : Context) (n : ℕ) (p : Parts) (d : List ℕ) → AreMirrored client server → SealsRequest (as_client client) n p d → ProtectsRequest (as_server server) n (inside p) d
-  pub nothing_else : (client server : Context) (n k : ℕ) (p : Parts) (m : InnerParts) (d : List ℕ) → AreMirrored client server → SealsRequest (as_client client) n p d → ProtectsRequest (as_server server) k m d → (k ≡ n) × (m ≡ inside p)
+-- the datagram protects the message by this number, and nothing else (RFC 8613, 8.2 and 8.4)
+pub record ProtectsAlone {I : Type 0} (f : Protection I) (i : I) (m : InnerParts) (d : List ℕ) : Type 0 where
+  pub opens : Protects f i m d
+  pub nothing_else : (k : I) (l : InnerParts) → Protects f k l d → (k ≡ i) × (l ≡ m)
 
--- a plain request has one sealed form under one number, or one refusal, never both where that form has room (RFC 8613, 8.1)
+-- what one end seals protects the plain message's inside at the other end, and nothing else (RFC 8613, 8.1 to 8.4)
+pub record SealedOpens : Type 0 where
+  pub request : (client server : Context) (n : ℕ) (p : Parts) (d : List ℕ) → AreMirrored client server → SealsRequest (as_client client) n p d → ProtectsAlone (requests (as_server server)) n (inside p) d
+  pub response : (client server : Context) (n : ℕ) (own : Option ℕ) (p : Parts) (d : List ℕ) → AreMirrored client server → SealsResponse (as_server server) n own p d → ProtectsAlone (responses (as_client client) n) own (inside p) d
+
+-- a plain message has one sealed form by one number, or one refusal, never both where that form has room (RFC 8613, 8.1 and 8.3)
+pub record HasOneForm {I : Type 0} (f : Protection I) : Type 0 where
+  pub bytes : (i : I) (p : Parts) (d e : List ℕ) → IsSealed f i p d → IsSealed f i p e → d ≡ e
+  pub never_both : (i : I) (p : Parts) (room : ℕ) (d : List ℕ) (e : ProtectError) → IsSealed f i p d → length d ≤ room → RefusesToSeal f i p room e → ⊥
+  pub refusal : (i : I) (p : Parts) (room : ℕ) (e g : ProtectError) → RefusesToSeal f i p room e → RefusesToSeal f i p room g → e ≡ g
+
+-- requests and responses have one sealed form (RFC 8613, 8.1 and 8.3)
 pub record OneSealed : Type 0 where
-  pub bytes : (s : SecurityContext) (n : ℕ) (p : Parts) (d e : List ℕ) → SealsRequest s n p d → SealsRequest s n p e → d ≡ e
-  pub never_both : (s : SecurityContext) (n : ℕ) (p : Parts) (room : ℕ) (d : List ℕ) (e : ProtectError) → SealsRequest s n p d → length d ≤ room → RefusesToSeal s n p room e → ⊥
-  pub refusal : (s : SecurityContext) (n : ℕ) (p : Parts) (room : ℕ) (e f : ProtectError) → RefusesToSeal s n p room e → RefusesToSeal s n p room f → e ≡ f
+  pub request : (s : SecurityContext) → HasOneForm (requests s)
+  pub response : (s : SecurityContext) (n : ℕ) → HasOneForm (responses s n)

@@ -1,5 +1,6 @@
 pub mod Found
 pub mod Message
+pub mod Usage
 pub mod Head
 pub mod Protection
 pub mod Refusals

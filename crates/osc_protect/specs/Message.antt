@@ -1,6 +1,6 @@
 -- The parts of a CoAP message that OSCORE looks at (RFC 8613, 4 and 8; RFC 7252, 5.2 and 12.1). n is the number of an
 -- option, entries are options in order.
-use Rattle.std.specs.Prelude.{ℕ, ◌==◌, ◌||◌, ◌&&◌, nat_lt, Bool, false, List, [], ◌∷◌, Option, Some, None, if◌then◌else◌}
+use Rattle.std.specs.Prelude.{ℕ, ◌/◌, ◌==◌, ◌||◌, ◌&&◌, nat_lt, Bool, false, List, [], ◌∷◌, Option, Some, None, if◌then◌else◌}
 use Rattle.osc_coap.specs.declared.message.Kind.{Kind}
 use Rattle.osc_coap.specs.declared.message.Kind.TheVariants.{Con, Non, Ack, Rst}
 use Rattle.osc_coap.specs.OptionSpelling.{Entry}
@@ -15,6 +15,17 @@ is_request Con code = is_request_code code
 is_request Non code = is_request_code code
 is_request Ack code = false
 is_request Rst code = false
+
+-- the code is of a response: of class 2, 4 or 5 (RFC 7252, 12.1)
+abbrev pub is_response_code : ℕ → Bool
+is_response_code code = (code / 32 == 2) || (code / 32 == 4) || (code / 32 == 5)
+
+-- kind and code are of a response, which is CON, NON or ACK (RFC 7252, 4.2 and 4.3)
+abbrev pub is_response : Kind → ℕ → Bool
+is_response Con code = is_response_code code
+is_response Non code = is_response_code code
+is_response Ack code = is_response_code code
+is_response Rst code = false
 
 -- the option is for proxies: Proxy-Uri or Proxy-Scheme (RFC 7252, 5.10.2)
 abbrev pub is_proxy : ℕ → Bool

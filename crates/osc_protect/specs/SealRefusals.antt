@@ -1,13 +1,15 @@
--- Why a message isn't sealed (RFC 8613, 8.1; own rules: which options, and the limit), row by row in the order in which they
--- are judged. p is what the plain message says, parts what its OSCORE option is to say, room the length of the buffer.
+-- Why a message isn't sealed (RFC 8613, 8.1 and 8.3; own rules: which options, and the limit), row by row in the order in which
+-- they are judged. p is what the plain message says, u its usage, parts what its OSCORE option is to say, room the length of
+-- the buffer, f a protection, i a number that it knows.
 use Rattle.std.specs.Prelude.{◌≡◌, ℕ, ◌<◌, ◌≤◌, ◌==◌, List, true, false}
 use Rattle.osc_coap.specs.OptionSpelling.{Entry}
 use Rattle.osc_coap.specs.Datagram.{Parts}
 use Rattle.osc_context.specs.OscoreValue.{OscoreParts, IsOscoreValue}
-use Rattle.osc_context.specs.SecurityContext.{SecurityContext}
-use Rattle.osc_protect.specs.Message.{is_request, is_unsupported, has_number}
-use Rattle.osc_protect.specs.Head.{value_of_request}
+use Rattle.osc_protect.specs.Message.{is_unsupported, has_number}
+use Rattle.osc_protect.specs.Usage.{is_used}
+use Rattle.osc_protect.specs.Protection.{Protection}
 use Rattle.osc_protect.specs.Sealed.{sealed_length}
+use Rattle.osc_protect.specs.declared.usage.Usage.{Usage}
 use Rattle.osc_protect.specs.declared.protect_error.ProtectError.{ProtectError}
 use Rattle.osc_protect.specs.declared.protect_error.ProtectError.TheVariants.{NotThatKind, Unsupported, TooLong, NoRoom}
 
@@ -17,16 +19,16 @@ pub record IsLowestUnsupported (entries : List Entry) (n : ℕ) : Type 0 where
   pub among : has_number (λ k. k == n) entries ≡ true
   pub lowest : (m : ℕ) → is_unsupported m ≡ true → has_number (λ k. k == m) entries ≡ true → n ≤ m
 
--- why a message can't be sealed as a request, whatever the room (RFC 8613, 8.1)
-abbrev pub RefusesRequest : Parts → ProtectError → Type 0
-RefusesRequest p NotThatKind = is_request p.kind p.code ≡ false
-RefusesRequest p (Unsupported n) = (is_request p.kind p.code ≡ true) × IsLowestUnsupported p.options n
-RefusesRequest p TooLong = ⊥
-RefusesRequest p NoRoom = ⊥
+-- why a message can't be sealed as one of this usage, whatever the room (RFC 8613, 8.1 and 8.3)
+abbrev pub RefusesPlain : Usage → Parts → ProtectError → Type 0
+RefusesPlain u p NotThatKind = is_used u p.kind p.code ≡ false
+RefusesPlain u p (Unsupported n) = (is_used u p.kind p.code ≡ true) × IsLowestUnsupported p.options n
+RefusesPlain u p TooLong = ⊥
+RefusesPlain u p NoRoom = ⊥
 
--- the message is a request that can be sealed where there is room (RFC 8613, 8.1)
-abbrev pub CanBeSealed : Parts → Type 0
-CanBeSealed p = (is_request p.kind p.code ≡ true) × (has_number is_unsupported p.options ≡ false)
+-- the message is one of this usage that can be sealed where there is room (RFC 8613, 8.1 and 8.3)
+abbrev pub CanBeSealed : Usage → Parts → Type 0
+CanBeSealed u p = (is_used u p.kind p.code ≡ true) × (has_number is_unsupported p.options ≡ false)
 
 -- why what is sealed finds no room, by its length (own rule)
 abbrev pub RefusesLength : ℕ → ℕ → ProtectError → Type 0
@@ -39,14 +41,18 @@ RefusesLength len room NoRoom = (len ≤ 65535) × (room < len)
 abbrev pub RefusesRoom : Parts → OscoreParts → ℕ → ProtectError → Type 0
 RefusesRoom p parts room e = (value : List ℕ) × IsOscoreValue parts value × RefusesLength (sealed_length p value) room e
 
--- the condition of each refusal to seal a request, which no earlier one meets (RFC 8613, 8.1)
-abbrev pub RefusesToSeal : SecurityContext → ℕ → Parts → ℕ → ProtectError → Type 0
-RefusesToSeal s n p room NotThatKind = RefusesRequest p NotThatKind
-RefusesToSeal s n p room (Unsupported k) = RefusesRequest p (Unsupported k)
-RefusesToSeal s n p room TooLong = CanBeSealed p × RefusesRoom p (value_of_request n s.id_context s.client) room TooLong
-RefusesToSeal s n p room NoRoom = CanBeSealed p × RefusesRoom p (value_of_request n s.id_context s.client) room NoRoom
+-- the condition of each refusal to seal, which no earlier one meets (RFC 8613, 8.1 and 8.3)
+abbrev pub RefusesToSeal : {I : Type 0} → Protection I → I → Parts → ℕ → ProtectError → Type 0
+RefusesToSeal f i p room NotThatKind = RefusesPlain f.usage p NotThatKind
+RefusesToSeal f i p room (Unsupported k) = RefusesPlain f.usage p (Unsupported k)
+RefusesToSeal f i p room TooLong = CanBeSealed f.usage p × RefusesRoom p (f.parts i) room TooLong
+RefusesToSeal f i p room NoRoom = CanBeSealed f.usage p × RefusesRoom p (f.parts i) room NoRoom
 
--- a request can be sealed, and there is room for it (RFC 8613, 8.1)
-abbrev pub FitsToSeal : SecurityContext → ℕ → Parts → ℕ → Type 0
-FitsToSeal s n p room = CanBeSealed p
-    × ((value : List ℕ) → IsOscoreValue (value_of_request n s.id_context s.client) value → (sealed_length p value ≤ 65535) × (sealed_length p value ≤ room))
+-- a message can be sealed, and there is room for it (RFC 8613, 8.1 and 8.3)
+abbrev pub FitsToSeal : {I : Type 0} → Protection I → I → Parts → ℕ → Type 0
+FitsToSeal f i p room = CanBeSealed f.usage p
+    × ((value : List ℕ) → IsOscoreValue (f.parts i) value → (sealed_length p value ≤ 65535) × (sealed_length p value ≤ room))
+
+-- by the number a message can be sealed, what is made has this length, and there is room for it (how the code is seen)
+abbrev pub Makes : {I : Type 0} → Protection I → I → Parts → ℕ → ℕ → Type 0
+Makes f i p room len = CanBeSealed f.usage p × (value : List ℕ) × IsOscoreValue (f.parts i) value × (len ≡ sealed_length p value) × (len ≤ 65535) × (len ≤ room)

@@ -1,14 +1,15 @@
--- The one datagram that sealing makes (RFC 8613, 8.1). p is what the plain message says, code the code outside, value that of
--- the OSCORE option, s a security context, n the request's number, d a datagram.
-use Rattle.std.specs.Prelude.{◌≡◌, ℕ, ◌+◌, List, [], ◌∷◌, ◌++◌, true, false}
+-- The one datagram that sealing makes (RFC 8613, 8.1 and 8.3). p is what the plain message says, code the code outside, value
+-- that of the OSCORE option, f a protection, i a number that it knows, s a security context, n a request's number, own a
+-- response's own number or none, d a datagram.
+use Rattle.std.specs.Prelude.{◌≡◌, ℕ, ◌+◌, List, [], ◌∷◌, ◌++◌, Option, true, false}
 use Rattle.osc_coap.specs.Class.{inner_options, outer_options}
 use Rattle.osc_coap.specs.Datagram.{Parts, IsDatagram, datagram_length}
 use Rattle.osc_coap.specs.Inner.{InnerParts, IsInner, inner_length}
-use Rattle.osc_context.specs.OscoreValue.{OscoreParts, IsOscoreValue}
+use Rattle.osc_context.specs.OscoreValue.{IsOscoreValue}
 use Rattle.osc_context.specs.SecurityContext.{SecurityContext}
-use Rattle.osc_protect.specs.Message.{is_request, is_unsupported, has_number}
-use Rattle.osc_protect.specs.Head.{value_of_request}
-use Rattle.osc_protect.specs.Protection.{request_cipher}
+use Rattle.osc_protect.specs.Message.{is_unsupported, has_number}
+use Rattle.osc_protect.specs.Usage.{is_used, outer_code_of}
+use Rattle.osc_protect.specs.Protection.{Protection, requests, responses}
 
 -- what of a message goes inside: its code, the options of class E and Both, its payload (RFC 8613, 5.3)
 abbrev pub inside : Parts → InnerParts
@@ -18,24 +19,26 @@ inside p = record { code = p.code; options = inner_options p.options; payload = 
 abbrev pub outside : Parts → ℕ → List ℕ → List ℕ → Parts
 outside p code value payload = record { kind = p.kind; code = code; message_id = p.message_id; token = p.token; options = outer_options p.options ++ (9, value) ∷ []; payload = payload }
 
--- the code that a sealed request has outside: 0.02, POST (RFC 8613, 4.2)
-abbrev pub outer_request_code : ℕ
-outer_request_code = 2
-
--- how long what is sealed is: the outside, a marker, the plaintext and the tag (RFC 8613, 5.3)
+-- how long what is sealed is, whatever the code outside: the outside, a marker, the plaintext and the tag (RFC 8613, 5.3)
 abbrev pub sealed_length : Parts → List ℕ → ℕ
-sealed_length p value = datagram_length (outside p outer_request_code value []) + (1 + (inner_length (inside p) + 8))
+sealed_length p value = datagram_length (outside p p.code value []) + (1 + (inner_length (inside p) + 8))
 
--- the datagram holds the message, its inside protected by a cipher (RFC 8613, 8.1)
-pub record IsSealed (p : Parts) (code : ℕ) (parts : OscoreParts) (cipher : List ℕ → List ℕ) (d : List ℕ) : Type 0 where
+-- the datagram holds the message, its inside protected by a cipher (RFC 8613, 8.1 and 8.3)
+abbrev pub HoldsSealed : Parts → ℕ → List ℕ → (List ℕ → List ℕ) → List ℕ → Type 0
+HoldsSealed p code value cipher d = (plaintext : List ℕ) × IsInner (inside p) plaintext × IsDatagram (outside p code value (cipher plaintext)) d
+
+-- the datagram is the plain message, sealed by the number i (RFC 8613, 8.1 and 8.3)
+pub record IsSealed {I : Type 0} (f : Protection I) (i : I) (p : Parts) (d : List ℕ) : Type 0 where
+  pub used : is_used f.usage p.kind p.code ≡ true
+  pub supported : has_number is_unsupported p.options ≡ false
   pub value : List ℕ
-  pub reads : IsOscoreValue parts value
-  pub plaintext : List ℕ
-  pub spells : IsInner (inside p) plaintext
-  pub datagram : IsDatagram (outside p code value (cipher plaintext)) d
+  pub reads : IsOscoreValue (f.parts i) value
+  pub holds : HoldsSealed p (outer_code_of f.usage) value (f.cipher i) d
 
 -- the datagram is the plain request, sealed as request n (RFC 8613, 8.1)
-pub record SealsRequest (s : SecurityContext) (n : ℕ) (p : Parts) (d : List ℕ) : Type 0 where
-  pub request : is_request p.kind p.code ≡ true
-  pub supported : has_number is_unsupported p.options ≡ false
-  pub sealed : IsSealed p outer_request_code (value_of_request n s.id_context s.client) (request_cipher s n) d
+abbrev pub SealsRequest : SecurityContext → ℕ → Parts → List ℕ → Type 0
+SealsRequest s n p d = IsSealed (requests s) n p d
+
+-- the datagram is the plain response, sealed as one to request n (RFC 8613, 8.3)
+abbrev pub SealsResponse : SecurityContext → ℕ → Option ℕ → Parts → List ℕ → Type 0
+SealsResponse s n own p d = IsSealed (responses s n) own p d

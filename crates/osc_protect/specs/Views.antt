@@ -1,21 +1,38 @@
--- What contracts see of heads and of opened messages: numbers and lists, without where the bytes lie.
+-- What contracts see of heads, of opened messages and of ciphers: numbers and lists, without where the bytes lie.
 use Rattle.std.specs.Prelude.{ℕ, List, Option}
 use Rattle.std.specs.Option.{option_map}
 use Rattle.std.specs.Borrow.{Bor}
 use Rattle.osc_coap.specs.Views.{options_left}
 use Rattle.osc_coap.specs.Inner.{InnerParts}
-use Rattle.osc_context.specs.Views.{number_of}
+use Rattle.osc_context.specs.Views.{number_of, parts_of}
+use Rattle.osc_ccm.specs.Ccm.{ccm}
 use Rattle.osc_protect.specs.Head.{Head}
+use Rattle.osc_protect.specs.Usage.{value_of_request}
+use Rattle.osc_protect.specs.declared.aead.Aead.{Aead}
+use Rattle.osc_protect.specs.declared.oscore_head.OscoreHead.{OscoreHead}
 use Rattle.osc_protect.specs.declared.request_head.RequestHead.{RequestHead}
+use Rattle.osc_protect.specs.declared.request_ref.RequestRef.{RequestRef}
 use Rattle.osc_protect.specs.declared.opened.Opened.{Opened}
 
 -- the bytes of a part, where it is there (how the code is seen)
 abbrev pub shown : Option (Bor (List ℕ)) → Option (List ℕ)
 shown part = option_map (λ bytes. bytes.now) part
 
--- the head that was read (how the code is seen)
+-- the head of a message that was read (how the code is seen)
+abbrev pub head_of : OscoreHead → Head
+head_of h = record { kind = h.kind; message_id = h.message_id; token = h.token.items; parts = parts_of h.option; payload = h.payload.now }
+
+-- the head of a request that was read (how the code is seen)
 abbrev pub seen_head : RequestHead → Head
-seen_head h = record { kind = h.kind; message_id = h.message_id; token = h.token.items; kid = h.kid.now; kid_context = shown h.kid_context; number = number_of h.number; payload = h.payload.now }
+seen_head h = record { kind = h.kind; message_id = h.message_id; token = h.token.items; parts = value_of_request (number_of h.number) (shown h.kid_context) h.kid.now; payload = h.payload.now }
+
+-- the number of the request that is named (how the code is seen)
+abbrev pub request_number : RequestRef → ℕ
+request_number r = number_of r.number
+
+-- the cipher of one message, from a plaintext to what protects it (RFC 8613, 5)
+unfoldable pub cipher_of : Aead → List ℕ → List ℕ
+cipher_of a plaintext = ccm a.key.now a.nonce a.additional_data.items plaintext
 
 -- the message that was opened: its code, inner options and payload (how the code is seen)
 abbrev pub message_of : Opened → InnerParts

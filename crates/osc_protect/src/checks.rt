@@ -1,33 +1,45 @@
-//! Which messages can be sealed (RFC 8613, 8.1).
+//! Which messages can be sealed (RFC 8613, 8.1 and 8.3).
 
 ghost use Rattle.std.specs.Prelude.{◌≡◌, IfErr, IsOk, IsErrOf};
 ghost use Rattle.osc_coap.specs.Views.{parts_of};
-ghost use Rattle.osc_protect.specs.SealRefusals.{CanBeSealed, RefusesRequest};
+ghost use Rattle.osc_protect.specs.SealRefusals.{CanBeSealed, RefusesPlain};
 ghost use Rattle.osc_protect.specs.declared.protect_error.ProtectError.{ProtectError};
+ghost use Rattle.osc_protect.specs.declared.usage.Usage.TheVariants.{Request, Response};
 
 use crate::option_search::first_unsupported;
 use crate::protect_error::ProtectError;
-use crate::requests::is_request;
+use crate::usage::{Usage, is_used};
 use osc_coap::{Message, options_ascend};
 
 /// Whether a message can be sealed as a request, whatever its length: CON or NON with a request code, and none of the options
 /// 6, 9, 23, 27, 35 and 39, of which the lowest is named (RFC 8613, 8.1; own rule: the options).
 pub fn check_request(plain: &Message<'_>) -> Result<(), ProtectError>
-    ensures accepted { IsOk result → CanBeSealed (parts_of plain.now) }
-    ensures accepts { CanBeSealed (parts_of plain.now) → IsOk result }
-    ensures refused { IfErr result (λ e. RefusesRequest (parts_of plain.now) e) }
-    ensures refuses { (e : ProtectError) → RefusesRequest (parts_of plain.now) e → IsErrOf result e }
+    ensures accepted { IsOk result → CanBeSealed Request (parts_of plain.now) }
+    ensures accepts { CanBeSealed Request (parts_of plain.now) → IsOk result }
+    ensures refused { IfErr result (λ e. RefusesPlain Request (parts_of plain.now) e) }
+    ensures refuses { (e : ProtectError) → RefusesPlain Request (parts_of plain.now) e → IsErrOf result e }
 {
-    judge_request(plain)
+    judge(Usage::Request, plain)
+}
+
+/// Whether a message can be sealed as a response, whatever its length: CON, NON or ACK with a response code, and none of the
+/// options that a request may not have (RFC 8613, 8.3; own rule: the options).
+pub fn check_response(plain: &Message<'_>) -> Result<(), ProtectError>
+    ensures accepted { IsOk result → CanBeSealed Response (parts_of plain.now) }
+    ensures accepts { CanBeSealed Response (parts_of plain.now) → IsOk result }
+    ensures refused { IfErr result (λ e. RefusesPlain Response (parts_of plain.now) e) }
+    ensures refuses { (e : ProtectError) → RefusesPlain Response (parts_of plain.now) e → IsErrOf result e }
+{
+    judge(Usage::Response, plain)
 }
 
 /// Judges kind and code, and then the options.
-fn judge_request(plain: &Message<'_>) -> Result<(), ProtectError>
-    ensures accepted { IsOk result → CanBeSealed (parts_of plain.now) }
-    ensures refused { IfErr result (λ e. RefusesRequest (parts_of plain.now) e) }
+fn judge(usage: Usage, plain: &Message<'_>) -> Result<(), ProtectError>
+    ensures accepted { IsOk result → CanBeSealed usage (parts_of plain.now) }
+    ensures refused { IfErr result (λ e. RefusesPlain usage (parts_of plain.now) e) }
 {
     options_ascend();
-    if !is_request(plain.kind, plain.code) {
+    if !is_used(usage, plain.kind, plain.code) {
         return Err(ProtectError::NotThatKind);
     }
     match first_unsupported(plain.options()) {

@@ -1,10 +1,10 @@
-//! Why a datagram has no head of a protected request.
+//! Why a datagram has no head of a protected message.
 
 use osc_coap::FormatError;
 use std::error::Error;
 use std::fmt;
 
-/// Why a datagram has no head of a protected request, in the order in which it is judged.
+/// Why a datagram has no head of a protected message, in the order in which it is judged.
 #[derive(Clone, Copy, Debug, PartialEq, Eq)]
 pub enum HeadError {
     /// The bytes are no CoAP message.

@@ -1,7 +1,8 @@
 //! What holds of all datagrams. A call of such a function does nothing: its contract is there for the proof of its
 //! caller.
 
-ghost use Rattle.osc_protect.specs.Laws.{LayerLaws, OneHead, OneRequest, OneSealed, SealedOpens};
+ghost use Rattle.osc_protect.specs.Laws.{LayerLaws, OneHead, OneRequest, OneResponse, OneSealed, SealedOpens};
+ghost use Rattle.osc_protect.specs.declared.usage.Usage.TheVariants.{Request, Response};
 
 use osc_ccm::{one_plaintext, sealed_length};
 use osc_coap::{lengths_by_parts, one_datagram, one_inner, one_text};
@@ -18,9 +19,11 @@ pub(crate) fn layer_laws()
     sealed_length();
 }
 
-/// A datagram has one head of a request or one refusal of it, never both (RFC 8613, 8.2).
+/// A datagram has one head of a request or one refusal of it, and one head of a response or one refusal of that, never both
+/// (RFC 8613, 8.2 and 8.4).
 pub fn one_head()
-    ensures { OneHead }
+    ensures request { OneHead Request }
+    ensures response { OneHead Response }
 {
     layer_laws();
 }
@@ -32,20 +35,30 @@ pub fn one_request()
     layer_laws();
 }
 
-/// What is sealed under a context opens at the other end as the plain message's code, inner options and payload, and as no
-/// other message (RFC 8613, 8.1 and 8.2).
+/// A datagram protects one response to a request, under one own number or none, or has one refusal, never both (RFC 8613,
+/// 8.4).
+pub fn one_response()
+    ensures { OneResponse }
+{
+    layer_laws();
+}
+
+/// What one end seals, a request or a response to it, opens at the other end as the plain message's code, inner options and
+/// payload, and as no other message (RFC 8613, 8.1 to 8.4).
 pub fn sealed_opens()
     ensures { SealedOpens }
 {
     one_request();
+    one_response();
 }
 
-/// A plain request has one sealed form under one number, or one refusal, never both where there is room for that form
-/// (RFC 8613, 8.1).
+/// A plain request has one sealed form under one number, or one refusal, never both where there is room for that form; a
+/// plain response too (RFC 8613, 8.1 and 8.3).
 pub fn one_sealed()
     ensures { OneSealed }
 {
     one_option_value();
+    one_plaintext();
     one_text();
     lengths_by_parts();
     sealed_length();

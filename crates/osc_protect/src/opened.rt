@@ -16,7 +16,7 @@ pub struct Opened<'b> {
     pub uri_host: Option<&'b [u8]>,
     pub uri_port: Option<&'b [u8]>,
     pub payload: &'b [u8],
-    /// The number of the request.
+    /// The number of the message: of a request always, of a response where it has one of its own.
     pub piv: Option<Piv>,
     pub(crate) inner: Options<'b>,
 }

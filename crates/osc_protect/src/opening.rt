@@ -1,34 +1,38 @@
-//! Opening a request in the datagram that carries it (RFC 8613, 8.2), in two halves. The first decides all that needs the
-//! key, and says what it leaves in the datagram; the second reads the plaintext, and lends slices of the datagram.
+//! Opening a request or a response in the datagram that carries it (RFC 8613, 8.2 and 8.4), in two halves. The first decides
+//! all that needs the key, and says what it leaves in the datagram; the second reads the plaintext, and lends slices of the
+//! datagram.
 
-ghost use Rattle.std.specs.Prelude.{◌≡◌, ◌≢◌, ◌≤◌, ◌+◌, ℕ, List, length, take, drop, Some, IfOk, IfErr, IfSome, IfNone, OnErr, IsOk, IsOkAnd, IsErrOf, true, false};
+ghost use Rattle.std.specs.Prelude.{◌≡◌, ◌≢◌, ◌≤◌, ◌+◌, ℕ, List, Option, length, take, drop, Some, IfOk, IfErr, OnErr, IsOk, IsOkAnd, IsErrOf, true, false};
 ghost use Rattle.osc_coap.specs.Inner.{InnerParts};
-ghost use Rattle.osc_context.specs.Views.{as_server, number_of};
-ghost use Rattle.osc_protect.specs.Protection.{ProtectsRequest, request_cipher};
+ghost use Rattle.osc_context.specs.Views.{as_client, as_server, number_of};
+ghost use Rattle.osc_protect.specs.Protection.{ProtectsRequest, ProtectsResponse, requests, responses};
 ghost use Rattle.osc_protect.specs.Refusals.{Names, Refuses, RefusesToDecrypt};
-ghost use Rattle.osc_protect.specs.Views.{message_of, opened_number, seen_head, shown};
+ghost use Rattle.osc_protect.specs.Views.{message_of, opened_number, request_number, seen_head, shown};
 ghost use Rattle.osc_protect.specs.declared.unprotect_error.UnprotectError.{UnprotectError};
+ghost use Rattle.osc_protect.specs.declared.unprotect_error.UnprotectError.TheVariants.{WrongContext};
 
-use crate::laws::{one_head, one_request};
+use crate::aead::Aead;
+use crate::laws::{one_head, one_request, one_response};
 use crate::opened::Opened;
 use crate::option_search::{first_value, has_barred};
+use crate::oscore_head::read_head;
 use crate::request_head::{RequestHead, head_of_request};
-use crate::requests::is_request_code;
+use crate::request_ref::RequestRef;
 use crate::unprotect_error::UnprotectError;
-use osc_aes::TableAes;
-use osc_ccm::{open, sealed_length};
+use crate::usage::{Usage, is_code_of};
 use osc_coap::option_numbers::{URI_HOST, URI_PORT};
 use osc_coap::{one_datagram, parse, parse_inner, payload_stands_last};
-use osc_context::{Context, Piv, aad, nonce};
+use osc_context::{Context, Piv};
 
-/// Where the plaintext lies in a datagram that was decrypted: `decrypt_request` gives it, for `read_request` alone.
+/// Where the plaintext lies in a datagram that was decrypted: `decrypt_request` gives it, for `read_request` alone, and
+/// `decrypt_response` for `read_response`.
 #[derive(Clone, Copy, Debug)]
 pub struct Place {
-    pub(crate) number: Piv,
+    pub(crate) piv: Option<Piv>,
     pub(crate) len: usize,
 }
 
-ghost use Rattle.osc_protect.specs.Opening.{Decrypts, IsDecrypted, Opens, OpensAfter, ReadsInner, RefusesAfter, RefusesInner};
+ghost use Rattle.osc_protect.specs.Opening.{Decrypts, IsDecrypted, Opens, OpensRequestAfter, OpensResponseAfter, ReadsInner, RefusesInner, RefusesRequestAfter, RefusesResponseAfter};
 
 /// Opens a request in its datagram: `decrypt_request`, then `read_request`. The first refusal in the order of
 /// `UnprotectError` is answered. Those two say what the datagram holds afterwards.
@@ -36,52 +40,119 @@ pub fn open_request<'b>(
     context: &Context,
     datagram: &'b mut [u8],
 ) -> Result<Opened<'b>, UnprotectError>
-    ensures opened { IfOk result (λ o. Opens (as_server context.now) datagram.old o) }
-    ensures refused { IfErr result (λ e. Refuses (as_server context.now) datagram.old e) }
+    ensures opened { IfOk result (λ o. Opens (requests (as_server context.now)) datagram.old o) }
+    ensures refused { IfErr result (λ e. Refuses (requests (as_server context.now)) datagram.old e) }
 
     // Whatever message the datagram protects, that is what opens.
     ensures only { (n : ℕ) (m : InnerParts) → ProtectsRequest (as_server context.now) n m datagram.old
         → IsOkAnd result (λ o. (opened_number o ≡ Some n) × (message_of o ≡ m)) }
-    ensures exactly { (e : UnprotectError) → Refuses (as_server context.now) datagram.old e
+    ensures exactly { (e : UnprotectError) → Refuses (requests (as_server context.now)) datagram.old e
         → IsErrOf result e }
 {
     one_request();
-    open_both(context, datagram)
+    open_both_of_request(context, datagram)
 }
 
-/// Both halves, one after the other.
-fn open_both<'b>(context: &Context, datagram: &'b mut [u8]) -> Result<Opened<'b>, UnprotectError>
-    ensures opened { IfOk result (λ o. Opens (as_server context.now) datagram.old o) }
-    ensures refused { IfErr result (λ e. Refuses (as_server context.now) datagram.old e) }
+/// Opens a response to a request in its datagram: `decrypt_response`, then `read_response`. The first refusal in the order of
+/// `UnprotectError` is answered. Those two say what the datagram holds afterwards.
+pub fn open_response<'b>(
+    context: &Context,
+    request: &RequestRef,
+    datagram: &'b mut [u8],
+) -> Result<Opened<'b>, UnprotectError>
+    ensures opened { IfOk result (λ o. Opens (responses (as_client context.now) (request_number request.now)) datagram.old o) }
+    ensures refused { IfErr result (λ e. Refuses (responses (as_client context.now) (request_number request.now)) datagram.old e) }
+    ensures named { IfErr result (λ e. e ≢ WrongContext) }
+
+    // Whatever message the datagram protects, that is what opens.
+    ensures only { (own : Option ℕ) (m : InnerParts)
+        → ProtectsResponse (as_client context.now) (request_number request.now) own m datagram.old
+        → IsOkAnd result (λ o. (opened_number o ≡ own) × (message_of o ≡ m)) }
+    ensures exactly { (e : UnprotectError)
+        → Refuses (responses (as_client context.now) (request_number request.now)) datagram.old e
+        → IsErrOf result e }
+{
+    one_response();
+    open_both_of_response(context, request, datagram)
+}
+
+/// Both halves of a request, one after the other.
+fn open_both_of_request<'b>(
+    context: &Context,
+    datagram: &'b mut [u8],
+) -> Result<Opened<'b>, UnprotectError>
+    ensures opened { IfOk result (λ o. Opens (requests (as_server context.now)) datagram.old o) }
+    ensures refused { IfErr result (λ e. Refuses (requests (as_server context.now)) datagram.old e) }
 {
     let place = decrypt_request(context, datagram)?;
     read_request(datagram, place)
+}
+
+/// Both halves of a response, one after the other.
+fn open_both_of_response<'b>(
+    context: &Context,
+    request: &RequestRef,
+    datagram: &'b mut [u8],
+) -> Result<Opened<'b>, UnprotectError>
+    ensures opened { IfOk result (λ o. Opens (responses (as_client context.now) (request_number request.now)) datagram.old o) }
+    ensures refused { IfErr result (λ e. Refuses (responses (as_client context.now) (request_number request.now)) datagram.old e) }
+    ensures named { IfErr result (λ e. e ≢ WrongContext) }
+{
+    let place = decrypt_response(context, request, datagram)?;
+    read_response(datagram, place)
 }
 
 /// Decrypts a request in its datagram: every refusal of `open_request` but `Inner` is answered here, and leaves the
 /// datagram as it came. At Ok the payload is the plaintext, and behind it the old tag.
 pub fn decrypt_request(context: &Context, datagram: &mut [u8]) -> Result<Place, UnprotectError>
     ensures decrypted { IfOk result
-        (λ place. Decrypts (as_server context.now) datagram.old place datagram.new) }
+        (λ place. Decrypts (requests (as_server context.now)) datagram.old place datagram.new) }
     ensures placed { IfOk result (λ place. IsDecrypted datagram.new place) }
-    ensures refused { IfErr result (λ e. RefusesToDecrypt (as_server context.now) datagram.old e) }
+    ensures refused { IfErr result (λ e. RefusesToDecrypt (requests (as_server context.now)) datagram.old e) }
     ensures unchanged { OnErr result (datagram.new ≡ datagram.old) }
 
     ensures only { (n : ℕ) (m : InnerParts)
         → ProtectsRequest (as_server context.now) n m datagram.old → IsOk result }
     ensures exactly { (e : UnprotectError)
-        → RefusesToDecrypt (as_server context.now) datagram.old e → IsErrOf result e }
+        → RefusesToDecrypt (requests (as_server context.now)) datagram.old e → IsErrOf result e }
 {
     one_head();
     one_request();
-    decrypt(context, datagram)
+    decrypt_as_request(context, datagram)
+}
+
+/// Decrypts a response in its datagram: every refusal of `open_response` but `Inner` is answered here, and leaves the
+/// datagram as it came. At Ok the payload is the plaintext, and behind it the old tag.
+pub fn decrypt_response(
+    context: &Context,
+    request: &RequestRef,
+    datagram: &mut [u8],
+) -> Result<Place, UnprotectError>
+    ensures decrypted { IfOk result
+        (λ place. Decrypts (responses (as_client context.now) (request_number request.now)) datagram.old place datagram.new) }
+    ensures placed { IfOk result (λ place. IsDecrypted datagram.new place) }
+    ensures refused { IfErr result
+        (λ e. RefusesToDecrypt (responses (as_client context.now) (request_number request.now)) datagram.old e) }
+    ensures named { IfErr result (λ e. e ≢ WrongContext) }
+    ensures unchanged { OnErr result (datagram.new ≡ datagram.old) }
+
+    ensures only { (own : Option ℕ) (m : InnerParts)
+        → ProtectsResponse (as_client context.now) (request_number request.now) own m datagram.old
+        → IsOk result }
+    ensures exactly { (e : UnprotectError)
+        → RefusesToDecrypt (responses (as_client context.now) (request_number request.now)) datagram.old e
+        → IsErrOf result e }
+{
+    one_head();
+    one_response();
+    decrypt_as_response(context, request, datagram)
 }
 
 /// Decrypts a request's payload, if its head names the context.
-fn decrypt(context: &Context, datagram: &mut [u8]) -> Result<Place, UnprotectError>
+fn decrypt_as_request(context: &Context, datagram: &mut [u8]) -> Result<Place, UnprotectError>
     ensures decrypted { IfOk result
-        (λ place. Decrypts (as_server context.now) datagram.old place datagram.new) }
-    ensures refused { IfErr result (λ e. RefusesToDecrypt (as_server context.now) datagram.old e) }
+        (λ place. Decrypts (requests (as_server context.now)) datagram.old place datagram.new) }
+    ensures refused { IfErr result (λ e. RefusesToDecrypt (requests (as_server context.now)) datagram.old e) }
     ensures unchanged { OnErr result (datagram.new ≡ datagram.old) }
 {
     payload_stands_last();
@@ -95,16 +166,47 @@ fn decrypt(context: &Context, datagram: &mut [u8]) -> Result<Place, UnprotectErr
     }
     let number = head.number;
     let start = datagram.len() - head.payload.len();
-    match decrypt_payload(context, number, &mut datagram[start..]) {
-        Some(len) => Ok(Place { number, len }),
+    let aead = Aead::to_open_request(context, number);
+    match aead.open(&mut datagram[start..]) {
+        Some(len) => Ok(Place {
+            piv: Some(number),
+            len,
+        }),
+        None => Err(UnprotectError::Tag),
+    }
+}
+
+/// Decrypts a response's payload. Its head names no context.
+fn decrypt_as_response(
+    context: &Context,
+    request: &RequestRef,
+    datagram: &mut [u8],
+) -> Result<Place, UnprotectError>
+    ensures decrypted { IfOk result
+        (λ place. Decrypts (responses (as_client context.now) (request_number request.now)) datagram.old place datagram.new) }
+    ensures refused { IfErr result
+        (λ e. RefusesToDecrypt (responses (as_client context.now) (request_number request.now)) datagram.old e) }
+    ensures named { IfErr result (λ e. e ≢ WrongContext) }
+    ensures unchanged { OnErr result (datagram.new ≡ datagram.old) }
+{
+    payload_stands_last();
+    let head = match read_head(Usage::Response, datagram) {
+        Ok(head) => head,
+        Err(error) => return Err(UnprotectError::from(error)),
+    };
+    let own = head.option.piv;
+    let start = datagram.len() - head.payload.len();
+    let aead = Aead::to_open_response(context, request, own);
+    match aead.open(&mut datagram[start..]) {
+        Some(len) => Ok(Place { piv: own, len }),
         None => Err(UnprotectError::Tag),
     }
 }
 
 /// Whether the head names the context: the other end, and the ID Context or none.
 fn is_named(head: &RequestHead<'_>, context: &Context) -> bool
-    ensures yes { result ≡ true → Names (seen_head head.now) (as_server context.now) }
-    ensures no { result ≡ false → Names (seen_head head.now) (as_server context.now) → ⊥ }
+    ensures yes { result ≡ true → Names (requests (as_server context.now)) (seen_head head.now) (number_of head.now.number) }
+    ensures no { result ≡ false → (n : ℕ) → Names (requests (as_server context.now)) (seen_head head.now) n → ⊥ }
 {
     head.kid == context.recipient().bytes() && is_in_id_context(head.kid_context, context)
 }
@@ -112,7 +214,7 @@ fn is_named(head: &RequestHead<'_>, context: &Context) -> bool
 /// Whether there is a kid context exactly if the context has an ID Context, with the same bytes.
 fn is_in_id_context(kid_context: Option<&[u8]>, context: &Context) -> bool
     ensures yes { result ≡ true → shown kid_context.entry ≡ (as_server context.now).id_context }
-    ensures no { result ≡ false → shown kid_context.entry ≡ (as_server context.now).id_context → ⊥ }
+    ensures no { result ≡ false → shown kid_context.entry ≢ (as_server context.now).id_context }
 {
     match (kid_context, context.id_context()) {
         (None, None) => true,
@@ -121,41 +223,33 @@ fn is_in_id_context(kid_context: Option<&[u8]>, context: &Context) -> bool
     }
 }
 
-/// Decrypts a request's payload where it lies, and says how long the plaintext is.
-#[tactic(auto, unfolding(crate::specs::Protection::request_cipher))]
-fn decrypt_payload(context: &Context, number: Piv, payload: &mut [u8]) -> Option<usize>
-    requires { length payload.old ≤ 65535 }
-    ensures long { IfSome result (λ n. n + 8 ≡ length payload.old) }
-    ensures sealed { IfSome result (λ n. payload.old
-        ≡ request_cipher (as_server context.now) (number_of number) (take n payload.new)) }
-    ensures tag { IfSome result (λ n. drop n payload.new ≡ drop n payload.old) }
-    ensures refused { IfNone result ((m : List ℕ)
-        → payload.old ≢ request_cipher (as_server context.now) (number_of number) m) }
-    ensures unchanged { IfNone result (payload.new ≡ payload.old) }
-{
-    sealed_length();
-    let cipher = TableAes::new(context.recipient_key());
-    let nonce = nonce(context.common_iv(), context.recipient(), number);
-    let aad = aad(context.recipient(), number);
-    open(&cipher, &nonce, aad.as_slice(), payload).ok()
-}
-
 /// Reads a request that was decrypted: `Inner` is the one refusal. The datagram is as `decrypt_request` left it, and the
 /// place the one that it gave.
 pub fn read_request(datagram: &[u8], place: Place) -> Result<Opened<'_>, UnprotectError>
     requires { IsDecrypted datagram.now place }
-    ensures opened { IfOk result (λ o. OpensAfter place datagram.now o) }
-    ensures refused { IfErr result (λ e. RefusesAfter place datagram.now e) }
+    ensures opened { IfOk result (λ o. OpensRequestAfter place datagram.now o) }
+    ensures refused { IfErr result (λ e. RefusesRequestAfter place datagram.now e) }
 {
     one_datagram();
-    read_plaintext(datagram, place)
+    read_plaintext(Usage::Request, datagram, place)
+}
+
+/// Reads a response that was decrypted: `Inner` is the one refusal. The datagram is as `decrypt_response` left it, and the
+/// place the one that it gave.
+pub fn read_response(datagram: &[u8], place: Place) -> Result<Opened<'_>, UnprotectError>
+    requires { IsDecrypted datagram.now place }
+    ensures opened { IfOk result (λ o. OpensResponseAfter place datagram.now o) }
+    ensures refused { IfErr result (λ e. RefusesResponseAfter place datagram.now e) }
+{
+    one_datagram();
+    read_plaintext(Usage::Response, datagram, place)
 }
 
 /// Reads the plaintext of a datagram that was decrypted.
-fn read_plaintext(datagram: &[u8], place: Place) -> Result<Opened<'_>, UnprotectError>
+fn read_plaintext(usage: Usage, datagram: &[u8], place: Place) -> Result<Opened<'_>, UnprotectError>
     requires { IsDecrypted datagram.now place }
-    ensures read { IfOk result (λ o. ReadsInner datagram.now place o) }
-    ensures refused { IfErr result (λ e. RefusesInner datagram.now place e) }
+    ensures read { IfOk result (λ o. ReadsInner usage datagram.now place o) }
+    ensures refused { IfErr result (λ e. RefusesInner usage datagram.now place e) }
 {
     one_datagram();
     let Ok(message) = parse(datagram) else {
@@ -165,7 +259,7 @@ fn read_plaintext(datagram: &[u8], place: Place) -> Result<Opened<'_>, Unprotect
     let Ok(inner) = parse_inner(plaintext) else {
         return Err(UnprotectError::Inner);
     };
-    if !is_request_code(inner.code) {
+    if !is_code_of(usage, inner.code) {
         return Err(UnprotectError::Inner);
     }
     if has_barred(inner.options()) {
@@ -179,7 +273,7 @@ fn read_plaintext(datagram: &[u8], place: Place) -> Result<Opened<'_>, Unprotect
         token: message.token,
         code: inner.code,
         payload: inner.payload(),
-        piv: Some(place.number),
+        piv: place.piv,
         inner: inner.options(),
     })
 }

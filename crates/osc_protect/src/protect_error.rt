@@ -6,7 +6,7 @@ use std::fmt;
 /// Why a message isn't sealed, in the order in which it is judged.
 #[derive(Clone, Copy, Debug, PartialEq, Eq)]
 pub enum ProtectError {
-    /// The message is not CON or NON with a request code.
+    /// The message is not CON or NON with a request code, or, of a response, not CON, NON or ACK with a response code.
     NotThatKind,
     /// It has an option that can't be sealed: the lowest number of Observe, OSCORE, Block2, Block1, Proxy-Uri and
     /// Proxy-Scheme that it has; own rule.

@@ -1,34 +1,36 @@
-//! Sealing a request into the caller's buffer (RFC 8613, 8.1). Its length is known before a byte is written.
+//! Sealing a request or a response into the caller's buffer (RFC 8613, 8.1 and 8.3). Its length is known before a byte is
+//! written.
 //!
 //!     head, code outside | token | options of class U | OSCORE option | ff | plaintext, sealed where it lies | tag
 
-ghost use Rattle.std.specs.Prelude.{◌≡◌, ◌≢◌, ◌≤◌, ◌<◌, ◌+◌, ◌++◌, [], ℕ, List, length, take, drop, IfOk, IfErr, IsErrOf, IsOk, OnErr, false};
+ghost use Rattle.std.specs.Prelude.{◌≡◌, ◌≢◌, ◌≤◌, ◌+◌, [], ℕ, List, length, take, drop, IfOk, IfErr, IsErrOf, IsOk, OnErr, false};
+ghost use Rattle.std.specs.Option.{option_map};
 ghost use Rattle.arrayvec.specs.ArrayVec.{array_vec_len};
 ghost use Rattle.osc_coap.specs.Datagram.{Parts, IsDatagram, datagram_length};
 ghost use Rattle.osc_coap.specs.Inner.{IsInner, inner_length};
 ghost use Rattle.osc_coap.specs.Views.{parts_of};
-ghost use Rattle.osc_context.specs.OscoreValue.{IsOscoreValue};
-ghost use Rattle.osc_context.specs.Views.{as_client, number_of};
-ghost use Rattle.osc_protect.specs.Head.{value_of_request};
+ghost use Rattle.osc_context.specs.OscoreValue.{IsOscoreValue, most_len};
+ghost use Rattle.osc_context.specs.Views.{as_client, as_server, number_of, parts_of as option_parts};
 ghost use Rattle.osc_protect.specs.Message.{has_number, is_unsupported};
-ghost use Rattle.osc_protect.specs.Protection.{request_cipher};
-ghost use Rattle.osc_protect.specs.Sealed.{SealsRequest, inside, outside, sealed_length};
-ghost use Rattle.osc_protect.specs.SealRefusals.{CanBeSealed, FitsToSeal, RefusesToSeal};
+ghost use Rattle.osc_protect.specs.Protection.{requests, responses};
+ghost use Rattle.osc_protect.specs.Sealed.{HoldsSealed, SealsRequest, SealsResponse, inside, outside, sealed_length};
+ghost use Rattle.osc_protect.specs.SealRefusals.{FitsToSeal, Makes, RefusesLength, RefusesToSeal};
+ghost use Rattle.osc_protect.specs.Usage.{outer_code_of, value_of_response};
+ghost use Rattle.osc_protect.specs.Views.{cipher_of, request_number};
 ghost use Rattle.osc_protect.specs.declared.protect_error.ProtectError.{ProtectError};
 
-use crate::checks::check_request;
+use crate::aead::Aead;
+use crate::checks::{check_request, check_response};
 use crate::lengths::judge_length;
 use crate::protect_error::ProtectError;
+use crate::request_ref::RequestRef;
 use crate::split::{Side, write_side};
+use crate::usage::{Usage, outer_code};
 use arrayvec::ArrayVec;
-use osc_aes::TableAes;
-use osc_ccm::{seal, sealed_length};
+use osc_ccm::sealed_length;
 use osc_coap::option_numbers::OSCORE;
 use osc_coap::{Message, Writer, options_ascend, payload_stands_last};
-use osc_context::{Context, OscoreOption, Piv, aad, nonce, one_option_value};
-
-/// The code that a sealed request has outside: 0.02, POST (RFC 8613, 4.2).
-const OUTER_REQUEST_CODE: u8 = 2;
+use osc_context::{Context, OscoreOption, Piv, one_option_value};
 
 /// What stands in front of a payload.
 const MARKER: u8 = 0xff;
@@ -72,56 +74,29 @@ fn write_inside(plain: &Message<'_>, buf: &mut [u8]) -> usize
     writer.finish()
 }
 
-/// Seals a request's plaintext where it lies, and answers the length with the tag.
-#[tactic(auto, unfolding(crate::specs::Protection::request_cipher))]
-fn seal_plaintext(context: &Context, number: Piv, payload: &mut [u8], len: usize) -> usize
-    requires room { len + 8 ≤ length payload.old }
-    requires fits { len ≤ 65535 }
-    ensures end { result ≡ len + 8 }
-    ensures sealed { payload.new
-        ≡ request_cipher (as_client context.now) (number_of number) (take len payload.old)
-        ++ drop (len + 8) payload.old }
-{
-    let cipher = TableAes::new(context.sender_key());
-    let nonce = nonce(context.common_iv(), context.sender(), number);
-    let aad = aad(context.sender(), number);
-    match seal(&cipher, &nonce, aad.as_slice(), payload, len) {
-        Ok(sealed) => sealed,
-        Err(_) => unreachable!(),
-    }
-}
-
 /// Makes the plaintext behind a message and a marker's place into its payload, where it lies.
-fn seal_behind(context: &Context, number: Piv, out: &mut [u8], at: usize, len: usize) -> usize
+fn seal_behind(aead: &Aead<'_>, out: &mut [u8], at: usize, len: usize) -> usize
     requires room { at + 9 + len ≤ length out.old }
     requires fits { at + 9 + len ≤ 65535 }
     ensures end { result ≡ at + 9 + len }
     ensures sealed { (p : Parts) → IsDatagram p (take at out.old) → p.payload ≡ [] → p.code ≢ 0
-        → IsDatagram (record p {
-          payload
-              = request_cipher (as_client context.now) (number_of number) (take len (drop (at + 1) out.old));
-        })
+        → IsDatagram (record p { payload = cipher_of aead.now (take len (drop (at + 1) out.old)) })
         (take (at + 9 + len) out.new) }
     ensures behind { drop (at + 9 + len) out.new ≡ drop (at + 9 + len) out.old }
 {
     payload_stands_last();
     sealed_length();
     out[at] = MARKER;
-    let sealed = seal_plaintext(context, number, &mut out[at + 1..], len);
+    let sealed = aead.seal(&mut out[at + 1..], len);
     at + 1 + sealed
 }
 
-/// The value of a request's OSCORE option: number, ID Context and the sender's identifier (RFC 8613, 6.1).
-fn request_value(context: &Context, number: Piv) -> ArrayVec<u8, 255>
-    ensures reads { IsOscoreValue (value_of_request (number_of number) (as_client context.now).id_context
-        (as_client context.now).client) result.items }
+/// The value that says this of the OSCORE option.
+fn value_that_says(option: OscoreOption<'_>) -> ArrayVec<u8, 255>
+    requires { most_len (option_parts option) ≤ 255 }
+    ensures reads { IsOscoreValue (option_parts option.entry) result.items }
     ensures short { array_vec_len result ≤ 255 }
 {
-    let option = OscoreOption {
-        piv: Some(number),
-        kid_context: context.id_context().map(|id_context| id_context.bytes()),
-        kid: Some(context.sender().bytes()),
-    };
     let mut value = ArrayVec::new();
     match option.write(&mut value) {
         Ok(()) => value,
@@ -129,27 +104,72 @@ fn request_value(context: &Context, number: Piv) -> ArrayVec<u8, 255>
     }
 }
 
-/// Seals a request that was judged: there is room for it.
+/// The value of a request's OSCORE option: number, ID Context and the sender's identifier (RFC 8613, 6.1).
+fn request_value(context: &Context, number: Piv) -> ArrayVec<u8, 255>
+    ensures reads { IsOscoreValue ((requests (as_client context.now)).parts (number_of number)) result.items }
+    ensures short { array_vec_len result ≤ 255 }
+{
+    value_that_says(OscoreOption {
+        piv: Some(number),
+        kid_context: context.id_context().map(|id_context| id_context.bytes()),
+        kid: Some(context.sender().bytes()),
+    })
+}
+
+/// The value of a response's OSCORE option: its own number, where it has one (RFC 8613, 6.1 and 8.3).
+fn response_value(own: Option<Piv>) -> ArrayVec<u8, 255>
+    ensures reads { IsOscoreValue (value_of_response (option_map number_of own)) result.items }
+    ensures short { array_vec_len result ≤ 255 }
+{
+    value_that_says(OscoreOption {
+        piv: own,
+        kid_context: None,
+        kid: None,
+    })
+}
+
+/// Seals a message that was judged: there is room for it.
 fn seal_judged(
-    context: &Context,
-    number: Piv,
+    usage: Usage,
     value: &[u8],
+    aead: &Aead<'_>,
     plain: &Message<'_>,
     out: &mut [u8],
 ) -> usize
-    requires can { CanBeSealed (parts_of plain.now) }
-    requires reads { IsOscoreValue (value_of_request (number_of number) (as_client context.now).id_context
-        (as_client context.now).client) value.now }
+    requires supported { has_number is_unsupported (parts_of plain.now).options ≡ false }
     requires short { length value.now ≤ 255 }
     requires fits { sealed_length (parts_of plain.now) value.now ≤ 65535 }
     requires room { sealed_length (parts_of plain.now) value.now ≤ length out.old }
-    ensures sealed { SealsRequest (as_client context.now) (number_of number) (parts_of plain.now) (take result out.new) }
+    ensures sealed { HoldsSealed (parts_of plain.now) (outer_code_of usage) value.now (cipher_of aead.now) (take result out.new) }
     ensures len { result ≡ sealed_length (parts_of plain.now) value.now }
     ensures behind { drop result out.new ≡ drop result out.old }
 {
-    let at = write_outside(plain, OUTER_REQUEST_CODE, value, out);
+    let at = write_outside(plain, outer_code(usage), value, out);
     let len = write_inside(plain, &mut out[at + 1..]);
-    seal_behind(context, number, out, at, len)
+    seal_behind(aead, out, at, len)
+}
+
+/// Judges the length of a message that can be sealed, then seals it.
+fn seal_in_room(
+    usage: Usage,
+    value: &[u8],
+    aead: &Aead<'_>,
+    plain: &Message<'_>,
+    out: &mut [u8],
+) -> Result<usize, ProtectError>
+    requires supported { has_number is_unsupported (parts_of plain.now).options ≡ false }
+    requires short { length value.now ≤ 255 }
+    ensures sealed { IfOk result (λ n. HoldsSealed (parts_of plain.now) (outer_code_of usage) value.now (cipher_of aead.now) (take n out.new)) }
+    ensures len { IfOk result (λ n. n ≡ sealed_length (parts_of plain.now) value.now) }
+    ensures fits { IfOk result (λ n. n ≤ 65535) }
+    ensures room { IfOk result (λ n. n ≤ length out.old) }
+    ensures within { IfOk result (λ n. n ≤ length out.new) }
+    ensures behind { IfOk result (λ n. drop n out.new ≡ drop n out.old) }
+    ensures refused { IfErr result (λ e. RefusesLength (sealed_length (parts_of plain.now) value.now) (length out.old) e) }
+    ensures unchanged { OnErr result (out.new ≡ out.old) }
+{
+    judge_length(plain, value, out.len())?;
+    Ok(seal_judged(usage, value, aead, plain, out))
 }
 
 /// Seals a request under the next number of the sender, and answers how many bytes at the front of `out` it takes; what
@@ -165,35 +185,81 @@ pub fn seal_request(
     ensures sealed { IfOk result (λ n. SealsRequest (as_client context.now) (number_of number) (parts_of plain.now) (take n out.new)) }
     ensures within { IfOk result (λ n. n ≤ length out.new) }
     ensures behind { IfOk result (λ n. drop n out.new ≡ drop n out.old) }
-    ensures succeeds { FitsToSeal (as_client context.now) (number_of number) (parts_of plain.now) (length out.old) → IsOk result }
-    ensures refused { IfErr result (λ e. RefusesToSeal (as_client context.now) (number_of number) (parts_of plain.now) (length out.old) e) }
-    ensures refuses { (e : ProtectError) → RefusesToSeal (as_client context.now) (number_of number) (parts_of plain.now) (length out.old) e
+    ensures succeeds { FitsToSeal (requests (as_client context.now)) (number_of number) (parts_of plain.now) (length out.old) → IsOk result }
+    ensures refused { IfErr result (λ e. RefusesToSeal (requests (as_client context.now)) (number_of number) (parts_of plain.now) (length out.old) e) }
+    ensures refuses { (e : ProtectError) → RefusesToSeal (requests (as_client context.now)) (number_of number) (parts_of plain.now) (length out.old) e
         → IsErrOf result e }
     ensures unchanged { OnErr result (out.new ≡ out.old) }
 {
     one_option_value();
-    seal_in_order(context, number, plain, out)
+    seal_as_request(context, number, plain, out)
 }
 
-/// Judges a message, then its length, then seals it.
-fn seal_in_order(
+/// Seals a response to a request, under an own number of the server or else with the request's nonce, and answers how many
+/// bytes at the front of `out` it takes; what stands behind them stays. Kind, message ID and token are those of the plain
+/// message, the code outside is 2.04. The first refusal in the order of `ProtectError` is answered, and leaves `out`. The
+/// caller keeps the own number fresh, and seals at most one response to a request without one (RFC 8613, 8.3).
+pub fn seal_response(
+    context: &Context,
+    request: &RequestRef,
+    own: Option<Piv>,
+    plain: &Message<'_>,
+    out: &mut [u8],
+) -> Result<usize, ProtectError>
+    ensures sealed { IfOk result (λ n. SealsResponse (as_server context.now) (request_number request.now) (option_map number_of own) (parts_of plain.now) (take n out.new)) }
+    ensures within { IfOk result (λ n. n ≤ length out.new) }
+    ensures behind { IfOk result (λ n. drop n out.new ≡ drop n out.old) }
+    ensures succeeds { FitsToSeal (responses (as_server context.now) (request_number request.now)) (option_map number_of own) (parts_of plain.now) (length out.old)
+        → IsOk result }
+    ensures refused { IfErr result
+        (λ e. RefusesToSeal (responses (as_server context.now) (request_number request.now)) (option_map number_of own) (parts_of plain.now) (length out.old) e) }
+    ensures refuses { (e : ProtectError)
+        → RefusesToSeal (responses (as_server context.now) (request_number request.now)) (option_map number_of own) (parts_of plain.now) (length out.old) e
+        → IsErrOf result e }
+    ensures unchanged { OnErr result (out.new ≡ out.old) }
+{
+    one_option_value();
+    seal_as_response(context, request, own, plain, out)
+}
+
+/// Judges a request, then its length, then seals it.
+fn seal_as_request(
     context: &Context,
     number: Piv,
     plain: &Message<'_>,
     out: &mut [u8],
 ) -> Result<usize, ProtectError>
     ensures sealed { IfOk result (λ n. SealsRequest (as_client context.now) (number_of number) (parts_of plain.now) (take n out.new)) }
-    ensures can { IfOk result (λ _. CanBeSealed (parts_of plain.now)) }
-    ensures room { IfOk result (λ n. (value : List ℕ)
-        × IsOscoreValue (value_of_request (number_of number) (as_client context.now).id_context (as_client context.now).client) value
-        × (n ≡ sealed_length (parts_of plain.now) value) × (n ≤ 65535) × (n ≤ length out.old)) }
+    ensures made { IfOk result (λ n. Makes (requests (as_client context.now)) (number_of number) (parts_of plain.now) (length out.old) n) }
     ensures within { IfOk result (λ n. n ≤ length out.new) }
     ensures behind { IfOk result (λ n. drop n out.new ≡ drop n out.old) }
-    ensures refused { IfErr result (λ e. RefusesToSeal (as_client context.now) (number_of number) (parts_of plain.now) (length out.old) e) }
+    ensures refused { IfErr result (λ e. RefusesToSeal (requests (as_client context.now)) (number_of number) (parts_of plain.now) (length out.old) e) }
     ensures unchanged { OnErr result (out.new ≡ out.old) }
 {
     check_request(plain)?;
     let value = request_value(context, number);
-    judge_length(plain, value.as_slice(), out.len())?;
-    Ok(seal_judged(context, number, value.as_slice(), plain, out))
+    let aead = Aead::to_seal_request(context, number);
+    seal_in_room(Usage::Request, value.as_slice(), &aead, plain, out)
+}
+
+/// Judges a response, then its length, then seals it.
+fn seal_as_response(
+    context: &Context,
+    request: &RequestRef,
+    own: Option<Piv>,
+    plain: &Message<'_>,
+    out: &mut [u8],
+) -> Result<usize, ProtectError>
+    ensures sealed { IfOk result (λ n. SealsResponse (as_server context.now) (request_number request.now) (option_map number_of own) (parts_of plain.now) (take n out.new)) }
+    ensures made { IfOk result (λ n. Makes (responses (as_server context.now) (request_number request.now)) (option_map number_of own) (parts_of plain.now) (length out.old) n) }
+    ensures within { IfOk result (λ n. n ≤ length out.new) }
+    ensures behind { IfOk result (λ n. drop n out.new ≡ drop n out.old) }
+    ensures refused { IfErr result
+        (λ e. RefusesToSeal (responses (as_server context.now) (request_number request.now)) (option_map number_of own) (parts_of plain.now) (length out.old) e) }
+    ensures unchanged { OnErr result (out.new ≡ out.old) }
+{
+    check_response(plain)?;
+    let value = response_value(own);
+    let aead = Aead::to_seal_response(context, request, own);
+    seal_in_room(Usage::Response, value.as_slice(), &aead, plain, out)
 }

@@ -1,12 +1,17 @@
-//! Requests sealed and opened: the datagrams of RFC 8613, appendix C, whole, cut, turned, and with other insides.
+//! Requests and responses sealed and opened: the datagrams of RFC 8613, appendix C, whole, cut, turned, and with other
+//! insides.
 
+mod exchange;
 mod hostile;
+mod hostile_responses;
 mod insides;
+mod response_sealings;
+mod responses;
 mod sealings;
 mod vectors;
 
-use crate::{UnprotectError, open_request};
-use osc_context::{Context, Params};
+use crate::{RequestRef, UnprotectError, open_request, open_response};
+use osc_context::{Context, Params, Piv};
 use std::process::Abort;
 
 // RFC 8613, C.1 to C.3: the servers' contexts. The third is of the same identifiers as the first, in an ID Context.
@@ -65,6 +70,23 @@ const REQUEST_WITH_KID_CONTEXT: [u8; 44] = [
     0xcd, 0x72, 0x73, 0xfd, 0x33, 0x1a, 0xc4, 0x5c, 0xff, 0xbe, 0x55, 0xc3,
 ];
 
+// RFC 8613, C.4 and C.7: request and response before they are sealed.
+const PLAIN: &[u8] = b"\x44\x01\x5d\x1f\x00\x00\x39\x74\x39localhost\x83tv1";
+
+const PLAIN_RESPONSE: &[u8] = b"\x64\x45\x5d\x1f\x00\x00\x39\x74\xffHello World!";
+
+// RFC 8613, C.7 and C.8: the response to request 20 of C.1, without an own number, and with the own number 0.
+const RESPONSE: [u8; 32] = [
+    0x64, 0x44, 0x5d, 0x1f, 0x00, 0x00, 0x39, 0x74, 0x90, 0xff, 0xdb, 0xaa, 0xd1, 0xe9, 0xa7, 0xe7,
+    0xb2, 0xa8, 0x13, 0xd3, 0xc3, 0x15, 0x24, 0x37, 0x83, 0x03, 0xcd, 0xaf, 0xae, 0x11, 0x91, 0x06,
+];
+
+const RESPONSE_WITH_NUMBER: [u8; 34] = [
+    0x64, 0x44, 0x5d, 0x1f, 0x00, 0x00, 0x39, 0x74, 0x92, 0x01, 0x00, 0xff, 0x4d, 0x4c, 0x13, 0x66,
+    0x93, 0x84, 0xb6, 0x73, 0x54, 0xb2, 0xb6, 0x17, 0x5f, 0xf4, 0xb8, 0x65, 0x8c, 0x66, 0x6a, 0x6c,
+    0xf8, 0x8e,
+];
+
 fn derived(rt: &impl Abort, params: Params<'_>) -> Context {
     Context::derive(params).ok().expect(rt, "a context")
 }
@@ -83,8 +105,41 @@ fn server(rt: &impl Abort) -> Context {
     derived(rt, SERVERS[0])
 }
 
+/// The client of one of the servers.
+fn client(rt: &impl Abort, server: usize) -> Context {
+    let params = SERVERS.get(server).expect(rt, "one of three");
+    derived(rt, mirrored(*params))
+}
+
+fn piv(rt: &impl Abort, number: u64) -> Piv {
+    Piv::new(number).expect(rt, "a number below 2^40")
+}
+
+/// The request of this number.
+fn request_ref(rt: &impl Abort, number: u64) -> RequestRef {
+    RequestRef::new(piv(rt, number))
+}
+
+/// A part behind the first `len` bytes; answers how many there are then.
+fn append(rt: &impl Abort, buf: &mut [u8; 64], len: usize, part: &[u8]) -> usize {
+    assert!(rt; len <= 64 && part.len() <= 64 - len);
+    buf[len..len + part.len()].copy_from_slice(part);
+    len + part.len()
+}
+
 fn outcome_of(context: &Context, datagram: &mut [u8]) -> Result<(), UnprotectError> {
     match open_request(context, datagram) {
+        Ok(_) => Ok(()),
+        Err(error) => Err(error),
+    }
+}
+
+fn response_outcome_of(
+    context: &Context,
+    request: &RequestRef,
+    datagram: &mut [u8],
+) -> Result<(), UnprotectError> {
+    match open_response(context, request, datagram) {
         Ok(_) => Ok(()),
         Err(error) => Err(error),
     }

@@ -5,23 +5,24 @@ use osc_coap::FormatError;
 use std::error::Error;
 use std::fmt;
 
-/// Why a datagram doesn't open, in the order in which it is judged (RFC 8613, 8.2).
+/// Why a datagram doesn't open, in the order in which it is judged (RFC 8613, 8.2 and 8.4).
 #[derive(Clone, Copy, Debug, PartialEq, Eq)]
 pub enum UnprotectError {
     /// The bytes are no CoAP message.
     Format(FormatError),
-    /// The message is not CON or NON with a request code.
+    /// The message is not CON or NON with a request code, or, of a response, not CON, NON or ACK with a response code.
     NotThatKind,
     /// There is no OSCORE option.
     NoOscore,
-    /// There are two or more OSCORE options, or one whose value can't be read, or lacks a Partial IV or a kid; or there is
-    /// no payload, or an option for proxies.
+    /// There are two or more OSCORE options, or one whose value can't be read; in a request it lacks a Partial IV or a kid, in
+    /// a response it has a kid or a kid context; or there is no payload, or an option for proxies.
     Undecodable,
-    /// The kid is not the client's identifier, or the kid context not the ID Context.
+    /// The kid is not the client's identifier, or the kid context not the ID Context; never of a response.
     WrongContext,
     /// The payload is the protection of no plaintext.
     Tag,
-    /// The plaintext is no message, or not of a request's code, or has an option that may not stand inside.
+    /// The plaintext is no message, or not of the code of a request, or of a response, or has an option that may not stand
+    /// inside.
     Inner,
 }
 

@@ -1,41 +1,52 @@
 -- A datagram has one text.
-use Rattle.std.proofs.Common.{◌≡◌, ℕ, List, [], ◌∷◌, refl, sym, ap, ◌∙◌, ◌⊎◌, inl, inr}
+use Rattle.std.proofs.Common.{◌≡◌, ℕ, List, [], ◌∷◌, refl, sym, ap, ◌∙◌, inl, inr, Result, Ok, Err, IfOk, IfErr}
 use Rattle.osc_coap.specs.Laws.{IsOneDatagram}
-use Rattle.osc_protect.specs.Laws.{OneRequest}
+use Rattle.osc_protect.specs.Laws.{OneMessage, OneRequest, OneResponse}
 use Rattle.osc_protect.specs.Opening.{Opens}
 use Rattle.osc_context.specs.SecurityContext.{SecurityContext}
+use Rattle.osc_protect.specs.Protection.{Protection, requests, responses}
 use Rattle.osc_protect.specs.Refusals.{Refuses}
-use Rattle.osc_protect.specs.Views.{message_of}
+use Rattle.osc_protect.specs.Views.{message_of, request_number}
 use Rattle.osc_protect.specs.declared.opened.Opened.{Opened}
 use Rattle.osc_protect.specs.declared.unprotect_error.UnprotectError.{UnprotectError}
 use Rattle.osc_protect.specs.Text.{unprotect_error_text}
+use Rattle.oscore.specs.declared.opening.Opening.{Opening}
+use Rattle.oscore.specs.declared.opening.Opening.TheVariants.{Request, Response}
 use Rattle.oscore.specs.Lines.{refused_line}
-use Rattle.oscore.specs.Opening.{DatagramText, opened_lines, printed_of, seen}
+use Rattle.oscore.specs.Opening.{DatagramText, OpeningText, opened_lines, outcome_lines, outcome_status, printed_of, seen}
 use Rattle.oscore.specs.Opening.DatagramText.{opened, refused}
+use Rattle.oscore.proofs.ContextTexts.{TellsOnce, TellsStatus}
 
 -- what was opened prints as what the datagram protects and shows
-seen_is : (s : SecurityContext) (d : List ℕ) (o : Opened) (h : Opens s d o) → seen o ≡ printed_of h.outer h.number (message_of o)
-seen_is s d o h = rw (h.shows.kind, h.shows.message_id, h.shows.token, h.number_is, h.shows.uri_host, h.shows.uri_port) refl
+seen_is : {I : Type 0} (f : Protection I) (d : List ℕ) (o : Opened) (h : Opens f d o) → seen o ≡ printed_of h.outer (f.parts h.number).piv (message_of o)
+seen_is f d o h = rw (h.shows.kind, h.shows.message_id, h.shows.token, h.number_is, h.shows.uri_host, h.shows.uri_port) refl
 
--- the text of what was opened
-pub text_of_opened : (s : SecurityContext) (d : List ℕ) (o : Opened) → Opens s d o → DatagramText s d (opened_lines (seen o)) 0
-text_of_opened s d o h = opened h.outer h.number (message_of o) h.datagram h.protects (ap opened_lines (seen_is s d o h)) refl
+-- the text of what came of an open
+pub text_of_outcome : {I : Type 0} (f : Protection I) (d : List ℕ) (r : Result Opened UnprotectError) → IfOk r (λ o. Opens f d o) → IfErr r (λ e. Refuses f d e) → DatagramText f d (outcome_lines r) (outcome_status r)
+text_of_outcome f d (Ok o) opens refuses = opened opens.outer opens.number (message_of o) opens.datagram opens.protects (ap opened_lines (seen_is f d o opens)) refl
+text_of_outcome f d (Err e) opens refuses = refused e refuses refl refl
 
--- the text of a refusal
-pub text_of_refused : (s : SecurityContext) (d : List ℕ) (e : UnprotectError) → Refuses s d e → DatagramText s d (refused_line (unprotect_error_text e) ∷ []) 2
-text_of_refused s d e h = refused e h refl refl
-
--- a datagram has one text and one status
-pub one_datagram_text : IsOneDatagram → OneRequest → (s : SecurityContext) (d : List ℕ) (xs ys : List (List ℕ)) (a b : ℕ) → DatagramText s d xs a → DatagramText s d ys b → (xs ≡ ys) × (a ≡ b)
-one_datagram_text one law s d xs ys a b (opened p n m is_p protects text status) (opened q k l is_q protects_too text_too status_too) =
-    let same : opened_lines (printed_of p n m) ≡ opened_lines (printed_of q k l) = rw (one p q d is_p is_q, law.number s d n k m l protects protects_too, law.message s d n k m l protects protects_too) refl in
+-- a datagram has one text and one status under a protection
+one_datagram_text : {I : Type 0} (f : Protection I) → IsOneDatagram → OneMessage f → (d : List ℕ) → TellsOnce (DatagramText f d)
+one_datagram_text f one law d xs ys a b (opened p i m is_p protects text status) (opened q k l is_q protects_too text_too status_too) =
+    let same : opened_lines (printed_of p (f.parts i).piv m) ≡ opened_lines (printed_of q (f.parts k).piv l) = rw (one p q d is_p is_q, law.number d i k m l protects protects_too, law.message d i k m l protects protects_too) refl in
     (text ∙ same ∙ sym text_too, status ∙ sym status_too)
-one_datagram_text one law s d xs ys a b (opened p n m is_p protects text status) (refused f refuses text_too status_too) = absurd (law.never_both s d n m f protects refuses)
-one_datagram_text one law s d xs ys a b (refused e refuses text status) (opened q k l is_q protects text_too status_too) = absurd (law.never_both s d k l e protects refuses)
-one_datagram_text one law s d xs ys a b (refused e refuses text status) (refused f refuses_too text_too status_too) =
-    (text ∙ ap (λ (r : UnprotectError). refused_line (unprotect_error_text r) ∷ []) (law.refusal s d e f refuses refuses_too) ∙ sym text_too, status ∙ sym status_too)
+one_datagram_text f one law d xs ys a b (opened p i m is_p protects text status) (refused e refuses text_too status_too) = absurd (law.never_both d i m e protects refuses)
+one_datagram_text f one law d xs ys a b (refused e refuses text status) (opened q k l is_q protects text_too status_too) = absurd (law.never_both d k l e protects refuses)
+one_datagram_text f one law d xs ys a b (refused e refuses text status) (refused g refuses_too text_too status_too) =
+    (text ∙ ap (λ (r : UnprotectError). refused_line (unprotect_error_text r) ∷ []) (law.refusal d e g refuses refuses_too) ∙ sym text_too, status ∙ sym status_too)
+
+-- and one by what is asked
+pub one_opening_text : IsOneDatagram → OneRequest → OneResponse → (client server : SecurityContext) (what : Opening) (d : List ℕ) → TellsOnce (OpeningText client server what d)
+one_opening_text one request response client server Request d = one_datagram_text (requests server) one (request server) d
+one_opening_text one request response client server (Response r) d = one_datagram_text (responses client (request_number r)) one (response client (request_number r)) d
 
 -- a text comes with status 0 or 2
-pub datagram_status : (s : SecurityContext) (d : List ℕ) (lines : List (List ℕ)) (n : ℕ) → DatagramText s d lines n → (n ≡ 0) ⊎ (n ≡ 2)
-datagram_status s d lines n (opened p k m is_p protects text status) = inl status
-datagram_status s d lines n (refused e refuses text status) = inr status
+datagram_status : {I : Type 0} (f : Protection I) (d : List ℕ) → TellsStatus (DatagramText f d)
+datagram_status f d lines n (opened p i m is_p protects text status) = inl status
+datagram_status f d lines n (refused e refuses text status) = inr status
+
+-- by what is asked too
+pub opening_status : (client server : SecurityContext) (what : Opening) (d : List ℕ) → TellsStatus (OpeningText client server what d)
+opening_status client server Request d = datagram_status (requests server) d
+opening_status client server (Response r) d = datagram_status (responses client (request_number r)) d

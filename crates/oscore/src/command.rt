@@ -7,11 +7,12 @@ use crate::derivation::derive_text;
 use crate::explanation::explain_text;
 use crate::fault::{Fault, Wrong, input_fault};
 use crate::lines::{put_fault, put_help, usage_text};
-use crate::opening::open_text;
-use crate::protection::protect_text;
-use crate::words::{read_words, required_bytes, required_number};
+use crate::opening::{Opening, open_text};
+use crate::protection::{Sealing, protect_text};
+use crate::words::{optional_number, read_words, required_bytes};
 use clap::ArgMatches;
 use clap::error::ErrorKind;
+use osc_protect::RequestRef;
 use std::alloc::Global;
 use std::io::{Read, Write};
 
@@ -23,13 +24,36 @@ fn run_derive<W: Write>(alloc: Global, matches: &ArgMatches<'_>, out: &mut W) ->
     derive_text(alloc, context.params(), out)
 }
 
+/// Reads what a datagram is to be opened as: a response where the request is named that it answers.
+fn read_opening(matches: &ArgMatches<'_>) -> Result<Opening, Fault> {
+    match optional_number(matches, "request", "--request")? {
+        Some(number) => Ok(Opening::Response(RequestRef::new(number))),
+        None => Ok(Opening::Request),
+    }
+}
+
+/// Reads what a plain datagram is to be sealed as: a response where the request is named that it answers, and else a
+/// request, which can't be without a number.
+fn read_sealing(matches: &ArgMatches<'_>) -> Result<Sealing, Fault> {
+    let own = optional_number(matches, "sequence", "--sequence")?;
+    match (optional_number(matches, "request", "--request")?, own) {
+        (Some(number), own) => Ok(Sealing::Response {
+            request: RequestRef::new(number),
+            own,
+        }),
+        (None, Some(number)) => Ok(Sealing::Request(number)),
+        (None, None) => Err(input_fault("--sequence", Wrong::Missing)),
+    }
+}
+
 /// Does what `open` asks for.
 fn run_open<W: Write>(alloc: Global, matches: &ArgMatches<'_>, out: &mut W) -> Result<u8, Fault>
     ensures { IfOk result (λ s. (s ≡ 0) ⊎ (s ≡ 2)) }
 {
     let context = ContextWords::read(alloc, matches)?;
+    let what = read_opening(matches)?;
     let mut datagram = required_bytes(alloc, matches, "datagram", "DATAGRAM")?;
-    open_text(alloc, context.params(), datagram.as_mut_slice(), out)
+    open_text(alloc, context.params(), what, datagram.as_mut_slice(), out)
 }
 
 /// Does what `protect` asks for.
@@ -37,9 +61,9 @@ fn run_protect<W: Write>(alloc: Global, matches: &ArgMatches<'_>, out: &mut W) -
     ensures { IfOk result (λ s. (s ≡ 0) ⊎ (s ≡ 2)) }
 {
     let context = ContextWords::read(alloc, matches)?;
-    let number = required_number(matches, "sequence", "--sequence")?;
+    let what = read_sealing(matches)?;
     let plain = required_bytes(alloc, matches, "datagram", "DATAGRAM")?;
-    protect_text(alloc, context.params(), number, plain.as_slice(), out)
+    protect_text(alloc, context.params(), what, plain.as_slice(), out)
 }
 
 /// Does what `explain` asks for.

@@ -1,10 +1,13 @@
 //! What the command prints, and what it answers.
 
+mod agreement;
 mod contexts;
 mod explanations;
 mod faults;
 mod openings;
 mod protections;
+mod response_faults;
+mod responses;
 
 use crate::command::command;
 use std::alloc::{AllocError, Global};
@@ -27,6 +30,14 @@ const REQUEST_WITH_KID_CONTEXT: &str =
     "44022f8eef9bbf7a396c6f63616c686f73746b19140837cbf3210017a2d3ff72cd7273fd331ac45cffbe55c3";
 
 const ID_CONTEXT: &str = "37cbf3210017a2d3";
+
+// RFC 8613, C.7 and C.8: a response to request 20 before it is protected, and protected without and with an own number.
+const RESPONSE_PLAIN: &str = "64455d1f00003974ff48656c6c6f20576f726c6421";
+
+const RESPONSE_PROTECTED: &str = "64445d1f0000397490ffdbaad1e9a7e7b2a813d3c31524378303cdafae119106";
+
+const RESPONSE_NUMBERED: &str =
+    "64445d1f00003974920100ff4d4c13669384b67354b2b6175ff4b8658c666a6cf88e";
 
 #[derive(Drop)]
 struct Ran {
@@ -76,6 +87,38 @@ fn check_rows<R: Abort + Alloc<A = Global>>(rt: &R, rows: &[Row]) -> Result<(), 
             ran.out
         );
         assert!(rt; ran.err.is_empty(), "{}: {:?}", row.name, ran.err);
+    }
+    Ok(())
+}
+
+/// Words that are no call, each with a name: status 1, and one line on standard error.
+fn check_usages<R: Abort + Alloc<A = Global>>(
+    rt: &R,
+    usages: &[(&str, &[&str])],
+) -> Result<(), Fail> {
+    for (name, words) in usages {
+        let ran = run_of(rt.alloc(), words)?;
+        assert_eq!(rt; ran.status, 1, "{name}");
+        assert!(rt; ran.out.is_empty(), "{name}: {:?}", ran.out);
+        assert!(rt; is_one_line(ran.err.as_slice()), "{name}: {:?}", ran.err);
+    }
+    Ok(())
+}
+
+/// Words one of which is bad, and the line on standard error that names the first.
+fn check_bad_words<R: Abort + Alloc<A = Global>>(
+    rt: &R,
+    rows: &[(&[&str], &str)],
+) -> Result<(), Fail> {
+    for (words, line) in rows {
+        let ran = run_of(rt.alloc(), words)?;
+        assert_eq!(rt; ran.status, 1, "{line}");
+        assert!(rt; ran.out.is_empty(), "{line}: {:?}", ran.out);
+        assert!(rt;
+            ran.err.as_slice() == line.as_bytes(),
+            "{line}: {:?}",
+            ran.err
+        );
     }
     Ok(())
 }

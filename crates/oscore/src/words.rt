@@ -14,17 +14,18 @@ use std::env;
 use std::rt::Env;
 
 const ABOUT: &str =
-    "Derives contexts of OSCORE (RFC 8613), protects CoAP requests and opens protected ones, and explains datagrams.";
+    "Derives contexts of OSCORE (RFC 8613), protects CoAP requests and responses and opens protected ones, and explains datagrams.";
 
 const EXAMPLE: &str = "Example:
   oscore open --secret 0102030405060708090a0b0c0d0e0f10 --salt 9e7ca92223786340 --sender 01 44025d1f00003974396c6f63616c686f7374620914ff612f1092f1776f1c1668b3825e";
 
 const ABOUT_DERIVE: &str = "Derives a context, and prints its keys and its Common IV.";
 
-const ABOUT_OPEN: &str = "Opens a protected request, and prints what it says, one part a line.";
+const ABOUT_OPEN: &str =
+    "Opens a protected request, or a response to a request, and prints what it says, one part a line.";
 
 const ABOUT_PROTECT: &str =
-    "Protects a plain request under a number that was never used, and prints it in hex.";
+    "Protects a plain request under a number that was never used, or a response to a request, and prints it in hex.";
 
 const EXAMPLE_PROTECT: &str = "Example:
   oscore protect --secret 0102030405060708090a0b0c0d0e0f10 --salt 9e7ca92223786340 --recipient 01 --sequence 20 44015d1f00003974396c6f63616c686f737483747631";
@@ -110,10 +111,12 @@ fn open_command<'a>(alloc: Global) -> Result<Command<'a>, AllocError>
     let command = Command::new(alloc, "open")
         .about(ABOUT_OPEN)
         .after_help(EXAMPLE);
-    with_context(command, alloc)?.arg(datagram_word(alloc))
+    with_context(command, alloc)?
+        .arg(request_option(alloc))?
+        .arg(datagram_word(alloc))
 }
 
-/// The option that is the number of a request.
+/// The option that is the number of what is sealed.
 fn sequence_option<'a>(alloc: Global) -> Arg<'a>
     ensures { result.global ≡ false }
 {
@@ -121,8 +124,20 @@ fn sequence_option<'a>(alloc: Global) -> Arg<'a>
         .long("sequence")
         .value_name("N")
         .action(ArgAction::Set)
-        .required(true)
-        .help("The request's number, below 2^40: decimal digits")
+        .help("The message's own number, below 2^40: decimal digits; a response can be without")
+}
+
+/// The option that is the number of the request that a response answers.
+fn request_option<'a>(alloc: Global) -> Arg<'a>
+    ensures { result.global ≡ false }
+{
+    Arg::new(alloc, "request")
+        .long("request")
+        .value_name("M")
+        .action(ArgAction::Set)
+        .help(
+            "For a response: the number of the request that it answers, below 2^40: decimal digits",
+        )
 }
 
 fn protect_command<'a>(alloc: Global) -> Result<Command<'a>, AllocError>
@@ -133,6 +148,7 @@ fn protect_command<'a>(alloc: Global) -> Result<Command<'a>, AllocError>
         .after_help(EXAMPLE_PROTECT);
     with_context(command, alloc)?
         .arg(sequence_option(alloc))?
+        .arg(request_option(alloc))?
         .arg(datagram_word(alloc))
 }
 
@@ -192,17 +208,17 @@ pub(crate) fn required_bytes(
     }
 }
 
-/// The number of a word that the call can't be without, or the fault that names the word's place in the call.
-pub(crate) fn required_number(
+/// The number of a word, where the word is there, or the fault that names the word's place in the call.
+pub(crate) fn optional_number(
     matches: &ArgMatches<'_>,
     id: &str,
     name: &'static str,
-) -> Result<Piv, Fault> {
+) -> Result<Option<Piv>, Fault> {
     match matches.get_str(id) {
         Some(word) => match read_number(word) {
-            Some(number) => Ok(number),
+            Some(number) => Ok(Some(number)),
             None => Err(input_fault(name, Wrong::Number)),
         },
-        None => Err(input_fault(name, Wrong::Missing)),
+        None => Ok(None),
     }
 }

@@ -4,7 +4,7 @@ use super::{REQUEST, outcome_of, server};
 use crate::UnprotectError;
 use osc_coap::{Fault, FormatError};
 
-fn format(fault: Fault, place: usize) -> Result<(), UnprotectError> {
+pub(super) fn format(fault: Fault, place: usize) -> Result<(), UnprotectError> {
     Err(UnprotectError::Format(FormatError { fault, place }))
 }
 

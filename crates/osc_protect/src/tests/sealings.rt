@@ -1,25 +1,23 @@
 //! Requests that are sealed, and those that aren't.
 
 use super::{
-    REQUEST, REQUEST_OF_ANOTHER_CLIENT, REQUEST_WITH_KID_CONTEXT, SERVERS, derived, mirrored,
+    PLAIN, REQUEST, REQUEST_OF_ANOTHER_CLIENT, REQUEST_WITH_KID_CONTEXT, SERVERS, client, derived,
 };
 use crate::{ProtectError, check_request, open_request, seal_request, sealed_opens};
 use osc_coap::{Kind, Token, Writer, parse};
-use osc_context::{Context, Piv};
-use std::process::Abort;
+use osc_context::Piv;
 use std::test::Fail;
 
 // RFC 8613, C.4 to C.6: what the clients of C.1 to C.3 seal with number 20.
-struct Exchange {
-    name: &'static str,
-    server: usize,
-    plain: &'static [u8],
+#[derive(Clone, Copy)]
+pub(super) struct Exchange {
+    pub(super) name: &'static str,
+    pub(super) server: usize,
+    pub(super) plain: &'static [u8],
     protected: &'static [u8],
 }
 
-const PLAIN: &[u8] = b"\x44\x01\x5d\x1f\x00\x00\x39\x74\x39localhost\x83tv1";
-
-const EXCHANGES: [Exchange; 3] = [
+pub(super) const EXCHANGES: [Exchange; 3] = [
     Exchange {
         name: "C.4",
         server: 0,
@@ -39,11 +37,6 @@ const EXCHANGES: [Exchange; 3] = [
         protected: &REQUEST_WITH_KID_CONTEXT,
     },
 ];
-
-fn client(rt: &impl Abort, server: usize) -> Context {
-    let params = SERVERS.get(server).expect(rt, "one of three");
-    derived(rt, mirrored(*params))
-}
 
 #[test]
 fn printed_requests(rt: HostRuntime) -> Result<(), Fail> {

@@ -1,6 +1,6 @@
 //! Faults of the words, and help.
 
-use super::{REQUEST, SALT, SECRET, is_one_line, run_of};
+use super::{REQUEST, SALT, SECRET, check_bad_words, check_usages, run_of};
 use std::test::Fail;
 
 // Own rule: words that are no call are status 1, and one line on standard error.
@@ -103,8 +103,8 @@ const USAGES: [(&str, &[&str]); 22] = [
             SECRET,
             "--sequence",
             "1",
-            "--request",
-            "1",
+            "--key",
+            "00",
             REQUEST,
         ],
     ),
@@ -124,13 +124,7 @@ const USAGES: [(&str, &[&str]); 22] = [
 
 #[test]
 fn wrong_calls_are_one_line(rt: HostRuntime) -> Result<(), Fail> {
-    for (name, words) in USAGES {
-        let ran = run_of(rt.alloc(), words)?;
-        assert_eq!(rt; ran.status, 1, "{name}");
-        assert!(rt; ran.out.is_empty(), "{name}: {:?}", ran.out);
-        assert!(rt; is_one_line(ran.err.as_slice()), "{name}: {:?}", ran.err);
-    }
-    Ok(())
+    check_usages(&rt, &USAGES)
 }
 
 // Own rule: words are read in the order of the options, the datagram last, and the first that is bad is named.
@@ -369,17 +363,7 @@ const BAD_WORDS: [(&[&str], &str); 22] = [
 
 #[test]
 fn bad_words_are_named(rt: HostRuntime) -> Result<(), Fail> {
-    for (words, line) in BAD_WORDS {
-        let ran = run_of(rt.alloc(), words)?;
-        assert_eq!(rt; ran.status, 1, "{line}");
-        assert!(rt; ran.out.is_empty(), "{line}: {:?}", ran.out);
-        assert!(rt;
-            ran.err.as_slice() == line.as_bytes(),
-            "{line}: {:?}",
-            ran.err
-        );
-    }
-    Ok(())
+    check_bad_words(&rt, &BAD_WORDS)
 }
 
 // Each way to ask for help.

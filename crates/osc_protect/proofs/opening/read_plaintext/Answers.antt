@@ -14,8 +14,8 @@ slice_bounds-plaintext-end c =
     let shown : length c.payload.result.now ≡ length c.in-Ok.message.payload.now = ap length c.payload.ensures in
     omega (arith, length-take c.args.place.len c.payload.result.now)
 
-pub returns-then-not-is_request_code-clause-refused : goal.returns-then-not-is_request_code-clause-refused
-returns-then-not-is_request_code-clause-refused c =
+pub returns-then-not-is_code_of-clause-refused : goal.returns-then-not-is_code_of-clause-refused
+returns-then-not-is_code_of-clause-refused c =
     let front : IsInner (inner_parts_of c.in-Ok-parse_inner.inner) (take c.args.place.len c.in-Ok.message.payload.now) = subst (λ (z : List ℕ). IsInner (inner_parts_of c.in-Ok-parse_inner.inner) (take c.args.place.len z)) c.payload.ensures c.in-Ok-parse_inner.ensures.accepted in
     (refl, parts_of c.in-Ok.message, c.in-Ok.ensures.accepted, inr (inner_parts_of c.in-Ok-parse_inner.inner, front, inl (search rules)))
 

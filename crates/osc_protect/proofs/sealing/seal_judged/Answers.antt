@@ -1,15 +1,17 @@
 use Rattle.std.proofs.Common.{◌≡◌, ℕ, ◌+◌, ◌<◌, List, [], length, take, drop, refl, sym, subst, ◌∙◌, arith}
 use Rattle.osc_coap.specs.Datagram.{IsDatagram}
 use Rattle.osc_coap.specs.Views.{parts_of}
-use Rattle.osc_context.specs.Views.{as_client, number_of}
-use Rattle.osc_protect.specs.Protection.{request_cipher}
 use Rattle.osc_protect.specs.Sealed.{outside}
+use Rattle.osc_protect.specs.Usage.{outer_code_of}
+use Rattle.osc_protect.specs.Views.{cipher_of}
 use Rattle.osc_protect.proofs.Placing.{kept, left_behind}
+use Rattle.osc_protect.proofs.Protections.{outer_code_some}
 use Rattle.osc_protect.proofs.sealing.seal_judged.Goals as goal
 
 pub returns-clause-sealed : goal.returns-clause-sealed
 returns-clause-sealed c =
     let p = parts_of c.args.plain.now in
+    let code = outer_code_of c.args.usage in
     let value = c.args.value.now in
     let out = c.write_outside-at.new.out in
     let at = c.write_outside-at.result in
@@ -20,21 +22,14 @@ returns-clause-sealed c =
     let same_len = c.write_outside-at.ensures.same_len in
     let inside : at < length out = omega (arith, room, at_is, same_len) in
     let both = kept at out buf inside in
-    let front : IsDatagram (outside p 2 value []) _ = subst (λ (z : List ℕ). IsDatagram (outside p 2 value []) z) (sym both.0) c.write_outside-at.ensures.written in
-    let sealed = c.seal_behind.ensures.sealed (outside p 2 value []) front refl (omega arith) in
-    record {
-      request = c.requires.can.0;
-      supported = c.requires.can.1;
-      sealed = record {
-        value = value;
-        reads = c.requires.reads;
-        plaintext = take len buf;
-        spells = c.write_inside-len.ensures.written;
-        datagram =
-            subst (λ (z : ℕ). IsDatagram (outside p 2 value (request_cipher (as_client c.args.context.now) (number_of c.args.number) (take len buf))) (take z c.seal_behind.new.out)) (sym c.seal_behind.ensures.end)
-            (subst (λ (z : List ℕ). IsDatagram (outside p 2 value (request_cipher (as_client c.args.context.now) (number_of c.args.number) (take len z))) (take (at + 9 + len) c.seal_behind.new.out)) both.1 sealed);
-      };
-    }
+    let written : IsDatagram (outside p code value []) (take at out) = subst (λ (k : ℕ). IsDatagram (outside p k value []) (take at out)) c.outer_code.ensures c.write_outside-at.ensures.written in
+    let front : IsDatagram (outside p code value []) _ = subst (λ (z : List ℕ). IsDatagram (outside p code value []) z) (sym both.0) written in
+    let sealed = c.seal_behind.ensures.sealed (outside p code value []) front refl (outer_code_some c.args.usage) in (
+      take len buf,
+      c.write_inside-len.ensures.written,
+      subst (λ (z : ℕ). IsDatagram (outside p code value (cipher_of c.args.aead.now (take len buf))) (take z c.seal_behind.new.out)) (sym c.seal_behind.ensures.end)
+          (subst (λ (z : List ℕ). IsDatagram (outside p code value (cipher_of c.args.aead.now (take len z))) (take (at + 9 + len) c.seal_behind.new.out)) both.1 sealed),
+    )
 
 pub returns-clause-behind : goal.returns-clause-behind
 returns-clause-behind c =

@@ -1,23 +1,26 @@
-use Rattle.std.proofs.Common.{◌∷◌, [], refl}
-use Rattle.std.proofs.lemmas.Result.{err_from_is_err_and}
-use Rattle.osc_protect.specs.Text.{unprotect_error_text}
-use Rattle.oscore.specs.Lines.{refused_line}
-use Rattle.oscore.specs.Opening.{opened_lines, seen}
-use Rattle.oscore.proofs.OpenTexts.{text_of_opened, text_of_refused}
+use Rattle.std.proofs.Common.{subst, sym}
+use Rattle.osc_context.specs.Views.{as_client, as_server}
+use Rattle.osc_protect.specs.Protection.{requests, responses}
+use Rattle.osc_protect.specs.Views.{request_number}
+use Rattle.oscore.specs.declared.opening.Opening.{Opening}
+use Rattle.oscore.specs.Opening.{OpeningText, outcome_lines, outcome_status}
+use Rattle.oscore.proofs.OpenTexts.{text_of_outcome}
 use Rattle.oscore.proofs.opening.write_datagram.Goals as goal
 
-pub returns-in_err-put_opened-in-Ok : goal.returns-in_err-put_opened-in-Ok
-returns-in_err-put_opened-in-Ok g c =
-    let p = err_from_is_err_and c.from_residual.result c.from_residual.ensures.1 in
-    let o = c.in-Ok.opened in
-    rw (p.1, p.2) (opened_lines (seen o), 0, text_of_opened _ _ o c.in-Ok.ensures.opened, c.in_err-put_opened-in-Ok.ensures, tt)
+pub returns-in-Request : goal.returns-in-Request
+returns-in-Request g c =
+    let r = c.open_request.result in
+    let s = c.args.context.now in
+    let d = c.args.datagram.now in
+    let text = text_of_outcome (requests (as_server s)) d r c.open_request.ensures.opened c.open_request.ensures.refused in
+    let asked = subst (λ (what : Opening). OpeningText (as_client s) (as_server s) what d (outcome_lines r) (outcome_status r)) (sym c.in-Request.is) text in
+    (outcome_lines r, outcome_status r, asked, c.write_outcome.ensures.written, c.write_outcome.ensures.status)
 
-pub returns-in_ok-put_opened-in-Ok : goal.returns-in_ok-put_opened-in-Ok
-returns-in_ok-put_opened-in-Ok g c =
-    let o = c.in-Ok.opened in
-    (opened_lines (seen o), 0, text_of_opened _ _ o c.in-Ok.ensures.opened, c.in_ok-put_opened-in-Ok.ensures, refl)
-
-pub returns-in-Err : goal.returns-in-Err
-returns-in-Err g c =
-    let e = c.in-Err.refusal in
-    (refused_line (unprotect_error_text e) ∷ [], 2, text_of_refused _ _ e c.in-Err.ensures.refused, c.put_refused.ensures.written, c.put_refused.ensures.status)
+pub returns-in-Response : goal.returns-in-Response
+returns-in-Response g c =
+    let r = c.open_response.result in
+    let s = c.args.context.now in
+    let d = c.args.datagram.now in
+    let text = text_of_outcome (responses (as_client s) (request_number c.in-Response.request)) d r c.open_response.ensures.opened c.open_response.ensures.refused in
+    let asked = subst (λ (what : Opening). OpeningText (as_client s) (as_server s) what d (outcome_lines r) (outcome_status r)) (sym c.in-Response.is) text in
+    (outcome_lines r, outcome_status r, asked, c.write_outcome-in-Response.ensures.written, c.write_outcome-in-Response.ensures.status)

@@ -7,7 +7,7 @@ use Rattle.oscore.proofs.protection.write_plain.Goals as goal
 
 pub returns-in-Ok : goal.returns-in-Ok
 returns-in-Ok g c =
-    let w = c.write_sealed.ensures in
+    let w = c.write_message.ensures in
     (w.0, w.1, message (parts_of c.in-Ok.message) c.in-Ok.ensures.accepted w.2, w.3, w.4)
 
 pub returns-in-Err : goal.returns-in-Err

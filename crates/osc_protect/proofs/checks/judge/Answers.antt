@@ -1,17 +1,18 @@
 use Rattle.std.proofs.Common.{rules, ◌≡◌, true, Some, None}
 use Rattle.osc_coap.specs.Views.{parts_of}
-use Rattle.osc_protect.specs.Message.{first_number, is_request, is_unsupported}
+use Rattle.osc_protect.specs.Message.{first_number, is_unsupported}
+use Rattle.osc_protect.specs.Usage.{is_used}
 use Rattle.osc_protect.proofs.Supported.{lowest_unsupported, none_first}
-use Rattle.osc_protect.proofs.checks.judge_request.Goals as goal
+use Rattle.osc_protect.proofs.checks.judge.Goals as goal
 
 pub returns-in-Some-clause-refused : goal.returns-in-Some-clause-refused
 returns-in-Some-clause-refused c =
     let found : first_number is_unsupported (parts_of c.args.plain.now).options ≡ Some c.in-Some.number = search rules in
-    let request : is_request c.args.plain.now.kind c.args.plain.now.code ≡ true = search rules in
-    (request, lowest_unsupported _ _ (c.options_ascend.ensures.read c.args.plain.now) found)
+    let used : is_used c.args.usage c.args.plain.now.kind c.args.plain.now.code ≡ true = search rules in
+    (used, lowest_unsupported _ _ (c.options_ascend.ensures.read c.args.plain.now) found)
 
 pub returns-in-None-clause-accepted : goal.returns-in-None-clause-accepted
 returns-in-None-clause-accepted c = λ _.
     let found : first_number is_unsupported (parts_of c.args.plain.now).options ≡ None = search rules in
-    let request : is_request c.args.plain.now.kind c.args.plain.now.code ≡ true = search rules in
-    (request, none_first is_unsupported (parts_of c.args.plain.now).options found)
+    let used : is_used c.args.usage c.args.plain.now.kind c.args.plain.now.code ≡ true = search rules in
+    (used, none_first is_unsupported (parts_of c.args.plain.now).options found)

@@ -1,0 +1,35 @@
+-- What tells a request from a response (RFC 8613, 4.2 and 8): kind and codes, and the parts that its OSCORE option says.
+use Rattle.std.specs.Prelude.{ℕ, ◌&&◌, Bool, List, Option, Some, None, is_none, is_some}
+use Rattle.osc_coap.specs.declared.message.Kind.{Kind}
+use Rattle.osc_context.specs.OscoreValue.{OscoreParts}
+use Rattle.osc_protect.specs.Message.{is_request, is_request_code, is_response, is_response_code}
+use Rattle.osc_protect.specs.declared.usage.Usage.{Usage}
+use Rattle.osc_protect.specs.declared.usage.Usage.TheVariants.{Request, Response}
+
+-- kind and code are of this usage (RFC 7252, 4.2 and 4.3)
+abbrev pub is_used : Usage → Kind → ℕ → Bool
+is_used Request kind code = is_request kind code
+is_used Response kind code = is_response kind code
+
+-- the code is of this usage (RFC 7252, 12.1)
+abbrev pub is_code_of : Usage → ℕ → Bool
+is_code_of Request code = is_request_code code
+is_code_of Response code = is_response_code code
+
+-- the code that what is sealed has outside: 0.02, POST, or 2.04, Changed (RFC 8613, 4.2)
+abbrev pub outer_code_of : Usage → ℕ
+outer_code_of Request = 2
+outer_code_of Response = 68
+
+-- a request says number and kid (RFC 8613, 5); own rule: a response says neither kid nor kid context
+abbrev pub is_complete : Usage → OscoreParts → Bool
+is_complete Request v = is_some v.piv && is_some v.kid
+is_complete Response v = is_none v.kid && is_none v.kid_context
+
+-- what the OSCORE option of a request says: a number, a kid, a kid context or none (RFC 8613, 6.1)
+abbrev pub value_of_request : ℕ → Option (List ℕ) → List ℕ → OscoreParts
+value_of_request number kid_context kid = record { piv = Some number; kid_context = kid_context; kid = Some kid }
+
+-- what the OSCORE option of a response says: its own number, where it has one, and no more (RFC 8613, 6.1 and 8.3)
+abbrev pub value_of_response : Option ℕ → OscoreParts
+value_of_response own = record { piv = own; kid_context = None; kid = None }
