@@ -21,7 +21,7 @@ abbrev pub outer_code_of : Usage → ℕ
 outer_code_of Request = 2
 outer_code_of Response = 68
 
--- a request says number and kid (RFC 8613, 5); own rule: a response says neither kid nor kid context
+-- a request says number and kid; own rule: a response says neither kid nor kid context (RFC 8613, 5 and 8.3)
 abbrev pub is_complete : Usage → OscoreParts → Bool
 is_complete Request v = is_some v.piv && is_some v.kid
 is_complete Response v = is_none v.kid && is_none v.kid_context

@@ -25,7 +25,7 @@ use Rattle.oscore.specs.Lines.{hex_line, refused_line}
 abbrev pub most_room : ℕ
 most_room = 65535
 
--- what `protect` prints of a message under a protection, and the status: what is sealed in hex, or with status 2 a refusal (RFC 8613, 8.1 and 8.3)
+-- what `protect` prints of a message, and the status: what is sealed in hex, or with status 2 a refusal (RFC 8613, 8.1 and 8.3)
 pub data SealedText {I : Type 0} (f : Protection I) (i : I) (p : Parts) (lines : List (List ℕ)) (status : ℕ) : Type 0 where
   sealed : (bytes : List ℕ) → IsSealed f i p bytes → lines ≡ hex_line bytes ∷ [] → status ≡ 0 → SealedText f i p lines status
   refused : (e : ProtectError) → RefusesToSeal f i p most_room e → lines ≡ refused_line (protect_error_text e) ∷ [] → status ≡ 2 → SealedText f i p lines status
@@ -35,7 +35,7 @@ abbrev pub SealingText : (client server : SecurityContext) → Sealing → Parts
 SealingText client server (Request number) p = SealedText (requests client) (number_of number) p
 SealingText client server (Response request own) p = SealedText (responses server (request_number request)) (option_map number_of own) p
 
--- what is told of the parts of a plain datagram; one with a fault is refused for that, with its place (RFC 7252, 3)
+-- what is told of a plain datagram's parts; a datagram with a fault is refused for that, with its place (RFC 7252, 3)
 pub data PlainText (told : Parts → Told) (d : List ℕ) (lines : List (List ℕ)) (status : ℕ) : Type 0 where
   message : (p : Parts) → IsDatagram p d → told p lines status → PlainText told d lines status
   faulty : (e : FormatError) → HasFault d e.fault e.place → lines ≡ refused_line (error_text e) ∷ [] → status ≡ 2 → PlainText told d lines status
