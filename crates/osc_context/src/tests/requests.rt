@@ -77,3 +77,16 @@ fn requests(rt: HostRuntime) -> Result<(), Fail> {
     }
     Ok(())
 }
+
+// RFC 8613, C.8: a response of the server of C.1, with its own number 0.
+#[test]
+fn nonce_of_a_response_with_a_number(rt: HostRuntime) -> Result<(), Fail> {
+    let [first, _, _] = &REQUESTS;
+    let server = Kid::new(&[0x01]).ok_or("a short identifier")?;
+    let own = Piv::new(0).ok_or("a number in range")?;
+    let wanted = [
+        0x47, 0x22, 0xd4, 0xdd, 0x6d, 0x94, 0x41, 0x69, 0xee, 0xfb, 0x54, 0x98, 0x7c,
+    ];
+    assert_eq!(rt; nonce(&first.common_iv, &server, own), wanted);
+    Ok(())
+}
