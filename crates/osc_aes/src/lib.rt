@@ -19,6 +19,3 @@ pub use block_cipher::BlockCipher;
 pub use laws::{encrypted_length, product_with_inverse};
 pub use plain::PlainAes;
 pub use table::TableAes;
-
-#[cfg(test)]
-mod tests;

@@ -20,6 +20,3 @@ pub use blocks::{MOST_AAD, MOST_PLAINTEXT, NONCE_LEN, TAG_LEN};
 pub use laws::{one_plaintext, sealed_length};
 pub use opening::{OpenError, open};
 pub use sealing::{SealError, seal};
-
-#[cfg(test)]
-mod tests;

@@ -12,4 +12,3 @@ pub mod OptionText
 pub mod Writing
 pub mod Writer
 pub mod Class
-pub mod Callers

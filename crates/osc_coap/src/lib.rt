@@ -23,8 +23,6 @@ pub mod option_numbers;
 mod options;
 mod parsing;
 mod placing;
-#[cfg(test)]
-mod tests;
 mod write_error;
 mod writer;
 

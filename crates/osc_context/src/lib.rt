@@ -47,6 +47,3 @@ pub use option_error::OptionError;
 pub use oscore_option::OscoreOption;
 pub use parameters::Params;
 pub use partial_iv::Piv;
-
-#[cfg(test)]
-mod tests;

@@ -11,6 +11,3 @@ mod mac;
 
 pub use derivation::{MOST_OUTPUT, TooLong, expand, extract};
 pub use mac::hmac_sha256;
-
-#[cfg(test)]
-mod tests;

@@ -40,6 +40,3 @@ pub use request_head::{RequestHead, head_of_request};
 pub use request_ref::RequestRef;
 pub use sealing::{seal_request, seal_response};
 pub use unprotect_error::UnprotectError;
-
-#[cfg(test)]
-mod tests;

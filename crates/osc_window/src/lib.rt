@@ -21,6 +21,3 @@ pub use gate::Gate;
 pub use laws::takes_new_numbers;
 pub use window::Window;
 pub use window_size::WindowSize;
-
-#[cfg(test)]
-mod tests;

@@ -1,0 +1,154 @@
+//! The answer of a call, as the corpus spells it.
+
+use crate::bytes::spelled;
+use osc_coap::{Kind, Options};
+use osc_context::Piv;
+use std::alloc::{AllocError, Global};
+use std::fmt::Display;
+use std::mem;
+
+/// The words of an answer so far. A growth that is refused is kept in mind: the answer is not whole then.
+#[derive(Drop)]
+pub(crate) struct Answer {
+    pub(crate) alloc: Global,
+    pub(crate) text: String,
+    /// The answer of a first call, where two have to agree.
+    pub(crate) first: Option<String>,
+    pub(crate) is_whole: bool,
+}
+
+impl Answer {
+    pub(crate) fn new(alloc: Global) -> Answer {
+        Answer {
+            alloc,
+            text: String::new(alloc),
+            first: None,
+            is_whole: true,
+        }
+    }
+
+    /// What comes next has to be what came so far.
+    pub(crate) fn again(&mut self) {
+        let first = mem::replace(&mut self.text, String::new(self.alloc));
+        self.first = Some(first);
+    }
+
+    /// Appends to the word that stands last.
+    pub(crate) fn push(&mut self, text: &str) {
+        if self.text.push_str(text).is_err() {
+            self.is_whole = false;
+        }
+    }
+
+    pub(crate) fn word(&mut self, word: &str) {
+        self.push(" ");
+        self.push(word);
+    }
+
+    /// A word that was made, or wasn't.
+    fn made(&mut self, word: Result<String, AllocError>) {
+        match word {
+            Ok(word) => self.word(word.as_str()),
+            Err(_) => self.is_whole = false,
+        }
+    }
+
+    /// A word that prints.
+    pub(crate) fn print<D: Display + Drop>(&mut self, value: D) {
+        self.made(format!(in self.alloc; "{value}"));
+    }
+
+    /// A refusal by its name.
+    pub(crate) fn refused<D: Display + Drop>(&mut self, refusal: D) {
+        self.word("refused");
+        self.print(refusal);
+    }
+
+    pub(crate) fn bytes(&mut self, bytes: &[u8]) {
+        self.made(spelled(self.alloc, bytes));
+    }
+
+    /// Bytes that may be absent.
+    pub(crate) fn part(&mut self, part: Option<&[u8]>) {
+        match part {
+            Some(bytes) => self.bytes(bytes),
+            None => self.word("none"),
+        }
+    }
+
+    /// What a buffer holds, `same` where that is what it held before.
+    pub(crate) fn left(&mut self, before: &[u8], after: &[u8]) {
+        if before == after {
+            self.word("same");
+        } else {
+            self.bytes(after);
+        }
+    }
+
+    /// The bytes in front of a filled buffer, and whether those behind them are still what it was filled with.
+    pub(crate) fn written(&mut self, buf: &[u8], len: usize, filled_with: u8) {
+        let (front, behind) = buf.split_at(len.min(buf.len()));
+        self.bytes(front);
+        self.rest(behind, filled_with);
+    }
+
+    pub(crate) fn rest(&mut self, rest: &[u8], filled_with: u8) {
+        let is_same = rest.iter().all(|byte| *byte == filled_with);
+        self.word(if is_same { "same" } else { "changed" });
+    }
+
+    pub(crate) fn kind(&mut self, kind: Kind) {
+        self.word(match kind {
+            Kind::Con => "CON",
+            Kind::Non => "NON",
+            Kind::Ack => "ACK",
+            Kind::Rst => "RST",
+        });
+    }
+
+    /// Class, dot and two digits of detail.
+    pub(crate) fn code(&mut self, code: u8) {
+        let class = code / 32;
+        let detail = code % 32;
+        self.made(format!(in self.alloc; "{class}.{detail:02}"));
+    }
+
+    /// A number that may be absent.
+    pub(crate) fn number(&mut self, number: Option<Piv>) {
+        match number {
+            Some(piv) => self.print(piv.number()),
+            None => self.word("none"),
+        }
+    }
+
+    /// Number and value of each option, in brackets.
+    pub(crate) fn options(&mut self, options: Options<'_>) {
+        self.word("[");
+        for (number, value) in options {
+            self.print(number);
+            self.bytes(value);
+        }
+        self.word("]");
+    }
+
+    /// A text in quotes, in which `\n`, `\"` and `\\` stand for one character.
+    pub(crate) fn quoted(&mut self, text: &[u8]) {
+        self.word("\"");
+        for byte in text {
+            match *byte {
+                b'\n' => self.push("\\n"),
+                b'"' => self.push("\\\""),
+                b'\\' => self.push("\\\\"),
+                other => self.character(char::from(other)),
+            }
+        }
+        self.push("\"");
+    }
+
+    /// Appends a character.
+    fn character(&mut self, character: char) {
+        if self.text.push(character).is_err() {
+            self.is_whole = false;
+        }
+    }
+}

@@ -1,0 +1,93 @@
+//! Calls of osc_context.
+
+use crate::answer::Answer;
+use crate::fields::Fields;
+use arrayvec::ArrayVec;
+use osc_context::{Context, IdContext, Kid, OscoreOption, Piv, aad, nonce};
+
+pub(crate) fn kid(fields: &Fields<'_>, answer: &mut Answer) {
+    fields.count(1);
+    match Kid::new(fields.bytes(0)) {
+        Some(kid) => answer.bytes(kid.bytes()),
+        None => answer.word("refused"),
+    }
+}
+
+pub(crate) fn id_context(fields: &Fields<'_>, answer: &mut Answer) {
+    fields.count(1);
+    match IdContext::new(fields.bytes(0)) {
+        Some(id_context) => answer.bytes(id_context.bytes()),
+        None => answer.word("refused"),
+    }
+}
+
+pub(crate) fn partial_iv(fields: &Fields<'_>, answer: &mut Answer) {
+    fields.count(1);
+    match Piv::new(fields.number(0)) {
+        Some(piv) => {
+            answer.bytes(piv.bytes().as_slice());
+            answer.print(piv.number());
+        }
+        None => answer.word("refused"),
+    }
+}
+
+pub(crate) fn nonce_of(fields: &Fields<'_>, answer: &mut Answer) {
+    fields.count(3);
+    let common_iv = fields.array::<13>(0);
+    if let (Some(owner), Some(piv)) = (fields.kid(1), fields.partial_iv(2)) {
+        answer.bytes(&nonce(&common_iv, &owner, piv));
+    }
+}
+
+pub(crate) fn aad_of(fields: &Fields<'_>, answer: &mut Answer) {
+    fields.count(2);
+    if let (Some(kid), Some(piv)) = (fields.kid(0), fields.partial_iv(1)) {
+        answer.bytes(aad(&kid, piv).as_slice());
+    }
+}
+
+pub(crate) fn read_option(fields: &Fields<'_>, answer: &mut Answer) {
+    fields.count(1);
+    match OscoreOption::read(fields.bytes(0)) {
+        Ok(option) => {
+            answer.number(option.piv);
+            answer.part(option.kid_context);
+            answer.part(option.kid);
+        }
+        Err(refusal) => answer.refused(refusal),
+    }
+}
+
+/// Writes over a vector that holds one byte, 01.
+pub(crate) fn write_option(fields: &Fields<'_>, answer: &mut Answer) {
+    fields.count(3);
+    let option = OscoreOption {
+        piv: fields.partial_iv(0),
+        kid_context: fields.part(1),
+        kid: fields.part(2),
+    };
+    let mut value = ArrayVec::<u8, 255>::new();
+    value.push(1);
+    if let Err(refusal) = option.write(&mut value) {
+        answer.refused(refusal);
+    }
+    answer.left(&[1], value.as_slice());
+}
+
+pub(crate) fn derive(fields: &Fields<'_>, answer: &mut Answer) {
+    match Context::derive(fields.params()) {
+        Ok(context) => {
+            answer.bytes(context.sender_key());
+            answer.bytes(context.recipient_key());
+            answer.bytes(context.common_iv());
+            answer.bytes(context.sender().bytes());
+            answer.bytes(context.recipient().bytes());
+            match context.id_context() {
+                Some(id_context) => answer.bytes(id_context.bytes()),
+                None => answer.word("none"),
+            }
+        }
+        Err(refusal) => answer.refused(refusal),
+    }
+}

@@ -1,0 +1,129 @@
+//! The corpus, line by line.
+
+use crate::answer::Answer;
+use crate::fields::{Fields, NamedContext};
+use crate::{command, verbs};
+use std::alloc::Global;
+use std::io;
+
+/// A row as it stands in the corpus: `NAME: VERB FIELD.. = ANSWER`.
+#[derive(Clone, Copy)]
+struct Row<'t> {
+    name: &'t str,
+    verb: &'t str,
+    fields: &'t str,
+    /// The answer that is wanted, behind a space.
+    wanted: &'t str,
+}
+
+/// The row of a line, or None where it is no row.
+fn row_of(line: &str) -> Option<Row<'_>> {
+    let (name, rest) = line.split_once(": ")?;
+    let (call, wanted) = rest.split_once(" =")?;
+    let (verb, fields) = call.split_once(' ')?;
+    Some(Row {
+        name,
+        verb,
+        fields,
+        wanted,
+    })
+}
+
+/// A section, and how many rows it has so far.
+#[derive(Clone, Copy)]
+struct Section<'t> {
+    name: &'t str,
+    rows: u32,
+}
+
+/// What was read so far.
+#[derive(Drop)]
+pub(crate) struct Corpus<'t> {
+    alloc: Global,
+    contexts: Vec<NamedContext<'t>>,
+    sections: Vec<Section<'t>>,
+    differ: u32,
+}
+
+impl<'t> Corpus<'t> {
+    /// Nothing was read.
+    pub(crate) fn new(alloc: Global) -> Corpus<'t> {
+        Corpus {
+            alloc,
+            contexts: Vec::new(alloc),
+            sections: Vec::new(alloc),
+            differ: 0,
+        }
+    }
+
+    /// Takes a line: a section, a context or a row; one that is empty or begins with `#` says nothing.
+    pub(crate) fn take(&mut self, rt: &impl Print, line: &'t str) -> io::Result<()> {
+        if line.is_empty() || line.starts_with('#') {
+            return Ok(());
+        }
+        match line.split_once(' ') {
+            Some(("section", name)) => self.sections.push(Section { name, rows: 0 })?,
+            Some(("context", rest)) => {
+                let (name, fields) = rest.split_once(' ').unwrap_or((rest, ""));
+                self.contexts.push(NamedContext { name, fields })?;
+            }
+            _ => return self.take_row(rt, line),
+        }
+        Ok(())
+    }
+
+    /// Makes the call of a row, and compares what it answers.
+    fn take_row(&mut self, rt: &impl Print, line: &'t str) -> io::Result<()> {
+        if let Some(section) = self.sections.last_mut() {
+            section.rows = section.rows.saturating_add(1);
+        }
+        let Some(row) = row_of(line) else {
+            return self.differs(rt, line, " can't be read");
+        };
+        let answer = self.answer(row);
+        if !answer.is_whole {
+            return self.differs(rt, row.name, " can't be read");
+        }
+        if let Some(first) = &answer.first
+            && first.as_str() != row.wanted
+        {
+            return self.differs(rt, line, first.as_str());
+        }
+        if answer.text.as_str() != row.wanted {
+            return self.differs(rt, line, answer.text.as_str());
+        }
+        Ok(())
+    }
+
+    /// What the call of a row answers.
+    fn answer(&self, row: Row<'t>) -> Answer {
+        let mut answer = Answer::new(self.alloc);
+        if matches!(row.verb, "command" | "usage" | "help" | "cut-off") {
+            command::run(row.verb, row.fields, &mut answer);
+        } else {
+            let fields = Fields::read(self.alloc, row.fields);
+            verbs::make(row.verb, &fields, self.contexts.as_slice(), &mut answer);
+            answer.is_whole = answer.is_whole && !fields.is_bad();
+        }
+        answer
+    }
+
+    /// Tells that a row can't be read, or has another answer.
+    fn differs(&mut self, rt: &impl Print, row: &str, came: &str) -> io::Result<()> {
+        self.differ = self.differ.saturating_add(1);
+        println!(rt; "{row}, but came{came}")
+    }
+
+    /// Tells how many rows there are, in each section and in all, and answers the status.
+    pub(crate) fn report(&self, rt: &impl Print) -> io::Result<u8> {
+        let mut rows = 0u32;
+        for section in &self.sections {
+            rows = rows.saturating_add(section.rows);
+            let (count, name) = (section.rows, section.name);
+            println!(rt; "{count} {name}")?;
+        }
+        let differ = self.differ;
+        println!(rt; "{rows} rows, {differ} differ")?;
+        Ok(if differ == 0 { 0 } else { 1 })
+    }
+}

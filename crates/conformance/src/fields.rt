@@ -1,0 +1,216 @@
+//! The fields of a call.
+
+use crate::bytes::bytes_of;
+use osc_coap::{Message, parse};
+use osc_context::{Context, Kid, Params, Piv};
+use std::alloc::Global;
+use std::cell::Cell;
+
+/// The longest buffer that a row can ask for.
+const MOST_ROOM: u64 = 100_000;
+
+/// A context that a line of the corpus names, and the fields that it is derived from.
+#[derive(Clone, Copy)]
+pub(crate) struct NamedContext<'t> {
+    pub(crate) name: &'t str,
+    pub(crate) fields: &'t str,
+}
+
+/// A field, and the bytes that it spells, where it does.
+#[derive(Drop)]
+struct Field<'t> {
+    word: &'t str,
+    bytes: Option<Vec<u8>>,
+}
+
+/// The fields of a call, counted from 0. One that isn't there, or isn't what it is taken for, is kept in mind: the call is
+/// bad then, and its answer says nothing.
+#[derive(Drop)]
+pub(crate) struct Fields<'t> {
+    pub(crate) alloc: Global,
+    fields: Vec<Field<'t>>,
+    is_bad: Cell<bool>,
+}
+
+impl<'t> Fields<'t> {
+    /// Reads the fields, which one space parts.
+    pub(crate) fn read(alloc: Global, text: &'t str) -> Fields<'t> {
+        let mut fields = Vec::new(alloc);
+        let mut is_bad = false;
+        for word in text.split(' ') {
+            let bytes = bytes_of(alloc, word);
+            if fields.push(Field { word, bytes }).is_err() {
+                is_bad = true;
+            }
+        }
+        Fields {
+            alloc,
+            fields,
+            is_bad: Cell::new(is_bad),
+        }
+    }
+
+    pub(crate) fn is_bad(&self) -> bool {
+        self.is_bad.get()
+    }
+
+    /// The call is bad.
+    pub(crate) fn refuse(&self) {
+        self.is_bad.set(true);
+    }
+
+    /// There are as many fields.
+    pub(crate) fn count(&self, count: usize) {
+        if self.fields.len() != count {
+            self.refuse();
+        }
+    }
+
+    pub(crate) fn len(&self) -> usize {
+        self.fields.len()
+    }
+
+    pub(crate) fn word(&self, place: usize) -> &'t str {
+        match self.fields.get(place) {
+            Some(field) => field.word,
+            None => {
+                self.refuse();
+                ""
+            }
+        }
+    }
+
+    pub(crate) fn bytes(&self, place: usize) -> &[u8] {
+        match self.fields.get(place) {
+            Some(
+                Field {
+                    bytes: Some(bytes),
+                    ..
+                },
+            ) => bytes.as_slice(),
+            _ => {
+                self.refuse();
+                &[]
+            }
+        }
+    }
+
+    /// Bytes that may be absent.
+    pub(crate) fn part(&self, place: usize) -> Option<&[u8]> {
+        if self.word(place) == "none" {
+            None
+        } else {
+            Some(self.bytes(place))
+        }
+    }
+
+    /// Bytes of a fixed length.
+    pub(crate) fn array<const N: usize>(&self, place: usize) -> [u8; N] {
+        let mut array = [0u8; N];
+        let bytes = self.bytes(place);
+        if bytes.len() == N {
+            array.copy_from_slice(bytes);
+        } else {
+            self.refuse();
+        }
+        array
+    }
+
+    pub(crate) fn number(&self, place: usize) -> u64 {
+        match self.word(place).parse::<u64>() {
+            Ok(number) => number,
+            Err(_) => {
+                self.refuse();
+                0
+            }
+        }
+    }
+
+    /// A number of at most 16 bits.
+    pub(crate) fn short(&self, place: usize) -> u16 {
+        match u16::try_from(self.number(place)) {
+            Ok(number) => number,
+            Err(_) => {
+                self.refuse();
+                0
+            }
+        }
+    }
+
+    /// A buffer of a length, filled with a byte.
+    pub(crate) fn room(&self, place: usize, filled_with: u8) -> Vec<u8> {
+        let len = self.number(place);
+        match vec![in self.alloc; filled_with; len.min(MOST_ROOM) as usize] {
+            Ok(room) if len <= MOST_ROOM => room,
+            _ => {
+                self.refuse();
+                Vec::new(self.alloc)
+            }
+        }
+    }
+
+    /// A copy of bytes, for a call that changes them.
+    pub(crate) fn copy(&self, place: usize) -> Vec<u8> {
+        match self.bytes(place).to_vec(self.alloc) {
+            Ok(copy) => copy,
+            Err(_) => {
+                self.refuse();
+                Vec::new(self.alloc)
+            }
+        }
+    }
+
+    /// A Partial IV that may be absent.
+    pub(crate) fn partial_iv(&self, place: usize) -> Option<Piv> {
+        if self.word(place) == "none" {
+            return None;
+        }
+        let piv = Piv::new(self.number(place));
+        if piv.is_none() {
+            self.refuse();
+        }
+        piv
+    }
+
+    pub(crate) fn kid(&self, place: usize) -> Option<Kid> {
+        let kid = Kid::new(self.bytes(place));
+        if kid.is_none() {
+            self.refuse();
+        }
+        kid
+    }
+
+    pub(crate) fn message(&self, place: usize) -> Option<Message<'_>> {
+        match parse(self.bytes(place)) {
+            Ok(message) => Some(message),
+            Err(_) => {
+                self.refuse();
+                None
+            }
+        }
+    }
+
+    /// What a context is derived from: secret, salt, ID Context, sender and recipient.
+    pub(crate) fn params(&self) -> Params<'_> {
+        self.count(5);
+        Params {
+            secret: self.bytes(0),
+            salt: self.bytes(1),
+            id_context: self.part(2),
+            sender: self.bytes(3),
+            recipient: self.bytes(4),
+        }
+    }
+
+    /// The context that the first field names.
+    pub(crate) fn context(&self, contexts: &[NamedContext<'_>]) -> Option<Context> {
+        let name = self.word(0);
+        for named in contexts {
+            if named.name == name {
+                let fields = Fields::read(self.alloc, named.fields);
+                return Context::derive(fields.params()).ok();
+            }
+        }
+        None
+    }
+}

@@ -1,0 +1,38 @@
+//! The corpus: rows from standard input, each a call and its answer. Each call is made, and a row whose answer differs is
+//! printed, with what was wanted and what came; then the number of rows of each section. The status is 1 where a row
+//! differs or can't be read. docs/CORPUS.md has the format.
+#![tactic(auto)]
+
+mod answer;
+mod bytes;
+mod ciphers;
+mod command;
+mod context;
+mod corpus;
+mod fields;
+mod protection;
+mod reading;
+mod texts;
+mod verbs;
+mod window;
+mod writing;
+
+use crate::corpus::Corpus;
+use std::alloc::Global;
+use std::io;
+use std::process::ExitCode;
+
+/// Makes all calls, and answers the status.
+fn run<R: Input + Print + Alloc<A = Global>>(rt: &R) -> io::Result<u8> {
+    let text = io::read_to_string(rt.alloc(), rt.reader())?;
+    let mut corpus = Corpus::new(rt.alloc());
+    for line in text.as_str().lines() {
+        corpus.take(rt, line)?;
+    }
+    corpus.report(rt)
+}
+
+fn main(rt: HostRuntime) -> io::Result<ExitCode> {
+    let status = run(&rt)?;
+    Ok(ExitCode::from(status))
+}

@@ -1,0 +1,90 @@
+//! Calls of osc_coap that read.
+
+use crate::answer::Answer;
+use crate::fields::Fields;
+use osc_coap::option_numbers::*;
+use osc_coap::{Class, class_of, head_len, option_len, parse, parse_inner};
+
+pub(crate) fn parsed(fields: &Fields<'_>, answer: &mut Answer) {
+    fields.count(1);
+    match parse(fields.bytes(0)) {
+        Ok(message) => {
+            answer.kind(message.kind);
+            answer.bytes(&message.message_id.to_be_bytes());
+            answer.bytes(message.token.as_slice());
+            answer.code(message.code);
+            answer.options(message.options());
+            answer.bytes(message.payload());
+        }
+        Err(refusal) => answer.refused(refusal),
+    }
+}
+
+pub(crate) fn parsed_inner(fields: &Fields<'_>, answer: &mut Answer) {
+    fields.count(1);
+    match parse_inner(fields.bytes(0)) {
+        Ok(inner) => {
+            answer.code(inner.code);
+            answer.options(inner.options());
+            answer.bytes(inner.payload());
+        }
+        Err(refusal) => answer.refused(refusal),
+    }
+}
+
+pub(crate) fn option_length(fields: &Fields<'_>, answer: &mut Answer) {
+    fields.count(2);
+    answer.print(option_len(fields.short(0), fields.short(1)));
+}
+
+/// The length of a datagram's head with its token.
+pub(crate) fn head_length(fields: &Fields<'_>, answer: &mut Answer) {
+    fields.count(1);
+    if let Some(message) = fields.message(0) {
+        answer.print(head_len(&message.token));
+    }
+}
+
+pub(crate) fn class(fields: &Fields<'_>, answer: &mut Answer) {
+    fields.count(1);
+    answer.word(match class_of(fields.short(0)) {
+        Class::E => "E",
+        Class::U => "U",
+        Class::Both => "both",
+    });
+}
+
+/// The numbers that osc_coap names.
+const NUMBERS: [u16; 22] = [
+    IF_MATCH,
+    URI_HOST,
+    ETAG,
+    IF_NONE_MATCH,
+    OBSERVE,
+    URI_PORT,
+    LOCATION_PATH,
+    OSCORE,
+    URI_PATH,
+    CONTENT_FORMAT,
+    MAX_AGE,
+    URI_QUERY,
+    ACCEPT,
+    LOCATION_QUERY,
+    BLOCK2,
+    BLOCK1,
+    SIZE2,
+    PROXY_URI,
+    PROXY_SCHEME,
+    SIZE1,
+    ECHO,
+    NO_RESPONSE,
+];
+
+/// One of these, counted from 0.
+pub(crate) fn option_number(fields: &Fields<'_>, answer: &mut Answer) {
+    fields.count(1);
+    match NUMBERS.get(fields.short(0) as usize) {
+        Some(number) => answer.print(*number),
+        None => fields.refuse(),
+    }
+}

@@ -1,0 +1,60 @@
+//! The texts of a call of the command: words, or texts in quotes, parted by spaces.
+
+use std::alloc::Global;
+
+/// The texts that were read, and the one that is being read.
+#[derive(Drop)]
+pub(crate) struct Texts {
+    pub(crate) done: Vec<String>,
+    current: String,
+    is_quoted: bool,
+    is_escaped: bool,
+    pub(crate) is_whole: bool,
+}
+
+impl Texts {
+    /// Reads the texts. Behind a backslash `n` stands for a newline, and every other character for itself.
+    pub(crate) fn read(alloc: Global, call: &str) -> Texts {
+        let mut texts = Texts {
+            done: Vec::new(alloc),
+            current: String::new(alloc),
+            is_quoted: false,
+            is_escaped: false,
+            is_whole: true,
+        };
+        for character in call.chars() {
+            texts.take(alloc, character);
+        }
+        texts.end(alloc);
+        texts
+    }
+
+    fn take(&mut self, alloc: Global, character: char) {
+        if self.is_escaped {
+            self.is_escaped = false;
+            self.push(if character == 'n' { '\n' } else { character });
+        } else if character == '\\' {
+            self.is_escaped = true;
+        } else if character == '"' {
+            self.is_quoted = !self.is_quoted;
+        } else if character == ' ' && !self.is_quoted {
+            self.end(alloc);
+        } else {
+            self.push(character);
+        }
+    }
+
+    fn push(&mut self, character: char) {
+        if self.current.push(character).is_err() {
+            self.is_whole = false;
+        }
+    }
+
+    /// The text is whole, unless a quote is open.
+    fn end(&mut self, alloc: Global) {
+        let text = std::mem::replace(&mut self.current, String::new(alloc));
+        if self.is_quoted || self.done.push(text).is_err() {
+            self.is_whole = false;
+        }
+    }
+}

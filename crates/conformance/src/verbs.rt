@@ -1,0 +1,102 @@
+//! The verbs: one for each public call, layer by layer.
+
+use crate::answer::Answer;
+use crate::fields::{Fields, NamedContext};
+use crate::{ciphers, context, protection, reading, window, writing};
+
+/// Makes a call of osc_aes, osc_ccm or osc_hkdf, or of a layer above.
+pub(crate) fn make(
+    verb: &str,
+    fields: &Fields<'_>,
+    contexts: &[NamedContext<'_>],
+    answer: &mut Answer,
+) {
+    match verb {
+        "aes128" => ciphers::aes128(fields, answer),
+        "ccm-seal" => ciphers::ccm_seal(fields, answer),
+        "ccm-open" => ciphers::ccm_open(fields, answer),
+        "hmac-sha256" => ciphers::hmac(fields, answer),
+        "hkdf-extract" => ciphers::hkdf_extract(fields, answer),
+        "hkdf-expand" => ciphers::hkdf_expand(fields, answer),
+        _ => of_messages(verb, fields, contexts, answer),
+    }
+}
+
+/// A call of osc_coap, or of a layer above.
+fn of_messages(
+    verb: &str,
+    fields: &Fields<'_>,
+    contexts: &[NamedContext<'_>],
+    answer: &mut Answer,
+) {
+    match verb {
+        "parse" => reading::parsed(fields, answer),
+        "parse-inner" => reading::parsed_inner(fields, answer),
+        "option-length" => reading::option_length(fields, answer),
+        "head-length" => reading::head_length(fields, answer),
+        "class" => reading::class(fields, answer),
+        "option-number" => reading::option_number(fields, answer),
+        "write" => writing::write(fields, answer),
+        "write-inner" => writing::write_inner(fields, answer),
+        "write-again" => writing::write_again(fields, answer),
+        "write-under-head" => writing::write_under_head(fields, answer),
+        _ => of_contexts(verb, fields, contexts, answer),
+    }
+}
+
+/// A call of osc_context or osc_window, or of a layer above.
+fn of_contexts(
+    verb: &str,
+    fields: &Fields<'_>,
+    contexts: &[NamedContext<'_>],
+    answer: &mut Answer,
+) {
+    match verb {
+        "kid" => context::kid(fields, answer),
+        "id-context" => context::id_context(fields, answer),
+        "partial-iv" => context::partial_iv(fields, answer),
+        "nonce" => context::nonce_of(fields, answer),
+        "aad" => context::aad_of(fields, answer),
+        "read-option" => context::read_option(fields, answer),
+        "write-option" => context::write_option(fields, answer),
+        "derive" => context::derive(fields, answer),
+        "window" => window::window(fields, answer),
+        "gate" => window::gate(fields, answer),
+        "challenge" => window::challenge(fields, answer),
+        _ => of_protection(verb, fields, contexts, answer),
+    }
+}
+
+/// A call of osc_protect that needs no context, or one that does.
+fn of_protection(
+    verb: &str,
+    fields: &Fields<'_>,
+    contexts: &[NamedContext<'_>],
+    answer: &mut Answer,
+) {
+    match verb {
+        "head" => protection::head(fields, answer),
+        "check-request" => protection::checked_request(fields, answer),
+        "check-response" => protection::checked_response(fields, answer),
+        _ => under_a_context(verb, fields, contexts, answer),
+    }
+}
+
+/// A call of osc_protect under a context.
+fn under_a_context(
+    verb: &str,
+    fields: &Fields<'_>,
+    contexts: &[NamedContext<'_>],
+    answer: &mut Answer,
+) {
+    let Some(context) = fields.context(contexts) else {
+        return fields.refuse();
+    };
+    match verb {
+        "seal-request" => protection::sealed_request(fields, &context, answer),
+        "seal-response" => protection::sealed_response(fields, &context, answer),
+        "open-request" => protection::opened_request(fields, &context, answer),
+        "open-response" => protection::opened_response(fields, &context, answer),
+        _ => fields.refuse(),
+    }
+}

@@ -1,0 +1,113 @@
+//! Calls of osc_coap that write.
+
+use crate::answer::Answer;
+use crate::fields::Fields;
+use osc_coap::{Message, WriteError, Writer};
+
+/// What a writer's buffer is filled with.
+const FILLED_WITH: u8 = 0xee;
+
+/// A step of a writer answers.
+fn told(outcome: Result<(), WriteError>, answer: &mut Answer) {
+    match outcome {
+        Ok(()) => answer.word("ok"),
+        Err(refusal) => answer.print(refusal),
+    }
+}
+
+/// The steps of a writer that has begun, from this field on: numbers and values of options, `payload` and a payload.
+fn steps(writer: &mut Writer<'_>, fields: &Fields<'_>, first: usize, answer: &mut Answer) {
+    for place in (first..fields.len()).step_by(2) {
+        let value = fields.bytes(place.saturating_add(1));
+        let outcome = if fields.word(place) == "payload" {
+            writer.payload(value)
+        } else {
+            writer.option(fields.short(place), value)
+        };
+        told(outcome, answer);
+    }
+}
+
+/// A writer that didn't begin.
+fn refused(refusal: WriteError, buf: &[u8], answer: &mut Answer) {
+    answer.refused(refusal);
+    answer.rest(buf, FILLED_WITH);
+}
+
+/// A writer that begins with the head of a message, under another code.
+fn written(message: &Message<'_>, fields: &Fields<'_>, answer: &mut Answer) {
+    let (kind, message_id) = (message.kind, message.message_id);
+    let code = fields.array::<1>(2)[0];
+    let mut buf = fields.room(0, FILLED_WITH);
+    match Writer::new(buf.as_mut_slice(), kind, code, message_id, &message.token) {
+        Ok(begun) => {
+            let mut writer = begun;
+            steps(&mut writer, fields, 3, answer);
+            let len = writer.finish();
+            answer.written(buf.as_slice(), len, FILLED_WITH);
+        }
+        Err(refusal) => refused(refusal, buf.as_slice(), answer),
+    }
+}
+
+pub(crate) fn write(fields: &Fields<'_>, answer: &mut Answer) {
+    if let Some(message) = fields.message(1) {
+        written(&message, fields, answer);
+    }
+}
+
+pub(crate) fn write_inner(fields: &Fields<'_>, answer: &mut Answer) {
+    let code = fields.array::<1>(1)[0];
+    let mut buf = fields.room(0, FILLED_WITH);
+    match Writer::inner(buf.as_mut_slice(), code) {
+        Ok(begun) => {
+            let mut writer = begun;
+            steps(&mut writer, fields, 2, answer);
+            let len = writer.finish();
+            answer.written(buf.as_slice(), len, FILLED_WITH);
+        }
+        Err(refusal) => refused(refusal, buf.as_slice(), answer),
+    }
+}
+
+/// Writes a message, and answers how long it is.
+fn copy(message: &Message<'_>, buf: &mut [u8]) -> Result<usize, WriteError> {
+    let (kind, message_id) = (message.kind, message.message_id);
+    let mut writer = Writer::new(buf, kind, message.code, message_id, &message.token)?;
+    for (number, value) in message.options() {
+        writer.option(number, value)?;
+    }
+    writer.payload(message.payload())?;
+    Ok(writer.finish())
+}
+
+/// The bytes of a message that is written.
+fn copied(message: &Message<'_>, fields: &Fields<'_>, answer: &mut Answer) {
+    let mut buf = fields.room(0, FILLED_WITH);
+    match copy(message, buf.as_mut_slice()) {
+        Ok(len) => answer.written(buf.as_slice(), len, FILLED_WITH),
+        Err(refusal) => answer.print(refusal),
+    }
+}
+
+/// A datagram is read, and written anew.
+pub(crate) fn write_again(fields: &Fields<'_>, answer: &mut Answer) {
+    fields.count(2);
+    if let Some(message) = fields.message(1) {
+        copied(&message, fields, answer);
+    }
+}
+
+/// A datagram is read, and written under the head of another one.
+pub(crate) fn write_under_head(fields: &Fields<'_>, answer: &mut Answer) {
+    fields.count(3);
+    if let (Some(message), Some(head)) = (fields.message(1), fields.message(2)) {
+        let Message {
+            kind,
+            message_id,
+            token,
+            ..
+        } = head;
+        copied(&message.with_head(kind, message_id, token), fields, answer);
+    }
+}

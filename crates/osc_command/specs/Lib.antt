@@ -1,0 +1,2 @@
+pub use Rattle.clap.specs.Matches
+pub mod Calls

@@ -1,0 +1,53 @@
+//! The context that the words of a call name.
+
+use crate::words::{bytes_of, required_bytes};
+use clap::ArgMatches;
+use osc_context::Params;
+use osc_text::Fault;
+use std::alloc::Global;
+
+/// The bytes of the options of a context, which is derived from them.
+#[derive(Drop)]
+pub(crate) struct ContextWords {
+    secret: Vec<u8>,
+    salt: Vec<u8>,
+    sender: Vec<u8>,
+    recipient: Vec<u8>,
+    id_context: Option<Vec<u8>>,
+}
+
+impl ContextWords {
+    /// Reads the options in the order in which the help lists them. Salt and identifiers are empty where they aren't given.
+    pub(crate) fn read(alloc: Global, matches: &ArgMatches<'_>) -> Result<ContextWords, Fault> {
+        let secret = required_bytes(alloc, matches, "secret", "--secret")?;
+        let salt = bytes_of(alloc, "--salt", matches.get_str("salt").unwrap_or(""))?;
+        let sender = bytes_of(alloc, "--sender", matches.get_str("sender").unwrap_or(""))?;
+        let recipient = bytes_of(
+            alloc,
+            "--recipient",
+            matches.get_str("recipient").unwrap_or(""),
+        )?;
+        let id_context = match matches.get_str("id-context") {
+            Some(word) => Some(bytes_of(alloc, "--id-context", word)?),
+            None => None,
+        };
+        Ok(ContextWords {
+            secret,
+            salt,
+            sender,
+            recipient,
+            id_context,
+        })
+    }
+
+    /// What the context is derived from.
+    pub(crate) fn params(&self) -> Params<'_> {
+        Params {
+            secret: self.secret.as_slice(),
+            salt: self.salt.as_slice(),
+            id_context: self.id_context.as_deref(),
+            sender: self.sender.as_slice(),
+            recipient: self.recipient.as_slice(),
+        }
+    }
+}

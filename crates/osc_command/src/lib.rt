@@ -1,0 +1,15 @@
+//! The command `oscore` over any reader and two writers: reads the words of a call, does what they ask for by the functions
+//! of `osc_text`, and answers the status.
+//!
+//! ```
+//! let status = command(alloc, &words, &mut input, &mut out, &mut err);
+//! ```
+#![tactic(auto)]
+
+mod context_words;
+mod fault_text;
+mod running;
+mod words;
+
+pub use running::{command, report};
+pub use words::read_words;

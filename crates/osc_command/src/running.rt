@@ -1,0 +1,140 @@
+//! The command on any streams.
+
+ghost use Rattle.std.specs.Prelude.{◌≡◌, ◌≢◌, ◌⊎◌, IfOk, true};
+ghost use Rattle.clap.specs.Matches.{has_subcommand};
+
+use crate::context_words::ContextWords;
+use crate::fault_text::{put_fault, put_help, usage_text};
+use crate::words::{input_fault, optional_number, read_words, required_bytes};
+use clap::error::ErrorKind;
+use clap::{ArgMatches, Error};
+use osc_protect::RequestRef;
+use osc_text::{
+    Fault, Opening, Sealing, Wrong, derive_text, explain_text, open_text, protect_text,
+};
+use std::alloc::Global;
+use std::io::{Read, Write};
+
+/// Does what `derive` asks for.
+fn run_derive<W: Write>(alloc: Global, matches: &ArgMatches<'_>, out: &mut W) -> Result<u8, Fault>
+    ensures { IfOk result (λ s. (s ≡ 0) ⊎ (s ≡ 2)) }
+{
+    let context = ContextWords::read(alloc, matches)?;
+    derive_text(alloc, context.params(), out)
+}
+
+/// Reads what a datagram is to be opened as: a response where the request is named that it answers.
+fn read_opening(matches: &ArgMatches<'_>) -> Result<Opening, Fault> {
+    match optional_number(matches, "request", "--request")? {
+        Some(number) => Ok(Opening::Response(RequestRef::new(number))),
+        None => Ok(Opening::Request),
+    }
+}
+
+/// Reads what a plain datagram is to be sealed as: a response where the request is named that it answers, and else a
+/// request, which can't be without a number.
+fn read_sealing(matches: &ArgMatches<'_>) -> Result<Sealing, Fault> {
+    let own = optional_number(matches, "sequence", "--sequence")?;
+    match (optional_number(matches, "request", "--request")?, own) {
+        (Some(number), own) => Ok(Sealing::Response {
+            request: RequestRef::new(number),
+            own,
+        }),
+        (None, Some(number)) => Ok(Sealing::Request(number)),
+        (None, None) => Err(input_fault("--sequence", Wrong::Missing)),
+    }
+}
+
+/// Does what `open` asks for.
+fn run_open<W: Write>(alloc: Global, matches: &ArgMatches<'_>, out: &mut W) -> Result<u8, Fault>
+    ensures { IfOk result (λ s. (s ≡ 0) ⊎ (s ≡ 2)) }
+{
+    let context = ContextWords::read(alloc, matches)?;
+    let what = read_opening(matches)?;
+    let mut datagram = required_bytes(alloc, matches, "datagram", "DATAGRAM")?;
+    open_text(alloc, context.params(), what, datagram.as_mut_slice(), out)
+}
+
+/// Does what `protect` asks for.
+fn run_protect<W: Write>(alloc: Global, matches: &ArgMatches<'_>, out: &mut W) -> Result<u8, Fault>
+    ensures { IfOk result (λ s. (s ≡ 0) ⊎ (s ≡ 2)) }
+{
+    let context = ContextWords::read(alloc, matches)?;
+    let what = read_sealing(matches)?;
+    let plain = required_bytes(alloc, matches, "datagram", "DATAGRAM")?;
+    protect_text(alloc, context.params(), what, plain.as_slice(), out)
+}
+
+/// Does what `explain` asks for.
+fn run_explain<W: Write>(alloc: Global, matches: &ArgMatches<'_>, out: &mut W) -> Result<u8, Fault>
+    ensures { IfOk result (λ s. (s ≡ 0) ⊎ (s ≡ 2)) }
+{
+    let datagram = required_bytes(alloc, matches, "datagram", "DATAGRAM")?;
+    explain_text(alloc, datagram.as_slice(), out)
+}
+
+/// Does what a call asks for, by its name.
+fn run_called<W: Write>(alloc: Global, matches: &ArgMatches<'_>, out: &mut W) -> Result<u8, Fault>
+    requires { has_subcommand matches.now ≡ true }
+    ensures { IfOk result (λ s. (s ≡ 0) ⊎ (s ≡ 2)) }
+{
+    match matches.subcommand() {
+        Some(("derive", inner)) => run_derive(alloc, inner, out),
+        Some(("open", inner)) => run_open(alloc, inner, out),
+        Some(("protect", inner)) => run_protect(alloc, inner, out),
+        Some(("explain", inner)) => run_explain(alloc, inner, out),
+        // No other is there; clap answers `help` by itself.
+        Some(_) => Err(input_fault("the call", Wrong::Unknown)),
+        None => unreachable!(),
+    }
+}
+
+/// Prints the help that was asked for, or answers the fault of the words.
+fn answer_no_call<W: Write>(alloc: Global, error: &Error, out: &mut W) -> Result<u8, Fault>
+    ensures { IfOk result (λ s. s ≡ 0) }
+{
+    match error.kind() {
+        ErrorKind::OutOfMemory => Err(Fault::Memory),
+        ErrorKind::DisplayHelp => {
+            put_help(alloc, error, out)?;
+            Ok(0)
+        }
+        _ => Err(Fault::Usage(usage_text(alloc, error)?)),
+    }
+}
+
+/// Does what the words ask for.
+fn run<W: Write>(alloc: Global, words: &[String], out: &mut W) -> Result<u8, Fault>
+    ensures { IfOk result (λ s. (s ≡ 0) ⊎ (s ≡ 2)) }
+{
+    match read_words(alloc, words) {
+        Ok(matches) => run_called(alloc, &matches, out),
+        Err(error) => answer_no_call(alloc, &error, out),
+    }
+}
+
+/// Prints a fault in one line, and answers its status.
+pub fn report<E: Write>(fault: &Fault, err: &mut E) -> u8
+    ensures { result ≡ 1 }
+{
+    put_fault(fault, err);
+    1
+}
+
+/// Does what the words ask for, the program's name being the first, and answers the status: 0 where it is done, 2 where
+/// what it was done to is refused, 1 at a fault, which stands on `err` in one line.
+pub fn command<R: Read, W: Write, E: Write>(
+    alloc: Global,
+    words: &[String],
+    _input: &mut R,
+    out: &mut W,
+    err: &mut E,
+) -> u8
+    ensures status { (result ≡ 0) ⊎ ((result ≡ 1) ⊎ (result ≡ 2)) }
+    ensures quiet { result ≢ 1 → err.new ≡ err.old }
+{
+    match run(alloc, words, out) {
+        Ok(status) => status,
+        Err(fault) => report(&fault, err),
+    }
+}

@@ -1,0 +1,210 @@
+//! The words of a call.
+
+ghost use Rattle.std.specs.Prelude.{◌≡◌, IfOk, false, true};
+ghost use Rattle.clap.specs.Matches.{has_subcommand};
+ghost use Rattle.osc_command.specs.Calls.{IsLocal, NeedsSubcommand};
+
+use clap::{Arg, ArgAction, ArgMatches, Command, Error};
+use osc_context::Piv;
+use osc_text::{Fault, HexError, Wrong, read_hex, read_number};
+use std::alloc::{AllocError, Global};
+
+const ABOUT: &str =
+    "Derives contexts of OSCORE (RFC 8613), protects CoAP requests and responses and opens protected ones, and explains datagrams.";
+
+const EXAMPLE: &str = "Example:
+  oscore open --secret 0102030405060708090a0b0c0d0e0f10 --salt 9e7ca92223786340 --sender 01 44025d1f00003974396c6f63616c686f7374620914ff612f1092f1776f1c1668b3825e";
+
+const ABOUT_DERIVE: &str = "Derives a context, and prints its keys and its Common IV.";
+
+const ABOUT_OPEN: &str =
+    "Opens a protected request, or a response to a request, and prints what it says, one part a line.";
+
+const ABOUT_PROTECT: &str =
+    "Protects a plain request under a number that was never used, or a response to a request, and prints it in hex.";
+
+const EXAMPLE_PROTECT: &str = "Example:
+  oscore protect --secret 0102030405060708090a0b0c0d0e0f10 --salt 9e7ca92223786340 --recipient 01 --sequence 20 44015d1f00003974396c6f63616c686f737483747631";
+
+const HELP_SEQUENCE: &str =
+    "The message's own number, below 2^40: decimal digits; a response can be without";
+
+const HELP_REQUEST: &str =
+    "For a response: the number of the request that it answers, below 2^40: decimal digits";
+
+const ABOUT_EXPLAIN: &str =
+    "Reads a datagram without a key, and prints what it shows and what its OSCORE options say.";
+
+const EXAMPLE_EXPLAIN: &str = "Example:
+  oscore explain 44025d1f00003974396c6f63616c686f7374620914ff612f1092f1776f1c1668b3825e";
+
+/// An option with one value, a word of hex.
+fn hex_option<'a>(alloc: Global, name: &'a str, help: &'a str) -> Arg<'a>
+    ensures { result.global ≡ false }
+{
+    Arg::new(alloc, name)
+        .long(name)
+        .value_name("HEX")
+        .action(ArgAction::Set)
+        .help(help)
+}
+
+/// An option with one value, a number.
+fn number_option<'a>(alloc: Global, name: &'a str, value: &'a str, help: &'a str) -> Arg<'a>
+    ensures { result.global ≡ false }
+{
+    Arg::new(alloc, name)
+        .long(name)
+        .value_name(value)
+        .action(ArgAction::Set)
+        .help(help)
+}
+
+/// The one word that is the datagram.
+fn datagram_word<'a>(alloc: Global) -> Arg<'a>
+    ensures { result.global ≡ false }
+{
+    Arg::new(alloc, "datagram")
+        .value_name("DATAGRAM")
+        .required(true)
+        .help("The datagram, in hex")
+}
+
+/// A command with the options of a context. This end is the sender.
+fn with_context<'a>(command: Command<'a>, alloc: Global) -> Result<Command<'a>, AllocError>
+    requires { IsLocal command }
+    ensures { IfOk result IsLocal }
+{
+    let secret = hex_option(alloc, "secret", "The Master Secret, 1 to 64 bytes").required(true);
+    let salt = hex_option(
+        alloc,
+        "salt",
+        "The Master Salt, 0 to 64 bytes [default: none]",
+    );
+    let sender = hex_option(
+        alloc,
+        "sender",
+        "This end's identifier, 0 to 7 bytes [default: none]",
+    );
+    let recipient = hex_option(
+        alloc,
+        "recipient",
+        "The other end's identifier, 0 to 7 bytes [default: none]",
+    );
+    let id_context = hex_option(
+        alloc,
+        "id-context",
+        "The ID Context, 1 to 32 bytes, where there is one",
+    );
+    command
+        .arg(secret)?
+        .arg(salt)?
+        .arg(sender)?
+        .arg(recipient)?
+        .arg(id_context)
+}
+
+fn derive_command<'a>(alloc: Global) -> Result<Command<'a>, AllocError>
+    ensures { IfOk result IsLocal }
+{
+    with_context(Command::new(alloc, "derive").about(ABOUT_DERIVE), alloc)
+}
+
+fn open_command<'a>(alloc: Global) -> Result<Command<'a>, AllocError>
+    ensures { IfOk result IsLocal }
+{
+    let command = Command::new(alloc, "open")
+        .about(ABOUT_OPEN)
+        .after_help(EXAMPLE);
+    with_context(command, alloc)?
+        .arg(number_option(alloc, "request", "M", HELP_REQUEST))?
+        .arg(datagram_word(alloc))
+}
+
+fn protect_command<'a>(alloc: Global) -> Result<Command<'a>, AllocError>
+    ensures { IfOk result IsLocal }
+{
+    let command = Command::new(alloc, "protect")
+        .about(ABOUT_PROTECT)
+        .after_help(EXAMPLE_PROTECT);
+    with_context(command, alloc)?
+        .arg(number_option(alloc, "sequence", "N", HELP_SEQUENCE))?
+        .arg(number_option(alloc, "request", "M", HELP_REQUEST))?
+        .arg(datagram_word(alloc))
+}
+
+fn explain_command<'a>(alloc: Global) -> Result<Command<'a>, AllocError>
+    ensures { IfOk result IsLocal }
+{
+    Command::new(alloc, "explain")
+        .about(ABOUT_EXPLAIN)
+        .after_help(EXAMPLE_EXPLAIN)
+        .arg(datagram_word(alloc))
+}
+
+/// All that the words of a call can ask for.
+fn program<'a>(alloc: Global) -> Result<Command<'a>, AllocError>
+    ensures local { IfOk result IsLocal }
+    ensures required { IfOk result NeedsSubcommand }
+{
+    let command = Command::new(alloc, "oscore")
+        .bin_name("oscore")?
+        .about(ABOUT)
+        .after_help(EXAMPLE)
+        .subcommand(derive_command(alloc)?)?
+        .subcommand(open_command(alloc)?)?
+        .subcommand(protect_command(alloc)?)?
+        .subcommand(explain_command(alloc)?)?;
+    Ok(command.subcommand_required(true))
+}
+
+/// Reads the words of a call, the program's name first. Help that is asked for is handed over as an error, of the kind
+/// `DisplayHelp`.
+pub fn read_words<'a>(alloc: Global, words: &'a [String]) -> Result<ArgMatches<'a>, Error>
+    ensures named { IfOk result (λ matches. has_subcommand matches ≡ true) }
+{
+    let command = program(alloc)?;
+    command.try_get_matches_from(words)
+}
+
+/// The fault of one word, named by its place in the call.
+pub(crate) fn input_fault(word: &'static str, wrong: Wrong) -> Fault {
+    Fault::Input { word, wrong }
+}
+
+/// The bytes that a word spells, or the fault that names the word's place in the call.
+pub(crate) fn bytes_of(alloc: Global, name: &'static str, word: &str) -> Result<Vec<u8>, Fault> {
+    match read_hex(alloc, word) {
+        Ok(bytes) => Ok(bytes),
+        Err(HexError::Memory) => Err(Fault::Memory),
+        Err(HexError::BadHex) => Err(input_fault(name, Wrong::BadHex)),
+    }
+}
+
+/// The bytes of a word that the call can't be without. The words were read, so it is there.
+pub(crate) fn required_bytes(
+    alloc: Global,
+    matches: &ArgMatches<'_>,
+    id: &str,
+    name: &'static str,
+) -> Result<Vec<u8>, Fault> {
+    match matches.get_str(id) {
+        Some(word) => bytes_of(alloc, name, word),
+        None => Err(input_fault(name, Wrong::Missing)),
+    }
+}
+
+/// The number of a word, where the word is there, or the fault that names the word's place in the call.
+pub(crate) fn optional_number(
+    matches: &ArgMatches<'_>,
+    id: &str,
+    name: &'static str,
+) -> Result<Option<Piv>, Fault> {
+    match matches.get_str(id) {
+        Some(word) => match read_number(word) {
+            Some(number) => Ok(Some(number)),
+            None => Err(input_fault(name, Wrong::Number)),
+        },
+        None => Ok(None),
+    }
+}

@@ -1,4 +1,0 @@
-mod contexts;
-mod limits;
-mod option_values;
-mod requests;

@@ -1,0 +1,9 @@
+pub use Rattle.osc_context.specs.Views
+pub mod Hex
+pub mod Numbers
+pub mod Lines
+pub mod Contexts
+pub mod Opening
+pub mod Protecting
+pub mod Explanation
+pub mod Written

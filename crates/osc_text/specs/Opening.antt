@@ -1,0 +1,70 @@
+-- What `open` prints (RFC 8613, 8.2 and 8.4; own rule: the lines). f is a protection, of requests or of responses, i a number
+-- that it knows, g what a security context is derived from, client and server are that context, of which this end is the one
+-- or the other, d is a datagram, p its parts, m the message that it protects.
+use Rattle.std.specs.Prelude.{◌≡◌, ℕ, List, [], ◌∷◌, ◌++◌, map, Option, Result, Ok, Err, codes}
+use Rattle.osc_coap.specs.declared.message.Kind.{Kind}
+use Rattle.osc_coap.specs.OptionSpelling.{Entry}
+use Rattle.osc_coap.specs.Datagram.{Parts, IsDatagram}
+use Rattle.osc_coap.specs.Inner.{InnerParts}
+use Rattle.osc_protect.specs.Message.{values_at, first_of}
+use Rattle.osc_context.specs.SecurityContext.{SecurityContext}
+use Rattle.osc_context.specs.Views.{client_context_of, server_context_of}
+use Rattle.osc_context.specs.declared.parameters.Params.{Params}
+use Rattle.osc_protect.specs.Protection.{Protection, Protects, requests, responses}
+use Rattle.osc_protect.specs.Text.{unprotect_error_text}
+use Rattle.osc_protect.specs.Refusals.{Refuses}
+use Rattle.osc_protect.specs.Views.{shown, message_of, opened_number, request_number}
+use Rattle.osc_protect.specs.declared.opened.Opened.{Opened}
+use Rattle.osc_protect.specs.declared.unprotect_error.UnprotectError.{UnprotectError}
+use Rattle.osc_text.specs.Contexts.{InContext, Told}
+use Rattle.osc_text.specs.declared.opening.Opening.{Opening}
+use Rattle.osc_text.specs.declared.opening.Opening.TheVariants.{Request, Response}
+use Rattle.osc_text.specs.Lines.{head_lines, number_line, bytes_line, part_lines, option_line, refused_line}
+
+-- what `open` prints of a datagram that opens, one field a row (own rule)
+pub record Printed : Type 0 where
+  pub kind : Kind
+  pub message_id : ℕ
+  pub token : List ℕ
+  pub code : ℕ
+  pub number : Option ℕ
+  pub uri_host : Option (List ℕ)
+  pub uri_port : Option (List ℕ)
+  pub options : List Entry
+  pub payload : List ℕ
+
+-- all lines of a datagram that opens, in their order (own rule)
+abbrev pub opened_lines : Printed → List (List ℕ)
+opened_lines x = head_lines x.kind x.message_id x.token x.code ++ (number_line x.number ∷ (part_lines (codes "uri-host") x.uri_host ++ (part_lines (codes "uri-port") x.uri_port ++ (map option_line x.options ++ (bytes_line (codes "payload") x.payload ∷ [])))))
+
+-- head, Uri-Host and Uri-Port of the datagram, its number or none, the rest of what it protects (RFC 8613, 8.2 and 8.4)
+abbrev pub printed_of : Parts → Option ℕ → InnerParts → Printed
+printed_of p n m = record { kind = p.kind; message_id = p.message_id; token = p.token; code = m.code; number = n; uri_host = first_of (values_at 3 p.options); uri_port = first_of (values_at 7 p.options); options = m.options; payload = m.payload }
+
+-- what `open` prints of a datagram under a protection, and the status: 2 for a refusal (RFC 8613, 8.2 and 8.4)
+pub data DatagramText {I : Type 0} (f : Protection I) (d : List ℕ) (lines : List (List ℕ)) (status : ℕ) : Type 0 where
+  opened : (p : Parts) (i : I) (m : InnerParts) → IsDatagram p d → Protects f i m d → lines ≡ opened_lines (printed_of p (f.parts i).piv m) → status ≡ 0 → DatagramText f d lines status
+  refused : (e : UnprotectError) → Refuses f d e → lines ≡ refused_line (unprotect_error_text e) ∷ [] → status ≡ 2 → DatagramText f d lines status
+
+-- the same by what is asked: this end opens a request as the server, and a response as the client (RFC 8613, 8.2 and 8.4)
+abbrev pub OpeningText : (client server : SecurityContext) → Opening → List ℕ → Told
+OpeningText client server Request d = DatagramText (requests server) d
+OpeningText client server (Response request) d = DatagramText (responses client (request_number request)) d
+
+-- what `open` prints of a datagram (RFC 8613, 8.2 and 8.4)
+abbrev pub OpenText : Params → Opening → List ℕ → Told
+OpenText g what d = InContext g (OpeningText (client_context_of g) (server_context_of g) what d)
+
+-- what was opened, as it is printed (how the code is seen)
+abbrev pub seen : Opened → Printed
+seen o = record { kind = o.kind; message_id = o.message_id; token = o.token.items; code = o.code; number = opened_number o; uri_host = shown o.uri_host; uri_port = shown o.uri_port; options = (message_of o).options; payload = o.payload.now }
+
+-- the lines of what came of an open (how the code is seen)
+abbrev pub outcome_lines : Result Opened UnprotectError → List (List ℕ)
+outcome_lines (Ok o) = opened_lines (seen o)
+outcome_lines (Err e) = refused_line (unprotect_error_text e) ∷ []
+
+-- the status of what came of an open (how the code is seen)
+abbrev pub outcome_status : Result Opened UnprotectError → ℕ
+outcome_status (Ok o) = 0
+outcome_status (Err e) = 2

@@ -1,0 +1,55 @@
+-- What `protect` prints (RFC 8613, 8.1 and 8.3; own rule: the lines). f is a protection, of requests or of responses, i a
+-- number that it knows, g what a security context is derived from, client and server are that context, of which this end is
+-- the one or the other, d is a plain datagram and p its parts.
+use Rattle.std.specs.Prelude.{◌≡◌, ℕ, List, [], ◌∷◌, take, Result, Ok, Err}
+use Rattle.std.specs.Option.{option_map}
+use Rattle.osc_coap.specs.Datagram.{Parts, IsDatagram}
+use Rattle.osc_coap.specs.Fault.{HasFault}
+use Rattle.osc_coap.specs.Text.{error_text}
+use Rattle.osc_coap.specs.declared.format_error.FormatError.{FormatError}
+use Rattle.osc_context.specs.SecurityContext.{SecurityContext}
+use Rattle.osc_context.specs.Views.{client_context_of, server_context_of, number_of}
+use Rattle.osc_context.specs.declared.parameters.Params.{Params}
+use Rattle.osc_protect.specs.Protection.{Protection, requests, responses}
+use Rattle.osc_protect.specs.Sealed.{IsSealed}
+use Rattle.osc_protect.specs.SealRefusals.{RefusesToSeal}
+use Rattle.osc_protect.specs.Text.{protect_error_text}
+use Rattle.osc_protect.specs.Views.{request_number}
+use Rattle.osc_protect.specs.declared.protect_error.ProtectError.{ProtectError}
+use Rattle.osc_text.specs.Contexts.{InContext, Told}
+use Rattle.osc_text.specs.declared.protection.Sealing.{Sealing}
+use Rattle.osc_text.specs.declared.protection.Sealing.TheVariants.{Request, Response}
+use Rattle.osc_text.specs.Lines.{hex_line, refused_line}
+
+-- the room that each sealed message has: the most bytes of a datagram, so that none is too long for it (own rule)
+abbrev pub most_room : ℕ
+most_room = 65535
+
+-- what `protect` prints of a message, and the status: what is sealed in hex, or with status 2 a refusal (RFC 8613, 8.1 and 8.3)
+pub data SealedText {I : Type 0} (f : Protection I) (i : I) (p : Parts) (lines : List (List ℕ)) (status : ℕ) : Type 0 where
+  sealed : (bytes : List ℕ) → IsSealed f i p bytes → lines ≡ hex_line bytes ∷ [] → status ≡ 0 → SealedText f i p lines status
+  refused : (e : ProtectError) → RefusesToSeal f i p most_room e → lines ≡ refused_line (protect_error_text e) ∷ [] → status ≡ 2 → SealedText f i p lines status
+
+-- the same by what is asked: this end seals a request as the client, and a response as the server (RFC 8613, 8.1 and 8.3)
+abbrev pub SealingText : (client server : SecurityContext) → Sealing → Parts → Told
+SealingText client server (Request number) p = SealedText (requests client) (number_of number) p
+SealingText client server (Response request own) p = SealedText (responses server (request_number request)) (option_map number_of own) p
+
+-- what is told of a plain datagram's parts; a datagram with a fault is refused for that, with its place (RFC 7252, 3)
+pub data PlainText (told : Parts → Told) (d : List ℕ) (lines : List (List ℕ)) (status : ℕ) : Type 0 where
+  message : (p : Parts) → IsDatagram p d → told p lines status → PlainText told d lines status
+  faulty : (e : FormatError) → HasFault d e.fault e.place → lines ≡ refused_line (error_text e) ∷ [] → status ≡ 2 → PlainText told d lines status
+
+-- what `protect` prints of a plain datagram (RFC 8613, 8.1 and 8.3)
+abbrev pub ProtectText : Params → Sealing → List ℕ → Told
+ProtectText g what d = InContext g (PlainText (SealingText (client_context_of g) (server_context_of g) what) d)
+
+-- the lines of what came of a seal into this buffer (how the code is seen)
+abbrev pub outcome_lines : List ℕ → Result ℕ ProtectError → List (List ℕ)
+outcome_lines buffer (Ok len) = hex_line (take len buffer) ∷ []
+outcome_lines buffer (Err e) = refused_line (protect_error_text e) ∷ []
+
+-- the status of what came of a seal (how the code is seen)
+abbrev pub outcome_status : Result ℕ ProtectError → ℕ
+outcome_status (Ok len) = 0
+outcome_status (Err e) = 2

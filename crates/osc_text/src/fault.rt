@@ -1,0 +1,69 @@
+//! Why the command ends with status 1.
+
+ghost use Rattle.std.specs.Prelude.{◌≡◌};
+ghost use Rattle.osc_text.specs.declared.fault.Fault.TheVariants.{Memory, Write};
+
+use std::alloc::{AllocError, AllocFailed};
+use std::io;
+use thiserror::Error;
+
+/// What is wrong with a word of the call.
+#[derive(Clone, Copy, Debug, Drop, PartialEq, Eq, Error)]
+pub enum Wrong {
+    /// The word is not there.
+    #[error("missing")]
+    Missing,
+    /// The word spells no bytes.
+    #[error("bad hex")]
+    BadHex,
+    /// The word is no number, or one from 2^40 up, which no message can have.
+    #[error("not a number below 2^40")]
+    Number,
+    /// No call has that name.
+    #[error("unknown")]
+    Unknown,
+}
+
+/// Why the command ends with status 1. Each prints on one line.
+#[derive(Debug, Drop, Error)]
+pub enum Fault {
+    /// The words are not those of a call: what is wrong with them, on one line.
+    #[error("{0}")]
+    Usage(String),
+    /// The words of the call are no text, or could not be read.
+    #[error("cannot read the words: {}", .0.kind())]
+    Words(io::Error),
+    /// One word, named by its place in the call, is wrong.
+    #[error("{word}: {wrong}")]
+    Input { word: &'static str, wrong: Wrong },
+    /// A growth was refused.
+    #[error("out of memory")]
+    Memory,
+    /// A write to standard output failed.
+    #[error("cannot write: {}", .0.kind())]
+    Write(io::Error),
+}
+
+impl From<AllocError> for Fault {
+    ghost from_gives = { λ _ fault. fault ≡ Memory };
+
+    fn from(_error: AllocError) -> Fault {
+        Fault::Memory
+    }
+}
+
+impl<T: Drop> From<AllocFailed<T>> for Fault {
+    ghost from_gives = { λ _ fault. fault ≡ Memory };
+
+    fn from(_error: AllocFailed<T>) -> Fault {
+        Fault::Memory
+    }
+}
+
+impl From<io::Error> for Fault {
+    ghost from_gives = { λ error fault. fault ≡ Write error };
+
+    fn from(error: io::Error) -> Fault {
+        Fault::Write(error)
+    }
+}

@@ -1,0 +1,27 @@
+//! What each call of the command `oscore` prints, over any writer: a text of whole lines, and the status. The words of hex and
+//! of digits are read here too.
+//!
+//! ```
+//! let params = Params { secret, salt, id_context: None, sender, recipient };
+//! let mut datagram = read_hex(alloc, word)?;
+//! let status = open_text(alloc, params, Opening::Request, &mut datagram, &mut out)?;
+//! ```
+#![tactic(auto)]
+
+mod derivation;
+mod explanation;
+mod fault;
+mod hex_word;
+mod lines;
+mod number_word;
+mod opening;
+mod oscore_lines;
+mod protection;
+
+pub use derivation::derive_text;
+pub use explanation::explain_text;
+pub use fault::{Fault, Wrong};
+pub use hex_word::{HexError, read_hex};
+pub use number_word::read_number;
+pub use opening::{Opening, open_text};
+pub use protection::{Sealing, protect_text};

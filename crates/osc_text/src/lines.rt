@@ -1,0 +1,230 @@
+//! How values print: each line is made whole, and then written.
+
+ghost use Rattle.std.specs.Prelude.{◌≡◌, ◌∷◌, [], IfOk, IfSome, string_bytes, map, option_map, codes};
+ghost use Rattle.osc_coap.specs.Views.{options_left};
+ghost use Rattle.osc_context.specs.Views.{number_of};
+ghost use Rattle.osc_protect.specs.Views.{message_of, shown};
+ghost use Rattle.osc_text.specs.Lines.{bytes_text, kind_text, code_text, number_text, text_line, hex_line, bytes_line, kind_line, message_id_line, code_line, head_lines, number_line, part_lines, option_line, refused_line};
+ghost use Rattle.osc_text.specs.Opening.{opened_lines, seen};
+ghost use Rattle.osc_text.specs.Written.{Writes};
+
+use crate::fault::Fault;
+use osc_coap::{Kind, Options, Token};
+use osc_context::Piv;
+use osc_protect::Opened;
+use std::alloc::{AllocError, Global};
+use std::fmt::Display;
+use std::io::Write;
+
+/// The bytes in hex, or a dash for none.
+pub(crate) fn bytes_text(alloc: Global, bytes: &[u8]) -> Result<String, AllocError>
+    ensures { IfOk result (λ text. string_bytes text ≡ bytes_text bytes.now) }
+{
+    if bytes.is_empty() {
+        return String::from_str(alloc, "-");
+    }
+    hex::encode(alloc, bytes)
+}
+
+/// The name of a kind.
+fn kind_text(kind: Kind) -> &'static str
+    ensures { result.now ≡ kind_text kind }
+{
+    match kind {
+        Kind::Con => "CON",
+        Kind::Non => "NON",
+        Kind::Ack => "ACK",
+        Kind::Rst => "RST",
+    }
+}
+
+/// A code as class, dot and two digits of detail.
+fn code_text(alloc: Global, code: u8) -> Result<String, AllocError>
+    ensures { IfOk result (λ text. string_bytes text ≡ code_text code) }
+{
+    let class = code / 32;
+    let tens = code % 32 / 10;
+    let ones = code % 32 % 10;
+    format!(in alloc; "{class}.{tens}{ones}")
+}
+
+/// A number in decimal, or a dash for none.
+fn number_text(alloc: Global, number: Option<Piv>) -> Result<String, AllocError>
+    ensures { IfOk result (λ text. string_bytes text ≡ number_text (option_map number_of number)) }
+{
+    match number {
+        Some(piv) => {
+            let number = piv.number();
+            format!(in alloc; "{number}")
+        }
+        None => String::from_str(alloc, "-"),
+    }
+}
+
+/// Writes the line of a name and a text.
+pub(crate) fn put_text<W: Write>(
+    alloc: Global,
+    name: &str,
+    text: &str,
+    out: &mut W,
+) -> Result<(), Fault>
+    ensures { Writes (W.contents out.old) (W.contents out.new) (text_line name.now text.now ∷ []) result }
+{
+    let line = format!(in alloc; "{name} {text}\n")?;
+    out.write_all(line.as_bytes())?;
+    Ok(())
+}
+
+/// Writes the line of bytes in hex alone.
+pub(crate) fn put_hex<W: Write>(alloc: Global, bytes: &[u8], out: &mut W) -> Result<(), Fault>
+    ensures { Writes (W.contents out.old) (W.contents out.new) (hex_line bytes.now ∷ []) result }
+{
+    let text = bytes_text(alloc, bytes)?;
+    let line = format!(in alloc; "{text}\n")?;
+    out.write_all(line.as_bytes())?;
+    Ok(())
+}
+
+/// Writes the line of a name and bytes in hex.
+pub(crate) fn put_bytes<W: Write>(
+    alloc: Global,
+    name: &str,
+    bytes: &[u8],
+    out: &mut W,
+) -> Result<(), Fault>
+    ensures { Writes (W.contents out.old) (W.contents out.new) (bytes_line name.now bytes.now ∷ []) result }
+{
+    let text = bytes_text(alloc, bytes)?;
+    put_text(alloc, name, text.as_str(), out)
+}
+
+/// Writes the line of a name and bytes in hex, where there are some.
+pub(crate) fn put_part<W: Write>(
+    alloc: Global,
+    name: &str,
+    part: Option<&[u8]>,
+    out: &mut W,
+) -> Result<(), Fault>
+    ensures { Writes (W.contents out.old) (W.contents out.new) (part_lines name.now (shown part.entry)) result }
+{
+    match part {
+        Some(bytes) => put_bytes(alloc, name, bytes, out),
+        None => Ok(()),
+    }
+}
+
+fn put_kind<W: Write>(alloc: Global, kind: Kind, out: &mut W) -> Result<(), Fault>
+    ensures { Writes (W.contents out.old) (W.contents out.new) (kind_line kind ∷ []) result }
+{
+    put_text(alloc, "kind", kind_text(kind), out)
+}
+
+fn put_message_id<W: Write>(alloc: Global, message_id: u16, out: &mut W) -> Result<(), Fault>
+    ensures { Writes (W.contents out.old) (W.contents out.new) (message_id_line message_id ∷ []) result }
+{
+    put_bytes(alloc, "mid", &message_id.to_be_bytes(), out)
+}
+
+fn put_token<W: Write>(alloc: Global, token: &Token, out: &mut W) -> Result<(), Fault>
+    ensures { Writes (W.contents out.old) (W.contents out.new) (bytes_line (codes "token") token.now.items ∷ []) result }
+{
+    put_bytes(alloc, "token", token.as_slice(), out)
+}
+
+fn put_code<W: Write>(alloc: Global, code: u8, out: &mut W) -> Result<(), Fault>
+    ensures { Writes (W.contents out.old) (W.contents out.new) (code_line code ∷ []) result }
+{
+    let text = code_text(alloc, code)?;
+    put_text(alloc, "code", text.as_str(), out)
+}
+
+/// Writes the lines of the head, the token and the code.
+pub(crate) fn put_head<W: Write>(
+    alloc: Global,
+    kind: Kind,
+    message_id: u16,
+    token: &Token,
+    code: u8,
+    out: &mut W,
+) -> Result<(), Fault>
+    ensures { Writes (W.contents out.old) (W.contents out.new) (head_lines kind message_id token.now.items code) result }
+{
+    put_kind(alloc, kind, out)?;
+    put_message_id(alloc, message_id, out)?;
+    put_token(alloc, token, out)?;
+    put_code(alloc, code, out)
+}
+
+fn put_number<W: Write>(alloc: Global, number: Option<Piv>, out: &mut W) -> Result<(), Fault>
+    ensures { Writes (W.contents out.old) (W.contents out.new) (number_line (option_map number_of number) ∷ []) result }
+{
+    let text = number_text(alloc, number)?;
+    put_text(alloc, "number", text.as_str(), out)
+}
+
+fn put_option<W: Write>(alloc: Global, number: u16, value: &[u8], out: &mut W) -> Result<(), Fault>
+    ensures { Writes (W.contents out.old) (W.contents out.new) (option_line (number, value.now) ∷ []) result }
+{
+    let value = bytes_text(alloc, value)?;
+    let text = format!(in alloc; "{number} {value}")?;
+    put_text(alloc, "option", text.as_str(), out)
+}
+
+/// Writes a line for each option, in order.
+pub(crate) fn put_options<W: Write>(
+    alloc: Global,
+    options: Options<'_>,
+    out: &mut W,
+) -> Result<(), Fault>
+    ensures { Writes (W.contents out.old) (W.contents out.new) (map option_line (options_left options.entry)) result }
+{
+    for (number, value) in options {
+        put_option(alloc, number, value, out)?;
+    }
+    Ok(())
+}
+
+/// Writes a line for each option inside.
+fn put_inner<W: Write>(alloc: Global, opened: &Opened<'_>, out: &mut W) -> Result<(), Fault>
+    ensures { Writes (W.contents out.old) (W.contents out.new) (map option_line (message_of opened.now).options) result }
+{
+    put_options(alloc, opened.inner(), out)
+}
+
+/// Writes what a datagram says that opened, one part a line.
+pub(crate) fn put_opened<W: Write>(
+    alloc: Global,
+    opened: &Opened<'_>,
+    out: &mut W,
+) -> Result<(), Fault>
+    ensures { Writes (W.contents out.old) (W.contents out.new) (opened_lines (seen opened.now)) result }
+{
+    put_head(
+        alloc,
+        opened.kind,
+        opened.message_id,
+        &opened.token,
+        opened.code,
+        out,
+    )?;
+    put_number(alloc, opened.piv, out)?;
+    put_part(alloc, "uri-host", opened.uri_host, out)?;
+    put_part(alloc, "uri-port", opened.uri_port, out)?;
+    put_inner(alloc, opened, out)?;
+    put_bytes(alloc, "payload", opened.payload, out)
+}
+
+/// Writes the line of a refusal, by its name, and answers its status.
+pub(crate) fn put_refused<D: Display + Drop, W: Write>(
+    alloc: Global,
+    refusal: D,
+    out: &mut W,
+) -> Result<u8, Fault>
+    ensures written { IfSome (D.output refusal)
+        (λ text. Writes (W.contents out.old) (W.contents out.new) (refused_line text ∷ []) result) }
+    ensures status { IfOk result (λ s. s ≡ 2) }
+{
+    let text = format!(in alloc; "{refusal}")?;
+    put_text(alloc, "refused:", text.as_str(), out)?;
+    Ok(2)
+}

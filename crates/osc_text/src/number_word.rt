@@ -1,0 +1,33 @@
+//! A number from a word of decimal digits.
+
+ghost use Rattle.std.specs.Prelude.{◌≡◌, ◌<◌, ◌^◌, get_or};
+ghost use Rattle.std.specs.Option.{SomeIff, option_map};
+ghost use Rattle.osc_context.specs.Views.{number_of};
+ghost use Rattle.osc_text.specs.Numbers.{IsDigitWord, number_said};
+
+use osc_context::Piv;
+
+/// The first of some bytes, or 0 where there is none.
+fn first_byte(bytes: &[u8]) -> u8
+    ensures { result ≡ get_or bytes.now 0 0 }
+{
+    if bytes.is_empty() {
+        return 0;
+    }
+    bytes[0]
+}
+
+/// The number that a word of decimal digits says, where there is one or more, nothing else, and the number is below 2^40.
+/// Zeros may stand first; there is no sign.
+pub fn read_number(word: &str) -> Option<Piv>
+    ensures { SomeIff (option_map number_of result) (IsDigitWord word.now × (number_said word.now < 2 ^ 40)) (number_said word.now) }
+{
+    // The number parser of std takes a plus in front.
+    if first_byte(word.as_bytes()) == b'+' {
+        return None;
+    }
+    match word.parse::<u64>() {
+        Ok(number) => Piv::new(number),
+        Err(_) => None,
+    }
+}

@@ -1,0 +1,107 @@
+//! What `open` prints.
+
+ghost use Rattle.std.specs.Prelude.{◌≡◌, ◌⊎◌, ℕ, List, IfOk};
+ghost use Rattle.osc_context.specs.Views.{as_client, as_server};
+
+use crate::fault::Fault;
+use crate::lines::{put_opened, put_refused};
+use osc_coap::one_datagram;
+use osc_context::{Context, Params, one_context_refusal};
+use osc_protect::{
+    Opened, RequestRef, UnprotectError, one_request, one_response, open_request, open_response,
+};
+use std::alloc::Global;
+use std::io::Write;
+
+/// What a datagram is opened as.
+#[derive(Clone, Copy, Debug)]
+pub enum Opening {
+    /// A request, by its server.
+    Request,
+    /// A response to this request, by its client.
+    Response(RequestRef),
+}
+
+ghost use Rattle.osc_text.specs.Opening.{OpenText, OpeningText, outcome_lines, outcome_status};
+ghost use Rattle.osc_text.specs.Written.{Writes};
+
+/// Derives a context, opens a request or a response in its datagram, and writes what it says, one part a line, or the one
+/// line of a refusal, of the context before that of the datagram. This end is the sender of the context. Answers the status:
+/// 0 where it opens, 2 where it is refused. Each line is made whole before it is written. The datagram is left as
+/// `open_request` and `open_response` leave it.
+pub fn open_text<W: Write>(
+    alloc: Global,
+    params: Params<'_>,
+    what: Opening,
+    datagram: &mut [u8],
+    out: &mut W,
+) -> Result<u8, Fault>
+    // Each datagram has a text. The next two clauses say that this is what is written.
+    ensures told { (lines : List (List ℕ)) × (status : ℕ) × OpenText params.entry what datagram.old lines status }
+    ensures written { (lines : List (List ℕ)) (status : ℕ) → OpenText params.entry what datagram.old lines status
+        → Writes (W.contents out.old) (W.contents out.new) lines result }
+    ensures status { (lines : List (List ℕ)) (status : ℕ) → OpenText params.entry what datagram.old lines status
+        → IfOk result (λ s. s ≡ status) }
+    ensures two { IfOk result (λ s. (s ≡ 0) ⊎ (s ≡ 2)) }
+{
+    one_context_refusal();
+    one_request();
+    one_response();
+    one_datagram();
+    write_opening(alloc, params, what, datagram, out)
+}
+
+/// Writes what a datagram says, or its refusal, or that of the context.
+fn write_opening<W: Write>(
+    alloc: Global,
+    params: Params<'_>,
+    what: Opening,
+    datagram: &mut [u8],
+    out: &mut W,
+) -> Result<u8, Fault>
+    ensures { (lines : List (List ℕ)) × (status : ℕ) × OpenText params.entry what datagram.old lines status
+        × Writes (W.contents out.old) (W.contents out.new) lines result × IfOk result (λ s. s ≡ status) }
+{
+    match Context::derive(params) {
+        Ok(context) => write_datagram(alloc, &context, what, datagram, out),
+        Err(refusal) => put_refused(alloc, refusal, out),
+    }
+}
+
+/// Writes what a datagram says under a context, or its refusal.
+fn write_datagram<W: Write>(
+    alloc: Global,
+    context: &Context,
+    what: Opening,
+    datagram: &mut [u8],
+    out: &mut W,
+) -> Result<u8, Fault>
+    ensures { (lines : List (List ℕ)) × (status : ℕ)
+        × OpeningText (as_client context.now) (as_server context.now) what datagram.old lines status
+        × Writes (W.contents out.old) (W.contents out.new) lines result × IfOk result (λ s. s ≡ status) }
+{
+    match what {
+        Opening::Request => write_outcome(alloc, open_request(context, datagram), out),
+        Opening::Response(request) => {
+            write_outcome(alloc, open_response(context, &request, datagram), out)
+        }
+    }
+}
+
+/// Writes what came of an open: what was opened, or the refusal.
+fn write_outcome<W: Write>(
+    alloc: Global,
+    outcome: Result<Opened<'_>, UnprotectError>,
+    out: &mut W,
+) -> Result<u8, Fault>
+    ensures written { Writes (W.contents out.old) (W.contents out.new) (outcome_lines outcome.entry) result }
+    ensures status { IfOk result (λ s. s ≡ outcome_status outcome.entry) }
+{
+    match outcome {
+        Ok(opened) => {
+            put_opened(alloc, &opened, out)?;
+            Ok(0)
+        }
+        Err(refusal) => put_refused(alloc, refusal, out),
+    }
+}

@@ -1,8 +1,0 @@
-pub mod Appending
-pub mod ContextTexts
-pub mod OpenTexts
-pub mod ExplainTexts
-pub mod LocalCommands
-pub mod HexWords
-pub mod NumberWords
-pub mod ProtectTexts

@@ -1,5 +1,0 @@
-use Rattle.oscore.proofs.ExplainTexts.{writes_alone}
-use Rattle.oscore.proofs.oscore_lines.put_if_oscore.Goals as goal
-
-pub returns-then-number-eq-OSCORE : goal.returns-then-number-eq-OSCORE
-returns-then-number-eq-OSCORE g c = rw c.if-number-eq-OSCORE.true (writes_alone c.args.value.now _ _ c.put_value.result c.put_value.ensures)

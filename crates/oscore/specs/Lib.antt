@@ -1,9 +1,0 @@
-pub mod Calls
-pub mod Hex
-pub mod Numbers
-pub mod Lines
-pub mod Contexts
-pub mod Opening
-pub mod Protecting
-pub mod Explanation
-pub mod Written
