@@ -4,7 +4,7 @@ use crate::bytes::spelled;
 use osc_coap::{Kind, Options};
 use osc_context::Piv;
 use std::alloc::{AllocError, Global};
-use std::fmt::Display;
+use std::fmt::{Debug, Display};
 use std::mem;
 
 /// The words of an answer so far. A growth that is refused is kept in mind: the answer is not whole then.
@@ -58,6 +58,14 @@ impl Answer {
         self.made(format!(in self.alloc; "{value}"));
     }
 
+    /// The text that `Debug` prints of a value, in quotes.
+    pub(crate) fn debugged<D: Debug + Drop>(&mut self, value: D) {
+        match format!(in self.alloc; "{value:?}") {
+            Ok(text) => self.quoted(text.as_bytes()),
+            Err(_) => self.is_whole = false,
+        }
+    }
+
     /// A refusal by its name.
     pub(crate) fn refused<D: Display + Drop>(&mut self, refusal: D) {
         self.word("refused");
@@ -103,6 +111,16 @@ impl Answer {
             Kind::Non => "NON",
             Kind::Ack => "ACK",
             Kind::Rst => "RST",
+        });
+    }
+
+    /// Whether something is of a request, and whether it is of a response.
+    pub(crate) fn usage(&mut self, is_request: bool, is_response: bool) {
+        self.word(if is_request { "request" } else { "no-request" });
+        self.word(if is_response {
+            "response"
+        } else {
+            "no-response"
         });
     }
 

@@ -3,6 +3,7 @@
 use crate::answer::Answer;
 use crate::texts::Texts;
 use osc_command::command;
+use std::alloc::Global;
 use std::io;
 use std::io::{ErrorKind, Write};
 
@@ -34,9 +35,48 @@ fn is_one_line(text: &[u8]) -> bool {
     text.ends_with(b"\n") && text.iter().filter(|&&c| c == b'\n').count() == 1
 }
 
-/// Status, standard output and standard error. `help` shows standard output as `text`, where there is some; `usage` and
-/// `cut-off` show standard error as `line`, where it is one line. For `cut-off` the first text is how many writes the
-/// standard output takes, and the last word is how many it refused.
+/// What a call of the command answered and wrote.
+#[derive(Drop)]
+struct Called {
+    status: u8,
+    out: Output,
+    err: Vec<u8>,
+}
+
+impl Called {
+    /// Makes the call over a standard output that takes so many writes.
+    fn make(alloc: Global, words: &[String], input: &str, writes: u32) -> Called {
+        let mut out = Output {
+            left: writes,
+            refused: 0,
+            written: Vec::new(alloc),
+        };
+        let (mut input, mut err) = (input.as_bytes(), Vec::new(alloc));
+        let status = command(alloc, words, &mut input, &mut out, &mut err);
+        Called { status, out, err }
+    }
+
+    /// Status, standard output and standard error. `help` shows standard output as `text`, where there is some; `usage`
+    /// and `cut-off` show standard error as `line`, where it is one line. `cut-off` also shows how many writes were refused.
+    fn show(&self, verb: &str, answer: &mut Answer) {
+        answer.print(self.status);
+        if verb == "help" && !self.out.written.is_empty() {
+            answer.word("text");
+        } else {
+            answer.quoted(self.out.written.as_slice());
+        }
+        if matches!(verb, "usage" | "cut-off") && is_one_line(self.err.as_slice()) {
+            answer.word("line");
+        } else {
+            answer.quoted(self.err.as_slice());
+        }
+        if verb == "cut-off" {
+            answer.print(self.out.refused);
+        }
+    }
+}
+
+/// Makes the call and shows its answer. For `cut-off` the first text is how many writes the standard output takes.
 pub(crate) fn run(verb: &str, call: &str, answer: &mut Answer) {
     let alloc = answer.alloc;
     let texts = Texts::read(alloc, call);
@@ -44,30 +84,11 @@ pub(crate) fn run(verb: &str, call: &str, answer: &mut Answer) {
         answer.is_whole = false;
         return;
     };
-    let is_cut_off = verb == "cut-off";
-    let mut out = Output {
-        left: if is_cut_off {
-            first.parse::<u32>().unwrap_or(0)
-        } else {
-            u32::MAX
-        },
-        refused: 0,
-        written: Vec::new(alloc),
+    let writes = if verb == "cut-off" {
+        first.parse::<u32>().unwrap_or(0)
+    } else {
+        u32::MAX
     };
-    let (mut input, mut err) = (first.as_bytes(), Vec::new(alloc));
-    answer.print(command(alloc, words, &mut input, &mut out, &mut err));
-    if verb == "help" && !out.written.is_empty() {
-        answer.word("text");
-    } else {
-        answer.quoted(out.written.as_slice());
-    }
-    if (verb == "usage" || is_cut_off) && is_one_line(err.as_slice()) {
-        answer.word("line");
-    } else {
-        answer.quoted(err.as_slice());
-    }
-    if is_cut_off {
-        answer.print(out.refused);
-    }
+    Called::make(alloc, words, first, writes).show(verb, answer);
     answer.is_whole = answer.is_whole && texts.is_whole;
 }

@@ -4,6 +4,7 @@ use crate::answer::Answer;
 use crate::fields::Fields;
 use arrayvec::ArrayVec;
 use osc_context::{Context, IdContext, Kid, OscoreOption, Piv, aad, nonce};
+use std::cmp::Ordering;
 
 pub(crate) fn kid(fields: &Fields<'_>, answer: &mut Answer) {
     fields.count(1);
@@ -29,6 +30,30 @@ pub(crate) fn partial_iv(fields: &Fields<'_>, answer: &mut Answer) {
             answer.print(piv.number());
         }
         None => answer.word("refused"),
+    }
+}
+
+/// The number behind this one, and whether this one is the largest.
+pub(crate) fn next_number(fields: &Fields<'_>, answer: &mut Answer) {
+    fields.count(1);
+    if let Some(piv) = fields.partial_iv(0) {
+        answer.number(piv.next());
+        answer.word(if piv == Piv::MAX {
+            "largest"
+        } else {
+            "smaller"
+        });
+    }
+}
+
+pub(crate) fn compare_numbers(fields: &Fields<'_>, answer: &mut Answer) {
+    fields.count(2);
+    if let (Some(one), Some(other)) = (fields.partial_iv(0), fields.partial_iv(1)) {
+        answer.word(match one.cmp(&other) {
+            Ordering::Less => "less",
+            Ordering::Equal => "equal",
+            Ordering::Greater => "greater",
+        });
     }
 }
 
@@ -88,6 +113,14 @@ pub(crate) fn derive(fields: &Fields<'_>, answer: &mut Answer) {
                 None => answer.word("none"),
             }
         }
+        Err(refusal) => answer.refused(refusal),
+    }
+}
+
+/// The text that `Debug` prints of a context.
+pub(crate) fn debug(fields: &Fields<'_>, answer: &mut Answer) {
+    match Context::derive(fields.params()) {
+        Ok(context) => answer.debugged(&context),
         Err(refusal) => answer.refused(refusal),
     }
 }

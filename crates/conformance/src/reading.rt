@@ -3,7 +3,9 @@
 use crate::answer::Answer;
 use crate::fields::Fields;
 use osc_coap::option_numbers::*;
-use osc_coap::{Class, class_of, head_len, option_len, parse, parse_inner};
+use osc_coap::{
+    Class, class_of, head_len, is_request_code, is_response_code, option_len, parse, parse_inner,
+};
 
 pub(crate) fn parsed(fields: &Fields<'_>, answer: &mut Answer) {
     fields.count(1);
@@ -42,6 +44,29 @@ pub(crate) fn head_length(fields: &Fields<'_>, answer: &mut Answer) {
     fields.count(1);
     if let Some(message) = fields.message(0) {
         answer.print(head_len(&message.token));
+    }
+}
+
+/// Whether a message is a request, and whether it is a response.
+pub(crate) fn usage(fields: &Fields<'_>, answer: &mut Answer) {
+    fields.count(1);
+    if let Some(message) = fields.message(0) {
+        answer.usage(message.is_request(), message.is_response());
+    }
+}
+
+/// Whether a code, one byte, is of a request, and whether it is of a response.
+pub(crate) fn code_usage(fields: &Fields<'_>, answer: &mut Answer) {
+    fields.count(1);
+    let [code] = fields.array::<1>(0);
+    answer.usage(is_request_code(code), is_response_code(code));
+}
+
+/// The first value of a number among a datagram's options.
+pub(crate) fn first_option(fields: &Fields<'_>, answer: &mut Answer) {
+    fields.count(2);
+    if let Some(message) = fields.message(0) {
+        answer.part(message.options().first(fields.short(1)));
     }
 }
 

@@ -32,19 +32,29 @@ fn of_messages(
     match verb {
         "parse" => reading::parsed(fields, answer),
         "parse-inner" => reading::parsed_inner(fields, answer),
-        "option-length" => reading::option_length(fields, answer),
         "head-length" => reading::head_length(fields, answer),
-        "class" => reading::class(fields, answer),
-        "option-number" => reading::option_number(fields, answer),
+        "request-or-response" => reading::usage(fields, answer),
+        "code" => reading::code_usage(fields, answer),
         "write" => writing::write(fields, answer),
         "write-inner" => writing::write_inner(fields, answer),
         "write-again" => writing::write_again(fields, answer),
         "write-under-head" => writing::write_under_head(fields, answer),
+        _ => of_options(verb, fields, contexts, answer),
+    }
+}
+
+/// A call of osc_coap about options, or of a layer above.
+fn of_options(verb: &str, fields: &Fields<'_>, contexts: &[NamedContext<'_>], answer: &mut Answer) {
+    match verb {
+        "option-length" => reading::option_length(fields, answer),
+        "class" => reading::class(fields, answer),
+        "option-number" => reading::option_number(fields, answer),
+        "first-option" => reading::first_option(fields, answer),
         _ => of_contexts(verb, fields, contexts, answer),
     }
 }
 
-/// A call of osc_context or osc_window, or of a layer above.
+/// A call of osc_context, or of a layer above.
 fn of_contexts(
     verb: &str,
     fields: &Fields<'_>,
@@ -55,11 +65,21 @@ fn of_contexts(
         "kid" => context::kid(fields, answer),
         "id-context" => context::id_context(fields, answer),
         "partial-iv" => context::partial_iv(fields, answer),
+        "next-number" => context::next_number(fields, answer),
+        "compare-numbers" => context::compare_numbers(fields, answer),
         "nonce" => context::nonce_of(fields, answer),
         "aad" => context::aad_of(fields, answer),
         "read-option" => context::read_option(fields, answer),
         "write-option" => context::write_option(fields, answer),
+        _ => of_windows(verb, fields, contexts, answer),
+    }
+}
+
+/// A derivation of osc_context, a call of osc_window, or of a layer above.
+fn of_windows(verb: &str, fields: &Fields<'_>, contexts: &[NamedContext<'_>], answer: &mut Answer) {
+    match verb {
         "derive" => context::derive(fields, answer),
+        "debug-context" => context::debug(fields, answer),
         "window" => window::window(fields, answer),
         "gate" => window::gate(fields, answer),
         "challenge" => window::challenge(fields, answer),

@@ -4,8 +4,11 @@ use crate::answer::Answer;
 use crate::fields::Fields;
 use osc_window::{Gate, Window, WindowSize};
 
-/// The size of a field, 32 or else 64.
+/// The size of a field: `default`, 32 or else 64.
 fn size(fields: &Fields<'_>) -> WindowSize {
+    if fields.word(0) == "default" {
+        return WindowSize::default();
+    }
     if fields.number(0) == 32 {
         WindowSize::Places32
     } else {

@@ -7,7 +7,8 @@ use Rattle.std.proofs.lemmas.List.{length-take-le}
 use Rattle.std.proofs.lemmas.List.FromFn.{fill_by_all}
 use Rattle.byteorder.specs.Endian.{big_bytes, big_number}
 use Rattle.osc_aes.specs.Aes128.{expanded_key, word_at}
-use Rattle.osc_aes.specs.RoundWords.{AreWordsOf, block_of_words, key_of_words}
+use Rattle.osc_aes.specs.RoundWords.{AreWordsOf, block_of_words}
+use Rattle.osc_aes.specs.Views.{key_of_words}
 use Rattle.osc_aes.proofs.Lengths.{length-key_words, take-key_words}
 
 -- the number that the four bytes of word i spell

@@ -1,5 +1,5 @@
--- AES-128 (FIPS 197, sections 3.4 and 5). block and key have 16 bytes each, s is a state, w an expanded key of
--- 176 bytes, which are the words w_0 to w_43; i counts words, round keys and rounds.
+-- To be believed: AES-128 (FIPS 197, sections 3.4 and 5). block and key have 16 bytes each, s is a state, w an expanded
+-- key of 176 bytes, which are the words w_0 to w_43; i counts words, round keys and rounds.
 use Rattle.std.specs.Prelude.{◌≡◌, ℕ, zero, suc, ◌+◌, ◌-◌, ◌*◌, ◌/◌, ◌%◌, ◌==◌, List, [], ◌∷◌, ◌++◌, length, map, slice_index, bit_xor, if◌then◌else◌}
 use Rattle.std.specs.List.{range_with_len}
 use Rattle.osc_aes.specs.Field.{mul, power}
@@ -89,5 +89,5 @@ unfoldable pub aes128 : List ℕ → List ℕ → List ℕ
 aes128 key block = cipher (expanded_key key) block
 
 -- what is encrypted has 16 bytes, whatever the key and the block (FIPS 197, 3.1)
-abbrev pub HasBlockLength : Type 0
-HasBlockLength = (key block : List ℕ) → length (aes128 key block) ≡ 16
+abbrev pub BlockKeepsItsLength : Type 0
+BlockKeepsItsLength = (key block : List ℕ) → length (aes128 key block) ≡ 16

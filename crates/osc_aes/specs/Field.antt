@@ -1,5 +1,5 @@
--- The field of 256 elements of FIPS 197, section 4. An element is a number below 256, whose bit i is the
--- coefficient of x^i; a and b are elements, n counts bits or factors.
+-- To be believed: the field of 256 elements of FIPS 197, section 4. An element is a number below 256, whose bit i is
+-- the coefficient of x^i; a and b are elements, n counts bits or factors.
 use Rattle.std.specs.Prelude.{◌≡◌, ℕ, zero, suc, ◌+◌, ◌*◌, ◌<◌, ◌^◌, bit_xor}
 use Rattle.std.specs.Int.{bit_at}
 
@@ -36,5 +36,5 @@ unfoldable pub inverse : ℕ → ℕ
 inverse a = product_of_squares 7 a
 
 -- each element but 0 times its inverse is 1 (FIPS 197, 4.2)
-abbrev pub HaveInverses : Type 0
-HaveInverses = (a : ℕ) → 0 < a → a < 256 → mul a (inverse a) ≡ 1
+abbrev pub ElementsHaveInverses : Type 0
+ElementsHaveInverses = (a : ℕ) → 0 < a → a < 256 → mul a (inverse a) ≡ 1

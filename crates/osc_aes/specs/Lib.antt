@@ -1,4 +1,8 @@
+-- to be believed, in reading order
 pub mod Field
 pub mod SubstitutionBox
 pub mod Aes128
+-- how the code is seen
+pub mod Views
+-- for the proofs
 pub mod RoundWords

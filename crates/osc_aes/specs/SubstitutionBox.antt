@@ -1,4 +1,5 @@
--- The substitution box of FIPS 197, section 5.1.1: an affine map over the bits of the inverse. b is a byte.
+-- To be believed: the substitution box of FIPS 197, section 5.1.1, an affine map over the bits of the inverse. b is a
+-- byte.
 use Rattle.std.specs.Prelude.{ℕ, zero, suc, ◌+◌, ◌*◌, ◌%◌, ◌^◌}
 use Rattle.std.specs.Int.{bit_at}
 use Rattle.osc_aes.specs.Field.{inverse}

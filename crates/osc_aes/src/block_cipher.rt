@@ -1,6 +1,6 @@
 //! A block cipher, as the modes of operation see one.
 
-ghost use Rattle.std.specs.Prelude.{◌≡◌, ℕ, List};
+ghost use Rattle.std.specs.Prelude.{◌≡◌, ℕ, List, length};
 ghost use Rattle.osc_aes.specs.Aes128.{aes128};
 
 /// AES-128 (FIPS 197, 5.1) under one key, however the key is kept.
@@ -11,4 +11,7 @@ pub trait BlockCipher {
     /// Encrypts one block in its place; it stands in the order in which it is sent (FIPS 197, 3.4).
     fn encrypt(&self, block: &mut [u8; 16])
         ensures { block.new ≡ aes128 (cipher_key self.now) block.old };
+
+    /// A key has 16 bytes (FIPS 197, 5).
+    ghost key_len: { (cipher : Self) → length (cipher_key cipher) ≡ 16 };
 }

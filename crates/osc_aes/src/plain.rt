@@ -1,7 +1,7 @@
 //! AES-128 byte by byte, as FIPS 197 prints it. A step reads the byte of a row and a column at
 //! `row + 4 * column`.
 
-ghost use Rattle.std.specs.Prelude.{◌≡◌, ◌<◌, take};
+ghost use Rattle.std.specs.Prelude.{◌≡◌, ◌<◌, length, take};
 ghost use Rattle.osc_aes.specs.Field.{mul};
 ghost use Rattle.osc_aes.specs.Aes128.{add_round_key, block_of, cipher, expanded_key, mix_columns, shift_rows, state_of, sub_bytes};
 
@@ -14,10 +14,12 @@ use crate::substitution_box::substitute_byte;
 pub struct PlainAes {
     words: [u8; 176],
     ghost expanded: { words ≡ expanded_key (take 16 words) },
+    ghost key_len: { length (take 16 words) ≡ 16 },
 }
 
 impl PlainAes {
     /// Expands a key of 16 bytes, in the order in which FIPS 197 prints it (5.2).
+    #[must_use]
     pub fn new(key: &[u8; 16]) -> PlainAes
         ensures { ⟦<PlainAes as BlockCipher>⟧.cipher_key result ≡ key.now }
     {
@@ -31,6 +33,8 @@ impl BlockCipher for PlainAes {
     fn encrypt(&self, block: &mut [u8; 16]) {
         *block = cipher(&self.words, block);
     }
+
+    ghost key_len = { λ s. s.key_len };
 }
 
 fn cipher(words: &[u8; 176], block: &[u8; 16]) -> [u8; 16]

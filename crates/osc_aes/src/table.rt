@@ -5,7 +5,8 @@ ghost use Rattle.std.specs.Prelude.{◌≡◌, ◌+◌, ◌*◌, ◌<◌, ◌≤
 ghost use Rattle.std.specs.Int.{byte_at, to_be_bytes, w32};
 ghost use Rattle.osc_aes.specs.SubstitutionBox.{substitute};
 ghost use Rattle.osc_aes.specs.Aes128.{block_of, cipher, expanded_key, mix_columns, shift_rows, state_of, sub_bytes, word_at};
-ghost use Rattle.osc_aes.specs.RoundWords.{AreWordsOf, add_round_words, block_of_words, key_of_words, mixed_byte};
+ghost use Rattle.osc_aes.specs.RoundWords.{AreWordsOf, add_round_words, block_of_words, mixed_byte};
+ghost use Rattle.osc_aes.specs.Views.{key_of_words};
 
 use crate::block_cipher::BlockCipher;
 use crate::key_schedule::expand;
@@ -20,10 +21,12 @@ pub struct TableAes {
     // registers.
     words: [u32; 44],
     ghost expanded: { AreWordsOf words (expanded_key (key_of_words words)) },
+    ghost key_len: { length (key_of_words words) ≡ 16 },
 }
 
 impl TableAes {
     /// Expands a key of 16 bytes, in the order in which FIPS 197 prints it (5.2).
+    #[must_use]
     pub fn new(key: &[u8; 16]) -> TableAes
         ensures { ⟦<TableAes as BlockCipher>⟧.cipher_key result ≡ key.now }
     {
@@ -40,6 +43,8 @@ impl BlockCipher for TableAes {
         let columns = cipher(&self.words, block);
         BigEndian::write_u32_into(&columns, block);
     }
+
+    ghost key_len = { λ s. s.key_len };
 }
 
 // An expanded key as numbers, column by column.

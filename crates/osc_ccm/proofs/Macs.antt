@@ -5,7 +5,7 @@ use Rattle.std.proofs.lemmas.List.{get_or_past, drop_min, take_rest, length-take
 use Rattle.std.proofs.lemmas.List.Sums.{fold-append}
 use Rattle.std.proofs.lemmas.Slice.{put_mid-paste}
 use borrow.Rule.Slice.PartMut.{put_mid}
-use Rattle.osc_aes.specs.Aes128.{HasBlockLength}
+use Rattle.osc_aes.specs.Aes128.{BlockKeepsItsLength}
 use Rattle.osc_ccm.specs.Ccm.{encoded_aad, encrypted_tag, first_block, flags_of, mac_blocks, mac_of, mac_step, padded_block, padded_blocks, stream_block, two_bytes, xor_bytes}
 use Rattle.osc_ccm.proofs.PaddedBlocks.{is_padded_block, padded_blocks-cons, padded_whole}
 use Rattle.osc_ccm.proofs.Xor.{is_xor_bytes}
@@ -101,12 +101,12 @@ mac_is key nonce aad m first x1 x2 x3 long ef e1 e2 e3 =
     ∙ sym (fold-append step (step (replicate 16 0) (first_block nonce aad m)) (padded_blocks (encoded_aad aad)) (padded_blocks m))
 
 -- a fold of blocks is a block
-length-fold : HasBlockLength → (key x : List ℕ) (blocks : List (List ℕ)) → length x ≡ 16 → length (fold (mac_step key) x blocks) ≡ 16
+length-fold : BlockKeepsItsLength → (key x : List ℕ) (blocks : List (List ℕ)) → length x ≡ 16 → length (fold (mac_step key) x blocks) ≡ 16
 length-fold whole key x [] long = long
 length-fold whole key x (b ∷ blocks) long = length-fold whole key (mac_step key x b) blocks (whole key (xor_bytes x b))
 
 -- the last state is a block
-pub length-mac_of : HasBlockLength → (key nonce aad m : List ℕ) → length (mac_of key nonce aad m) ≡ 16
+pub length-mac_of : BlockKeepsItsLength → (key nonce aad m : List ℕ) → length (mac_of key nonce aad m) ≡ 16
 unfolding mac_of
 length-mac_of whole key nonce aad m = length-fold whole key (replicate 16 0) (mac_blocks nonce aad m) refl
 

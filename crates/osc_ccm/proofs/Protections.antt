@@ -3,13 +3,13 @@ use Rattle.std.proofs.Common.{◌≡◌, ℕ, ◌+◌, ◌-◌, ◌≤◌, List,
 use Rattle.std.proofs.lemmas.List.{take_all, take_at, drop_at, drop-drop, length-take-le, take-append-drop, take_rest}
 use Rattle.std.proofs.lemmas.Slice.{put_mid-paste}
 use borrow.Rule.Slice.PartMut.{put_mid}
-use Rattle.osc_aes.specs.Aes128.{HasBlockLength}
+use Rattle.osc_aes.specs.Aes128.{BlockKeepsItsLength}
 use Rattle.osc_ccm.specs.Ccm.{block_count, ccm, counter_block, encrypted, encrypted_tag, key_stream, mac_of, stream_block, tag_of, xor_bytes}
 use Rattle.osc_ccm.proofs.Streams.{length-key_stream}
 use Rattle.osc_ccm.proofs.Macs.{length-mac_of}
 use Rattle.osc_ccm.proofs.Xor.{length-xor_bytes, xor_bytes-twice}
 
-module _ (whole : HasBlockLength) (key nonce aad : List ℕ) where
+module _ (whole : BlockKeepsItsLength) (key nonce aad : List ℕ) where
   -- the key stream is as long as its message
   long_stream : (m : List ℕ) → length m ≤ length (key_stream key nonce (block_count (length m)))
   long_stream m = omega (arith, length-key_stream whole key nonce (block_count (length m)))

@@ -5,7 +5,7 @@ use Rattle.std.proofs.lemmas.List.Concat.{flat_map-append}
 use Rattle.std.proofs.lemmas.Slice.{put_mid-paste}
 use Rattle.std.specs.List.{range_with_len, flat_map}
 use borrow.Rule.Slice.PartMut.{put_mid}
-use Rattle.osc_aes.specs.Aes128.{HasBlockLength}
+use Rattle.osc_aes.specs.Aes128.{BlockKeepsItsLength}
 use Rattle.osc_ccm.specs.Ccm.{block_count, counter_block, encrypted, key_stream, stream_block, xor_bytes}
 use Rattle.osc_ccm.proofs.Xor.{is_xor_bytes, length-xor_bytes, xor_bytes-append}
 
@@ -36,7 +36,7 @@ no_key_stream key nonce = refl
 abbrev pub encrypted_to : List ℕ → List ℕ → List ℕ → ℕ → List ℕ
 encrypted_to key nonce init i = xor_bytes (take (16 * i) init) (key_stream key nonce i) ++ drop (16 * i) init
 
-module _ (whole : HasBlockLength) (key nonce : List ℕ) where
+module _ (whole : BlockKeepsItsLength) (key nonce : List ℕ) where
   -- n blocks of the key stream have 16 bytes each
   pub length-key_stream : (n : ℕ) → length (key_stream key nonce n) ≡ 16 * n
   unfolding key_stream

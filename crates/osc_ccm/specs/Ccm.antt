@@ -1,8 +1,12 @@
--- AES-CCM with a tag of 8 bytes (M = 8) and a length field of 2 bytes (L = 2), RFC 3610, section 2. key has 16
--- bytes, nonce 13, aad (the additional data) at most 65,279 and m (the message) at most 65,535; i counts blocks.
-use Rattle.std.specs.Prelude.{◌≡◌, ℕ, ◌+◌, ◌*◌, ◌/◌, ◌%◌, List, [], ◌∷◌, ◌++◌, length, take, map, fold, flat_map, replicate, slice_index, bit_xor}
+-- To be believed: AES-CCM with a tag of 8 bytes (M = 8) and a length field of 2 bytes (L = 2), RFC 3610, section 2. key
+-- has 16 bytes, nonce 13, aad (the additional data) at most 65,279 and m (the message) at most 65,535; i counts blocks.
+use Rattle.std.specs.Prelude.{ℕ, ◌+◌, ◌*◌, ◌/◌, ◌%◌, List, [], ◌∷◌, ◌++◌, length, take, map, fold, flat_map, replicate, slice_index, bit_xor}
 use Rattle.std.specs.List.{range_with_len}
 use Rattle.osc_aes.specs.Aes128.{aes128}
+
+-- the length of the tag, in bytes: M (RFC 3610, 2)
+abbrev pub tag_length : ℕ
+tag_length = 8
 
 -- two lists of bytes added place by place, as far as both go (RFC 3610, 2.2)
 abbrev pub xor_bytes : List ℕ → List ℕ → List ℕ
@@ -52,9 +56,9 @@ mac_step key x block = aes128 key (xor_bytes x block)
 unfoldable pub mac_of : List ℕ → List ℕ → List ℕ → List ℕ → List ℕ
 mac_of key nonce aad m = fold (mac_step key) (replicate 16 0) (mac_blocks nonce aad m)
 
--- the authentication field T: the first 8 bytes of the last state (RFC 3610, 2.2)
+-- the authentication field T: the first bytes of the last state (RFC 3610, 2.2)
 abbrev pub tag_of : List ℕ → List ℕ → List ℕ → List ℕ → List ℕ
-tag_of key nonce aad m = take 8 (mac_of key nonce aad m)
+tag_of key nonce aad m = take tag_length (mac_of key nonce aad m)
 
 -- the counter block A_i: flags, nonce, number (RFC 3610, 2.3)
 abbrev pub counter_block : List ℕ → ℕ → List ℕ
@@ -74,16 +78,8 @@ encrypted key nonce m = xor_bytes m (key_stream key nonce (block_count (length m
 
 -- the authentication value U: the tag added to the front of S_0 (RFC 3610, 2.3)
 abbrev pub encrypted_tag : List ℕ → List ℕ → List ℕ → List ℕ → List ℕ
-encrypted_tag key nonce aad m = xor_bytes (tag_of key nonce aad m) (take 8 (stream_block key nonce 0))
+encrypted_tag key nonce aad m = xor_bytes (tag_of key nonce aad m) (take tag_length (stream_block key nonce 0))
 
 -- the protection of a message: the encrypted message, then the encrypted tag (RFC 3610, 2.4)
 unfoldable pub ccm : List ℕ → List ℕ → List ℕ → List ℕ → List ℕ
 ccm key nonce aad m = encrypted key nonce m ++ encrypted_tag key nonce aad m
-
--- a protection is of one message alone, under one key, nonce and additional data (RFC 3610, 2.5)
-abbrev pub HasOnePlaintext : Type 0
-HasOnePlaintext = (key nonce aad m m' : List ℕ) → ccm key nonce aad m ≡ ccm key nonce aad m' → m ≡ m'
-
--- a protection is 8 bytes longer than its message (RFC 3610, 2.4)
-abbrev pub HasTagLength : Type 0
-HasTagLength = (key nonce aad m : List ℕ) → length (ccm key nonce aad m) ≡ length m + 8

@@ -17,6 +17,6 @@ mod sealing;
 mod tag;
 
 pub use blocks::{MOST_AAD, MOST_PLAINTEXT, NONCE_LEN, TAG_LEN};
-pub use laws::{one_plaintext, sealed_length};
+pub use laws::{one_plaintext, protection_length};
 pub use opening::{OpenError, open};
 pub use sealing::{SealError, seal};

@@ -1,7 +1,7 @@
 //! Opening (RFC 3610, 2.5), said by what sealing makes.
 
 ghost use Rattle.std.specs.Prelude.{◌≡◌, ◌↔◌, ℕ, List, ◌+◌, ◌<◌, ◌≤◌, length, take, drop, IsOkAnd, IfOk, OnErr};
-ghost use Rattle.osc_ccm.specs.Ccm.{ccm};
+ghost use Rattle.osc_ccm.specs.Ccm.{ccm, tag_length};
 
 use crate::blocks::{MOST_PLAINTEXT, TAG_LEN};
 use crate::key_stream::add_key_stream;
@@ -31,22 +31,22 @@ pub fn open<C: BlockCipher>(
 ) -> Result<usize, OpenError>
     requires { length aad.now ≤ 65279 }
 
-    ensures length { IfOk result (λ len. len + 8 ≡ length buf.old) }
+    ensures length { IfOk result (λ len. len + tag_length ≡ length buf.old) }
     ensures opened { IfOk result (λ len. buf.old
         ≡ ccm (C.cipher_key cipher.now) nonce.now aad.now (take len buf.new)) }
     ensures tag_stays { IfOk result (λ len. drop len buf.new ≡ drop len buf.old) }
 
     // Whatever plaintext the buffer protects, that is what opens.
-    ensures only { (m : List ℕ) → length m ≤ 65535
+    ensures accepts { (m : List ℕ) → length m ≤ 65535
         → buf.old ≡ ccm (C.cipher_key cipher.now) nonce.now aad.now m
         → IsOkAnd result (λ len. take len buf.new ≡ m) }
 
-    ensures short { (result ≡ Err OpenError.Short) ↔ (length buf.old < 8) }
-    ensures too_long { (result ≡ Err OpenError.TooLong) ↔ (65543 < length buf.old) }
+    ensures short { (result ≡ Err OpenError.Short) ↔ (length buf.old < tag_length) }
+    ensures too_long { (result ≡ Err OpenError.TooLong) ↔ (65535 + tag_length < length buf.old) }
     ensures bad_tag { (result ≡ Err OpenError.BadTag)
-        ↔ ((8 ≤ length buf.old) × (length buf.old ≤ 65543)
+        ↔ ((tag_length ≤ length buf.old) × (length buf.old ≤ 65535 + tag_length)
         × ((m : List ℕ) → buf.old ≡ ccm (C.cipher_key cipher.now) nonce.now aad.now m → ⊥)) }
-    ensures same { OnErr result (buf.new ≡ buf.old) }
+    ensures unchanged { OnErr result (buf.new ≡ buf.old) }
 {
     // For the proof alone: a block of the key stream has 16 bytes.
     encrypted_length();

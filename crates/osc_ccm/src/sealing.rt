@@ -1,7 +1,7 @@
 //! Sealing (RFC 3610, 2.2 to 2.4).
 
 ghost use Rattle.std.specs.Prelude.{◌≡◌, ◌↔◌, ◌+◌, ◌++◌, ◌<◌, ◌≤◌, length, take, drop, IsOk, IfOk, OnOk, OnErr};
-ghost use Rattle.osc_ccm.specs.Ccm.{ccm};
+ghost use Rattle.osc_ccm.specs.Ccm.{ccm, tag_length};
 
 use crate::blocks::{MOST_PLAINTEXT, TAG_LEN};
 use crate::key_stream::add_key_stream;
@@ -31,15 +31,15 @@ pub fn seal<C: BlockCipher>(
     requires aad { length aad.now ≤ 65279 }
     requires plaintext { len ≤ length buf.old }
 
-    ensures length { IfOk result (λ sealed_len. sealed_len ≡ len + 8) }
+    ensures length { IfOk result (λ sealed_len. sealed_len ≡ len + tag_length) }
     ensures sealed { OnOk result (buf.new
-        ≡ ccm (C.cipher_key cipher.now) nonce.now aad.now (take len buf.old) ++ drop (len + 8) buf.old) }
+        ≡ ccm (C.cipher_key cipher.now) nonce.now aad.now (take len buf.old) ++ drop (len + tag_length) buf.old) }
 
     ensures too_long { (result ≡ Err SealError.TooLong) ↔ (65535 < len) }
     ensures no_room { (result ≡ Err SealError.NoRoom)
-        ↔ ((len ≤ 65535) × (length buf.old < len + 8)) }
-    ensures succeeds { len ≤ 65535 → len + 8 ≤ length buf.old → IsOk result }
-    ensures same { OnErr result (buf.new ≡ buf.old) }
+        ↔ ((len ≤ 65535) × (length buf.old < len + tag_length)) }
+    ensures accepts { len ≤ 65535 → len + tag_length ≤ length buf.old → IsOk result }
+    ensures unchanged { OnErr result (buf.new ≡ buf.old) }
 {
     // For the proof alone: a block of the key stream has 16 bytes.
     encrypted_length();

@@ -4,7 +4,8 @@ use Rattle.std.proofs.lemmas.List.{append-nil}
 use Rattle.std.proofs.lemmas.List.Elements.{All-cons}
 use Rattle.osc_coap.specs.OptionSpelling.{Entry, AreBytes, Spells, marked, last_number, option_length}
 use Rattle.osc_coap.specs.OptionText.{option_text}
-use Rattle.osc_coap.specs.Writing.{Draft, Datagram, Plaintext, options_of, payload_of, front_of, length_of, with_options, with_option, with_payload, IsEmptyMessage, HasFineToken, IsDraft}
+use Rattle.osc_coap.specs.Writing.{Draft, Datagram, Plaintext, options_of, payload_of, length_of, with_option, with_payload, IsEmptyMessage}
+use Rattle.osc_coap.specs.Drafts.{front_of, HasFineToken, IsDraft}
 use Rattle.osc_coap.proofs.Bytes.{bytes_append}
 use Rattle.osc_coap.proofs.OptionTexts.{text_is_option, option_text_bytes, spells_push, spelling_length-push}
 
@@ -136,8 +137,3 @@ draft_payload draft payload bytes h filled none some are fits =
           ∙ ap (λ (z : List ℕ). z ++ (h.spelled ++ marked (payload_of (with_payload draft payload)))) (sym (front_remains draft payload));
       empty = λ e. absurd (filled (empty_remains draft payload e));
     }
-
--- one option behind further ones
-pub with_options-push : (draft : Draft) (entries : List Entry) (number : ℕ) (value : List ℕ) → with_option (with_options draft entries) number value ≡ with_options draft (entries ++ (number, value) ∷ [])
-with_options-push (Datagram p) entries number value = ap (λ (z : List Entry). Datagram (record p { options = z })) (append_assoc p.options entries ((number, value) ∷ []))
-with_options-push (Plaintext p) entries number value = ap (λ (z : List Entry). Plaintext (record p { options = z })) (append_assoc p.options entries ((number, value) ∷ []))

@@ -1,6 +1,7 @@
 -- Each byte list has a reading.
-use Rattle.std.proofs.Common.{◌≡◌, ℕ, ◌+◌, ◌-◌, ◌*◌, ◌/◌, ◌%◌, ◌<◌, ◌≤◌, ◌⊎◌, List, [], ◌∷◌, ◌++◌, length, take, drop, Option, Some, None, refl, sym, ap, ◌∙◌, arith, inl, inr}
+use Rattle.std.proofs.Common.{◌≡◌, ℕ, ◌+◌, ◌-◌, ◌*◌, ◌/◌, ◌%◌, ◌<◌, ◌≤◌, ◌⊎◌, List, [], ◌∷◌, ◌++◌, length, take, drop, Option, Some, None, refl, sym, ap, subst, ◌∙◌, arith, inl, inr}
 use Rattle.std.proofs.lemmas.Bool.{cases_lt}
+use Rattle.std.proofs.lemmas.List.{append-nil}
 use Rattle.std.proofs.lemmas.Bool.Decides.{eqb_tells}
 use Rattle.osc_coap.specs.declared.format_error.Fault.{Fault}
 use Rattle.osc_coap.specs.declared.format_error.Fault.TheVariants.{DatagramTooLong, Short, Version, TokenLength, EmptyWithRest, TokenCut, EmptyPayload}
@@ -8,12 +9,12 @@ use Rattle.osc_coap.specs.declared.message.Kind.{Kind}
 use Rattle.osc_coap.specs.declared.message.Kind.TheVariants.{Con, Non, Ack, Rst}
 use Rattle.osc_coap.proofs.Walks.{EndsAt, walk_sound}
 use Rattle.osc_coap.proofs.Texts.{text_ascends}
-use Rattle.osc_coap.specs.Reading.{options_in}
+use Rattle.osc_coap.specs.Reading.{options_in, AreOptions}
 use Rattle.osc_coap.proofs.Faults.{fault_behind_end, fault_behind_code}
 use Rattle.osc_coap.proofs.Made.{datagram_made, inner_made}
 use Rattle.osc_coap.specs.OptionSpelling.{Entry, Ascends, AreBytes, Spells, last_number}
 use Rattle.osc_coap.specs.Inner.{InnerParts, IsInner}
-use Rattle.osc_coap.specs.Fault.{HasItemFault, HasHead, HasFault, HasCode, HasInnerFault}
+use Rattle.osc_coap.specs.Fault.{HasItemFault, HasWholeHead, HasFault, HasCode, HasInnerFault}
 use Rattle.osc_coap.specs.Ends.{IsBody}
 use Rattle.osc_coap.specs.Datagram.{Parts, kind_number, IsDatagram}
 
@@ -51,7 +52,7 @@ kind_of n lt = elim (eqb_tells n 0) [
 ]
 
 -- behind a fine head with a whole token
-rest_reads : (a b c d : ℕ) (rest : List ℕ) → AreBytes (a ∷ b ∷ c ∷ d ∷ rest) → HasHead (a ∷ b ∷ c ∷ d ∷ rest) → (b ≡ 0 → length rest ≡ 0) → a % 16 ≤ length rest → Reads (a ∷ b ∷ c ∷ d ∷ rest)
+rest_reads : (a b c d : ℕ) (rest : List ℕ) → AreBytes (a ∷ b ∷ c ∷ d ∷ rest) → HasWholeHead (a ∷ b ∷ c ∷ d ∷ rest) → (b ≡ 0 → length rest ≡ 0) → a % 16 ≤ length rest → Reads (a ∷ b ∷ c ∷ d ∷ rest)
 rest_reads a b c d rest small h empty long =
     let k = kind_of (a / 16 % 4) (omega arith) in
     let within : 4 + a % 16 ≤ length (a ∷ b ∷ c ∷ d ∷ rest) = omega arith in
@@ -62,7 +63,7 @@ rest_reads a b c d rest small h empty long =
     ]
 
 -- behind a fine head
-head_reads : (a b c d : ℕ) (rest : List ℕ) → AreBytes (a ∷ b ∷ c ∷ d ∷ rest) → HasHead (a ∷ b ∷ c ∷ d ∷ rest) → Reads (a ∷ b ∷ c ∷ d ∷ rest)
+head_reads : (a b c d : ℕ) (rest : List ℕ) → AreBytes (a ∷ b ∷ c ∷ d ∷ rest) → HasWholeHead (a ∷ b ∷ c ∷ d ∷ rest) → Reads (a ∷ b ∷ c ∷ d ∷ rest)
 head_reads a b c d rest small h =
     elim (eqb_tells b 0) [
       | inl e ↦ elim (eqb_tells (a % 16) 0) [
@@ -113,3 +114,10 @@ inner_reads (a ∷ rest) small =
 -- options that were read ascend
 pub read_ascends : (d : ℕ) (bytes : List ℕ) → Ascends d (options_in d bytes)
 read_ascends d bytes = text_ascends d (options_in d bytes) _ (walk_sound (length bytes) d bytes (omega arith)).spells
+
+-- bytes spell the options that were read of them
+pub read_spelled : (d : ℕ) (bytes : List ℕ) → AreOptions d bytes → (text : List ℕ) × AreBytes text × Spells d (options_in d bytes) text
+read_spelled d bytes h =
+    let w = walk_sound (length bytes) d bytes (omega arith) in
+    let all : bytes ≡ w.text = w.whole ∙ ap (λ (z : List ℕ). w.text ++ z) h.spelling ∙ append-nil w.text in
+    (w.text, subst AreBytes all h.are_bytes, w.spells)

@@ -4,7 +4,7 @@ use Rattle.std.proofs.lemmas.List.{length-append, length-drop}
 use Rattle.osc_coap.specs.declared.format_error.Fault.{Fault}
 use Rattle.osc_coap.specs.declared.format_error.Fault.TheVariants.{DatagramTooLong, Short, Version, TokenLength, EmptyWithRest, TokenCut, Nibble15, OptionCut, NumberTooLarge, EmptyPayload}
 use Rattle.osc_coap.specs.OptionSpelling.{last_number}
-use Rattle.osc_coap.specs.Fault.{IsFaulty, HasItemFault, HasFaultFrom, HasHead, HasToken, HasFault, HasCode, HasInnerFault, code_of, token_length_of}
+use Rattle.osc_coap.specs.Fault.{IsFaulty, HasItemFault, HasFaultFrom, HasWholeHead, HasToken, HasFault, HasCode, HasInnerFault, code_of, token_length_of}
 
 -- a faulty item takes a byte at least
 not_short : (d : ℕ) (rest : List ℕ) (f : Fault) → IsFaulty d f rest → length rest ≢ 0
@@ -44,7 +44,7 @@ fault_behind_token bytes EmptyWithRest place h i = absurd (never_item (last_numb
 fault_behind_token bytes TokenCut place h i = absurd (never_item (last_number 0 i.2.options) i.2.rest TokenCut (λ d b bs x. x) i.2.faulty)
 
 -- an item's fault behind the token's end is one of the datagram, where code 0.00 stands alone
-pub fault_behind_end : (bytes : List ℕ) (end : ℕ) (fault : Fault) (place : ℕ) → HasHead bytes → end ≡ 4 + token_length_of bytes → end ≤ length bytes → (code_of bytes ≡ 0 → length bytes ≡ 4) → HasFaultFrom end bytes fault place → HasFault bytes fault place
+pub fault_behind_end : (bytes : List ℕ) (end : ℕ) (fault : Fault) (place : ℕ) → HasWholeHead bytes → end ≡ 4 + token_length_of bytes → end ≤ length bytes → (code_of bytes ≡ 0 → length bytes ≡ 4) → HasFaultFrom end bytes fault place → HasFault bytes fault place
 fault_behind_end bytes end fault place head is within alone i =
     let stands = fault_from_stands end bytes fault place i in
     let at = i.1 in

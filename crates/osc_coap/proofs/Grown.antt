@@ -8,8 +8,9 @@ use Rattle.osc_coap.specs.declared.writer.Stage.TheVariants.{Open, Closed}
 use Rattle.osc_coap.specs.OptionSpelling.{AreBytes, last_number, option_length}
 use Rattle.osc_coap.specs.OptionText.{placed, option_text}
 use Rattle.osc_coap.specs.Datagram.{head}
-use Rattle.osc_coap.specs.Writing.{Draft, Datagram, bare, options_of, payload_of, length_of, with_option, with_payload, IsEmptyMessage, IsDraft}
-use Rattle.osc_coap.specs.Writer.{IsHeld, IsAt, TakesNow}
+use Rattle.osc_coap.specs.Writing.{Draft, Datagram, bare, options_of, payload_of, length_of, with_option, with_payload, IsEmptyMessage}
+use Rattle.osc_coap.specs.Drafts.{IsDraft}
+use Rattle.osc_coap.specs.Held.{IsHeld, IsAt, TakesNow}
 use Rattle.osc_coap.proofs.Bytes.{bytes_take}
 use Rattle.osc_coap.proofs.Placed.{front_placed, behind_placed, length-placed}
 use Rattle.osc_coap.proofs.OptionTexts.{length-option_text, last_number-push}

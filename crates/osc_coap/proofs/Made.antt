@@ -6,7 +6,7 @@ use Rattle.osc_coap.specs.OptionSpelling.{AreBytes, marked}
 use Rattle.osc_coap.specs.Ends.{IsBody}
 use Rattle.osc_coap.specs.Datagram.{Parts, kind_number, IsDatagram}
 use Rattle.osc_coap.specs.Inner.{InnerParts, IsInner}
-use Rattle.osc_coap.specs.Fault.{HasHead, HasCode, code_of, token_length_of}
+use Rattle.osc_coap.specs.Fault.{HasWholeHead, HasCode, code_of, token_length_of}
 
 -- the first four bytes from the fields that they hold
 head_made : (a b c d kind_bits code id token_length : ℕ) → d < 256 → a / 64 ≡ 1 → kind_bits ≡ a / 16 % 4 → code ≡ b → id ≡ 256 * c + d → token_length ≡ a % 16
@@ -18,7 +18,7 @@ head_made a b c d kind_bits code id token_length small version k e i t =
     rw (first, e, high, low) refl
 
 -- a datagram from its head's fields, its token and the body behind it
-pub datagram_made : (p : Parts) (bytes : List ℕ) (end : ℕ) → AreBytes bytes → HasHead bytes → kind_number p.kind ≡ get_or bytes 0 0 / 16 % 4 → p.code ≡ code_of bytes → p.message_id ≡ 256 * get_or bytes 2 0 + get_or bytes 3 0
+pub datagram_made : (p : Parts) (bytes : List ℕ) (end : ℕ) → AreBytes bytes → HasWholeHead bytes → kind_number p.kind ≡ get_or bytes 0 0 / 16 % 4 → p.code ≡ code_of bytes → p.message_id ≡ 256 * get_or bytes 2 0 + get_or bytes 3 0
     → end ≡ 4 + token_length_of bytes → end ≤ length bytes → p.token ≡ take (end - 4) (drop 4 bytes) → (p.code ≡ 0 → length bytes ≡ 4) → IsBody p.options p.payload (drop end bytes) → IsDatagram p bytes
 datagram_made p [] end small h k e i is within t empty body = let w = h.whole in absurd (omega arith)
 datagram_made p (a ∷ []) end small h k e i is within t empty body = let w = h.whole in absurd (omega arith)

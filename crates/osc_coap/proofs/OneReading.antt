@@ -11,7 +11,7 @@ use Rattle.osc_coap.proofs.Pieces.{nibble_small, option_pieces}
 use Rattle.osc_coap.proofs.Parts.{fault_again}
 use Rattle.osc_coap.proofs.Walks.{EndsAt, walk_again}
 use Rattle.osc_coap.specs.OptionSpelling.{Entry, Spells, last_number, marked}
-use Rattle.osc_coap.specs.Fault.{IsFaulty, HasItemFault, HasHead, HasFault, code_of, token_length_of}
+use Rattle.osc_coap.specs.Fault.{IsFaulty, HasItemFault, HasWholeHead, HasFault, code_of, token_length_of}
 use Rattle.osc_coap.specs.Ends.{IsBody}
 use Rattle.osc_coap.specs.Datagram.{Parts, kind_number, IsDatagram}
 
@@ -139,7 +139,7 @@ kind_small Ack = omega arith
 kind_small Rst = omega arith
 
 -- a datagram has a fine head and a whole token
-pub datagram_head : (p : Parts) (bytes : List ℕ) → IsDatagram p bytes → HasHead bytes × (code_of bytes ≡ p.code) × (token_length_of bytes ≡ length p.token) × (4 + token_length_of bytes ≤ length bytes)
+pub datagram_head : (p : Parts) (bytes : List ℕ) → IsDatagram p bytes → HasWholeHead bytes × (code_of bytes ≡ p.code) × (token_length_of bytes ≡ length p.token) × (4 + token_length_of bytes ≤ length bytes)
 datagram_head p bytes h =
     let s = datagram_says p bytes h in
     let f = s.first in

@@ -3,9 +3,10 @@ use Rattle.std.proofs.Common.{◌≡◌, ◌≢◌, ℕ, zero, suc, ◌-◌, ◌
 use Rattle.std.proofs.lemmas.Bool.{eqb-true, eqb-false, ne_eqb}
 use Rattle.std.proofs.lemmas.List.{nil_from_length, length-append, append-nil, take_at, drop_at}
 use Rattle.osc_coap.specs.declared.format_error.Fault.{Fault}
-use Rattle.osc_coap.specs.Reading.{Taken, option_at, Walk, before, step, walk_for, walk, options_in, IsSpelling}
+use Rattle.osc_coap.specs.Reading.{Taken, option_at, Walk, before, step, walk_for, walk, options_in, IsSpelling, AreOptions}
+use Rattle.osc_coap.proofs.Bytes.{bytes_back}
 use Rattle.osc_coap.proofs.Parts.{chosen, option_sound, option_again, fault_sound, fault_again, begins_longer, begins_shorter, begins_length, begins_unmarked}
-use Rattle.osc_coap.specs.OptionSpelling.{Entry, Spells, last_number}
+use Rattle.osc_coap.specs.OptionSpelling.{Entry, AreBytes, Spells, last_number}
 use Rattle.osc_coap.proofs.Pieces.{Begins, spells_first, spells_more}
 use Rattle.osc_coap.specs.Fault.{IsFaulty, HasItemFault}
 use Rattle.osc_coap.specs.Ends.{IsMarked, EndsOptions}
@@ -77,10 +78,15 @@ walk_nothing d bytes e = rw (nil_from_length bytes e) refl
 pub options_ended : (d : ℕ) (bytes : List ℕ) → length bytes ≡ 0 → options_in d bytes ≡ []
 options_ended d bytes e = ap (λ (w : Walk). w.options) (walk_nothing d bytes e)
 
--- behind an option of a spelling stands a spelling
-pub spelled_rest : (d : ℕ) (bytes : List ℕ) (t : Taken) → IsSpelling d bytes → option_at d bytes ≡ Ok t → IsSpelling t.number t.rest
+-- behind the first of options stand options
+pub spelled_rest : (d : ℕ) (bytes : List ℕ) (t : Taken) → AreOptions d bytes → option_at d bytes ≡ Ok t → AreOptions t.number t.rest
 spelled_rest d [] t h e = absurd (option_sound d [] t e)
-spelled_rest d (b ∷ bytes) t h e = ap (λ (w : Walk). w.rest) (sym (walk_option d b bytes t e)) ∙ h
+spelled_rest d (b ∷ bytes) t h e =
+    let first = begins_shorter d (t.number, t.value) [] t.rest (b ∷ bytes) (option_sound d (b ∷ bytes) t e) in
+    record {
+      are_bytes = bytes_back first.0 t.rest (subst AreBytes first.2 h.are_bytes);
+      spelling = ap (λ (w : Walk). w.rest) (sym (walk_option d b bytes t e)) ∙ h.spelling;
+    }
 
 -- the options are the first one and those behind it
 pub options_more : (d : ℕ) (bytes : List ℕ) (t : Taken) → option_at d bytes ≡ Ok t → options_in d bytes ≡ (t.number, t.value) ∷ options_in t.number t.rest

@@ -1,4 +1,4 @@
--- How an option is protected (RFC 8613, 4.1). The table is this project's own profile.
+-- To be believed: how an option is protected (RFC 8613, 4.1). The table is this project's own profile.
 use Rattle.std.specs.Prelude.{ℕ, Bool, true, false, ◌==◌, if◌then◌else◌, List, [], ◌∷◌, filter}
 use Rattle.osc_coap.specs.declared.class.Class.{Class}
 use Rattle.osc_coap.specs.declared.class.Class.TheVariants.{E, U, Both}

@@ -1,4 +1,4 @@
--- What a CoAP datagram is (RFC 7252, 3). p is what a message says, bytes the datagram.
+-- To be believed: what a CoAP datagram is (RFC 7252, 3). p is what a message says, bytes the datagram.
 use Rattle.std.specs.Prelude.{◌≡◌, ℕ, ◌+◌, ◌*◌, ◌/◌, ◌%◌, ◌≤◌, List, [], ◌∷◌, ◌++◌, length}
 use Rattle.osc_coap.specs.declared.message.Kind.{Kind}
 use Rattle.osc_coap.specs.declared.message.Kind.TheVariants.{Con, Non, Ack, Rst}

@@ -1,4 +1,4 @@
--- Where the options behind a head end, and what follows them (RFC 7252, 3); for private functions.
+-- For the proofs: where the options behind a head end, and what follows them (RFC 7252, 3).
 use Rattle.std.specs.Prelude.{◌≡◌, ℕ, ◌≤◌, List, [], ◌∷◌, ◌++◌, take, drop, length}
 use Rattle.osc_coap.specs.OptionSpelling.{Entry, Spells, marked}
 use Rattle.osc_coap.specs.Reading.{IsSpelling, options_in}

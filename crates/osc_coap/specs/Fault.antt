@@ -1,6 +1,6 @@
--- The first fault of bytes that are no datagram, or no plaintext, and its place (RFC 7252, 3). The rows
--- stand in the order in which they are judged; items are judged from the left. d is the number of the
--- option before an item, and a place is counted in bytes from the front.
+-- To be believed: the first fault of bytes that are no datagram, or no plaintext, and its place (RFC 7252,
+-- 3). The rows stand in the order in which they are judged; items are judged from the left. d is the number
+-- of the option before an item, and a place is counted in bytes from the front.
 use Rattle.std.specs.Prelude.{◌≡◌, ◌≢◌, ℕ, ◌+◌, ◌/◌, ◌%◌, ◌<◌, ◌≤◌, ◌⊎◌, List, [], ◌∷◌, ◌++◌, length, drop, slice_index}
 use Rattle.osc_coap.specs.declared.format_error.Fault.{Fault}
 use Rattle.osc_coap.specs.declared.format_error.Fault.TheVariants.{DatagramTooLong, Short, Version, TokenLength, EmptyWithRest, TokenCut, Nibble15, OptionCut, NumberTooLarge, EmptyPayload}
@@ -19,7 +19,7 @@ abbrev pub code_of : List ℕ → ℕ
 code_of bytes = slice_index bytes 1
 
 -- the head is whole, of version 1, with a token length up to 8 (RFC 7252, 3)
-pub record HasHead (bytes : List ℕ) : Type 0 where
+pub record HasWholeHead (bytes : List ℕ) : Type 0 where
   pub fits : length bytes ≤ 65535
   pub whole : 4 ≤ length bytes
   pub version : version_of bytes ≡ 1
@@ -27,7 +27,7 @@ pub record HasHead (bytes : List ℕ) : Type 0 where
 
 -- behind such a head, of a code that isn't 0.00, the token is whole (RFC 7252, 3)
 pub record HasToken (bytes : List ℕ) : Type 0 where
-  pub head : HasHead bytes
+  pub head : HasWholeHead bytes
   pub code : code_of bytes ≢ 0
   pub token : 4 + token_length_of bytes ≤ length bytes
 
@@ -65,8 +65,8 @@ HasFault bytes DatagramTooLong place = (65535 < length bytes) × (place ≡ 6553
 HasFault bytes Short place = (length bytes < 4) × (place ≡ 0)
 HasFault bytes Version place = (4 ≤ length bytes) × (length bytes ≤ 65535) × (version_of bytes ≢ 1) × (place ≡ 0)
 HasFault bytes TokenLength place = (4 ≤ length bytes) × (length bytes ≤ 65535) × (version_of bytes ≡ 1) × (8 < token_length_of bytes) × (place ≡ 0)
-HasFault bytes EmptyWithRest place = HasHead bytes × (code_of bytes ≡ 0) × (((token_length_of bytes ≢ 0) × (place ≡ 0)) ⊎ ((token_length_of bytes ≡ 0) × (4 < length bytes) × (place ≡ 4)))
-HasFault bytes TokenCut place = HasHead bytes × (code_of bytes ≢ 0) × (length bytes < 4 + token_length_of bytes) × (place ≡ 4)
+HasFault bytes EmptyWithRest place = HasWholeHead bytes × (code_of bytes ≡ 0) × (((token_length_of bytes ≢ 0) × (place ≡ 0)) ⊎ ((token_length_of bytes ≡ 0) × (4 < length bytes) × (place ≡ 4)))
+HasFault bytes TokenCut place = HasWholeHead bytes × (code_of bytes ≢ 0) × (length bytes < 4 + token_length_of bytes) × (place ≡ 4)
 HasFault bytes Nibble15 place = HasToken bytes × HasFaultFrom (4 + token_length_of bytes) bytes Nibble15 place
 HasFault bytes OptionCut place = HasToken bytes × HasFaultFrom (4 + token_length_of bytes) bytes OptionCut place
 HasFault bytes NumberTooLarge place = HasToken bytes × HasFaultFrom (4 + token_length_of bytes) bytes NumberTooLarge place

@@ -1,17 +1,19 @@
--- What holds of all lists of options, messages, plaintexts and byte lists (RFC 7252, 3 and 3.1; RFC 8613,
--- 5.3): the contracts of the functions of laws.rt.
+-- To be believed: what holds of all lists of options, messages, plaintexts and byte lists (RFC 7252, 3 and
+-- 3.1; RFC 8613, 5.3). These are the contracts of the functions of laws.rt.
 use Rattle.std.specs.Prelude.{◌≡◌, ◌≢◌, ◌-◌, ◌≤◌, ◌⊎◌, ◌++◌, ℕ, List, [], ◌∷◌, length, take, drop}
 use Rattle.osc_coap.specs.declared.format_error.Fault.{Fault}
 use Rattle.osc_coap.specs.declared.message.Message.{Message}
-use Rattle.osc_coap.specs.Views.{parts_of}
+use Rattle.osc_coap.specs.declared.inner.Inner.{Inner}
+use Rattle.osc_coap.specs.declared.options.Options.{Options}
+use Rattle.osc_coap.specs.Views.{parts_of, inner_parts_of, options_left, number_before}
 use Rattle.osc_coap.specs.OptionSpelling.{Entry, AreBytes, Spells, Ascends, spelling_length}
 use Rattle.osc_coap.specs.Datagram.{Parts, IsDatagram, datagram_length}
 use Rattle.osc_coap.specs.Inner.{InnerParts, IsInner, inner_length}
 use Rattle.osc_coap.specs.Fault.{HasFault, HasInnerFault}
 
 -- a byte list spells one list of options at most after a number (RFC 7252, 3.1)
-abbrev pub SpellsOneList : Type 0
-SpellsOneList = (d : ℕ) (xs ys : List Entry) (text : List ℕ) → Spells d xs text → Spells d ys text → xs ≡ ys
+abbrev pub SpellingIsOfOneList : Type 0
+SpellingIsOfOneList = (d : ℕ) (xs ys : List Entry) (text : List ℕ) → Spells d xs text → Spells d ys text → xs ≡ ys
 
 -- a list of options has one text at most after a number (RFC 7252, 3.1)
 abbrev pub ListHasOneText : Type 0
@@ -26,36 +28,36 @@ abbrev pub PartsHaveOneInner : Type 0
 PartsHaveOneInner = (p : InnerParts) (bytes other : List ℕ) → IsInner p bytes → IsInner p other → bytes ≡ other
 
 -- a byte list is the datagram of one message at most (RFC 7252, 3)
-abbrev pub IsOneDatagram : Type 0
-IsOneDatagram = (p q : Parts) (bytes : List ℕ) → IsDatagram p bytes → IsDatagram q bytes → p ≡ q
+abbrev pub DatagramIsOneMessage : Type 0
+DatagramIsOneMessage = (p q : Parts) (bytes : List ℕ) → IsDatagram p bytes → IsDatagram q bytes → p ≡ q
 
 -- a byte list has one first fault at most, at one place (RFC 7252, 3)
-abbrev pub HasOneFault : Type 0
-HasOneFault = (bytes : List ℕ) (f g : Fault) (place other : ℕ) → HasFault bytes f place → HasFault bytes g other → (f ≡ g) × (place ≡ other)
+abbrev pub DatagramHasOneFault : Type 0
+DatagramHasOneFault = (bytes : List ℕ) (f g : Fault) (place other : ℕ) → HasFault bytes f place → HasFault bytes g other → (f ≡ g) × (place ≡ other)
 
 -- no datagram has a fault (RFC 7252, 3)
-abbrev pub IsNeverBoth : Type 0
-IsNeverBoth = (p : Parts) (bytes : List ℕ) (f : Fault) (place : ℕ) → IsDatagram p bytes → HasFault bytes f place → ⊥
+abbrev pub DatagramHasNoFault : Type 0
+DatagramHasNoFault = (p : Parts) (bytes : List ℕ) (f : Fault) (place : ℕ) → IsDatagram p bytes → HasFault bytes f place → ⊥
 
 -- each byte list is a datagram or has a fault (RFC 7252, 3)
-abbrev pub IsDatagramOrFault : Type 0
-IsDatagramOrFault = (bytes : List ℕ) → AreBytes bytes → ((p : Parts) × IsDatagram p bytes) ⊎ ((f : Fault) × (place : ℕ) × HasFault bytes f place)
+abbrev pub BytesAreDatagramOrFaulty : Type 0
+BytesAreDatagramOrFaulty = (bytes : List ℕ) → AreBytes bytes → ((p : Parts) × IsDatagram p bytes) ⊎ ((f : Fault) × (place : ℕ) × HasFault bytes f place)
 
 -- a byte list is one plaintext at most (RFC 8613, 5.3)
-abbrev pub IsOneInner : Type 0
-IsOneInner = (p q : InnerParts) (bytes : List ℕ) → IsInner p bytes → IsInner q bytes → p ≡ q
+abbrev pub PlaintextIsOneMessage : Type 0
+PlaintextIsOneMessage = (p q : InnerParts) (bytes : List ℕ) → IsInner p bytes → IsInner q bytes → p ≡ q
 
 -- a byte list has one first fault at most as a plaintext (RFC 8613, 5.3)
-abbrev pub HasOneInnerFault : Type 0
-HasOneInnerFault = (bytes : List ℕ) (f g : Fault) (place other : ℕ) → HasInnerFault bytes f place → HasInnerFault bytes g other → (f ≡ g) × (place ≡ other)
+abbrev pub PlaintextHasOneFault : Type 0
+PlaintextHasOneFault = (bytes : List ℕ) (f g : Fault) (place other : ℕ) → HasInnerFault bytes f place → HasInnerFault bytes g other → (f ≡ g) × (place ≡ other)
 
 -- no plaintext has a fault (RFC 8613, 5.3)
-abbrev pub IsNeverBothInner : Type 0
-IsNeverBothInner = (p : InnerParts) (bytes : List ℕ) (f : Fault) (place : ℕ) → IsInner p bytes → HasInnerFault bytes f place → ⊥
+abbrev pub PlaintextHasNoFault : Type 0
+PlaintextHasNoFault = (p : InnerParts) (bytes : List ℕ) (f : Fault) (place : ℕ) → IsInner p bytes → HasInnerFault bytes f place → ⊥
 
 -- each byte list is a plaintext or has a fault as one (RFC 8613, 5.3)
-abbrev pub IsInnerOrFault : Type 0
-IsInnerOrFault = (bytes : List ℕ) → AreBytes bytes → ((p : InnerParts) × IsInner p bytes) ⊎ ((f : Fault) × (place : ℕ) × HasInnerFault bytes f place)
+abbrev pub BytesArePlaintextOrFaulty : Type 0
+BytesArePlaintextOrFaulty = (bytes : List ℕ) → AreBytes bytes → ((p : InnerParts) × IsInner p bytes) ⊎ ((f : Fault) × (place : ℕ) × HasInnerFault bytes f place)
 
 -- a payload that isn't empty is the end of its datagram (RFC 7252, 3)
 abbrev pub PayloadIsTheEnd : Type 0
@@ -84,6 +86,26 @@ InnerOptionsAscend = (p : InnerParts) (bytes : List ℕ) → IsInner p bytes →
 -- the options of a message that was read stand in ascending number (RFC 7252, 3.1)
 abbrev pub ReadOptionsAscend : Type 0
 ReadOptionsAscend = (m : Message) → Ascends 0 (parts_of m).options
+
+-- the options of a plaintext that was read stand in ascending number (RFC 8613, 5.3)
+abbrev pub ReadInnerOptionsAscend : Type 0
+ReadInnerOptionsAscend = (m : Inner) → Ascends 0 (inner_parts_of m).options
+
+-- the options that an iterator has still to give stand in ascending number (RFC 7252, 3.1)
+abbrev pub OptionsLeftAscend : Type 0
+OptionsLeftAscend = (s : Options) → Ascends (number_before s) (options_left s)
+
+-- bytes spell the options of a message that was read (RFC 7252, 3.1)
+abbrev pub ReadOptionsAreSpelled : Type 0
+ReadOptionsAreSpelled = (m : Message) → (text : List ℕ) × AreBytes text × Spells 0 (parts_of m).options text
+
+-- bytes spell the options of a plaintext that was read (RFC 8613, 5.3)
+abbrev pub ReadInnerOptionsAreSpelled : Type 0
+ReadInnerOptionsAreSpelled = (m : Inner) → (text : List ℕ) × AreBytes text × Spells 0 (inner_parts_of m).options text
+
+-- bytes spell the options that an iterator has still to give, after its number (RFC 7252, 3.1)
+abbrev pub OptionsLeftAreSpelled : Type 0
+OptionsLeftAreSpelled = (s : Options) → (text : List ℕ) × AreBytes text × Spells (number_before s) (options_left s) text
 
 -- a list of options tells the length of its text (RFC 7252, 3.1)
 abbrev pub SpellingHasItsLength : Type 0

@@ -1,14 +1,22 @@
+-- to be believed, in reading order
+pub mod OptionNumbers
 pub mod OptionSpelling
 pub mod Datagram
 pub mod Inner
 pub mod Fault
 pub mod Text
+pub mod Code
+pub mod Search
+pub mod Class
+pub mod Writing
 pub mod Laws
+-- how the code is seen
 pub mod Views
+pub mod Writer
+-- for the proofs
 pub mod Reading
 pub mod Seen
 pub mod Ends
 pub mod OptionText
-pub mod Writing
-pub mod Writer
-pub mod Class
+pub mod Drafts
+pub mod Held

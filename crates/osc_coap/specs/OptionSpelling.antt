@@ -1,6 +1,6 @@
--- How CoAP spells a list of options (RFC 7252, 3.1). d is the number of the option before, 0 at first;
--- a nibble is one half of an option byte, the delta's the high one; n is a delta or a value's length.
--- That a text holds bytes alone is said where a text is whole: in IsDatagram, IsInner and the laws.
+-- To be believed: how CoAP spells a list of options (RFC 7252, 3.1). d is the number of the option before,
+-- 0 at first; a nibble is one half of an option byte, the delta's the high one; n is a delta or a value's
+-- length. That a text holds bytes alone is said where a text is whole: in IsDatagram, IsInner and the laws.
 use Rattle.std.specs.Prelude.{◌≡◌, ℕ, ◌+◌, ◌-◌, ◌*◌, ◌<◌, ◌≤◌, nat_lt, if◌then◌else◌, All, List, [], ◌∷◌, ◌++◌, length}
 
 -- an option: its number, and the bytes of its value (RFC 7252, 3.1)

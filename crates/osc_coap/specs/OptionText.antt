@@ -1,4 +1,5 @@
--- How private functions write one option, and bytes at a place (RFC 7252, 3.1). n is a delta or a length.
+-- For the proofs: how private functions write one option, and bytes at a place (RFC 7252, 3.1). n is a delta
+-- or a length.
 use Rattle.std.specs.Prelude.{ℕ, ◌+◌, ◌-◌, ◌*◌, ◌/◌, ◌%◌, nat_lt, if◌then◌else◌, List, [], ◌∷◌, ◌++◌, length, take, drop}
 
 -- old with this text written at a place, over as many bytes (how the code is seen)

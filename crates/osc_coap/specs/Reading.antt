@@ -1,10 +1,10 @@
--- The reading functions: they retrace how private functions read options from left to right. Public
--- clauses speak of OptionSpelling.antt, Datagram.antt, Inner.antt and Fault.antt instead; what is read
--- here is proved to be what is spelled there. d is the number of the option before.
+-- For the proofs: how private functions read options from left to right. Public clauses speak of
+-- OptionSpelling.antt, Datagram.antt, Inner.antt and Fault.antt instead; what is read here is proved to be
+-- what is spelled there. d is the number of the option before.
 use Rattle.std.specs.Prelude.{◌≡◌, ℕ, zero, suc, ◌+◌, ◌*◌, ◌/◌, ◌%◌, List, [], ◌∷◌, length, take, drop, Option, Some, None, option_and_then, Result, Ok, Err, nat_lt, ◌==◌, ◌||◌, if◌then◌else◌}
 use Rattle.osc_coap.specs.declared.format_error.Fault.{Fault}
 use Rattle.osc_coap.specs.declared.format_error.Fault.TheVariants.{Nibble15, OptionCut, NumberTooLarge}
-use Rattle.osc_coap.specs.OptionSpelling.{Entry}
+use Rattle.osc_coap.specs.OptionSpelling.{Entry, AreBytes}
 
 infixl 10 ◌>>=◌
 -- one reading step and then another, where both find something (own rule: how options are read)
@@ -92,3 +92,8 @@ options_in d bytes = (walk d bytes).options
 -- the bytes are options to their end, after number d (RFC 7252, 3.1)
 abbrev pub IsSpelling : ℕ → List ℕ → Type 0
 IsSpelling d bytes = (walk d bytes).rest ≡ []
+
+-- the same of bytes alone (RFC 7252, 3.1)
+pub record AreOptions (d : ℕ) (bytes : List ℕ) : Type 0 where
+  pub are_bytes : AreBytes bytes
+  pub spelling : IsSpelling d bytes

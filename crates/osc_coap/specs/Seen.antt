@@ -1,11 +1,11 @@
--- What the values of private functions say, without where their bytes lie (how the code is seen).
+-- For the proofs: what the values of private functions say, without where their bytes lie.
 use Rattle.std.specs.Prelude.{◌≡◌, ℕ, ◌+◌, ◌*◌, ◌/◌, ◌%◌, List, slice_index}
 use Rattle.std.specs.Borrow.{Bor}
 use Rattle.osc_coap.specs.declared.option_header.Pieces.{Pieces}
 use Rattle.osc_coap.specs.declared.options.Item.{Item}
 use Rattle.osc_coap.specs.declared.head.Head.{Head}
 use Rattle.osc_coap.specs.Datagram.{kind_number}
-use Rattle.osc_coap.specs.Fault.{HasHead, code_of, token_length_of}
+use Rattle.osc_coap.specs.Fault.{HasWholeHead, code_of, token_length_of}
 use Rattle.osc_coap.specs.Reading.{Pieced, Taken}
 
 -- a number, and the bytes that a reference points to (how the code is seen)
@@ -22,7 +22,7 @@ seen_item t = record { number = t.number; value = t.value.now; rest = t.rest.now
 
 -- the fields that stand in the first four bytes, of a head that is fine (how the code is seen)
 pub record ReadsHead (h : Head) (bytes : List ℕ) : Type 0 where
-  pub fine : HasHead bytes
+  pub fine : HasWholeHead bytes
   pub kind : kind_number h.kind ≡ slice_index bytes 0 / 16 % 4
   pub code : h.code ≡ code_of bytes
   pub message_id : h.message_id ≡ 256 * slice_index bytes 2 + slice_index bytes 3

@@ -1,4 +1,4 @@
--- What messages, plaintexts and iterators say, in the words of the standard (how the code is seen).
+-- How the code is seen: what messages, plaintexts and iterators say, in the words of the standard.
 use Rattle.std.specs.Prelude.{ℕ, List}
 use Rattle.std.specs.Borrow.{Bor}
 use Rattle.osc_coap.specs.declared.message.Message.{Message}
@@ -20,6 +20,10 @@ inner_parts_of m = record { code = m.code; options = options_in 0 m.options.now;
 -- the options that an iterator has still to give, in order (how the code is seen)
 abbrev pub options_left : Options → List Entry
 options_left s = options_in s.number s.rest.now
+
+-- the number of the option that an iterator gave last, or 0 at first (how the code is seen)
+abbrev pub number_before : Options → ℕ
+number_before s = s.number
 
 -- an option that an iterator gives: its number, and its value's bytes (how the code is seen)
 abbrev pub seen_option : ℕ × Bor (List ℕ) → Entry

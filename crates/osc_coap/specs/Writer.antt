@@ -1,59 +1,14 @@
--- What a writer holds, and what its fields say of an option or a payload (how the code is seen).
-use Rattle.std.specs.Prelude.{◌≡◌, ◌≢◌, ℕ, ◌+◌, ◌-◌, ◌<◌, ◌≤◌, ◌⊎◌, min, List, [], take, drop, length}
+-- How the code is seen: what a writer holds, and where.
+use Rattle.std.specs.Prelude.{ℕ, List}
 use Rattle.std.specs.Borrow.{GName}
 use Rattle.osc_coap.specs.declared.writer.Writer.{Writer}
-use Rattle.osc_coap.specs.declared.writer.Stage.{Stage}
-use Rattle.osc_coap.specs.declared.writer.Stage.TheVariants.{Alone, Open, Closed}
-use Rattle.osc_coap.specs.declared.write_error.WriteError.{WriteError}
-use Rattle.osc_coap.specs.declared.write_error.WriteError.TheVariants.{EmptyWithRest, Order, ValueTooLong, NoRoom}
-use Rattle.osc_coap.specs.OptionSpelling.{last_number, option_length}
-use Rattle.osc_coap.specs.Writing.{Draft, IsDraft, IsEmptyMessage, options_of, payload_of, length_of}
+use Rattle.osc_coap.specs.Writing.{Draft}
+use Rattle.osc_coap.specs.Held.{IsHeld}
 
 -- the buffer that a writer writes into (how the code is seen)
 abbrev pub buffer_of : Writer → GName
 buffer_of w = w.buf.ghost_name
 
--- what a writer can take next, by what it has written (RFC 7252, 3 and 4.1)
-abbrev pub IsAt : Stage → Draft → Type 0
-IsAt Alone draft = IsEmptyMessage draft × (payload_of draft ≡ [])
-IsAt Open draft = (¬ IsEmptyMessage draft) × (payload_of draft ≡ [])
-IsAt Closed draft = (¬ IsEmptyMessage draft) × (payload_of draft ≢ [])
-
--- the draft stands in front of the buffer, and behind it what stood there in old (how the code is seen)
-pub record IsHeld (w : Writer) (draft : Draft) (old : List ℕ) : Type 0 where
-  pub written : IsDraft draft (take w.len w.buf.now)
-  pub size : w.len ≡ length_of draft
-  pub same_room : length w.buf.now ≡ length old
-  pub behind : drop w.len w.buf.now ≡ drop w.len old
-  pub number : w.number ≡ last_number 0 (options_of draft)
-  pub stage : IsAt w.stage draft
-
--- the same, as callers see it: a writer that began in a buffer that held old (how the code is seen)
+-- the writer, which began in a buffer that held old, has written this draft into it (how the code is seen)
 unfoldable pub Holds : Writer → Draft → List ℕ → Type 0
 Holds w draft old = IsHeld w draft old
-
--- how many bytes a writer may fill at most (own rule)
-abbrev pub limit_of : Writer → ℕ
-limit_of w = min (length w.buf.now) 65535
-
--- a writer takes an option with this number, length and delta (how the code is seen)
-pub record TakesNow (w : Writer) (number value_length delta : ℕ) : Type 0 where
-  pub stage : w.stage ≡ Open
-  pub order : w.number ≤ number
-  pub delta_is : delta ≡ number - w.number
-  pub short : value_length ≤ 65804
-  pub room : w.len + option_length delta value_length ≤ limit_of w
-
--- why a writer takes no option with this number and length (how the code is seen)
-abbrev pub RefusesNow : Writer → ℕ → ℕ → WriteError → Type 0
-RefusesNow w number value_length EmptyWithRest = w.stage ≡ Alone
-RefusesNow w number value_length Order = (w.stage ≡ Closed) ⊎ ((w.stage ≡ Open) × (number < w.number))
-RefusesNow w number value_length ValueTooLong = (w.stage ≡ Open) × (w.number ≤ number) × (65804 < value_length)
-RefusesNow w number value_length NoRoom = (w.stage ≡ Open) × (w.number ≤ number) × (value_length ≤ 65804) × (limit_of w < w.len + option_length (number - w.number) value_length)
-
--- why a writer takes no payload of this length (how the code is seen)
-abbrev pub RefusesLength : Writer → ℕ → WriteError → Type 0
-RefusesLength w payload_length EmptyWithRest = w.stage ≡ Alone
-RefusesLength w payload_length Order = w.stage ≡ Closed
-RefusesLength w payload_length ValueTooLong = ⊥
-RefusesLength w payload_length NoRoom = (w.stage ≡ Open) × (limit_of w < w.len + (1 + payload_length))

@@ -1,15 +1,15 @@
--- What stands in a buffer that is written, a datagram (RFC 7252, 3) or a plaintext (RFC 8613, 5.3), and
--- what can't be added to it. room is the buffer's length; a refusal gives the first reason that holds, in
--- the order of WriteError.
-use Rattle.std.specs.Prelude.{◌≡◌, ◌≢◌, ℕ, ◌+◌, ◌<◌, ◌≤◌, ◌⊎◌, List, [], ◌∷◌, ◌++◌, length, Result, IsOk, IfErr, IsErrOf}
+-- To be believed: what stands in a buffer that is written, a datagram (RFC 7252, 3) or a plaintext (RFC
+-- 8613, 5.3), and what can't be added to it. room is the buffer's length; a refusal gives the first reason
+-- that holds, in the order of WriteError.
+use Rattle.std.specs.Prelude.{◌≡◌, ◌≢◌, ℕ, ◌+◌, ◌<◌, ◌≤◌, ◌⊎◌, List, [], ◌∷◌, ◌++◌, length}
 use Rattle.osc_coap.specs.declared.message.Kind.{Kind}
 use Rattle.osc_coap.specs.declared.write_error.WriteError.{WriteError}
 use Rattle.osc_coap.specs.declared.write_error.WriteError.TheVariants.{EmptyWithRest, Order, ValueTooLong, NoRoom}
-use Rattle.osc_coap.specs.OptionSpelling.{Entry, AreBytes, Spells, marked, last_number}
-use Rattle.osc_coap.specs.Datagram.{Parts, head, datagram_length}
+use Rattle.osc_coap.specs.OptionSpelling.{Entry, last_number}
+use Rattle.osc_coap.specs.Datagram.{Parts, datagram_length}
 use Rattle.osc_coap.specs.Inner.{InnerParts, inner_length}
 
--- what is written so far: the datagram, or the plaintext, with these parts (how the code is seen)
+-- what is written so far: the datagram, or the plaintext, with these parts (RFC 7252, 3; RFC 8613, 5.3)
 pub data Draft : Type 0 where
   Datagram : Parts → Draft
   Plaintext : InnerParts → Draft
@@ -22,12 +22,12 @@ bare kind code message_id token = record { kind = kind; code = code; message_id 
 abbrev pub bare_inner : ℕ → InnerParts
 bare_inner code = record { code = code; options = []; payload = [] }
 
--- the options that are written (how the code is seen)
+-- the options that are written (RFC 7252, 3.1)
 abbrev pub options_of : Draft → List Entry
 options_of (Datagram p) = p.options
 options_of (Plaintext p) = p.options
 
--- the payload that is written (how the code is seen)
+-- the payload that is written (RFC 7252, 3)
 abbrev pub payload_of : Draft → List ℕ
 payload_of (Datagram p) = p.payload
 payload_of (Plaintext p) = p.payload
@@ -68,23 +68,28 @@ LacksRoom room size = (room < size) ⊎ (65535 < size)
 abbrev pub HasRoom : ℕ → ℕ → Type 0
 HasRoom room size = (size ≤ room) × (size ≤ 65535)
 
--- the first of four reasons that holds, in the order in which they are judged (own rule)
-abbrev pub IsFirstOf : (empty late long full : Type 0) → WriteError → Type 0
-IsFirstOf empty late long full EmptyWithRest = empty
-IsFirstOf empty late long full Order = (¬ empty) × late
-IsFirstOf empty late long full ValueTooLong = (¬ empty) × (¬ late) × long
-IsFirstOf empty late long full NoRoom = (¬ empty) × (¬ late) × (¬ long) × full
+-- a reason by its name, each of the four whatever else is wrong (own rule)
+abbrev pub Reason : (empty late long full : Type 0) → WriteError → Type 0
+Reason empty late long full EmptyWithRest = empty
+Reason empty late long full Order = late
+Reason empty late long full ValueTooLong = long
+Reason empty late long full NoRoom = full
 
--- Ok is answered exactly where it can be done, an error exactly where it says why not (own rule)
-pub record IsExact {X : Type 0} (result : Result X WriteError) (can : Type 0) (why : WriteError → Type 0) : Type 0 where
-  pub taken : IsOk result → can
-  pub takes : can → IsOk result
-  pub refused : IfErr result why
-  pub refuses : (e : WriteError) → why e → IsErrOf result e
+-- own rule: the place of a reason in the order of judging
+abbrev pub write_rank : WriteError → ℕ
+write_rank EmptyWithRest = 0
+write_rank Order = 1
+write_rank ValueTooLong = 2
+write_rank NoRoom = 3
+
+-- own rule: the reason holds, and none judged before it does
+pub record IsFirstReason (why : WriteError → Type 0) (e : WriteError) : Type 0 where
+  pub holds : why e
+  pub first : (f : WriteError) → write_rank f < write_rank e → ¬ why f
 
 -- why no datagram with this code and token can begin (own rule)
 abbrev pub RefusesHead : ℕ → ℕ → List ℕ → WriteError → Type 0
-RefusesHead room code token = IsFirstOf ((code ≡ 0) × (token ≢ [])) ⊥ ⊥ (LacksRoom room (4 + length token))
+RefusesHead room code token = Reason ((code ≡ 0) × (token ≢ [])) ⊥ ⊥ (LacksRoom room (4 + length token))
 
 -- a datagram with this code and token can begin (RFC 7252, 3 and 4.1)
 abbrev pub TakesHead : ℕ → ℕ → List ℕ → Type 0
@@ -92,7 +97,7 @@ TakesHead room code token = (code ≡ 0 → token ≡ []) × HasRoom room (4 + l
 
 -- why an option can't be added (own rule)
 abbrev pub RefusesOption : ℕ → Draft → ℕ → List ℕ → WriteError → Type 0
-RefusesOption room draft number value = IsFirstOf (IsEmptyMessage draft) (ComesLate draft number) (65804 < length value) (LacksRoom room (length_of (with_option draft number value)))
+RefusesOption room draft number value = Reason (IsEmptyMessage draft) (ComesLate draft number) (65804 < length value) (LacksRoom room (length_of (with_option draft number value)))
 
 -- an option can be added (RFC 7252, 3 and 3.1)
 abbrev pub TakesOption : ℕ → Draft → ℕ → List ℕ → Type 0
@@ -100,28 +105,8 @@ TakesOption room draft number value = (¬ IsEmptyMessage draft) × (payload_of d
 
 -- why a payload that isn't empty can't be added (own rule)
 abbrev pub RefusesPayload : ℕ → Draft → List ℕ → WriteError → Type 0
-RefusesPayload room draft bytes = IsFirstOf (IsEmptyMessage draft) (payload_of draft ≢ []) ⊥ (LacksRoom room (length_of (with_payload draft bytes)))
+RefusesPayload room draft bytes = Reason (IsEmptyMessage draft) (payload_of draft ≢ []) ⊥ (LacksRoom room (length_of (with_payload draft bytes)))
 
 -- a payload that isn't empty can be added (RFC 7252, 3)
 abbrev pub TakesPayload : ℕ → Draft → List ℕ → Type 0
 TakesPayload room draft bytes = (¬ IsEmptyMessage draft) × (payload_of draft ≡ []) × HasRoom room (length_of (with_payload draft bytes))
-
--- what stands in front of the options (RFC 7252, 3; RFC 8613, 5.3)
-abbrev pub front_of : Draft → List ℕ
-front_of (Datagram p) = head p ++ p.token
-front_of (Plaintext p) = p.code ∷ []
-
--- the token isn't longer than a head can say (RFC 7252, 3)
-abbrev pub HasFineToken : Draft → Type 0
-HasFineToken (Datagram p) = length p.token ≤ 8
-HasFineToken (Plaintext p) = Unit {0}
-
--- the bytes are this datagram, or this plaintext (RFC 7252, 3; RFC 8613, 5.3)
-pub record IsDraft (draft : Draft) (bytes : List ℕ) : Type 0 where
-  pub are_bytes : AreBytes bytes
-  pub fits : length bytes ≤ 65535
-  pub token : HasFineToken draft
-  pub spelled : List ℕ
-  pub spells : Spells 0 (options_of draft) spelled
-  pub whole : bytes ≡ front_of draft ++ (spelled ++ marked (payload_of draft))
-  pub empty : IsEmptyMessage draft → length bytes ≡ 4

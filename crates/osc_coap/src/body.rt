@@ -1,7 +1,7 @@
 //! The options and the payload behind a message's head.
 
 ghost use Rattle.std.specs.Prelude.{◌≡◌, ◌≤◌, length, drop, IfOk, IfErr};
-ghost use Rattle.osc_coap.specs.Reading.{IsSpelling, options_in};
+ghost use Rattle.osc_coap.specs.Reading.{AreOptions, options_in};
 ghost use Rattle.osc_coap.specs.Ends.{EndsOptions, IsBody};
 ghost use Rattle.osc_coap.specs.Fault.{HasItemFault, HasFaultFrom};
 
@@ -43,7 +43,7 @@ fn options_len(bytes: &[u8]) -> Result<usize, FormatError>
 
 /// Parts the options from the payload.
 fn split(bytes: &[u8]) -> Result<Body<'_>, FormatError>
-    ensures spelled { IfOk result (λ x. IsSpelling 0 x.options.now) }
+    ensures spelled { IfOk result (λ x. AreOptions 0 x.options.now) }
     ensures body { IfOk result (λ x. IsBody (options_in 0 x.options.now) x.payload.now bytes.now) }
     ensures fault { IfErr result (λ e. HasItemFault bytes.now e.fault e.place) }
 {
@@ -62,7 +62,7 @@ fn split(bytes: &[u8]) -> Result<Body<'_>, FormatError>
 /// The body behind the first `start` bytes. A fault's place is counted from the front of them all.
 pub(crate) fn body_behind(bytes: &[u8], start: usize) -> Result<Body<'_>, FormatError>
     requires { start ≤ length bytes.now }
-    ensures spelled { IfOk result (λ x. IsSpelling 0 x.options.now) }
+    ensures spelled { IfOk result (λ x. AreOptions 0 x.options.now) }
     ensures body { IfOk result (λ x. IsBody (options_in 0 x.options.now) x.payload.now (drop start bytes.now)) }
     ensures fault { IfErr result (λ e. HasFaultFrom start bytes.now e.fault e.place) }
 {

@@ -22,6 +22,7 @@ pub enum Class {
 
 /// The class of the option with this number. Own rule: the table, and E for every number outside of it
 /// (RFC 8613, 4.1).
+#[must_use]
 pub fn class_of(number: u16) -> Class
     ensures { result ≡ class number }
 {

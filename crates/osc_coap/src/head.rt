@@ -105,6 +105,7 @@ fn bits_of(kind: Kind) -> u8
 }
 
 /// How many bytes a head and a token take: what `Writer::begin` asks for, 4 to 12 (RFC 7252, 3).
+#[must_use]
 pub fn head_len(token: &Token) -> usize
     ensures value { result ≡ 4 + array_vec_len token.now }
     ensures most { result ≤ 12 }

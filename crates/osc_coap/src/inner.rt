@@ -1,7 +1,7 @@
 //! The plaintext of a protected message as it was read (RFC 8613, 5.3).
 
 ghost use Rattle.std.specs.Prelude.{◌≡◌};
-ghost use Rattle.osc_coap.specs.Reading.{IsSpelling};
+ghost use Rattle.osc_coap.specs.Reading.{AreOptions};
 
 use crate::options::Options;
 
@@ -12,13 +12,14 @@ pub struct Inner<'a> {
     pub code: u8,
     pub(crate) options: &'a [u8],
     pub(crate) payload: &'a [u8],
-    ghost spelled: { IsSpelling 0 options.now },
+    ghost spelled: { AreOptions 0 options.now },
 }
 
 impl<'a> Inner<'a> {
     ghost use Rattle.osc_coap.specs.Views.{inner_parts_of, options_left};
 
     /// The options in the order of the plaintext, each one's number and value.
+    #[must_use]
     pub fn options(&self) -> Options<'a>
         ensures { options_left result ≡ (inner_parts_of self.now).options }
     {
@@ -26,6 +27,7 @@ impl<'a> Inner<'a> {
     }
 
     /// The bytes behind the marker, or none where there is no marker.
+    #[must_use]
     pub fn payload(&self) -> &'a [u8]
         ensures { result.now ≡ (inner_parts_of self.now).payload }
     {

@@ -13,6 +13,7 @@
 
 mod body;
 mod class;
+mod code;
 mod format_error;
 mod head;
 mod inner;
@@ -27,12 +28,13 @@ mod write_error;
 mod writer;
 
 pub use crate::class::{Class, class_of};
+pub use crate::code::{is_request_code, is_response_code};
 pub use crate::format_error::{Fault, FormatError, MOST_DATAGRAM};
 pub use crate::head::head_len;
 pub use crate::inner::Inner;
 pub use crate::laws::{
-    lengths_by_parts, one_datagram, one_inner, one_spelling, one_text, options_ascend,
-    payload_stands_last,
+    lengths_by_parts, one_datagram, one_inner, one_spelling, one_text, options_are_spelled,
+    options_ascend, payload_stands_last,
 };
 pub use crate::message::{Kind, Message, Token};
 pub use crate::option_header::option_len;

@@ -1,8 +1,9 @@
 //! A message as it was read (RFC 7252, 3).
 
 ghost use Rattle.std.specs.Prelude.{◌≡◌};
-ghost use Rattle.osc_coap.specs.Reading.{IsSpelling};
+ghost use Rattle.osc_coap.specs.Reading.{AreOptions};
 
+use crate::code::{is_request_code, is_response_code};
 use crate::options::Options;
 use arrayvec::ArrayVec;
 
@@ -32,13 +33,15 @@ pub struct Message<'a> {
     pub token: Token,
     pub(crate) options: &'a [u8],
     pub(crate) payload: &'a [u8],
-    ghost spelled: { IsSpelling 0 options.now },
+    ghost spelled: { AreOptions 0 options.now },
 }
 
 impl<'a> Message<'a> {
     ghost use Rattle.osc_coap.specs.Views.{parts_of, options_left};
+    ghost use Rattle.osc_coap.specs.Code.{is_request, is_response};
 
     /// The options in the order of the datagram, each one's number and value.
+    #[must_use]
     pub fn options(&self) -> Options<'a>
         ensures { options_left result ≡ (parts_of self.now).options }
     {
@@ -46,12 +49,38 @@ impl<'a> Message<'a> {
     }
 
     /// The bytes behind the marker, or none where there is no marker.
+    #[must_use]
     pub fn payload(&self) -> &'a [u8]
         ensures { result.now ≡ (parts_of self.now).payload }
     {
         self.payload
     }
+
+    /// Whether it is a request: CON or NON, with a code of 0.01 to 0.31 (RFC 7252, 4.2, 4.3 and 12.1).
+    #[must_use]
+    pub fn is_request(&self) -> bool
+        ensures { result ≡ is_request self.now.kind self.now.code }
+    {
+        match self.kind {
+            Kind::Con | Kind::Non => is_request_code(self.code),
+            Kind::Ack | Kind::Rst => false,
+        }
+    }
+
+    /// Whether it is a response: CON, NON or ACK, with a code of class 2, 4 or 5 (RFC 7252, 4.2, 4.3 and
+    /// 12.1).
+    #[must_use]
+    pub fn is_response(&self) -> bool
+        ensures { result ≡ is_response self.now.kind self.now.code }
+    {
+        match self.kind {
+            Kind::Con | Kind::Non | Kind::Ack => is_response_code(self.code),
+            Kind::Rst => false,
+        }
+    }
+
     /// The same code, options and payload under another head (RFC 7252, 3).
+    #[must_use]
     pub fn with_head(&self, kind: Kind, message_id: u16, token: Token) -> Message<'a>
         ensures { parts_of result ≡ record (parts_of self.now) {
           kind = kind;

@@ -111,6 +111,7 @@ pub(crate) fn option_size(delta: u32, value_len: u32) -> usize
 
 /// How many bytes an option takes, its value included, by its delta, which is its number less the number
 /// of the option before (or 0), and the length of its value in bytes (RFC 7252, 3.1).
+#[must_use]
 pub fn option_len(delta: u16, length: u16) -> usize
     ensures { result ≡ option_length delta length }
 {

@@ -1,8 +1,10 @@
 //! The options of a message, one after the other.
 
 ghost use Rattle.std.specs.Prelude.{◌≡◌, ◌<◌, [], ◌∷◌, IfNone, IfSome};
-ghost use Rattle.osc_coap.specs.Reading.{option_at, Gives, IsSpelling, options_in};
+ghost use Rattle.std.specs.Option.{option_copied};
+ghost use Rattle.osc_coap.specs.Reading.{option_at, Gives, AreOptions, options_in};
 ghost use Rattle.osc_coap.specs.Seen.{seen_item};
+ghost use Rattle.osc_coap.specs.Search.{first_of, values_at};
 
 use crate::format_error::Fault;
 use crate::option_header::{RESERVED_NIBBLE, pieces_of};
@@ -48,11 +50,11 @@ pub(crate) fn take_option(after: u16, bytes: &[u8]) -> Result<Item<'_>, Fault>
 
 /// The first of the options that the bytes spell, or None where they spell none.
 fn first_item(after: u16, bytes: &[u8]) -> Option<Item<'_>>
-    requires { IsSpelling after bytes.now }
+    requires { AreOptions after bytes.now }
     ensures none { IfNone result (options_in after bytes.now ≡ []) }
     ensures first { IfSome result (λ item. options_in after bytes.now
         ≡ (item.number, item.value.now) ∷ options_in item.number item.rest.now) }
-    ensures spelled { IfSome result (λ item. IsSpelling item.number item.rest.now) }
+    ensures spelled { IfSome result (λ item. AreOptions item.number item.rest.now) }
 {
     if bytes.is_empty() {
         return None;
@@ -69,7 +71,7 @@ fn first_item(after: u16, bytes: &[u8]) -> Option<Item<'_>>
 pub struct Options<'a> {
     number: u16,
     rest: &'a [u8],
-    ghost spelled: { IsSpelling number rest.now },
+    ghost spelled: { AreOptions number rest.now },
 }
 
 impl<'a> Options<'a> {
@@ -77,13 +79,27 @@ impl<'a> Options<'a> {
 
     /// The options that the bytes spell.
     pub(crate) fn new(bytes: &'a [u8]) -> Options<'a>
-        requires { IsSpelling 0 bytes.now }
+        requires { AreOptions 0 bytes.now }
         ensures { options_left result ≡ options_in 0 bytes.entry.now }
     {
         Options {
             number: 0,
             rest: bytes,
         }
+    }
+
+    /// The value of the first option of this number, among those still to give (RFC 7252, 3.1). It moves
+    /// nothing on, and its value lies in the bytes that were read.
+    #[must_use]
+    pub fn first(&self, number: u16) -> Option<&'a [u8]>
+        ensures { option_copied result ≡ first_of (values_at number (options_left self.now)) }
+    {
+        for (found, value) in *self {
+            if found == number {
+                return Some(value);
+            }
+        }
+        None
     }
 }
 

@@ -52,8 +52,8 @@ fn read_datagram(bytes: &[u8]) -> Result<Message<'_>, FormatError>
 pub fn parse(bytes: &[u8]) -> Result<Message<'_>, FormatError>
     ensures accepted { IfOk result (λ m. IsDatagram (parts_of m) bytes.now) }
     ensures refused { IfErr result (λ e. HasFault bytes.now e.fault e.place) }
-    ensures only { (p : Parts) → IsDatagram p bytes.now → IsOkAnd result (λ m. parts_of m ≡ p) }
-    ensures exactly { (fault : Fault) (place : ℕ) → HasFault bytes.now fault place
+    ensures accepts { (p : Parts) → IsDatagram p bytes.now → IsOkAnd result (λ m. parts_of m ≡ p) }
+    ensures refuses { (fault : Fault) (place : ℕ) → HasFault bytes.now fault place
         → IsErrAnd result (λ e. (e.fault ≡ fault) × (e.place ≡ place)) }
 {
     read_datagram(bytes)
@@ -84,8 +84,8 @@ fn read_plaintext(bytes: &[u8]) -> Result<Inner<'_>, FormatError>
 pub fn parse_inner(bytes: &[u8]) -> Result<Inner<'_>, FormatError>
     ensures accepted { IfOk result (λ m. IsInner (inner_parts_of m) bytes.now) }
     ensures refused { IfErr result (λ e. HasInnerFault bytes.now e.fault e.place) }
-    ensures only { (p : InnerParts) → IsInner p bytes.now → IsOkAnd result (λ m. inner_parts_of m ≡ p) }
-    ensures exactly { (fault : Fault) (place : ℕ) → HasInnerFault bytes.now fault place
+    ensures accepts { (p : InnerParts) → IsInner p bytes.now → IsOkAnd result (λ m. inner_parts_of m ≡ p) }
+    ensures refuses { (fault : Fault) (place : ℕ) → HasInnerFault bytes.now fault place
         → IsErrAnd result (λ e. (e.fault ≡ fault) × (e.place ≡ place)) }
 {
     read_plaintext(bytes)

@@ -1,10 +1,10 @@
 //! Writing a datagram or a plaintext into a caller's buffer, from the front to the payload.
 
-ghost use Rattle.std.specs.Prelude.{◌≡◌, ◌≢◌, ◌≤◌, ◌<◌, ◌+◌, ℕ, List, [], drop, take, length, IsOk, IfOk, OnOk, OnErr, MatchResult};
+ghost use Rattle.std.specs.Prelude.{◌≡◌, ◌≢◌, ◌≤◌, ◌<◌, ◌+◌, ℕ, List, [], drop, take, length, IsOk, IfOk, IfErr, OnOk, OnErr, IsErrOf, MatchResult};
 ghost use Rattle.arrayvec.specs.ArrayVec.{array_vec_len};
 ghost use Rattle.osc_coap.specs.Datagram.{Parts, IsDatagram};
 ghost use Rattle.osc_coap.specs.Inner.{InnerParts, IsInner};
-ghost use Rattle.osc_coap.specs.Writing.{Draft, Datagram, Plaintext, bare, bare_inner, with_option, with_payload, length_of, IsExact, RefusesHead, TakesHead, RefusesOption, TakesOption, RefusesPayload, TakesPayload};
+ghost use Rattle.osc_coap.specs.Writing.{Draft, Datagram, Plaintext, bare, bare_inner, with_option, with_payload, length_of, IsFirstReason, RefusesHead, TakesHead, RefusesOption, TakesOption, RefusesPayload, TakesPayload};
 
 use crate::body::PAYLOAD_MARKER;
 use crate::format_error::MOST_DATAGRAM;
@@ -38,7 +38,8 @@ pub struct Writer<'a> {
 }
 
 impl<'a> Writer<'a> {
-    ghost use Rattle.osc_coap.specs.Writer.{Holds, buffer_of, TakesNow, RefusesNow, RefusesLength};
+    ghost use Rattle.osc_coap.specs.Writer.{Holds, buffer_of};
+    ghost use Rattle.osc_coap.specs.Held.{TakesNow, RefusesOptionNow, RefusesPayloadNow};
     ghost use Rattle.osc_coap.specs.declared.write_error.WriteError.TheVariants.{NoRoom};
 
     /// Begins a datagram (RFC 7252, 3). Refuses, in this order, with EmptyWithRest or NoRoom, and then writes
@@ -53,8 +54,11 @@ impl<'a> Writer<'a> {
         ensures same_reference { IfOk result (λ w. buffer_of w ≡ buf.entry.ghost_name) }
         ensures made { IfOk result (λ w.
             Holds w (Datagram (bare kind code message_id token.now.items)) buf.old) }
-        ensures exactly { IsExact result (TakesHead (length buf.old) code token.now.items)
-            (RefusesHead (length buf.old) code token.now.items) }
+        ensures accepted { IsOk result → TakesHead (length buf.old) code token.now.items }
+        ensures accepts { TakesHead (length buf.old) code token.now.items → IsOk result }
+        ensures refused { IfErr result (IsFirstReason (RefusesHead (length buf.old) code token.now.items)) }
+        ensures refuses { (e : WriteError) → IsFirstReason (RefusesHead (length buf.old) code token.now.items) e
+            → IsErrOf result e }
     {
         if code == 0 && !token.is_empty() {
             return Err(WriteError::EmptyWithRest);
@@ -67,6 +71,7 @@ impl<'a> Writer<'a> {
 
     /// Begins a datagram where there is room for its head and its token (`head_len`); one of code 0.00 has no
     /// token (RFC 7252, 3 and 4.1).
+    #[must_use]
     pub fn begin(
         buf: &'a mut [u8],
         kind: Kind,
@@ -93,7 +98,10 @@ impl<'a> Writer<'a> {
     pub fn inner(buf: &'a mut [u8], code: u8) -> Result<Writer<'a>, WriteError>
         ensures same_reference { IfOk result (λ w. buffer_of w ≡ buf.entry.ghost_name) }
         ensures made { IfOk result (λ w. Holds w (Plaintext (bare_inner code)) buf.old) }
-        ensures exactly { IsExact result (0 < length buf.old) (λ e. (e ≡ NoRoom) × (buf.old ≡ [])) }
+        ensures accepted { IsOk result → 0 < length buf.old }
+        ensures accepts { 0 < length buf.old → IsOk result }
+        ensures refused { IfErr result (λ e. (e ≡ NoRoom) × (buf.old ≡ [])) }
+        ensures refuses { buf.old ≡ [] → IsErrOf result NoRoom }
     {
         if buf.is_empty() {
             return Err(WriteError::NoRoom);
@@ -103,6 +111,7 @@ impl<'a> Writer<'a> {
 
     /// Begins a plaintext where there is room for its code, one byte (RFC 8613, 5.3).
     #[tactic(auto, unfolding(crate::specs::Writer::Holds))]
+    #[must_use]
     pub fn begin_inner(buf: &'a mut [u8], code: u8) -> Writer<'a>
         requires { 0 < length buf.old }
         ensures same_reference { buffer_of result ≡ buf.entry.ghost_name }
@@ -120,7 +129,7 @@ impl<'a> Writer<'a> {
     /// The delta of an option that can follow, by its number and the length of its value.
     fn judge_option(&self, number: u16, value_len: usize) -> Result<u16, WriteError>
         ensures { MatchResult result (TakesNow self.now number value_len)
-            (RefusesNow self.now number value_len) }
+            (RefusesOptionNow self.now number value_len) }
     {
         match self.stage {
             Stage::Alone => return Err(WriteError::EmptyWithRest),
@@ -148,9 +157,14 @@ impl<'a> Writer<'a> {
         ensures taken { OnOk result ((draft : Draft) (old : List ℕ) → Holds self.old draft old
             → Holds self.new (with_option draft number value.now) old) }
         ensures unchanged { OnErr result (self.new ≡ self.old) }
-        ensures exactly { (draft : Draft) (old : List ℕ) → Holds self.old draft old
-            → IsExact result (TakesOption (length old) draft number value.now)
-            (RefusesOption (length old) draft number value.now) }
+        ensures accepted { (draft : Draft) (old : List ℕ) → Holds self.old draft old → IsOk result
+            → TakesOption (length old) draft number value.now }
+        ensures accepts { (draft : Draft) (old : List ℕ) → Holds self.old draft old
+            → TakesOption (length old) draft number value.now → IsOk result }
+        ensures refused { (draft : Draft) (old : List ℕ) → Holds self.old draft old
+            → IfErr result (IsFirstReason (RefusesOption (length old) draft number value.now)) }
+        ensures refuses { (draft : Draft) (old : List ℕ) → Holds self.old draft old → (e : WriteError)
+            → IsFirstReason (RefusesOption (length old) draft number value.now) e → IsErrOf result e }
     {
         let delta = self.judge_option(number, value.len())?;
         let buf = &mut *self.buf;
@@ -162,7 +176,7 @@ impl<'a> Writer<'a> {
     /// Whether a payload of this length, which isn't 0, can follow.
     fn judge_payload(&self, payload_len: usize) -> Result<(), WriteError>
         ensures judged { MatchResult result (λ _. self.now.stage ≡ Stage.Open)
-            (RefusesLength self.now payload_len) }
+            (RefusesPayloadNow self.now payload_len) }
         ensures room { OnOk result ((self.now.len + (1 + payload_len) ≤ length self.now.buf.now)
             × (self.now.len + (1 + payload_len) ≤ 65535)) }
     {
@@ -187,9 +201,14 @@ impl<'a> Writer<'a> {
             → Holds self.new (with_payload draft bytes.now) old) }
         ensures unchanged { OnErr result (self.new ≡ self.old) }
         ensures nothing { bytes.now ≡ [] → (IsOk result) × (self.new ≡ self.old) }
-        ensures exactly { (draft : Draft) (old : List ℕ) → Holds self.old draft old → bytes.now ≢ []
-            → IsExact result (TakesPayload (length old) draft bytes.now)
-            (RefusesPayload (length old) draft bytes.now) }
+        ensures accepted { (draft : Draft) (old : List ℕ) → Holds self.old draft old → bytes.now ≢ []
+            → IsOk result → TakesPayload (length old) draft bytes.now }
+        ensures accepts { (draft : Draft) (old : List ℕ) → Holds self.old draft old → bytes.now ≢ []
+            → TakesPayload (length old) draft bytes.now → IsOk result }
+        ensures refused { (draft : Draft) (old : List ℕ) → Holds self.old draft old → bytes.now ≢ []
+            → IfErr result (IsFirstReason (RefusesPayload (length old) draft bytes.now)) }
+        ensures refuses { (draft : Draft) (old : List ℕ) → Holds self.old draft old → bytes.now ≢ []
+            → (e : WriteError) → IsFirstReason (RefusesPayload (length old) draft bytes.now) e → IsErrOf result e }
     {
         if bytes.is_empty() {
             return Ok(());
@@ -204,14 +223,15 @@ impl<'a> Writer<'a> {
 
     /// How many bytes are written, at the front of the buffer.
     #[tactic(auto, unfolding(crate::specs::Writer::Holds))]
+    #[must_use]
     pub fn finish(self) -> usize
         ensures datagram { (p : Parts) (old : List ℕ) → Holds self.entry (Datagram p) old
             → IsDatagram p (take result self.exit.0.now) }
-        ensures plaintext { (p : InnerParts) (old : List ℕ) → Holds self.entry (Plaintext p) old
+        ensures inner { (p : InnerParts) (old : List ℕ) → Holds self.entry (Plaintext p) old
             → IsInner p (take result self.exit.0.now) }
         ensures behind { (draft : Draft) (old : List ℕ) → Holds self.entry draft old
             → drop result self.exit.0.now ≡ drop result old }
-        ensures size { (draft : Draft) (old : List ℕ) → Holds self.entry draft old
+        ensures length { (draft : Draft) (old : List ℕ) → Holds self.entry draft old
             → (result ≡ length_of draft) × (length self.exit.0.now ≡ length old) }
         ensures within { result ≤ length self.exit.0.now }
     {

@@ -1,4 +1,4 @@
--- What the words of a call can ask for (how the code is seen).
+-- For the proofs: what the words of a call can ask for.
 use Rattle.std.specs.Prelude.{◌≡◌, false, true}
 use Rattle.clap.specs.declared.builder.command.Command.{Command}
 use Rattle.clap.specs.declared.builder.command.Command.TheViews.{out-Command}

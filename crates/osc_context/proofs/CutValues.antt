@@ -4,7 +4,7 @@ use Rattle.std.proofs.lemmas.List.{take_all, length-drop}
 use Rattle.osc_context.specs.declared.option_error.OptionError.{OptionError}
 use Rattle.osc_context.specs.declared.option_error.OptionError.TheVariants.{TooLong, Reserved, PivLength, ZeroFlag, Cut, LeadingZero, Trailing}
 use Rattle.osc_context.specs.OscoreValue.{OscoreParts, piv_bytes, kid_context_bytes, kid_bytes, flag_if_some, flag_byte}
-use Rattle.osc_context.specs.OptionRefusal.{front_len, Refuses, rank, IsFirstRefusal}
+use Rattle.osc_context.specs.OptionRefusal.{front_len, RefusesValue, value_rank, IsFirstValueRefusal}
 use Rattle.osc_context.proofs.FlagBytes.{flag_joined}
 use Rattle.osc_context.proofs.ValueParts.{spelled_value, IsValue}
 use Rattle.osc_context.proofs.FrontLens.{front_of, second_of}
@@ -39,7 +39,7 @@ value_cut p (f ∷ bytes) piv tail h number ep ek fk =
     }
 
 -- what is cut up, with no kid flag and bytes left, is refused for these
-pub trailing_first : (context : Option (List ℕ)) (bytes piv tail : List ℕ) → IsCutUp context bytes piv tail → (get_or bytes 0 0 / 8 % 2 ≡ 0) × (0 < length tail) → IsFirstRefusal bytes Trailing
+pub trailing_first : (context : Option (List ℕ)) (bytes piv tail : List ℕ) → IsCutUp context bytes piv tail → (get_or bytes 0 0 / 8 % 2 ≡ 0) × (0 < length tail) → IsFirstValueRefusal bytes Trailing
 trailing_first context bytes piv tail h left =
     let some = left.1 in
     let front = front_of bytes piv context tail h.some h.whole h.len h.present in
@@ -49,7 +49,7 @@ trailing_first context bytes piv tail h left =
     }
   where
     earlier : (context : Option (List ℕ)) (bytes piv tail : List ℕ) → IsCutUp context bytes piv tail → front_len bytes ≡ 1 + length piv + length (kid_context_bytes context)
-        → length bytes ≡ 1 + length piv + length (kid_context_bytes context) + length tail → (f : OptionError) → rank f < 6 → ¬ Refuses bytes f
+        → length bytes ≡ 1 + length piv + length (kid_context_bytes context) + length tail → (f : OptionError) → value_rank f < 6 → ¬ RefusesValue bytes f
     earlier context bytes piv tail h e le TooLong lt x = let fits = h.fits in omega arith
     earlier context bytes piv tail h e le Reserved lt x = x h.plain
     earlier context bytes piv tail h e le PivLength lt x = let few = h.few in omega arith

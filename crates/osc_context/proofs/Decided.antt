@@ -7,7 +7,7 @@ use Rattle.osc_context.specs.PartialIv.{spelled_number}
 use Rattle.osc_context.specs.declared.option_error.OptionError.{OptionError}
 use Rattle.osc_context.specs.declared.option_error.OptionError.TheVariants.{TooLong, Reserved, PivLength, ZeroFlag, Cut, LeadingZero, Trailing}
 use Rattle.osc_context.specs.OscoreValue.{OscoreParts, piv_bytes, kid_context_bytes, kid_bytes, flag_if_some, IsOscoreValue}
-use Rattle.osc_context.specs.OptionRefusal.{front_len, Refuses, rank, IsFirstRefusal}
+use Rattle.osc_context.specs.OptionRefusal.{front_len, RefusesValue, value_rank, IsFirstValueRefusal}
 use Rattle.osc_context.proofs.PartialIvs.{Small, all_small, iv_again, no_zero}
 use Rattle.osc_context.proofs.ValueParts.{closed, no_value}
 use Rattle.osc_context.proofs.FrontLens.{front_of, second_of, long_front}
@@ -43,7 +43,7 @@ turned zero = inr (λ n. n refl)
 turned (suc x) = inl (λ e. absurd (omega arith))
 
 -- each refusal holds of the bytes, or does not
-decided : (bytes : List ℕ) (e : OptionError) → Refuses bytes e ⊎ ¬ Refuses bytes e
+decided : (bytes : List ℕ) (e : OptionError) → RefusesValue bytes e ⊎ ¬ RefusesValue bytes e
 decided bytes TooLong = lt_or 255 (length bytes)
 decided bytes Reserved = turned (get_or bytes 0 0 / 32)
 decided bytes PivLength = lt_or 5 (get_or bytes 0 0 % 8)
@@ -55,21 +55,21 @@ decided bytes Trailing = three _ _ _ (zero_or (get_or bytes 0 0 / 8 % 2)) (lt_or
 -- ---- a first one, or none
 
 -- from a rank on, a refusal that holds first, or none at all
-first_from : (bytes : List ℕ) (n k : ℕ) → n + k ≡ 7 → ((f : OptionError) → rank f < k → ¬ Refuses bytes f)
-    → ((e : OptionError) × IsFirstRefusal bytes e) ⊎ ((f : OptionError) → rank f < 7 → ¬ Refuses bytes f)
+first_from : (bytes : List ℕ) (n k : ℕ) → n + k ≡ 7 → ((f : OptionError) → value_rank f < k → ¬ RefusesValue bytes f)
+    → ((e : OptionError) × IsFirstValueRefusal bytes e) ⊎ ((f : OptionError) → value_rank f < 7 → ¬ RefusesValue bytes f)
 first_from bytes zero k all none = inr (λ f lt. none f (omega arith))
 first_from bytes (suc n) k all none =
-    let same : rank (of_rank k) ≡ k = rank-of_rank k (omega arith) in
+    let same : value_rank (of_rank k) ≡ k = rank-of_rank k (omega arith) in
     elim (decided bytes (of_rank k)) [
       | inl holds ↦ inl (of_rank k, record { holds = holds; first = λ f lt. none f (omega arith) })
-      | inr not ↦ first_from bytes n (suc k) (omega arith) (λ f lt. elim (cases_lt (rank f) k) [
+      | inr not ↦ first_from bytes n (suc k) (omega arith) (λ f lt. elim (cases_lt (value_rank f) k) [
         | inl below ↦ none f below
-        | inr at ↦ λ x. not (subst (λ (e : OptionError). Refuses bytes e) (same_rank f (of_rank k) (omega arith)) x)
+        | inr at ↦ λ x. not (subst (λ (e : OptionError). RefusesValue bytes e) (same_rank f (of_rank k) (omega arith)) x)
       ])
     ]
 
 -- there are seven ranks
-rank_below : (e : OptionError) → rank e < 7
+rank_below : (e : OptionError) → value_rank e < 7
 rank_below TooLong = omega arith
 rank_below Reserved = omega arith
 rank_below PivLength = omega arith
@@ -158,7 +158,7 @@ small_take (suc n) [] s = tt
 small_take (suc n) (x ∷ xs) s = (s.0, small_take n xs s.1)
 
 -- bytes that nothing refuses are a value
-accepted : (f : ℕ) (rest : List ℕ) → Small (f ∷ rest) → ((e : OptionError) → ¬ Refuses (f ∷ rest) e) → (p : OscoreParts) × IsOscoreValue p (f ∷ rest)
+accepted : (f : ℕ) (rest : List ℕ) → Small (f ∷ rest) → ((e : OptionError) → ¬ RefusesValue (f ∷ rest) e) → (p : OscoreParts) × IsOscoreValue p (f ∷ rest)
 unfolding Small
 accepted f rest small none =
     let fits : length (f ∷ rest) ≤ 255 = at_most (length (f ∷ rest)) 255 (none TooLong) in
@@ -201,7 +201,7 @@ accepted f rest small none =
     is_zero (suc x) not = absurd (not (λ e. absurd (omega arith)))
 
 -- all bytes are a value or have a first refusal
-pub value_or_refusal : (bytes : List ℕ) → All (λ b. b < 256) bytes → ((p : OscoreParts) × IsOscoreValue p bytes) ⊎ ((e : OptionError) × IsFirstRefusal bytes e)
+pub value_or_refusal : (bytes : List ℕ) → All (λ b. b < 256) bytes → ((p : OscoreParts) × IsOscoreValue p bytes) ⊎ ((e : OptionError) × IsFirstValueRefusal bytes e)
 value_or_refusal [] small = inl (record { piv = None; kid_context = None; kid = None }, no_value [] (omega arith))
 value_or_refusal (f ∷ rest) small = elim (first_from (f ∷ rest) 7 0 (omega arith) (λ e lt. absurd (omega arith))) [
   | inl refused ↦ inr refused

@@ -17,7 +17,7 @@ length-cbor_bytes : (bytes : List ℕ) → length bytes < 24 → length (cbor_by
 length-cbor_bytes bytes lt = grind (arith, common_steps)
 
 -- the inner array has 11 to 19 bytes with a short kid
-length-external_aad_of : (kid : List ℕ) (n : ℕ) → length kid ≤ 7 → length (external_aad_of kid n) ≡ 6 + (1 + length kid) + length (partial_iv_of n)
+pub length-external_aad_of : (kid : List ℕ) (n : ℕ) → length kid ≤ 7 → length (external_aad_of kid n) ≡ 6 + (1 + length kid) + length (partial_iv_of n)
 length-external_aad_of kid n le =
     let short = iv_len n in
     let few : length kid < 24 = omega arith in

@@ -12,5 +12,6 @@ pub mod Decided
 pub mod WrittenValues
 pub mod Readings
 pub mod KnownLengths
+pub mod OneAdditional
 pub mod SameContexts
 pub mod ContextRefusals

@@ -1,6 +1,7 @@
 -- What is written is a value.
 use Rattle.std.proofs.Common.{◌≡◌, ◌≢◌, ℕ, ◌<◌, ◌≤◌, ◌^◌, List, [], ◌∷◌, ◌++◌, length, sym, ap, ◌∙◌, arith, IfSome, inl, inr, append_assoc}
-use Rattle.osc_context.specs.OscoreValue.{OscoreParts, piv_bytes, kid_context_bytes, kid_bytes, flag_byte, value_of, IsOscoreValue, parts_len, most_len}
+use Rattle.osc_context.specs.OscoreValue.{OscoreParts, piv_bytes, kid_context_bytes, kid_bytes, flag_byte, value_of, IsOscoreValue, most_len}
+use Rattle.osc_context.specs.PrivateWords.{parts_len}
 use Rattle.osc_context.proofs.FlagBytes.{piv_len}
 use Rattle.osc_context.proofs.ValueParts.{spelled_value, empty_value, opened, closed, no_parts_len, value_len}
 use Rattle.osc_context.proofs.Choices.{zero_or}

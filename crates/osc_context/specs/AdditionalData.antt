@@ -1,13 +1,10 @@
--- The additional data of a request and of its response (RFC 8613, 5.4). Of the two arrays the
--- external_aad stands inside, as a byte string, and the COSE structure of Encrypt0 outside
--- (RFC 8152, 5.3). kid and n, the number, are those of the request.
+-- To be believed: the additional data of a request and of its response (RFC 8613, 5.4). Of the two arrays the
+-- external_aad stands inside, as a byte string, and the COSE structure of Encrypt0 outside (RFC 8152, 5.3). kid and n,
+-- the number, are those of the request.
 use Rattle.std.specs.Prelude.{ℕ, List, [], ◌∷◌, codes}
+use Rattle.osc_context.specs.Algorithm.{algorithm}
 use Rattle.osc_context.specs.Cbor.{cbor_bytes, cbor_text, cbor_number, cbor_array}
 use Rattle.osc_context.specs.PartialIv.{partial_iv_of}
-
--- the algorithm AES-CCM-16-64-128 by its COSE number (RFC 8152, 10.2)
-abbrev pub algorithm : ℕ
-algorithm = 10
 
 -- the inner array: version, algorithms, kid, Partial IV, no class I options (RFC 8613, 5.4)
 abbrev pub external_aad_of : List ℕ → ℕ → List ℕ

@@ -1,5 +1,5 @@
--- Why no context is derived (RFC 8613, 3.2 and 3.3; own rules: the limits), a word for each reason, in the order in which
--- they are judged. g is what a context would be derived from.
+-- To be believed: why no context is derived (RFC 8613, 3.2 and 3.3; own rules: the limits), a word for each reason, in
+-- the order in which they are judged. g is what a context would be derived from.
 use Rattle.std.specs.Prelude.{◌≡◌, ◌⊎◌, ℕ, ◌<◌, List, length, codes}
 use Rattle.std.specs.Option.{option_copied, IsSomeAnd}
 use Rattle.osc_context.specs.declared.context_error.ContextError.{ContextError}
@@ -35,21 +35,17 @@ RefusesParams g SameIds = HasSameIds g
 RefusesParams g IdContextLength = HasBadIdContext g
 
 -- own rule: the place of a refusal in the order of judging
-abbrev pub context_rank : ContextError → ℕ
-context_rank SecretLength = 0
-context_rank SaltLength = 1
-context_rank IdTooLong = 2
-context_rank SameIds = 3
-context_rank IdContextLength = 4
+abbrev pub params_rank : ContextError → ℕ
+params_rank SecretLength = 0
+params_rank SaltLength = 1
+params_rank IdTooLong = 2
+params_rank SameIds = 3
+params_rank IdContextLength = 4
 
--- own rule: no refusal that is judged before this place holds
-abbrev pub PassesBelow : ℕ → Params → Type 0
-PassesBelow k g = (f : ContextError) → context_rank f < k → ¬ RefusesParams g f
-
--- own rule: the refusal holds, and none judged before it does
-pub record RefusesFirst (g : Params) (e : ContextError) : Type 0 where
+-- own rule: the refusal holds of what a context would be derived from, and none judged before it does
+pub record IsFirstParamsRefusal (g : Params) (e : ContextError) : Type 0 where
   pub holds : RefusesParams g e
-  pub first : PassesBelow (context_rank e) g
+  pub first : (f : ContextError) → params_rank f < params_rank e → ¬ RefusesParams g f
 
 -- the text that a refusal prints: its name (how the code is seen)
 abbrev pub context_error_text : ContextError → List ℕ

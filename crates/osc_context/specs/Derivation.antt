@@ -1,8 +1,8 @@
--- Keys and the Common IV (RFC 8613, 3.2.1). secret and salt are the Master Secret and the Master Salt, id_context is the
--- ID Context where there is one, id an identifier, type a text, len a number of bytes.
+-- To be believed: keys and the Common IV (RFC 8613, 3.2.1). secret and salt are the Master Secret and the Master Salt,
+-- id_context is the ID Context where there is one, id an identifier, type a text, len a number of bytes.
 use Rattle.std.specs.Prelude.{ℕ, List, [], ◌∷◌, Option, Some, None, codes}
 use Rattle.osc_hkdf.specs.Hkdf.{expand_of, extract_of}
-use Rattle.osc_context.specs.AdditionalData.{algorithm}
+use Rattle.osc_context.specs.Algorithm.{algorithm, key_length, nonce_length}
 use Rattle.osc_context.specs.Cbor.{cbor_bytes, cbor_text, cbor_number, cbor_nil, cbor_array}
 use Rattle.osc_context.specs.SecurityContext.{SecurityContext}
 
@@ -20,13 +20,13 @@ info_of id id_context type len =
 abbrev pub output_of : List ℕ → List ℕ → List ℕ → ℕ → List ℕ
 output_of secret salt info len = expand_of (extract_of salt secret) info len
 
--- the key of the end with the identifier, 16 bytes (RFC 8613, 3.2.1)
+-- the key of the end with the identifier (RFC 8613, 3.2.1)
 unfoldable pub key_of : List ℕ → List ℕ → Option (List ℕ) → List ℕ → List ℕ
-key_of secret salt id_context id = output_of secret salt (info_of id id_context (codes "Key") 16) 16
+key_of secret salt id_context id = output_of secret salt (info_of id id_context (codes "Key") key_length) key_length
 
--- the Common IV, 13 bytes, of which the identifier is empty (RFC 8613, 3.2.1)
+-- the Common IV, of which the identifier is empty (RFC 8613, 3.2.1)
 unfoldable pub common_iv_of : List ℕ → List ℕ → Option (List ℕ) → List ℕ
-common_iv_of secret salt id_context = output_of secret salt (info_of [] id_context (codes "IV") 13) 13
+common_iv_of secret salt id_context = output_of secret salt (info_of [] id_context (codes "IV") nonce_length) nonce_length
 
 -- the context of a client and a server with these identifiers (RFC 8613, 3.2)
 abbrev pub context_of : List ℕ → List ℕ → Option (List ℕ) → List ℕ → List ℕ → SecurityContext

@@ -1,5 +1,5 @@
--- Why bytes are no value of the OSCORE option (RFC 8613, 6.1): a word for each reason, in the order
--- in which they are judged.
+-- To be believed: why bytes are no value of the OSCORE option (RFC 8613, 6.1; own rules: three of the reasons), a word
+-- for each reason, in the order in which they are judged.
 use Rattle.std.specs.Prelude.{◌≡◌, ◌≢◌, ℕ, ◌+◌, ◌/◌, ◌%◌, ◌<◌, List, length, slice_index, ◌==◌, if◌then◌else◌, codes}
 use Rattle.osc_context.specs.declared.option_error.OptionError.{OptionError}
 use Rattle.osc_context.specs.declared.option_error.OptionError.TheVariants.{TooLong, Reserved, PivLength, ZeroFlag, Cut, LeadingZero, Trailing}
@@ -54,36 +54,36 @@ abbrev pub HasTrailing : List ℕ → Type 0
 HasTrailing bytes = (kid_flag_of bytes ≡ 0) × (0 < length bytes) × (front_len bytes < length bytes)
 
 -- the condition of each refusal, whatever else is wrong (RFC 8613, 6.1)
-abbrev pub Refuses : List ℕ → OptionError → Type 0
-Refuses bytes TooLong = IsTooLong bytes
-Refuses bytes Reserved = HasReservedFlags bytes
-Refuses bytes PivLength = HasReservedPivLen bytes
-Refuses bytes ZeroFlag = HasZeroFlag bytes
-Refuses bytes Cut = IsCut bytes
-Refuses bytes LeadingZero = HasLeadingZero bytes
-Refuses bytes Trailing = HasTrailing bytes
+abbrev pub RefusesValue : List ℕ → OptionError → Type 0
+RefusesValue bytes TooLong = IsTooLong bytes
+RefusesValue bytes Reserved = HasReservedFlags bytes
+RefusesValue bytes PivLength = HasReservedPivLen bytes
+RefusesValue bytes ZeroFlag = HasZeroFlag bytes
+RefusesValue bytes Cut = IsCut bytes
+RefusesValue bytes LeadingZero = HasLeadingZero bytes
+RefusesValue bytes Trailing = HasTrailing bytes
 
 -- own rule: the place of a refusal in the order of judging
-abbrev pub rank : OptionError → ℕ
-rank TooLong = 0
-rank Reserved = 1
-rank PivLength = 2
-rank ZeroFlag = 3
-rank Cut = 4
-rank LeadingZero = 5
-rank Trailing = 6
+abbrev pub value_rank : OptionError → ℕ
+value_rank TooLong = 0
+value_rank Reserved = 1
+value_rank PivLength = 2
+value_rank ZeroFlag = 3
+value_rank Cut = 4
+value_rank LeadingZero = 5
+value_rank Trailing = 6
 
 -- own rule: the refusal holds of the bytes, and none judged before it does
-pub record IsFirstRefusal (bytes : List ℕ) (e : OptionError) : Type 0 where
-  pub holds : Refuses bytes e
-  pub first : (f : OptionError) → rank f < rank e → ¬ Refuses bytes f
+pub record IsFirstValueRefusal (bytes : List ℕ) (e : OptionError) : Type 0 where
+  pub holds : RefusesValue bytes e
+  pub first : (f : OptionError) → value_rank f < value_rank e → ¬ RefusesValue bytes f
 
 -- the text that a refusal prints: its name (how the code is seen)
-abbrev pub name_of : OptionError → List ℕ
-name_of TooLong = codes "TooLong"
-name_of Reserved = codes "Reserved"
-name_of PivLength = codes "PivLength"
-name_of ZeroFlag = codes "ZeroFlag"
-name_of Cut = codes "Cut"
-name_of LeadingZero = codes "LeadingZero"
-name_of Trailing = codes "Trailing"
+abbrev pub option_error_text : OptionError → List ℕ
+option_error_text TooLong = codes "TooLong"
+option_error_text Reserved = codes "Reserved"
+option_error_text PivLength = codes "PivLength"
+option_error_text ZeroFlag = codes "ZeroFlag"
+option_error_text Cut = codes "Cut"
+option_error_text LeadingZero = codes "LeadingZero"
+option_error_text Trailing = codes "Trailing"

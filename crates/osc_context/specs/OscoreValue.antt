@@ -1,4 +1,5 @@
--- The value of the OSCORE option (RFC 8613, 6.1), from its parts to its bytes. p has the parts that a value says.
+-- To be believed: the value of the OSCORE option (RFC 8613, 6.1), from its parts to its bytes. p has the parts that a
+-- value says.
 use Rattle.std.specs.Prelude.{◌≡◌, ℕ, ◌+◌, ◌^◌, ◌<◌, ◌≤◌, List, [], ◌∷◌, ◌++◌, length, Option, Some, None, IfSome, ◌==◌, if◌then◌else◌}
 use Rattle.osc_context.specs.PartialIv.{partial_iv_of}
 
@@ -40,10 +41,6 @@ value_of p =
 -- the bytes are the value that says these parts, at most 255 bytes (RFC 8613, 6.1)
 unfoldable pub IsOscoreValue : OscoreParts → List ℕ → Type 0
 IsOscoreValue p bytes = IfSome p.piv (λ n. n < 2 ^ 40) × (bytes ≡ value_of p) × (length bytes ≤ 255)
-
--- how many bytes a flag byte and the parts behind it take (RFC 8613, 6.1)
-abbrev pub parts_len : OscoreParts → ℕ
-parts_len p = 1 + length (piv_bytes p.piv) + length (kid_context_bytes p.kid_context) + length (kid_bytes p.kid)
 
 -- the most bytes that these parts can take, whatever the number (RFC 8613, 6.1)
 abbrev pub most_len : OscoreParts → ℕ

@@ -1,5 +1,6 @@
--- A security context, as its two ends share it (RFC 8613, 3.1).
-use Rattle.std.specs.Prelude.{ℕ, List, Option}
+-- To be believed: a security context, as its two ends share it (RFC 8613, 3.1).
+use Rattle.std.specs.Prelude.{◌≡◌, ◌≢◌, ℕ, ◌≤◌, List, Option, length}
+use Rattle.osc_context.specs.Algorithm.{key_length, nonce_length}
 
 -- identifier and key of the client, who makes requests, and of the server; Common IV, ID Context or none (RFC 8613, 3.1)
 pub record SecurityContext : Type 0 where
@@ -9,3 +10,12 @@ pub record SecurityContext : Type 0 where
   pub server_key : List ℕ
   pub common_iv : List ℕ
   pub id_context : Option (List ℕ)
+
+-- identifiers that a nonce has room for and that differ, keys and Common IV of the algorithm's lengths (RFC 8613, 3.3)
+pub record IsUsable (c : SecurityContext) : Type 0 where
+  pub client_fits : length c.client ≤ 7
+  pub server_fits : length c.server ≤ 7
+  pub differ : c.client ≢ c.server
+  pub client_key_length : length c.client_key ≡ key_length
+  pub server_key_length : length c.server_key ≡ key_length
+  pub common_iv_length : length c.common_iv ≡ nonce_length

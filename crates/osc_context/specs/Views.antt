@@ -1,4 +1,4 @@
--- What contracts see of a Partial IV, of an option and of a context: numbers and lists, without where the bytes lie.
+-- How the code is seen: a Partial IV, an option and a context as numbers and lists, without where the bytes lie.
 use Rattle.std.specs.Prelude.{◌≡◌, ℕ, Result, Ok, Err}
 use Rattle.std.specs.Option.{option_copied, option_map}
 use Rattle.osc_context.specs.declared.partial_iv.Piv.{Piv}
@@ -15,12 +15,12 @@ abbrev pub number_of : Piv → ℕ
 number_of piv = piv.number
 
 -- the parts that an option says, as a number and lists (how the code is seen)
-abbrev pub parts_of : OscoreOption → OscoreParts
-parts_of o = record { piv = option_map number_of o.piv; kid_context = option_copied o.kid_context; kid = option_copied o.kid }
+abbrev pub oscore_parts_of : OscoreOption → OscoreParts
+oscore_parts_of o = record { piv = option_map number_of o.piv; kid_context = option_copied o.kid_context; kid = option_copied o.kid }
 
 -- the result of reading is an option that says these parts (how the code is seen)
 abbrev pub IsRead : Result OscoreOption OptionError → OscoreParts → Type 0
-IsRead (Ok o) p = parts_of o ≡ p
+IsRead (Ok o) p = oscore_parts_of o ≡ p
 IsRead (Err e) p = ⊥
 
 -- the context of an end that makes requests: it is the client (RFC 8613, 3.1)

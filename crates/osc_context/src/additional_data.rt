@@ -21,9 +21,10 @@ pub(crate) const ALGORITHM: u8 = 10;
 
 /// Answers the additional data of a request and of its response. Identifier and number are those of
 /// the request, also for the response (RFC 8613, 5.4).
+#[must_use]
 pub fn aad(kid: &Kid, partial_iv: Piv) -> ArrayVec<u8, 32>
     ensures value { result.items ≡ additional_data_of kid.now (number_of partial_iv) }
-    ensures short { array_vec_len result ≤ 31 }
+    ensures most { array_vec_len result ≤ 31 }
 {
     let external = external_aad(kid, partial_iv);
     let mut out = ArrayVec::new();
@@ -37,7 +38,7 @@ pub fn aad(kid: &Kid, partial_iv: Piv) -> ArrayVec<u8, 32>
 /// The inner array. It has no class I options, since none exists.
 fn external_aad(kid: &Kid, partial_iv: Piv) -> ArrayVec<u8, 20>
     ensures value { result.items ≡ external_aad_of kid.now (number_of partial_iv) }
-    ensures short { array_vec_len result ≤ 19 }
+    ensures most { array_vec_len result ≤ 19 }
 {
     let mut out = ArrayVec::new();
     begin_array(&mut out, 5);

@@ -2,7 +2,9 @@
 
 ghost use Rattle.std.specs.Prelude.{◌≡◌, ◌≢◌, IfOk, IfErr, IsOk, IsErrOf};
 ghost use Rattle.std.specs.Option.{option_copied, option_map};
-ghost use Rattle.osc_context.specs.ContextRefusal.{PassesBelow, RefusesFirst, RefusesParams};
+ghost use Rattle.osc_context.specs.ContextRefusal.{IsFirstParamsRefusal, RefusesParams};
+ghost use Rattle.osc_context.specs.PrivateWords.{PassesBelow};
+ghost use Rattle.osc_context.specs.SecurityContext.{IsUsable};
 ghost use Rattle.osc_context.specs.declared.context_error.ContextError.{ContextError};
 
 use crate::context_error::ContextError;
@@ -10,6 +12,7 @@ use crate::derivation::{derive_common_iv, derive_key};
 use crate::identifier::{IdContext, Kid};
 use crate::parameters::Params;
 use osc_hkdf::extract;
+use std::fmt;
 
 /// The most bytes of a Master Secret; own rule.
 const MOST_SECRET: usize = 64;
@@ -17,8 +20,8 @@ const MOST_SECRET: usize = 64;
 /// The most bytes of a Master Salt; own rule.
 const MOST_SALT: usize = 64;
 
-/// A security context: identifiers and keys of both ends, the Common IV, and the ID Context where there is one. This end is
-/// the sender. It has no `Debug`, so that no key is printed by accident.
+/// A security context: identifiers and keys of both ends, the Common IV, and the ID Context where there is one. This end
+/// is the sender. Its `Debug` leaves out keys and Common IV, so that none is printed by accident.
 #[derive(Drop)]
 pub struct Context {
     sender_id: Kid,
@@ -27,7 +30,14 @@ pub struct Context {
     sender_key: [u8; 16],
     recipient_key: [u8; 16],
     common_iv: [u8; 13],
-    pub ghost differ: { sender_id ≢ recipient_id },
+    pub ghost usable: { IsUsable (record {
+      client = sender_id;
+      client_key = sender_key;
+      server = recipient_id;
+      server_key = recipient_key;
+      common_iv = common_iv;
+      id_context = id_context;
+    }) },
 }
 
 impl Context {
@@ -39,8 +49,8 @@ impl Context {
         ensures server { IfOk result (λ c. as_server c ≡ server_context_of params.entry) }
         ensures accepted { IsOk result → (e : ContextError) → ¬ RefusesParams params.entry e }
         ensures accepts { ((e : ContextError) → ¬ RefusesParams params.entry e) → IsOk result }
-        ensures refused { IfErr result (λ e. RefusesFirst params.entry e) }
-        ensures refuses { (e : ContextError) → RefusesFirst params.entry e → IsErrOf result e }
+        ensures refused { IfErr result (λ e. IsFirstParamsRefusal params.entry e) }
+        ensures refuses { (e : ContextError) → IsFirstParamsRefusal params.entry e → IsErrOf result e }
     {
         Context::derive_judged(params)
     }
@@ -49,7 +59,7 @@ impl Context {
     fn derive_judged(params: Params<'_>) -> Result<Context, ContextError>
         ensures client { IfOk result (λ c. as_client c ≡ client_context_of params.entry) }
         ensures passed { IsOk result → PassesBelow 5 params.entry }
-        ensures refused { IfErr result (λ e. RefusesFirst params.entry e) }
+        ensures refused { IfErr result (λ e. IsFirstParamsRefusal params.entry e) }
     {
         check_lengths(params)?;
         let (sender, recipient) = identifiers(params)?;
@@ -66,6 +76,7 @@ impl Context {
     }
 
     /// The identifier of this end.
+    #[must_use]
     pub fn sender(&self) -> &Kid
         ensures value { result.now ≡ (as_client self.now).client }
         ensures differ { (as_client self.now).client ≢ (as_client self.now).server }
@@ -74,6 +85,7 @@ impl Context {
     }
 
     /// The identifier of the other end.
+    #[must_use]
     pub fn recipient(&self) -> &Kid
         ensures value { result.now ≡ (as_server self.now).client }
         ensures differ { (as_server self.now).client ≢ (as_server self.now).server }
@@ -82,6 +94,7 @@ impl Context {
     }
 
     /// The ID Context, where there is one.
+    #[must_use]
     pub fn id_context(&self) -> Option<&IdContext>
         ensures { option_copied result ≡ (as_client self.now).id_context }
     {
@@ -89,6 +102,7 @@ impl Context {
     }
 
     /// The key under which this end seals.
+    #[must_use]
     pub fn sender_key(&self) -> &[u8; 16]
         ensures { result.now ≡ (as_client self.now).client_key }
     {
@@ -96,6 +110,7 @@ impl Context {
     }
 
     /// The key under which the other end seals.
+    #[must_use]
     pub fn recipient_key(&self) -> &[u8; 16]
         ensures { result.now ≡ (as_server self.now).client_key }
     {
@@ -103,6 +118,7 @@ impl Context {
     }
 
     /// The Common IV, of which each nonce is made.
+    #[must_use]
     pub fn common_iv(&self) -> &[u8; 13]
         ensures { result.now ≡ (as_client self.now).common_iv }
     {
@@ -110,10 +126,21 @@ impl Context {
     }
 }
 
+impl fmt::Debug for Context {
+    /// Shows both identifiers and the ID Context; keys and Common IV are left out.
+    fn fmt<W: fmt::Write>(&self, f: &mut fmt::Formatter<W>) -> fmt::Result {
+        f.debug_struct("Context")
+            .field("sender", self.sender())
+            .field("recipient", self.recipient())
+            .field("id_context", &self.id_context())
+            .finish_non_exhaustive()
+    }
+}
+
 /// Judges the lengths of secret and salt.
 fn check_lengths(params: Params<'_>) -> Result<(), ContextError>
     ensures passed { IsOk result → PassesBelow 2 params.entry }
-    ensures refused { IfErr result (λ e. RefusesFirst params.entry e) }
+    ensures refused { IfErr result (λ e. IsFirstParamsRefusal params.entry e) }
 {
     if params.secret.is_empty() || params.secret.len() > MOST_SECRET {
         return Err(ContextError::SecretLength);
@@ -131,7 +158,7 @@ fn identifiers(params: Params<'_>) -> Result<(Kid, Kid), ContextError>
     ensures recipient { IfOk result (λ ids. ids.1 ≡ params.entry.recipient.now) }
     ensures differ { IfOk result (λ ids. ids.0 ≢ ids.1) }
     ensures passed { IsOk result → PassesBelow 4 params.entry }
-    ensures refused { IfErr result (λ e. RefusesFirst params.entry e) }
+    ensures refused { IfErr result (λ e. IsFirstParamsRefusal params.entry e) }
 {
     let Some(sender) = Kid::new(params.sender) else {
         return Err(ContextError::IdTooLong);
@@ -150,7 +177,7 @@ fn id_context_of(params: Params<'_>) -> Result<Option<IdContext>, ContextError>
     requires { PassesBelow 4 params }
     ensures value { IfOk result (λ id_context. id_context ≡ option_copied params.entry.id_context) }
     ensures passed { IsOk result → PassesBelow 5 params.entry }
-    ensures refused { IfErr result (λ e. RefusesFirst params.entry e) }
+    ensures refused { IfErr result (λ e. IsFirstParamsRefusal params.entry e) }
 {
     match params.id_context {
         None => Ok(None),

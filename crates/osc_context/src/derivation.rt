@@ -5,12 +5,17 @@
 ghost use Rattle.std.specs.Prelude.{◌≡◌, ◌≤◌, ◌<◌, [], length, codes, IfSome};
 ghost use Rattle.std.specs.Option.{option_copied};
 ghost use Rattle.osc_hkdf.specs.Hkdf.{expand_of};
+ghost use Rattle.osc_context.specs.Algorithm.{key_length, nonce_length};
 ghost use Rattle.osc_context.specs.Derivation.{info_of};
 
 use crate::additional_data::ALGORITHM;
 use crate::cbor::{begin_array, push_bytes, push_nil, push_number, push_text};
+use crate::nonces::NONCE_LEN;
 use arrayvec::ArrayVec;
 use osc_hkdf::expand;
+
+/// The bytes of a key of AES-CCM-16-64-128 (RFC 8152, 10.2).
+const KEY_LEN: usize = 16;
 
 /// The type of a key in its info.
 const KEY_TYPE: &str = "Key";
@@ -45,27 +50,31 @@ pub(crate) fn info(
 }
 
 /// The key of the end with this identifier, under the pseudorandom key of salt and secret.
-pub(crate) fn derive_key(prk: &[u8; 32], id_context: Option<&[u8]>, id: &[u8]) -> [u8; 16]
+pub(crate) fn derive_key(prk: &[u8; 32], id_context: Option<&[u8]>, id: &[u8]) -> [u8; KEY_LEN]
     requires id { length id.now ≤ 7 }
     requires id_context { IfSome (option_copied id_context) (λ bytes. length bytes ≤ 32) }
-    ensures { result ≡ expand_of prk.now (info_of id.now (option_copied id_context.entry) (codes "Key") 16) 16 }
+    ensures { result ≡ expand_of prk.now (info_of id.now (option_copied id_context.entry) (codes "Key") key_length) key_length }
 {
-    let mut key = [0u8; 16];
-    match expand(prk, info(id, id_context, KEY_TYPE, 16).as_slice(), &mut key) {
+    let mut key = [0u8; KEY_LEN];
+    match expand(
+        prk,
+        info(id, id_context, KEY_TYPE, KEY_LEN as u8).as_slice(),
+        &mut key,
+    ) {
         Ok(()) => key,
         Err(_) => unreachable!(),
     }
 }
 
 /// The Common IV, under the pseudorandom key of salt and secret.
-pub(crate) fn derive_common_iv(prk: &[u8; 32], id_context: Option<&[u8]>) -> [u8; 13]
+pub(crate) fn derive_common_iv(prk: &[u8; 32], id_context: Option<&[u8]>) -> [u8; NONCE_LEN]
     requires { IfSome (option_copied id_context) (λ bytes. length bytes ≤ 32) }
-    ensures { result ≡ expand_of prk.now (info_of [] (option_copied id_context.entry) (codes "IV") 13) 13 }
+    ensures { result ≡ expand_of prk.now (info_of [] (option_copied id_context.entry) (codes "IV") nonce_length) nonce_length }
 {
-    let mut common_iv = [0u8; 13];
+    let mut common_iv = [0u8; NONCE_LEN];
     match expand(
         prk,
-        info(&[], id_context, COMMON_IV_TYPE, 13).as_slice(),
+        info(&[], id_context, COMMON_IV_TYPE, NONCE_LEN as u8).as_slice(),
         &mut common_iv,
     ) {
         Ok(()) => common_iv,

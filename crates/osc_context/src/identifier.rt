@@ -23,10 +23,11 @@ impl Model for Kid {
 
 impl Kid {
     /// The identifier of these bytes, or None above 7 (RFC 8613, 3.3).
+    #[must_use]
     pub fn new(bytes: &[u8]) -> Option<Kid>
         ensures made { IfSome result (λ kid. kid ≡ bytes.now) }
-        ensures short { IsSome result → length bytes.now ≤ 7 }
-        ensures too_long { IfNone result (7 < length bytes.now) }
+        ensures accepted { IsSome result → length bytes.now ≤ 7 }
+        ensures refused { IfNone result (7 < length bytes.now) }
     {
         let mut kept = ArrayVec::new();
         match kept.try_extend_from_slice(bytes) {
@@ -36,9 +37,10 @@ impl Kid {
     }
 
     /// Answers the bytes, as they stand in a message.
+    #[must_use]
     pub fn bytes(&self) -> &[u8]
         ensures value { result.now ≡ self.now }
-        ensures short { length self.now ≤ 7 }
+        ensures most { length self.now ≤ 7 }
     {
         self.kid.as_slice()
     }
@@ -62,11 +64,11 @@ impl Model for IdContext {
 
 impl IdContext {
     /// The identifier of these bytes, or None for none and above 32 (own rule).
+    #[must_use]
     pub fn new(bytes: &[u8]) -> Option<IdContext>
         ensures made { IfSome result (λ id_context. id_context ≡ bytes.now) }
-        ensures some { IsSome result → 0 < length bytes.now }
-        ensures short { IsSome result → length bytes.now ≤ 32 }
-        ensures none_or_too_long { IfNone result ((length bytes.now ≡ 0) ⊎ (32 < length bytes.now)) }
+        ensures accepted { IsSome result → (0 < length bytes.now) × (length bytes.now ≤ 32) }
+        ensures refused { IfNone result ((length bytes.now ≡ 0) ⊎ (32 < length bytes.now)) }
     {
         if bytes.is_empty() {
             return None;
@@ -79,10 +81,11 @@ impl IdContext {
     }
 
     /// Answers the bytes, as they stand in a message.
+    #[must_use]
     pub fn bytes(&self) -> &[u8]
         ensures value { result.now ≡ self.now }
-        ensures some { 0 < length self.now }
-        ensures short { length self.now ≤ 32 }
+        ensures least { 0 < length self.now }
+        ensures most { length self.now ≤ 32 }
     {
         self.id_context.as_slice()
     }

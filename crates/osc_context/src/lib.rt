@@ -41,7 +41,10 @@ pub use additional_data::aad;
 pub use context::Context;
 pub use context_error::ContextError;
 pub use identifier::{IdContext, Kid};
-pub use laws::{known_lengths, one_context_refusal, one_nonce, one_option_value, value_or_refusal};
+pub use laws::{
+    known_lengths, one_additional_data, one_context_refusal, one_nonce, one_option_value,
+    usable_contexts, value_or_refusal,
+};
 pub use nonces::nonce;
 pub use option_error::OptionError;
 pub use oscore_option::OscoreOption;

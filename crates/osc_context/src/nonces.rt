@@ -7,28 +7,32 @@ ghost use Rattle.osc_context.specs.Views.{number_of};
 use crate::identifier::Kid;
 use crate::partial_iv::Piv;
 
+/// The bytes of a nonce of AES-CCM-16-64-128, and of the Common IV (RFC 8152, 10.2, and RFC 8613, 3.1).
+pub(crate) const NONCE_LEN: usize = 13;
+
 /// Answers the nonce. The identifier is of whoever made the Partial IV, also in a response (RFC 8613, 5.2).
+#[must_use]
 pub fn nonce(common_iv: &[u8; 13], owner: &Kid, partial_iv: Piv) -> [u8; 13]
     ensures { result ≡ nonce_of common_iv.now owner.now (number_of partial_iv) }
 {
     let text = nonce_text(owner, partial_iv);
-    let mut nonce = [0u8; 13];
-    for i in 0..13 {
+    let mut nonce = [0u8; NONCE_LEN];
+    for i in 0..NONCE_LEN {
         nonce[i] = common_iv[i] ^ text[i];
     }
     nonce
 }
 
 /// The length of the identifier, then the identifier and the Partial IV, each at the end of its place.
-fn nonce_text(owner: &Kid, partial_iv: Piv) -> [u8; 13]
+fn nonce_text(owner: &Kid, partial_iv: Piv) -> [u8; NONCE_LEN]
     ensures { result ≡ nonce_text owner.now (number_of partial_iv) }
 {
     let id = owner.bytes();
     let partial_iv = partial_iv.bytes();
-    let mut text = [0u8; 13];
+    let mut text = [0u8; NONCE_LEN];
     text[0] = id.len() as u8;
     put_before(&mut text, 8, id);
-    put_before(&mut text, 13, partial_iv.as_slice());
+    put_before(&mut text, NONCE_LEN, partial_iv.as_slice());
     text
 }
 

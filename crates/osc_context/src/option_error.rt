@@ -24,9 +24,9 @@ pub enum OptionError {
 
 impl fmt::Display for OptionError {
     ghost use Rattle.std.specs.Prelude.{Some};
-    ghost use Rattle.osc_context.specs.OptionRefusal.{name_of};
+    ghost use Rattle.osc_context.specs.OptionRefusal.{option_error_text};
 
-    ghost output = { λ e. Some (name_of e) };
+    ghost output = { λ e. Some (option_error_text e) };
 
     fn fmt<W: fmt::Write>(&self, f: &mut fmt::Formatter<W>) -> fmt::Result {
         match self {

@@ -5,7 +5,7 @@ ghost use Rattle.std.specs.Prelude.{◌≡◌, ◌≢◌, ℕ, ◌+◌, ◌*◌,
 ghost use Rattle.std.specs.Option.{option_copied, option_map};
 ghost use Rattle.osc_context.specs.declared.option_error.OptionError.{OptionError};
 ghost use Rattle.osc_context.specs.OscoreValue.{piv_bytes, kid_context_bytes, kid_bytes, flag_if_some};
-ghost use Rattle.osc_context.specs.OptionRefusal.{IsFirstRefusal, front_len};
+ghost use Rattle.osc_context.specs.OptionRefusal.{IsFirstValueRefusal, front_len};
 ghost use Rattle.osc_context.specs.Views.{number_of};
 
 use crate::option_error::OptionError;
@@ -20,7 +20,7 @@ pub(crate) fn check_flag(flag: u8) -> Result<(), OptionError>
     ensures piv_len { OnOk result (flag % 8 ≤ 5) }
     ensures written { OnOk result (flag ≢ 0) }
     ensures refused { IfErr result (λ e. (rest : List ℕ) → length rest < 255
-        → IsFirstRefusal (flag ∷ rest) e) }
+        → IsFirstValueRefusal (flag ∷ rest) e) }
 {
     if flag & RESERVED_FLAGS != 0 {
         return Err(OptionError::Reserved);

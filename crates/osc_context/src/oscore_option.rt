@@ -11,9 +11,10 @@ ghost use Rattle.std.specs.Prelude.{◌≡◌, ◌+◌, ◌^◌, ◌<◌, ◌≤
 ghost use Rattle.std.specs.Option.{option_copied, option_map};
 ghost use Rattle.arrayvec.specs.ArrayVec.{array_vec_len};
 ghost use Rattle.osc_context.specs.declared.option_error.OptionError.{OptionError};
-ghost use Rattle.osc_context.specs.OscoreValue.{OscoreParts, IsOscoreValue, parts_len, flag_byte, piv_bytes, kid_context_bytes, kid_bytes, flag_if_some, value_of, most_len};
-ghost use Rattle.osc_context.specs.OptionRefusal.{IsFirstRefusal};
-ghost use Rattle.osc_context.specs.Views.{number_of, parts_of, IsRead};
+ghost use Rattle.osc_context.specs.OscoreValue.{OscoreParts, IsOscoreValue, flag_byte, piv_bytes, kid_context_bytes, kid_bytes, flag_if_some, value_of, most_len};
+ghost use Rattle.osc_context.specs.OptionRefusal.{IsFirstValueRefusal};
+ghost use Rattle.osc_context.specs.PrivateWords.{parts_len};
+ghost use Rattle.osc_context.specs.Views.{number_of, oscore_parts_of, IsRead};
 
 use crate::option_error::OptionError;
 use crate::option_parts::{check_flag, cut_parts, kid_of, piv_of};
@@ -50,10 +51,10 @@ impl<'a> OscoreOption<'a> {
     /// Reads a value, all of it. It is refused for the first reason that holds, in the order of
     /// [`OptionError`].
     pub fn read(bytes: &'a [u8]) -> Result<OscoreOption<'a>, OptionError>
-        ensures accepted { IfOk result (λ option. IsOscoreValue (parts_of option) bytes.entry.now) }
+        ensures accepted { IfOk result (λ option. IsOscoreValue (oscore_parts_of option) bytes.entry.now) }
         ensures accepts { (p : OscoreParts) → IsOscoreValue p bytes.entry.now → IsRead result p }
-        ensures refused { IfErr result (λ e. IsFirstRefusal bytes.entry.now e) }
-        ensures refuses { (e : OptionError) → IsFirstRefusal bytes.entry.now e → IsErrOf result e }
+        ensures refused { IfErr result (λ e. IsFirstValueRefusal bytes.entry.now e) }
+        ensures refuses { (e : OptionError) → IsFirstValueRefusal bytes.entry.now e → IsErrOf result e }
     {
         OscoreOption::read_value(bytes)
     }
@@ -61,11 +62,11 @@ impl<'a> OscoreOption<'a> {
     /// Writes the one value that says this over what the vector holds, or refuses with TooLong and
     /// leaves the vector.
     pub fn write(&self, value: &mut ArrayVec<u8, 255>) -> Result<(), OptionError>
-        ensures written { OnOk result (IsOscoreValue (parts_of self.now) value.new.items) }
-        ensures len { OnOk result (array_vec_len value.new ≤ most_len (parts_of self.now)) }
-        ensures fits { most_len (parts_of self.now) ≤ 255 → IsOk result }
-        ensures refused { IfErr result (λ e. e ≡ OptionError.TooLong) }
-        ensures too_long { OnErr result (255 < length (value_of (parts_of self.now))) }
+        ensures written { OnOk result (IsOscoreValue (oscore_parts_of self.now) value.new.items) }
+        ensures most { OnOk result (array_vec_len value.new ≤ most_len (oscore_parts_of self.now)) }
+        ensures accepts { most_len (oscore_parts_of self.now) ≤ 255 → IsOk result }
+        ensures refused { IfErr result (λ e. (e ≡ OptionError.TooLong)
+            × (255 < length (value_of (oscore_parts_of self.now)))) }
         ensures unchanged { OnErr result (value.new ≡ value.old) }
     {
         if !self.fits() {
@@ -77,8 +78,8 @@ impl<'a> OscoreOption<'a> {
 
     /// Reads a value in one pass.
     fn read_value(bytes: &'a [u8]) -> Result<OscoreOption<'a>, OptionError>
-        ensures accepted { IfOk result (λ option. IsOscoreValue (parts_of option) bytes.entry.now) }
-        ensures refused { IfErr result (λ e. IsFirstRefusal bytes.entry.now e) }
+        ensures accepted { IfOk result (λ option. IsOscoreValue (oscore_parts_of option) bytes.entry.now) }
+        ensures refused { IfErr result (λ e. IsFirstValueRefusal bytes.entry.now e) }
     {
         if bytes.len() > MOST_LEN {
             return Err(OptionError::TooLong);
@@ -104,7 +105,7 @@ impl<'a> OscoreOption<'a> {
 
     /// Answers whether the value has at most 255 bytes.
     fn fits(&self) -> bool
-        ensures { IsTrue result ↔ (parts_len (parts_of self.now) ≤ 255) }
+        ensures { IsTrue result ↔ (parts_len (oscore_parts_of self.now) ≤ 255) }
     {
         let room = MOST_LEN - 1 - piv_len(self.piv) as usize;
         let kid_len = self.kid.map_or(0, |kid| kid.len());
@@ -116,8 +117,8 @@ impl<'a> OscoreOption<'a> {
 
     /// Writes the value over what the vector holds.
     fn put(&self, value: &mut ArrayVec<u8, 255>)
-        requires { parts_len (parts_of self.now) ≤ 255 }
-        ensures { IsOscoreValue (parts_of self.now) value.new.items }
+        requires { parts_len (oscore_parts_of self.now) ≤ 255 }
+        ensures { IsOscoreValue (oscore_parts_of self.now) value.new.items }
     {
         value.clear();
         let flag = self.flag_byte();
@@ -131,8 +132,8 @@ impl<'a> OscoreOption<'a> {
 
     /// The flag byte of these parts, also where it is 0.
     fn flag_byte(&self) -> u8
-        ensures value { result ≡ flag_byte (parts_of self.now) }
-        ensures number { IfSome (parts_of self.now).piv (λ n. n < 2 ^ 40) }
+        ensures value { result ≡ flag_byte (oscore_parts_of self.now) }
+        ensures number { IfSome (oscore_parts_of self.now).piv (λ n. n < 2 ^ 40) }
     {
         piv_len(self.piv)
             + (flag_if_some(KID_FLAG, self.kid) + flag_if_some(KID_CONTEXT_FLAG, self.kid_context))
@@ -143,7 +144,7 @@ impl<'a> OscoreOption<'a> {
 fn piv_len(piv: Option<Piv>) -> u8
     ensures value { result ≡ length (piv_bytes (option_map number_of piv)) }
     ensures number { IfSome (option_map number_of piv) (λ n. n < 2 ^ 40) }
-    ensures short { result ≤ 5 }
+    ensures most { result ≤ 5 }
 {
     match piv {
         None => 0,

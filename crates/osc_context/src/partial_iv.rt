@@ -9,8 +9,9 @@ use arrayvec::ArrayVec;
 /// The first number that no Partial IV holds.
 const NUMBER_LIMIT: u64 = 1 << 40;
 
-/// The number of a Partial IV, below 2^40. Whoever seals under one keeps it fresh.
-#[derive(Clone, Copy, Debug, PartialEq, Eq)]
+/// The number of a Partial IV, below 2^40. Whoever seals under one keeps it fresh. `<` compares the
+/// numbers.
+#[derive(Clone, Copy, Debug, PartialEq, Eq, PartialOrd, Ord)]
 pub struct Piv {
     number: u64,
     pub ghost in_range: { number < 2 ^ 40 },
@@ -19,14 +20,37 @@ pub struct Piv {
 impl Piv {
     ghost use Rattle.osc_context.specs.Views.{number_of};
 
+    /// The Partial IV of the largest number, 2^40 - 1 (RFC 8613, 5).
+    pub const MAX: Piv = Piv {
+        number: NUMBER_LIMIT - 1,
+    };
+
     /// The Partial IV of this number, or None from 2^40 up, which 5 bytes can't spell (RFC 8613, 5).
+    #[must_use]
     pub fn new(number: u64) -> Option<Piv>
         ensures made { IfSome result (λ piv. number_of piv ≡ number) }
-        ensures in_range { IsSome result → number < 2 ^ 40 }
-        ensures too_large { IfNone result (2 ^ 40 ≤ number) }
+        ensures accepted { IsSome result → number < 2 ^ 40 }
+        ensures refused { IfNone result (2 ^ 40 ≤ number) }
     {
         if number < NUMBER_LIMIT {
             Some(Piv { number })
+        } else {
+            None
+        }
+    }
+
+    /// Answers the Partial IV of the number after this one, or None behind the largest. A sender counts by it
+    /// (RFC 8613, 5 and 7.2.1).
+    #[must_use]
+    pub fn next(self) -> Option<Piv>
+        ensures made { IfSome result (λ piv. number_of piv ≡ number_of self + 1) }
+        ensures accepted { IsSome result → number_of self < 2 ^ 40 - 1 }
+        ensures refused { IfNone result (number_of self ≡ 2 ^ 40 - 1) }
+    {
+        if self < Piv::MAX {
+            Some(Piv {
+                number: self.number + 1,
+            })
         } else {
             None
         }
@@ -45,6 +69,7 @@ impl Piv {
     }
 
     /// Answers the number, as a sender counts it.
+    #[must_use]
     pub fn number(self) -> u64
         ensures value { result ≡ number_of self }
         ensures in_range { result < 2 ^ 40 }
@@ -54,11 +79,12 @@ impl Piv {
 
     /// Answers the Partial IV as it stands in a message: high byte first, with no leading zero byte,
     /// and 0 as one byte (RFC 8613, 5).
+    #[must_use]
     pub fn bytes(self) -> ArrayVec<u8, 5>
         ensures value { result.items ≡ partial_iv_of (number_of self) }
         ensures shortest { IsShortest result.items (number_of self) }
-        ensures some { 0 < array_vec_len result }
-        ensures short { array_vec_len result ≤ 5 }
+        ensures least { 0 < array_vec_len result }
+        ensures most { array_vec_len result ≤ 5 }
     {
         let all = all_bytes(self.number);
         let skipped = 5 - byte_len(self.number);

@@ -11,7 +11,7 @@ use Rattle.std.proofs.lemmas.Slice.{put_mid-paste}
 use borrow.Rule.Slice.PartMut.{put_mid}
 use Rattle.sha2.specs.Sha256.{sha256}
 use Rattle.sha2.proofs.Facts256.{length-sha256}
-use Rattle.osc_hkdf.specs.Hkdf.{expand_block, expand_blocks, expand_of}
+use Rattle.osc_hkdf.specs.Hkdf.{expand_block, expand_blocks, expand_of, extract_of}
 use Rattle.osc_hkdf.specs.Hmac.{hmac, padded_key, short_key}
 
 same_key : (s t : List ℕ) (pad : ℕ) → ((i : ℕ) → get_or s i 0 ≡ get_or t i 0) → padded_key s pad ≡ padded_key t pad
@@ -28,7 +28,7 @@ hmac_is key short inner outer m ki ko same eki ei eko eo =
     ∙ ap₂ (λ (k i : List ℕ). sha256 (k ++ i)) (eko ∙ same_key short (short_key key) 0x5c same)
     (ei ∙ ap (λ (k : List ℕ). sha256 (k ++ m)) (eki ∙ same_key short (short_key key) 0x36 same))
 
-length-hmac : (key m : List ℕ) → length (hmac key m) ≡ 32
+pub length-hmac : (key m : List ℕ) → length (hmac key m) ≡ 32
 unfolding hmac
 length-hmac key m = length-sha256 _
 
@@ -43,6 +43,16 @@ length-blocks prk info (suc n) =
     let before = length-blocks prk info n in
     let last = length-block prk info n in
     length-append (expand_blocks prk info n) (expand_block prk info (suc n)) ∙ omega (arith, before, last)
+
+pub length-extract_of : (salt secret : List ℕ) → length (extract_of salt secret) ≡ 32
+unfolding extract_of
+length-extract_of salt secret = length-hmac salt secret
+
+pub length-expand_of : (prk info : List ℕ) (n : ℕ) → length (expand_of prk info n) ≡ n
+unfolding expand_of
+length-expand_of prk info n =
+    let blocks = expand_blocks prk info ((n + 31) / 32) in
+    length-take-le n blocks (omega (arith, length-blocks prk info ((n + 31) / 32)))
 
 pub block_more : (prk info last block counter : List ℕ) (n : ℕ) → last ≡ expand_block prk info n → counter ≡ (n + 1) ∷ []
     → block ≡ hmac prk (last ++ (info ++ counter)) → block ≡ expand_block prk info (n + 1)

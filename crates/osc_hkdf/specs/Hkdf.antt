@@ -1,4 +1,5 @@
--- HKDF over HMAC-SHA-256 (RFC 5869, section 2). prk is the pseudorandom key, info the context, n counts blocks.
+-- To be believed: HKDF over HMAC-SHA-256 (RFC 5869, section 2). prk is the pseudorandom key, info the context, n counts
+-- blocks.
 use Rattle.std.specs.Prelude.{ℕ, zero, suc, ◌+◌, ◌/◌, List, [], ◌∷◌, ◌++◌, take}
 use Rattle.osc_hkdf.specs.Hmac.{hmac}
 

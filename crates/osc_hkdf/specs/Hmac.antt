@@ -1,4 +1,5 @@
--- HMAC-SHA-256 (RFC 2104, section 2, with SHA-256 as H and blocks of 64 bytes). key and m are lists of bytes.
+-- To be believed: HMAC-SHA-256 (RFC 2104, section 2, with SHA-256 as H and blocks of 64 bytes). key and m are lists of
+-- bytes.
 use Rattle.std.specs.Prelude.{ℕ, nat_lt, List, ◌++◌, length, map, slice_index, bit_xor, if◌then◌else◌}
 use Rattle.std.specs.List.{range_with_len}
 use Rattle.sha2.specs.Sha256.{sha256}

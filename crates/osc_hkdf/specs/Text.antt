@@ -1,6 +1,6 @@
--- How the refusal prints: by its name.
+-- To be believed: how the refusal prints: by its name.
 use Rattle.std.specs.Prelude.{ℕ, List, codes}
 
--- the name of the refusal to expand (own rule)
+-- the text that the refusal to expand prints: its name (how the code is seen)
 abbrev pub too_long_name : List ℕ
 too_long_name = codes "TooLong"

@@ -1,6 +1,6 @@
 //! HKDF (RFC 5869).
 
-ghost use Rattle.std.specs.Prelude.{◌≡◌, ◌↔◌, ◌<◌, length, IsErr, OnOk, OnErr};
+ghost use Rattle.std.specs.Prelude.{◌≡◌, ◌<◌, length, IsErr, OnOk, OnErr};
 ghost use Rattle.osc_hkdf.specs.Hkdf.{expand_of, extract_of};
 
 use crate::mac::hmac_sha256;
@@ -19,6 +19,7 @@ pub struct TooLong;
 
 /// The pseudorandom key of a salt and a secret; an absent salt is the empty one, since both are filled with zeros
 /// (RFC 5869, 2.2).
+#[must_use]
 pub fn extract(salt: &[u8], secret: &[u8]) -> [u8; 32]
     ensures { result ≡ extract_of salt.now secret.now }
 {
@@ -28,8 +29,9 @@ pub fn extract(salt: &[u8], secret: &[u8]) -> [u8; 32]
 /// Fills `out` with output of a pseudorandom key in a context, or refuses and leaves it (RFC 5869, 2.3).
 pub fn expand(prk: &[u8; 32], info: &[u8], out: &mut [u8]) -> Result<(), TooLong>
     ensures filled { OnOk result (out.new ≡ expand_of prk.now info.now (length out.old)) }
-    ensures too_long { IsErr result ↔ (8160 < length out.old) }
-    ensures same { OnErr result (out.new ≡ out.old) }
+    ensures refused { IsErr result → 8160 < length out.old }
+    ensures refuses { 8160 < length out.old → IsErr result }
+    ensures unchanged { OnErr result (out.new ≡ out.old) }
 {
     if out.len() > MOST_OUTPUT {
         return Err(TooLong);

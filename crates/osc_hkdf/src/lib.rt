@@ -7,7 +7,9 @@
 #![tactic(auto)]
 
 mod derivation;
+mod laws;
 mod mac;
 
 pub use derivation::{MOST_OUTPUT, TooLong, expand, extract};
+pub use laws::known_lengths;
 pub use mac::hmac_sha256;

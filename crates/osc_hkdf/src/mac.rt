@@ -16,6 +16,7 @@ const OUTER_PAD: u8 = 0x5c;
 
 /// The code of a message under a key of any length; the message is handed in as parts, one after the other, which are
 /// never put together (RFC 2104, 2).
+#[must_use]
 pub fn hmac_sha256(key: &[u8], parts: &[&[u8]]) -> [u8; 32]
     ensures { result ≡ hmac key.now (flat_map (λ part. part.now) parts.now) }
 {

@@ -6,13 +6,15 @@ use Rattle.osc_coap.specs.declared.format_error.FormatError.{FormatError}
 use Rattle.osc_coap.specs.Datagram.{Parts, IsDatagram}
 use Rattle.osc_coap.specs.Inner.{InnerParts, IsInner}
 use Rattle.osc_context.specs.OscoreValue.{OscoreParts, IsOscoreValue}
-use Rattle.osc_protect.specs.Message.{has_number, is_barred}
+use Rattle.osc_coap.specs.Search.{has_number}
+use Rattle.osc_protect.specs.OptionSets.{is_barred}
 use Rattle.osc_protect.specs.Usage.{is_code_of, is_complete}
-use Rattle.osc_protect.specs.Head.{Head, ShowsHead, HasHead, HeadRefuses, MessageRefuses, IsUndecodable}
+use Rattle.osc_protect.specs.Head.{Head, ShowsHead, HasHead, HasNoHead, ShowsNoHead, IsUndecodable}
 use Rattle.osc_protect.specs.Text.{lifted}
 use Rattle.osc_protect.specs.Protection.{Protection, Protects}
-use Rattle.osc_protect.specs.Refusals.{Names, IsBadInner, Refuses}
-use Rattle.osc_protect.specs.Laws.{LayerLaws, OneHead, OneMessage}
+use Rattle.osc_protect.specs.Refusals.{Names, IsBadInner, RefusesToOpen}
+use Rattle.osc_protect.specs.Laws.{OneHead, OneMessage}
+use Rattle.osc_protect.specs.Layers.{LayerLaws}
 use Rattle.osc_protect.specs.declared.usage.Usage.{Usage}
 use Rattle.osc_protect.specs.declared.head_error.HeadError.{HeadError}
 use Rattle.osc_protect.specs.declared.head_error.HeadError.TheVariants as heads
@@ -67,19 +69,19 @@ module _ (laws : LayerLaws) (u : Usage) where
       wrong_never : (v w : OscoreParts) → v ≡ w → is_complete u v ≡ false → is_complete u w ≡ true → ⊥
       wrong_never v w e wrong right = let bad : false ≡ true = sym wrong ∙ ap (is_complete u) e ∙ right in cc
 
-  message_never : (p : Parts) (h : Head) (e : HeadError) → ShowsHead u p h → MessageRefuses u p e → ⊥
+  message_never : (p : Parts) (h : Head) (e : HeadError) → ShowsHead u p h → ShowsNoHead u p e → ⊥
   message_never p h (heads.Format e) k r = r
   message_never p h heads.NotThatKind k r = let used = k.used in cc
   message_never p h heads.NoOscore k r = let some = k.single in let none = r.1 in cc
   message_never p h heads.Undecodable k r = undecodable_never p h k r.2
 
-  head_never : (d : List ℕ) (h : Head) (e : HeadError) → HasHead u d h → HeadRefuses u d e → ⊥
+  head_never : (d : List ℕ) (h : Head) (e : HeadError) → HasHead u d h → HasNoHead u d e → ⊥
   head_never d h (heads.Format e) x r = laws.never_both x.0 d e.fault e.place x.1 r
   head_never d h heads.NotThatKind x r = message_never r.0 h heads.NotThatKind (shows_at d h r.0 x r.1) r.2
   head_never d h heads.NoOscore x r = message_never r.0 h heads.NoOscore (shows_at d h r.0 x r.1) r.2
   head_never d h heads.Undecodable x r = message_never r.0 h heads.Undecodable (shows_at d h r.0 x r.1) r.2
 
-  message_one : (p : Parts) (e f : HeadError) → MessageRefuses u p e → MessageRefuses u p f → e ≡ f
+  message_one : (p : Parts) (e f : HeadError) → ShowsNoHead u p e → ShowsNoHead u p f → e ≡ f
   message_one p (heads.Format e) f r q = absurd r
   message_one p e (heads.Format f) r q = absurd q
   message_one p heads.NotThatKind heads.NotThatKind r q = refl
@@ -92,10 +94,10 @@ module _ (laws : LayerLaws) (u : Usage) where
   message_one p heads.Undecodable heads.NoOscore r q = absurd (r.1 q.1)
   message_one p heads.Undecodable heads.Undecodable r q = refl
 
-  at_one : (d : List ℕ) (p q : Parts) (e f : HeadError) → IsDatagram p d → IsDatagram q d → MessageRefuses u p e → MessageRefuses u q f → e ≡ f
-  at_one d p q e f h k r t = message_one q e f (subst (λ (z : Parts). MessageRefuses u z e) (laws.one p q d h k) r) t
+  at_one : (d : List ℕ) (p q : Parts) (e f : HeadError) → IsDatagram p d → IsDatagram q d → ShowsNoHead u p e → ShowsNoHead u q f → e ≡ f
+  at_one d p q e f h k r t = message_one q e f (subst (λ (z : Parts). ShowsNoHead u z e) (laws.one p q d h k) r) t
 
-  refusal_one : (d : List ℕ) (e f : HeadError) → HeadRefuses u d e → HeadRefuses u d f → e ≡ f
+  refusal_one : (d : List ℕ) (e f : HeadError) → HasNoHead u d e → HasNoHead u d f → e ≡ f
   refusal_one d (heads.Format e) (heads.Format f) r q = let b = laws.one_fault d e.fault f.fault e.place f.place r q in ap heads.Format (same_error e.fault f.fault e.place f.place b.0 b.1)
   refusal_one d (heads.Format e) heads.NotThatKind r q = absurd (laws.never_both q.0 d e.fault e.place q.1 r)
   refusal_one d (heads.Format e) heads.NoOscore r q = absurd (laws.never_both q.0 d e.fault e.place q.1 r)
@@ -130,9 +132,9 @@ module _ {I : Type 0} (laws : LayerLaws) (f : Protection I) (sound : IsSound f) 
       ⊎ ((e ≡ Inner) × (i : I) × Names f h i × (m : List ℕ) × (h.payload ≡ f.cipher i m) × IsBadInner f.usage m)
 
   abbrev Parted : List ℕ → UnprotectError → Type 0
-  Parted d e = ((g : HeadError) × HeadRefuses f.usage d g × (e ≡ lifted g)) ⊎ ((h : Head) × HasHead f.usage d h × After h e)
+  Parted d e = ((g : HeadError) × HasNoHead f.usage d g × (e ≡ lifted g)) ⊎ ((h : Head) × HasHead f.usage d h × After h e)
 
-  parted : (d : List ℕ) (e : UnprotectError) → Refuses f d e → Parted d e
+  parted : (d : List ℕ) (e : UnprotectError) → RefusesToOpen f d e → Parted d e
   parted d (Format e) r = inl (heads.Format e, r, refl)
   parted d NotThatKind r = inl (heads.NotThatKind, r, refl)
   parted d NoOscore r = inl (heads.NoOscore, r, refl)

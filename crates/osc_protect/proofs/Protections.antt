@@ -1,7 +1,7 @@
 -- What the proofs need of a protection, and that requests and responses have it.
 use Rattle.std.proofs.Common.{◌≡◌, ◌≢◌, ℕ, ◌+◌, List, length, refl, ap, Option, Some, None, arith, true}
 use Rattle.std.specs.Option.{unwrap_or}
-use Rattle.osc_ccm.specs.Ccm.{HasOnePlaintext, HasTagLength}
+use Rattle.osc_ccm.specs.Laws.{OnePlaintext, ProtectionLength}
 use Rattle.osc_context.specs.OscoreValue.{OscoreParts}
 use Rattle.osc_context.specs.SecurityContext.{SecurityContext}
 use Rattle.osc_protect.specs.Protection.{Protection, request_cipher, requests, response_cipher, responses}
@@ -20,7 +20,7 @@ pub record IsSound {I : Type 0} (f : Protection I) : Type 0 where
 pub some_same : (n m : ℕ) → Some n ≡ Some m → n ≡ m
 some_same n m e = ap (λ (o : Option ℕ). unwrap_or o 0) e
 
-pub requests_sound : HasOnePlaintext → HasTagLength → (s : SecurityContext) → IsSound (requests s)
+pub requests_sound : OnePlaintext → ProtectionLength → (s : SecurityContext) → IsSound (requests s)
 unfolding request_cipher
 requests_sound one long s = record {
   one_number = λ n m e. some_same n m (ap (λ (v : OscoreParts). v.piv) e);
@@ -29,7 +29,7 @@ requests_sound one long s = record {
   complete = λ n. refl;
 }
 
-pub responses_sound : HasOnePlaintext → HasTagLength → (s : SecurityContext) (n : ℕ) → IsSound (responses s n)
+pub responses_sound : OnePlaintext → ProtectionLength → (s : SecurityContext) (n : ℕ) → IsSound (responses s n)
 unfolding response_cipher
 responses_sound one long s n = record {
   one_number = λ own k e. ap (λ (v : OscoreParts). v.piv) e;

@@ -3,16 +3,18 @@ use Rattle.std.proofs.Common.{◌≡◌, ◌≢◌, ℕ, List, ◌++◌, length,
 use Rattle.std.proofs.lemmas.List.{take_at}
 use Rattle.osc_coap.specs.Datagram.{Parts, IsDatagram}
 use Rattle.osc_coap.specs.Inner.{InnerParts, IsInner}
-use Rattle.osc_coap.specs.Laws.{IsOneDatagram}
+use Rattle.osc_coap.specs.Laws.{DatagramIsOneMessage}
 use Rattle.osc_context.specs.OscoreValue.{OscoreParts, IsOscoreValue}
 use Rattle.osc_context.specs.SecurityContext.{SecurityContext}
 use Rattle.osc_context.specs.Views.{number_of}
-use Rattle.osc_protect.specs.Head.{Head, HeadRefuses}
+use Rattle.osc_protect.specs.Head.{Head, HasNoHead}
 use Rattle.osc_protect.specs.Text.{lifted}
 use Rattle.osc_protect.specs.Protection.{Protection, Protects, requests, responses}
-use Rattle.osc_protect.specs.Refusals.{Names, IsBadInner, Refuses, RefusesToDecrypt}
+use Rattle.osc_protect.specs.Refusals.{Names, IsBadInner, RefusesToOpen, RefusesToDecrypt}
 use Rattle.osc_protect.specs.Views.{message_of, opened_number}
-use Rattle.osc_protect.specs.Opening.{ShowsOuter, Opens, Decrypts, ReadsInner, RefusesInner, OpensRequestAfter, OpensResponseAfter, RefusesRequestAfter, RefusesResponseAfter}
+use Rattle.osc_protect.specs.Opening.{ShowsOuter, Opens, Decrypts}
+use Rattle.osc_protect.specs.Halves.{ReadsInner, RefusesInner}
+use Rattle.osc_protect.specs.Places.{OpensRequestAfter, OpensResponseAfter, RefusesRequestAfter, RefusesResponseAfter}
 use Rattle.osc_protect.specs.Laws.{OneHead, OneMessage}
 use Rattle.osc_protect.specs.declared.usage.Usage.TheVariants.{Request, Response}
 use Rattle.osc_protect.specs.declared.head_error.HeadError.{HeadError}
@@ -22,7 +24,7 @@ use Rattle.osc_protect.specs.declared.opening.Place.{Place}
 use Rattle.osc_protect.specs.declared.unprotect_error.UnprotectError.{UnprotectError}
 use Rattle.osc_protect.specs.declared.unprotect_error.UnprotectError.TheVariants.{Format, NotThatKind, NoOscore, Undecodable, WrongContext, Tag, Inner}
 
-module _ {I : Type 0} (one : IsOneDatagram) (f : Protection I) (d new : List ℕ) (place : Place) (it : Decrypts f d place new) where
+module _ {I : Type 0} (one : DatagramIsOneMessage) (f : Protection I) (d new : List ℕ) (place : Place) (it : Decrypts f d place new) where
   after : Parts
   after = record it.outer { payload = it.plaintext ++ drop (length it.plaintext) it.outer.payload }
 
@@ -64,25 +66,25 @@ module _ {I : Type 0} (one : IsOneDatagram) (f : Protection I) (d new : List ℕ
         shows = same_outer r.outer o r.datagram r.shows;
       }
 
-  pub refuses_open : (e : UnprotectError) → RefusesInner f.usage new place e → Refuses f d e
+  pub refuses_open : (e : UnprotectError) → RefusesInner f.usage new place e → RefusesToOpen f d e
   refuses_open e r =
       let bad : IsBadInner f.usage it.plaintext = subst (IsBadInner f.usage) (front r.1 r.2) r.3 in
-      subst (Refuses f d) (sym r.0) (it.head, (it.outer, it.datagram, it.shows), it.number, it.names, it.plaintext, it.seals, bad)
+      subst (RefusesToOpen f d) (sym r.0) (it.head, (it.outer, it.datagram, it.shows), it.number, it.names, it.plaintext, it.seals, bad)
 
 -- what was read is what the datagram protected, for either outcome of reading
-pub request_opens_after : (one : IsOneDatagram) (new : List ℕ) (place : Place) (r : Result Opened UnprotectError) → IfOk r (λ o. ReadsInner Request new place o) → IfOk r (λ o. OpensRequestAfter place new o)
+pub request_opens_after : (one : DatagramIsOneMessage) (new : List ℕ) (place : Place) (r : Result Opened UnprotectError) → IfOk r (λ o. ReadsInner Request new place o) → IfOk r (λ o. OpensRequestAfter place new o)
 request_opens_after one new place (Ok o) h = λ s old it. reads_open one (requests s) old new place it o h
 request_opens_after one new place (Err e) h = h
 
-pub request_refuses_after : (one : IsOneDatagram) (new : List ℕ) (place : Place) (r : Result Opened UnprotectError) → IfErr r (λ e. RefusesInner Request new place e) → IfErr r (λ e. RefusesRequestAfter place new e)
+pub request_refuses_after : (one : DatagramIsOneMessage) (new : List ℕ) (place : Place) (r : Result Opened UnprotectError) → IfErr r (λ e. RefusesInner Request new place e) → IfErr r (λ e. RefusesRequestAfter place new e)
 request_refuses_after one new place (Ok o) h = h
 request_refuses_after one new place (Err e) h = (h.0, λ s old it. refuses_open one (requests s) old new place it e h)
 
-pub response_opens_after : (one : IsOneDatagram) (new : List ℕ) (place : Place) (r : Result Opened UnprotectError) → IfOk r (λ o. ReadsInner Response new place o) → IfOk r (λ o. OpensResponseAfter place new o)
+pub response_opens_after : (one : DatagramIsOneMessage) (new : List ℕ) (place : Place) (r : Result Opened UnprotectError) → IfOk r (λ o. ReadsInner Response new place o) → IfOk r (λ o. OpensResponseAfter place new o)
 response_opens_after one new place (Ok o) h = λ s n old it. reads_open one (responses s n) old new place it o h
 response_opens_after one new place (Err e) h = h
 
-pub response_refuses_after : (one : IsOneDatagram) (new : List ℕ) (place : Place) (r : Result Opened UnprotectError) → IfErr r (λ e. RefusesInner Response new place e) → IfErr r (λ e. RefusesResponseAfter place new e)
+pub response_refuses_after : (one : DatagramIsOneMessage) (new : List ℕ) (place : Place) (r : Result Opened UnprotectError) → IfErr r (λ e. RefusesInner Response new place e) → IfErr r (λ e. RefusesResponseAfter place new e)
 response_refuses_after one new place (Ok o) h = h
 response_refuses_after one new place (Err e) h = (h.0, λ s n old it. refuses_open one (responses s n) old new place it e h)
 
@@ -91,7 +93,7 @@ pub request_opens : (s : SecurityContext) (old new : List ℕ) (place : Place) (
 request_opens s old new place it (Ok o) h = h s old it
 request_opens s old new place it (Err e) h = h
 
-pub request_refuses : (s : SecurityContext) (old new : List ℕ) (place : Place) (it : Decrypts (requests s) old place new) (r : Result Opened UnprotectError) → IfErr r (λ e. RefusesRequestAfter place new e) → IfErr r (λ e. Refuses (requests s) old e)
+pub request_refuses : (s : SecurityContext) (old new : List ℕ) (place : Place) (it : Decrypts (requests s) old place new) (r : Result Opened UnprotectError) → IfErr r (λ e. RefusesRequestAfter place new e) → IfErr r (λ e. RefusesToOpen (requests s) old e)
 request_refuses s old new place it (Ok o) h = h
 request_refuses s old new place it (Err e) h = h.1 s old it
 
@@ -99,7 +101,7 @@ pub response_opens : (s : SecurityContext) (n : ℕ) (old new : List ℕ) (place
 response_opens s n old new place it (Ok o) h = h s n old it
 response_opens s n old new place it (Err e) h = h
 
-pub response_refuses : (s : SecurityContext) (n : ℕ) (old new : List ℕ) (place : Place) (it : Decrypts (responses s n) old place new) (r : Result Opened UnprotectError) → IfErr r (λ e. RefusesResponseAfter place new e) → IfErr r (λ e. Refuses (responses s n) old e)
+pub response_refuses : (s : SecurityContext) (n : ℕ) (old new : List ℕ) (place : Place) (it : Decrypts (responses s n) old place new) (r : Result Opened UnprotectError) → IfErr r (λ e. RefusesResponseAfter place new e) → IfErr r (λ e. RefusesToOpen (responses s n) old e)
 response_refuses s n old new place it (Ok o) h = h
 response_refuses s n old new place it (Err e) h = h.1 s n old it
 
@@ -109,7 +111,7 @@ response_named new place (Ok o) h = h
 response_named new place (Err e) h = λ wrong. let bad : Inner ≡ WrongContext = sym h.0 ∙ wrong in cc
 
 -- a refusal of the head is one to decrypt, and not of the context
-pub head_refuses : {I : Type 0} (f : Protection I) (d : List ℕ) (e : HeadError) (g : UnprotectError) → HeadRefuses f.usage d e → g ≡ lifted e → RefusesToDecrypt f d g
+pub head_refuses : {I : Type 0} (f : Protection I) (d : List ℕ) (e : HeadError) (g : UnprotectError) → HasNoHead f.usage d e → g ≡ lifted e → RefusesToDecrypt f d g
 head_refuses f d (heads.Format e) g h is = subst (RefusesToDecrypt f d) (sym is) h
 head_refuses f d heads.NotThatKind g h is = subst (RefusesToDecrypt f d) (sym is) h
 head_refuses f d heads.NoOscore g h is = subst (RefusesToDecrypt f d) (sym is) h
@@ -125,7 +127,7 @@ head_named heads.Undecodable g is = λ wrong. let bad : Undecodable ≡ WrongCon
 
 module _ {I : Type 0} (f : Protection I) where
   -- a refusal to decrypt is one to open
-  pub decrypt_refuses : (d : List ℕ) (e : UnprotectError) → RefusesToDecrypt f d e → Refuses f d e
+  pub decrypt_refuses : (d : List ℕ) (e : UnprotectError) → RefusesToDecrypt f d e → RefusesToOpen f d e
   decrypt_refuses d (Format e) h = h
   decrypt_refuses d NotThatKind h = h
   decrypt_refuses d NoOscore h = h
@@ -137,13 +139,13 @@ module _ {I : Type 0} (f : Protection I) where
   only_ok : (laws : OneMessage f) (d : List ℕ) (i : I) (m : InnerParts) (o : Opened) → Opens f d o → Protects f i m d → (opened_number o ≡ (f.parts i).piv) × (message_of o ≡ m)
   only_ok laws d i m o x y = (x.number_is ∙ ap (λ (j : I). (f.parts j).piv) (laws.number d x.number i (message_of o) m x.protects y), laws.message d x.number i (message_of o) m x.protects y)
 
-  pub only_all : (laws : OneMessage f) (d : List ℕ) (r : Result Opened UnprotectError) → IfOk r (λ o. Opens f d o) → IfErr r (λ e. Refuses f d e)
+  pub only_all : (laws : OneMessage f) (d : List ℕ) (r : Result Opened UnprotectError) → IfOk r (λ o. Opens f d o) → IfErr r (λ e. RefusesToOpen f d e)
       → (i : I) (m : InnerParts) → Protects f i m d → IsOkAnd r (λ o. (opened_number o ≡ (f.parts i).piv) × (message_of o ≡ m))
   only_all laws d (Ok o) h k i m y = only_ok laws d i m o h y
   only_all laws d (Err e) h k i m y = laws.never_both d i m e y k
 
-  pub exactly_all : (laws : OneMessage f) (d : List ℕ) (r : Result Opened UnprotectError) → IfOk r (λ o. Opens f d o) → IfErr r (λ e. Refuses f d e)
-      → (e : UnprotectError) → Refuses f d e → IsErrOf r e
+  pub exactly_all : (laws : OneMessage f) (d : List ℕ) (r : Result Opened UnprotectError) → IfOk r (λ o. Opens f d o) → IfErr r (λ e. RefusesToOpen f d e)
+      → (e : UnprotectError) → RefusesToOpen f d e → IsErrOf r e
   exactly_all laws d (Ok o) h k e y = absurd (laws.never_both d h.number (message_of o) e h.protects y)
   exactly_all laws d (Err g) h k e y = ap Err (laws.refusal d g e k y)
 

@@ -4,7 +4,7 @@ use Rattle.osc_coap.specs.Datagram.{Parts, IsDatagram}
 use Rattle.osc_coap.specs.Laws.{PartsHaveOneDatagram, PartsHaveOneInner, DatagramHasItsLength, InnerHasItsLength}
 use Rattle.osc_coap.specs.OptionSpelling.{marked}
 use Rattle.osc_context.specs.Laws.{OneSpelling}
-use Rattle.osc_protect.specs.Laws.{HasOneForm}
+use Rattle.osc_protect.specs.Laws.{OneForm}
 use Rattle.osc_protect.specs.Protection.{Protection}
 use Rattle.osc_protect.specs.Sealed.{IsSealed, inside, outside, sealed_length}
 use Rattle.osc_protect.specs.Usage.{outer_code_of}
@@ -34,7 +34,7 @@ module _ {I : Type 0} (f : Protection I) (sound : IsSound f) where
       let parts : outside p (outer_code_of f.usage) x.value (f.cipher i (x.holds.0)) ≡ outside p (outer_code_of f.usage) y.value (f.cipher i (y.holds.0)) = rw (value, plain) refl in
       datagram _ d e (subst (λ (q : Parts). IsDatagram q d) parts x.holds.2) y.holds.2
 
-  pub form_law : OneSpelling → PartsHaveOneInner → PartsHaveOneDatagram → DatagramHasItsLength → InnerHasItsLength → HasOneForm f
+  pub form_law : OneSpelling → PartsHaveOneInner → PartsHaveOneDatagram → DatagramHasItsLength → InnerHasItsLength → OneForm f
   form_law spelling inner datagram by_parts inner_by_parts = record {
     bytes = one_form spelling inner datagram;
     never_both = λ i p room d e x fits refuses.

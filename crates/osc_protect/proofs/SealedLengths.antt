@@ -3,6 +3,7 @@ use Rattle.std.proofs.Common.{◌≡◌, ℕ, ◌+◌, ◌-◌, ◌<◌, ◌⊎�
 use Rattle.osc_coap.specs.Class.{inner_options, outer_options}
 use Rattle.osc_coap.specs.Datagram.{Parts}
 use Rattle.osc_coap.specs.OptionSpelling.{Entry, last_number, marked, option_length, spelling_length}
+use Rattle.osc_coap.specs.OptionNumbers.{oscore}
 use Rattle.osc_protect.specs.Sealed.{sealed_length}
 
 -- two lists of options, one after the other
@@ -17,13 +18,13 @@ pub sealed_sum : (p : Parts) (value pay : List ℕ) (os : List Entry) (head oute
     → delta ≡ 9 - last → option ≡ option_length delta (length value) → mark ≡ length (marked pay)
     → sealed_length p value ≡ head + outer + option + 1 + (1 + inner + mark) + 8
 sealed_sum p value pay os head outer last inner delta option mark eo ep eh eu el ei ed ek em =
-    let all = spelled_append 0 (outer_options p.options) ((9, value) ∷ []) in
+    let all = spelled_append 0 (outer_options p.options) ((oscore, value) ∷ []) in
     let u : outer ≡ spelling_length 0 (outer_options p.options) = eu ∙ ap (λ (x : List Entry). spelling_length 0 (outer_options x)) eo in
     let i : inner ≡ spelling_length 0 (inner_options p.options) = ei ∙ ap (λ (x : List Entry). spelling_length 0 (inner_options x)) eo in
     let k : option ≡ option_length (9 - last_number 0 (outer_options p.options)) (length value) =
     ek ∙ ap (λ (x : ℕ). option_length x (length value)) (ed ∙ ap (λ (x : ℕ). 9 - x) (el ∙ ap (λ (x : List Entry). last_number 0 (outer_options x)) eo)) in
     let m : mark ≡ length (marked p.payload) = em ∙ ap (λ (x : List ℕ). length (marked x)) ep in
-    sums (length p.token) (spelling_length 0 (outer_options p.options ++ (9, value) ∷ [])) (spelling_length 0 (outer_options p.options)) (option_length (9 - last_number 0 (outer_options p.options)) (length value)) (spelling_length 0 (inner_options p.options)) (length (marked p.payload)) head outer option inner mark all eh u k i m
+    sums (length p.token) (spelling_length 0 (outer_options p.options ++ (oscore, value) ∷ [])) (spelling_length 0 (outer_options p.options)) (option_length (9 - last_number 0 (outer_options p.options)) (length value)) (spelling_length 0 (inner_options p.options)) (length (marked p.payload)) head outer option inner mark all eh u k i m
   where
     sums : (t w a b c e head outer option inner mark : ℕ) → w ≡ a + (b + 0) → head ≡ 4 + t → outer ≡ a → option ≡ b → inner ≡ c → mark ≡ e
         → 4 + t + w + 0 + (1 + (1 + c + e + 8)) ≡ head + outer + option + 1 + (1 + inner + mark) + 8

@@ -8,7 +8,9 @@ use Rattle.osc_coap.specs.Datagram.{Parts}
 use Rattle.osc_coap.specs.Inner.{InnerParts}
 use Rattle.osc_context.specs.SecurityContext.{SecurityContext}
 use Rattle.osc_context.specs.Views.{as_client, as_server}
-use Rattle.osc_protect.specs.Message.{values_at, has_number, is_proxy, is_barred, is_unsupported}
+use Rattle.osc_coap.specs.Search.{values_at, has_number}
+use Rattle.osc_coap.specs.OptionNumbers.{oscore}
+use Rattle.osc_protect.specs.OptionSets.{is_proxy, is_barred, is_unsupported}
 use Rattle.osc_protect.specs.Usage.{is_code_of, is_used, outer_code_of}
 use Rattle.osc_protect.specs.Protection.{Protection, Protects, ProtectsRequest, ProtectsResponse, requests, responses}
 use Rattle.osc_protect.specs.Sealed.{inside, outside, IsSealed}
@@ -22,8 +24,8 @@ both_false true b h k = h
 both_false false b h k = k
 
 -- an option that can be sealed isn't the OSCORE option
-not_nine : (n : ℕ) → is_unsupported n ≡ false → (n == 9) ≡ false
-not_nine n h = grind (arith, h)
+not_oscore : (n : ℕ) → is_unsupported n ≡ false → (n == oscore) ≡ false
+not_oscore n h = grind (arith, h)
 
 -- and is for no proxy
 not_proxy : (n : ℕ) → is_unsupported n ≡ false → is_proxy n ≡ false
@@ -34,19 +36,19 @@ may_stand : (n : ℕ) → is_inner (class n) ≡ true → is_unsupported n ≡ f
 may_stand n i h = grind (arith, i, h)
 
 -- outside stands one OSCORE option
-outer_values : (entries : List Entry) (value : List ℕ) → has_number is_unsupported entries ≡ false → values_at 9 (outer_options entries ++ (9, value) ∷ []) ≡ value ∷ []
+outer_values : (entries : List Entry) (value : List ℕ) → has_number is_unsupported entries ≡ false → values_at oscore (outer_options entries ++ (oscore, value) ∷ []) ≡ value ∷ []
 outer_values [] value h = refl
 outer_values (entry ∷ entries) value h =
     let both = neither (is_unsupported entry.0) (has_number is_unsupported entries) h in
-    let nine = not_nine entry.0 both.0 in
+    let other = not_oscore entry.0 both.0 in
     let rest = outer_values entries value both.1 in
     elim (chosen (is_outer (class entry.0))) [
-      | inl is ↦ rw (is, nine) rest
+      | inl is ↦ rw (is, other) rest
       | inr isnt ↦ rw isnt rest
     ]
 
 -- and none for proxies
-outer_direct : (entries : List Entry) (value : List ℕ) → has_number is_unsupported entries ≡ false → has_number is_proxy (outer_options entries ++ (9, value) ∷ []) ≡ false
+outer_direct : (entries : List Entry) (value : List ℕ) → has_number is_unsupported entries ≡ false → has_number is_proxy (outer_options entries ++ (oscore, value) ∷ []) ≡ false
 outer_direct [] value h = refl
 outer_direct (entry ∷ entries) value h =
     let both = neither (is_unsupported entry.0) (has_number is_unsupported entries) h in

@@ -5,7 +5,8 @@ use Rattle.osc_context.specs.Laws.{OneSpelling}
 use Rattle.osc_context.specs.OscoreValue.{IsOscoreValue}
 use Rattle.osc_protect.specs.Protection.{Protection}
 use Rattle.osc_protect.specs.Sealed.{HoldsSealed, IsSealed, outside, sealed_length}
-use Rattle.osc_protect.specs.SealRefusals.{CanBeSealed, FitsToSeal, Makes, RefusesLength, RefusesPlain, RefusesToSeal}
+use Rattle.osc_protect.specs.SealRefusals.{CanBeSealed, FitsToSeal, RefusesSize, RefusesPlain, RefusesToSeal}
+use Rattle.osc_protect.specs.Halves.{Makes}
 use Rattle.osc_protect.specs.Usage.{outer_code_of}
 use Rattle.osc_protect.specs.declared.protect_error.ProtectError.{ProtectError}
 use Rattle.osc_protect.specs.declared.protect_error.ProtectError.TheVariants.{NotThatKind, Unsupported, TooLong, NoRoom}
@@ -76,7 +77,7 @@ module _ {I : Type 0} (f : Protection I) (i : I) (p : Parts) where
   plain_refuses room NoRoom h = absurd h
 
   -- one of the length too
-  length_refuses : (room : ℕ) (value : List ℕ) (e : ProtectError) → CanBeSealed f.usage p → IsOscoreValue (f.parts i) value → RefusesLength (sealed_length p value) room e → RefusesToSeal f i p room e
+  length_refuses : (room : ℕ) (value : List ℕ) (e : ProtectError) → CanBeSealed f.usage p → IsOscoreValue (f.parts i) value → RefusesSize (sealed_length p value) room e → RefusesToSeal f i p room e
   length_refuses room value NotThatKind can reads h = absurd h
   length_refuses room value (Unsupported k) can reads h = absurd h
   length_refuses room value TooLong can reads h = (can, (value, reads, h))
@@ -100,6 +101,6 @@ module _ {I : Type 0} (f : Protection I) (i : I) (p : Parts) where
   all_made value room (Ok n) can reads len fits in_room = (can, value, reads, len, fits, in_room)
 
   pub all_refused : (value : List ℕ) (room : ℕ) (r : Result ℕ ProtectError) → CanBeSealed f.usage p → IsOscoreValue (f.parts i) value
-      → IfErr r (λ e. RefusesLength (sealed_length p value) room e) → IfErr r (λ e. RefusesToSeal f i p room e)
+      → IfErr r (λ e. RefusesSize (sealed_length p value) room e) → IfErr r (λ e. RefusesToSeal f i p room e)
   all_refused value room (Ok n) can reads refused = tt
   all_refused value room (Err e) can reads refused = length_refuses room value e can reads refused

@@ -5,7 +5,9 @@ use Rattle.osc_coap.specs.Datagram.{Parts, datagram_length}
 use Rattle.osc_coap.specs.Inner.{inner_length}
 use Rattle.osc_coap.specs.OptionSpelling.{Entry, Ascends, last_number, spelling_length}
 use Rattle.osc_coap.specs.Writing.{Draft, Datagram, Plaintext, TakesOption, bare, bare_inner, options_of, length_of, with_option, with_options}
-use Rattle.osc_protect.specs.Message.{has_number, is_unsupported}
+use Rattle.osc_coap.specs.Search.{has_number}
+use Rattle.osc_coap.specs.OptionNumbers.{oscore}
+use Rattle.osc_protect.specs.OptionSets.{is_unsupported}
 use Rattle.osc_protect.specs.Sealed.{inside, outside}
 use Rattle.osc_protect.specs.Split.{TakesAll, options_on, stands_on}
 use Rattle.osc_protect.specs.declared.split.Side.TheVariants.{Outside, Inside}
@@ -22,11 +24,11 @@ neither true b h = absurd (cc)
 neither false b h = (refl, h)
 
 -- an option outside that can be sealed comes before the OSCORE option
-below : (n : ℕ) → is_outer (class n) ≡ true → is_unsupported n ≡ false → n ≤ 9
+below : (n : ℕ) → is_outer (class n) ≡ true → is_unsupported n ≡ false → n ≤ oscore
 below n u s = grind (arith)
 
 -- so do all of them
-pub all_below : (d : ℕ) (entries : List Entry) → d ≤ 9 → has_number is_unsupported entries ≡ false → last_number d (outer_options entries) ≤ 9
+pub all_below : (d : ℕ) (entries : List Entry) → d ≤ oscore → has_number is_unsupported entries ≡ false → last_number d (outer_options entries) ≤ oscore
 all_below d [] le h = le
 all_below d (entry ∷ entries) le h =
     let both = neither (is_unsupported entry.0) (has_number is_unsupported entries) h in
@@ -130,7 +132,7 @@ pub outside_takes : (p : Parts) (code : ℕ) (value : List ℕ) (os : List Entry
     → datagram_length (outside p code value []) ≤ room → datagram_length (outside p code value []) ≤ 65535
     → TakesAll room (Datagram (bare p.kind code p.message_id p.token)) (options_on Outside os)
 outside_takes p code value os room e some up in_room in_all =
-    let all = spelled_append 0 (outer_options p.options) ((9, value) ∷ []) in
+    let all = spelled_append 0 (outer_options p.options) ((oscore, value) ∷ []) in
     subst (λ (es : List Entry). TakesAll room (Datagram (bare p.kind code p.message_id p.token)) (options_on Outside es)) (sym e) (record {
       filled = some;
       unfinished = refl;
@@ -141,7 +143,7 @@ outside_takes p code value os room e some up in_room in_all =
 -- the OSCORE option has its room behind them
 pub oscore_takes : (p : Parts) (code : ℕ) (value : List ℕ) (os : List Entry) (room : ℕ) → os ≡ p.options → code ≢ 0 → has_number is_unsupported p.options ≡ false
     → datagram_length (outside p code value []) ≤ room → datagram_length (outside p code value []) ≤ 65535
-    → TakesOption room (with_options (Datagram (bare p.kind code p.message_id p.token)) (options_on Outside os)) 9 value
+    → TakesOption room (with_options (Datagram (bare p.kind code p.message_id p.token)) (options_on Outside os)) oscore value
 oscore_takes p code value os room e some none in_room in_all =
     subst (λ (es : List Entry). TakesOption room (with_options (Datagram (bare p.kind code p.message_id p.token)) (options_on Outside es)) 9 value) (sym e)
     (some, refl, all_below 0 p.options (omega arith) none, (in_room, in_all))

@@ -4,7 +4,9 @@ use Rattle.std.specs.Option.{unwrap_or}
 use Rattle.std.proofs.lemmas.Bool.{eqb-true}
 use Rattle.osc_coap.specs.OptionSpelling.{Entry, Ascends}
 use Rattle.osc_coap.specs.Datagram.{Parts}
-use Rattle.osc_protect.specs.Message.{has_number, first_number, is_unsupported}
+use Rattle.osc_coap.specs.Search.{has_number}
+use Rattle.osc_protect.specs.Found.{first_number}
+use Rattle.osc_protect.specs.OptionSets.{is_unsupported}
 use Rattle.osc_protect.specs.SealRefusals.{IsLowestUnsupported, RefusesPlain, CanBeSealed}
 use Rattle.osc_protect.specs.declared.usage.Usage.{Usage}
 use Rattle.osc_protect.proofs.Splits.{chosen}

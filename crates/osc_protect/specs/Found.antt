@@ -1,5 +1,6 @@
--- How many values a search found (how the code is seen).
-use Rattle.std.specs.Prelude.{◌≡◌, ◌≤◌, ℕ, List, [], ◌∷◌, length}
+-- For the proofs: what a search for options found.
+use Rattle.std.specs.Prelude.{◌≡◌, ◌≤◌, ℕ, Bool, List, [], ◌∷◌, length, Option, Some, None, if◌then◌else◌}
+use Rattle.osc_coap.specs.OptionSpelling.{Entry}
 use Rattle.osc_protect.specs.declared.option_search.Found.{Found}
 use Rattle.osc_protect.specs.declared.option_search.Found.TheVariants.{Nothing, One, More}
 
@@ -8,3 +9,8 @@ abbrev pub Finds : Found → List (List ℕ) → Type 0
 Finds Nothing values = values ≡ []
 Finds (One value) values = values ≡ value.now ∷ []
 Finds More values = 2 ≤ length values
+
+-- the number of the first option that has such a number, where there is one (RFC 7252, 3.1)
+abbrev pub first_number : (ℕ → Bool) → List Entry → Option ℕ
+first_number p [] = None
+first_number p (entry ∷ entries) = if p entry.0 then Some entry.0 else first_number p entries

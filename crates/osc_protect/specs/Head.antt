@@ -1,11 +1,13 @@
--- What a protected message says to whoever has no key (RFC 8613, 8.2 and 8.4, steps 1 and 2). d is a datagram, p the parts
--- of a message, h a head, u its usage, v the parts of an OSCORE option.
+-- To be believed: what a protected message says to whoever has no key (RFC 8613, 8.2 and 8.4, steps 1 and 2). d is a
+-- datagram, p the parts of a message, h a head, u its usage, v the parts of an OSCORE option.
 use Rattle.std.specs.Prelude.{◌≡◌, ◌≢◌, ◌≤◌, ◌⊎◌, ℕ, List, [], ◌∷◌, length, true, false}
 use Rattle.osc_coap.specs.declared.message.Kind.{Kind}
 use Rattle.osc_coap.specs.Datagram.{Parts, IsDatagram}
 use Rattle.osc_coap.specs.Fault.{HasFault}
 use Rattle.osc_context.specs.OscoreValue.{OscoreParts, IsOscoreValue}
-use Rattle.osc_protect.specs.Message.{values_at, has_number, is_proxy}
+use Rattle.osc_coap.specs.Search.{values_at, has_number}
+use Rattle.osc_coap.specs.OptionNumbers.{oscore}
+use Rattle.osc_protect.specs.OptionSets.{is_proxy}
 use Rattle.osc_protect.specs.Usage.{is_complete, is_used}
 use Rattle.osc_protect.specs.declared.usage.Usage.{Usage}
 use Rattle.osc_protect.specs.declared.head_error.HeadError.{HeadError}
@@ -27,7 +29,7 @@ pub record ShowsHead (u : Usage) (p : Parts) (h : Head) : Type 0 where
   pub payload : h.payload ≡ p.payload
   pub used : is_used u p.kind p.code ≡ true
   pub value : List ℕ
-  pub single : values_at 9 p.options ≡ value ∷ []
+  pub single : values_at oscore p.options ≡ value ∷ []
   pub reads : IsOscoreValue h.parts value
   pub complete : is_complete u h.parts ≡ true
   pub direct : has_number is_proxy p.options ≡ false
@@ -39,30 +41,30 @@ HasHead u d h = (p : Parts) × IsDatagram p d × ShowsHead u p h
 
 -- there are two or more OSCORE options (RFC 8613, 2)
 abbrev pub HasSeveralValues : Parts → Type 0
-HasSeveralValues p = 2 ≤ length (values_at 9 p.options)
+HasSeveralValues p = 2 ≤ length (values_at oscore p.options)
 
 -- the one OSCORE option has no value (RFC 8613, 6.1)
-abbrev pub HasNoValue : Parts → Type 0
-HasNoValue p = (value : List ℕ) × (values_at 9 p.options ≡ value ∷ []) × ((v : OscoreParts) → IsOscoreValue v value → ⊥)
+abbrev pub HasUnreadableValue : Parts → Type 0
+HasUnreadableValue p = (value : List ℕ) × (values_at oscore p.options ≡ value ∷ []) × ((v : OscoreParts) → IsOscoreValue v value → ⊥)
 
 -- the one OSCORE option says too little or too much (RFC 8613, 8.2; own rule: of a response)
 abbrev pub HasWrongParts : Usage → Parts → Type 0
-HasWrongParts u p = (value : List ℕ) × (values_at 9 p.options ≡ value ∷ []) × (v : OscoreParts) × IsOscoreValue v value × (is_complete u v ≡ false)
+HasWrongParts u p = (value : List ℕ) × (values_at oscore p.options ≡ value ∷ []) × (v : OscoreParts) × IsOscoreValue v value × (is_complete u v ≡ false)
 
 -- own rule: one of these, no payload, or a proxy's option, makes a message undecodable (RFC 8613, 8.2 and 8.4)
 abbrev pub IsUndecodable : Usage → Parts → Type 0
-IsUndecodable u p = HasSeveralValues p ⊎ HasNoValue p ⊎ HasWrongParts u p ⊎ (p.payload ≡ []) ⊎ (has_number is_proxy p.options ≡ true)
+IsUndecodable u p = HasSeveralValues p ⊎ HasUnreadableValue p ⊎ HasWrongParts u p ⊎ (p.payload ≡ []) ⊎ (has_number is_proxy p.options ≡ true)
 
 -- why a message has no head: not of the usage, no OSCORE option, or an undecodable one (RFC 8613, 8.2 and 8.4)
-abbrev pub MessageRefuses : Usage → Parts → HeadError → Type 0
-MessageRefuses u p (Format e) = ⊥
-MessageRefuses u p NotThatKind = is_used u p.kind p.code ≡ false
-MessageRefuses u p NoOscore = (is_used u p.kind p.code ≡ true) × (values_at 9 p.options ≡ [])
-MessageRefuses u p Undecodable = (is_used u p.kind p.code ≡ true) × (values_at 9 p.options ≢ []) × IsUndecodable u p
+abbrev pub ShowsNoHead : Usage → Parts → HeadError → Type 0
+ShowsNoHead u p (Format e) = ⊥
+ShowsNoHead u p NotThatKind = is_used u p.kind p.code ≡ false
+ShowsNoHead u p NoOscore = (is_used u p.kind p.code ≡ true) × (values_at oscore p.options ≡ [])
+ShowsNoHead u p Undecodable = (is_used u p.kind p.code ≡ true) × (values_at oscore p.options ≢ []) × IsUndecodable u p
 
 -- why a datagram has no head: it is no message, or one without a head (RFC 8613, 8.2 and 8.4)
-abbrev pub HeadRefuses : Usage → List ℕ → HeadError → Type 0
-HeadRefuses u d (Format e) = HasFault d e.fault e.place
-HeadRefuses u d NotThatKind = (p : Parts) × IsDatagram p d × MessageRefuses u p NotThatKind
-HeadRefuses u d NoOscore = (p : Parts) × IsDatagram p d × MessageRefuses u p NoOscore
-HeadRefuses u d Undecodable = (p : Parts) × IsDatagram p d × MessageRefuses u p Undecodable
+abbrev pub HasNoHead : Usage → List ℕ → HeadError → Type 0
+HasNoHead u d (Format e) = HasFault d e.fault e.place
+HasNoHead u d NotThatKind = (p : Parts) × IsDatagram p d × ShowsNoHead u p NotThatKind
+HasNoHead u d NoOscore = (p : Parts) × IsDatagram p d × ShowsNoHead u p NoOscore
+HasNoHead u d Undecodable = (p : Parts) × IsDatagram p d × ShowsNoHead u p Undecodable

@@ -1,49 +1,34 @@
--- What the layers below hold of all bytes, and what follows of requests and responses (RFC 8613, 8): the contracts of
--- laws.rt. f is a protection, i, j and k are numbers that it knows, u is a usage.
+-- To be believed: what holds of all datagrams, of requests and of responses (RFC 8613, 8): the contracts of laws.rt. f
+-- is a protection, i, j and k are numbers that it knows, u is a usage.
 use Rattle.std.specs.Prelude.{◌≡◌, ◌<◌, ◌≤◌, ◌^◌, ℕ, List, length, Option, IfSome}
 use Rattle.osc_coap.specs.Datagram.{Parts}
 use Rattle.osc_coap.specs.Inner.{InnerParts}
-use Rattle.osc_coap.specs.Laws.{IsOneDatagram, HasOneFault, IsNeverBoth, IsOneInner, IsNeverBothInner}
-use Rattle.osc_context.specs.Laws.{OneValue, ValueNumberInRange}
 use Rattle.osc_context.specs.SecurityContext.{SecurityContext}
 use Rattle.osc_context.specs.Views.{as_client, as_server}
 use Rattle.osc_context.specs.declared.context.Context.{Context}
-use Rattle.osc_ccm.specs.Ccm.{HasOnePlaintext, HasTagLength}
-use Rattle.osc_protect.specs.Head.{Head, HasHead, HeadRefuses}
+use Rattle.osc_protect.specs.Head.{Head, HasHead, HasNoHead}
 use Rattle.osc_protect.specs.Sealed.{IsSealed, SealsRequest, SealsResponse, inside}
 use Rattle.osc_protect.specs.Protection.{Protection, Protects, requests, responses}
-use Rattle.osc_protect.specs.Refusals.{Refuses}
+use Rattle.osc_protect.specs.Refusals.{RefusesToOpen}
 use Rattle.osc_protect.specs.SealRefusals.{RefusesToSeal}
 use Rattle.osc_protect.specs.declared.usage.Usage.{Usage}
 use Rattle.osc_protect.specs.declared.head_error.HeadError.{HeadError}
 use Rattle.osc_protect.specs.declared.protect_error.ProtectError.{ProtectError}
 use Rattle.osc_protect.specs.declared.unprotect_error.UnprotectError.{UnprotectError}
 
--- the laws of the layers below, one field each (RFC 7252, 3; RFC 8613, 5.3 and 6.1; RFC 3610, 2)
-pub record LayerLaws : Type 0 where
-  pub one : IsOneDatagram
-  pub never_both : IsNeverBoth
-  pub one_fault : HasOneFault
-  pub inner_one : IsOneInner
-  pub inner_never_both : IsNeverBothInner
-  pub one_value : OneValue
-  pub value_number : ValueNumberInRange
-  pub one_plaintext : HasOnePlaintext
-  pub sealed_length : HasTagLength
-
 -- a datagram has one head, any number in it below 2 ^ 40, or one refusal of it, never both (RFC 8613, 8.2 and 8.4)
 pub record OneHead (u : Usage) : Type 0 where
   pub head : (d : List ℕ) (h k : Head) → HasHead u d h → HasHead u d k → h ≡ k
-  pub never_both : (d : List ℕ) (h : Head) (e : HeadError) → HasHead u d h → HeadRefuses u d e → ⊥
-  pub refusal : (d : List ℕ) (e g : HeadError) → HeadRefuses u d e → HeadRefuses u d g → e ≡ g
+  pub never_both : (d : List ℕ) (h : Head) (e : HeadError) → HasHead u d h → HasNoHead u d e → ⊥
+  pub refusal : (d : List ℕ) (e g : HeadError) → HasNoHead u d e → HasNoHead u d g → e ≡ g
   pub in_range : (d : List ℕ) (h : Head) → HasHead u d h → IfSome h.parts.piv (λ n. n < 2 ^ 40)
 
 -- a datagram protects one message by one number, or has one refusal, never both (RFC 8613, 8.2 and 8.4)
 pub record OneMessage {I : Type 0} (f : Protection I) : Type 0 where
   pub number : (d : List ℕ) (i j : I) (m l : InnerParts) → Protects f i m d → Protects f j l d → i ≡ j
   pub message : (d : List ℕ) (i j : I) (m l : InnerParts) → Protects f i m d → Protects f j l d → m ≡ l
-  pub never_both : (d : List ℕ) (i : I) (m : InnerParts) (e : UnprotectError) → Protects f i m d → Refuses f d e → ⊥
-  pub refusal : (d : List ℕ) (e g : UnprotectError) → Refuses f d e → Refuses f d g → e ≡ g
+  pub never_both : (d : List ℕ) (i : I) (m : InnerParts) (e : UnprotectError) → Protects f i m d → RefusesToOpen f d e → ⊥
+  pub refusal : (d : List ℕ) (e g : UnprotectError) → RefusesToOpen f d e → RefusesToOpen f d g → e ≡ g
 
 -- a datagram protects one request under one number, or has one refusal (RFC 8613, 8.2)
 abbrev pub OneRequest : Type 0
@@ -68,12 +53,12 @@ pub record SealedOpens : Type 0 where
   pub response : (client server : Context) (n : ℕ) (own : Option ℕ) (p : Parts) (d : List ℕ) → AreMirrored client server → SealsResponse (as_server server) n own p d → ProtectsAlone (responses (as_client client) n) own (inside p) d
 
 -- a plain message has one sealed form by one number, or one refusal, never both where that form has room (RFC 8613, 8.1 and 8.3)
-pub record HasOneForm {I : Type 0} (f : Protection I) : Type 0 where
+pub record OneForm {I : Type 0} (f : Protection I) : Type 0 where
   pub bytes : (i : I) (p : Parts) (d e : List ℕ) → IsSealed f i p d → IsSealed f i p e → d ≡ e
   pub never_both : (i : I) (p : Parts) (room : ℕ) (d : List ℕ) (e : ProtectError) → IsSealed f i p d → length d ≤ room → RefusesToSeal f i p room e → ⊥
   pub refusal : (i : I) (p : Parts) (room : ℕ) (e g : ProtectError) → RefusesToSeal f i p room e → RefusesToSeal f i p room g → e ≡ g
 
 -- requests and responses have one sealed form (RFC 8613, 8.1 and 8.3)
 pub record OneSealed : Type 0 where
-  pub request : (s : SecurityContext) → HasOneForm (requests s)
-  pub response : (s : SecurityContext) (n : ℕ) → HasOneForm (responses s n)
+  pub request : (s : SecurityContext) → OneForm (requests s)
+  pub response : (s : SecurityContext) (n : ℕ) → OneForm (responses s n)

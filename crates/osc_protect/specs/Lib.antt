@@ -1,13 +1,19 @@
-pub mod Found
-pub mod Message
+-- to be believed, in reading order
+pub mod OptionSets
 pub mod Usage
 pub mod Head
 pub mod Protection
-pub mod Refusals
 pub mod Sealed
-pub mod Split
 pub mod SealRefusals
+pub mod Refusals
 pub mod Opening
 pub mod Laws
 pub mod Text
+-- how the code is seen
 pub mod Views
+pub mod Places
+-- for the proofs
+pub mod Found
+pub mod Split
+pub mod Halves
+pub mod Layers

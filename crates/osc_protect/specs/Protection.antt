@@ -1,5 +1,6 @@
--- What protects a request, and what a response to it (RFC 8613, 5 and 8.1 to 8.4). s is a security context, n the request's
--- number, own the response's own number or none, d a datagram; a message is its code, inner options and payload.
+-- To be believed: what protects a request, and what a response to it (RFC 8613, 5 and 8.1 to 8.4). s is a security
+-- context, n the request's number, own the response's own number or none, d a datagram; a message is its code, inner
+-- options and payload.
 use Rattle.std.specs.Prelude.{◌≡◌, ℕ, List, [], ◌∷◌, Option, Some, None, true, false}
 use Rattle.osc_coap.specs.Datagram.{Parts, IsDatagram}
 use Rattle.osc_coap.specs.Inner.{InnerParts, IsInner}
@@ -8,7 +9,9 @@ use Rattle.osc_context.specs.Nonce.{nonce_of}
 use Rattle.osc_context.specs.AdditionalData.{additional_data_of}
 use Rattle.osc_context.specs.OscoreValue.{OscoreParts, IsOscoreValue}
 use Rattle.osc_ccm.specs.Ccm.{ccm}
-use Rattle.osc_protect.specs.Message.{values_at, has_number, is_proxy, is_barred}
+use Rattle.osc_coap.specs.Search.{values_at, has_number}
+use Rattle.osc_coap.specs.OptionNumbers.{oscore}
+use Rattle.osc_protect.specs.OptionSets.{is_proxy, is_barred}
 use Rattle.osc_protect.specs.Usage.{is_code_of, is_used, value_of_request, value_of_response}
 use Rattle.osc_protect.specs.declared.usage.Usage.{Usage}
 use Rattle.osc_protect.specs.declared.usage.Usage.TheVariants.{Request, Response}
@@ -46,7 +49,7 @@ pub record Protects {I : Type 0} (f : Protection I) (i : I) (message : InnerPart
   pub datagram : IsDatagram outer d
   pub used : is_used f.usage outer.kind outer.code ≡ true
   pub value : List ℕ
-  pub single : values_at 9 outer.options ≡ value ∷ []
+  pub single : values_at oscore outer.options ≡ value ∷ []
   pub reads : IsOscoreValue (f.parts i) value
   pub direct : has_number is_proxy outer.options ≡ false
   pub code : is_code_of f.usage message.code ≡ true

@@ -1,12 +1,14 @@
--- Why a datagram doesn't open (RFC 8613, 8.2 and 8.4), row by row in the order in which they are judged. f is a protection,
--- of requests or of responses, i a number that it knows, d a datagram, h a head, e a refusal.
+-- To be believed: why a datagram doesn't open (RFC 8613, 8.2 and 8.4), row by row in the order in which they are
+-- judged. f is a protection, of requests or of responses, i a number that it knows, d a datagram, h a head, e a
+-- refusal.
 use Rattle.std.specs.Prelude.{◌≡◌, ◌≢◌, ◌⊎◌, ℕ, List, true, false}
 use Rattle.osc_coap.specs.declared.format_error.Fault.{Fault}
 use Rattle.osc_coap.specs.Inner.{InnerParts, IsInner}
 use Rattle.osc_coap.specs.Fault.{HasInnerFault}
-use Rattle.osc_protect.specs.Message.{has_number, is_barred}
+use Rattle.osc_coap.specs.Search.{has_number}
+use Rattle.osc_protect.specs.OptionSets.{is_barred}
 use Rattle.osc_protect.specs.Usage.{is_code_of}
-use Rattle.osc_protect.specs.Head.{Head, HasHead, HeadRefuses}
+use Rattle.osc_protect.specs.Head.{Head, HasHead, HasNoHead}
 use Rattle.osc_protect.specs.Protection.{Protection}
 use Rattle.osc_protect.specs.declared.usage.Usage.{Usage}
 use Rattle.osc_protect.specs.declared.head_error.HeadError.TheVariants as heads
@@ -36,21 +38,21 @@ abbrev pub RefusesPlaintext : {I : Type 0} → Protection I → List ℕ → Typ
 RefusesPlaintext {I} f d = (h : Head) × HasHead f.usage d h × (i : I) × Names f h i × (plaintext : List ℕ) × (h.payload ≡ f.cipher i plaintext) × IsBadInner f.usage plaintext
 
 -- the condition of each refusal to open, which no earlier one meets (RFC 8613, 8.2 and 8.4)
-abbrev pub Refuses : {I : Type 0} → Protection I → List ℕ → UnprotectError → Type 0
-Refuses f d (Format e) = HeadRefuses f.usage d (heads.Format e)
-Refuses f d NotThatKind = HeadRefuses f.usage d heads.NotThatKind
-Refuses f d NoOscore = HeadRefuses f.usage d heads.NoOscore
-Refuses f d Undecodable = HeadRefuses f.usage d heads.Undecodable
-Refuses f d WrongContext = RefusesContext f d
-Refuses f d Tag = RefusesTag f d
-Refuses f d Inner = RefusesPlaintext f d
+abbrev pub RefusesToOpen : {I : Type 0} → Protection I → List ℕ → UnprotectError → Type 0
+RefusesToOpen f d (Format e) = HasNoHead f.usage d (heads.Format e)
+RefusesToOpen f d NotThatKind = HasNoHead f.usage d heads.NotThatKind
+RefusesToOpen f d NoOscore = HasNoHead f.usage d heads.NoOscore
+RefusesToOpen f d Undecodable = HasNoHead f.usage d heads.Undecodable
+RefusesToOpen f d WrongContext = RefusesContext f d
+RefusesToOpen f d Tag = RefusesTag f d
+RefusesToOpen f d Inner = RefusesPlaintext f d
 
 -- the condition of each refusal to decrypt: all but that of the plaintext (RFC 8613, 8.2 and 8.4)
 abbrev pub RefusesToDecrypt : {I : Type 0} → Protection I → List ℕ → UnprotectError → Type 0
-RefusesToDecrypt f d (Format e) = Refuses f d (Format e)
-RefusesToDecrypt f d NotThatKind = Refuses f d NotThatKind
-RefusesToDecrypt f d NoOscore = Refuses f d NoOscore
-RefusesToDecrypt f d Undecodable = Refuses f d Undecodable
-RefusesToDecrypt f d WrongContext = Refuses f d WrongContext
-RefusesToDecrypt f d Tag = Refuses f d Tag
+RefusesToDecrypt f d (Format e) = RefusesToOpen f d (Format e)
+RefusesToDecrypt f d NotThatKind = RefusesToOpen f d NotThatKind
+RefusesToDecrypt f d NoOscore = RefusesToOpen f d NoOscore
+RefusesToDecrypt f d Undecodable = RefusesToOpen f d Undecodable
+RefusesToDecrypt f d WrongContext = RefusesToOpen f d WrongContext
+RefusesToDecrypt f d Tag = RefusesToOpen f d Tag
 RefusesToDecrypt f d Inner = ⊥

@@ -1,11 +1,12 @@
--- Why a message isn't sealed (RFC 8613, 8.1 and 8.3; own rules: which options, and the limit), row by row in the order in which
--- they are judged. p is what the plain message says, u its usage, parts what its OSCORE option is to say, room the length of
--- the buffer, f a protection, i a number that it knows.
+-- To be believed: why a message isn't sealed (RFC 8613, 8.1 and 8.3; own rules: which options, and the limit), row by
+-- row in the order in which they are judged. p is what the plain message says, u its usage, parts what its OSCORE
+-- option is to say, room the length of the buffer, f a protection, i a number that it knows.
 use Rattle.std.specs.Prelude.{◌≡◌, ℕ, ◌<◌, ◌≤◌, ◌==◌, List, true, false}
 use Rattle.osc_coap.specs.OptionSpelling.{Entry}
 use Rattle.osc_coap.specs.Datagram.{Parts}
 use Rattle.osc_context.specs.OscoreValue.{OscoreParts, IsOscoreValue}
-use Rattle.osc_protect.specs.Message.{is_unsupported, has_number}
+use Rattle.osc_coap.specs.Search.{has_number}
+use Rattle.osc_protect.specs.OptionSets.{is_unsupported}
 use Rattle.osc_protect.specs.Usage.{is_used}
 use Rattle.osc_protect.specs.Protection.{Protection}
 use Rattle.osc_protect.specs.Sealed.{sealed_length}
@@ -31,15 +32,15 @@ abbrev pub CanBeSealed : Usage → Parts → Type 0
 CanBeSealed u p = (is_used u p.kind p.code ≡ true) × (has_number is_unsupported p.options ≡ false)
 
 -- why what is sealed finds no room, by its length (own rule)
-abbrev pub RefusesLength : ℕ → ℕ → ProtectError → Type 0
-RefusesLength len room NotThatKind = ⊥
-RefusesLength len room (Unsupported n) = ⊥
-RefusesLength len room TooLong = 65535 < len
-RefusesLength len room NoRoom = (len ≤ 65535) × (room < len)
+abbrev pub RefusesSize : ℕ → ℕ → ProtectError → Type 0
+RefusesSize len room NotThatKind = ⊥
+RefusesSize len room (Unsupported n) = ⊥
+RefusesSize len room TooLong = 65535 < len
+RefusesSize len room NoRoom = (len ≤ 65535) × (room < len)
 
 -- the same for an OSCORE option that says these parts (own rule)
 abbrev pub RefusesRoom : Parts → OscoreParts → ℕ → ProtectError → Type 0
-RefusesRoom p parts room e = (value : List ℕ) × IsOscoreValue parts value × RefusesLength (sealed_length p value) room e
+RefusesRoom p parts room e = (value : List ℕ) × IsOscoreValue parts value × RefusesSize (sealed_length p value) room e
 
 -- the condition of each refusal to seal, which no earlier one meets (RFC 8613, 8.1 and 8.3)
 abbrev pub RefusesToSeal : {I : Type 0} → Protection I → I → Parts → ℕ → ProtectError → Type 0
@@ -52,7 +53,3 @@ RefusesToSeal f i p room NoRoom = CanBeSealed f.usage p × RefusesRoom p (f.part
 abbrev pub FitsToSeal : {I : Type 0} → Protection I → I → Parts → ℕ → Type 0
 FitsToSeal f i p room = CanBeSealed f.usage p
     × ((value : List ℕ) → IsOscoreValue (f.parts i) value → (sealed_length p value ≤ 65535) × (sealed_length p value ≤ room))
-
--- by the number a message can be sealed, what is made has this length, and there is room for it (how the code is seen)
-abbrev pub Makes : {I : Type 0} → Protection I → I → Parts → ℕ → ℕ → Type 0
-Makes f i p room len = CanBeSealed f.usage p × (value : List ℕ) × IsOscoreValue (f.parts i) value × (len ≡ sealed_length p value) × (len ≤ 65535) × (len ≤ room)

@@ -1,13 +1,16 @@
--- The one datagram that sealing makes (RFC 8613, 8.1 and 8.3). p is what the plain message says, code the code outside, value
--- that of the OSCORE option, f a protection, i a number that it knows, s a security context, n a request's number, own a
--- response's own number or none, d a datagram.
+-- To be believed: the one datagram that sealing makes (RFC 8613, 8.1 and 8.3). p is what the plain message says, code
+-- the code outside, value that of the OSCORE option, f a protection, i a number that it knows, s a security context, n
+-- a request's number, own a response's own number or none, d a datagram.
 use Rattle.std.specs.Prelude.{◌≡◌, ℕ, ◌+◌, List, [], ◌∷◌, ◌++◌, Option, true, false}
 use Rattle.osc_coap.specs.Class.{inner_options, outer_options}
 use Rattle.osc_coap.specs.Datagram.{Parts, IsDatagram, datagram_length}
 use Rattle.osc_coap.specs.Inner.{InnerParts, IsInner, inner_length}
+use Rattle.osc_ccm.specs.Ccm.{tag_length}
 use Rattle.osc_context.specs.OscoreValue.{IsOscoreValue}
 use Rattle.osc_context.specs.SecurityContext.{SecurityContext}
-use Rattle.osc_protect.specs.Message.{is_unsupported, has_number}
+use Rattle.osc_coap.specs.Search.{has_number}
+use Rattle.osc_coap.specs.OptionNumbers.{oscore}
+use Rattle.osc_protect.specs.OptionSets.{is_unsupported}
 use Rattle.osc_protect.specs.Usage.{is_used, outer_code_of}
 use Rattle.osc_protect.specs.Protection.{Protection, requests, responses}
 
@@ -17,11 +20,11 @@ inside p = record { code = p.code; options = inner_options p.options; payload = 
 
 -- what stands outside: the head with a code of its own, the options of class U, the OSCORE option (RFC 8613, 4.1 and 4.2)
 abbrev pub outside : Parts → ℕ → List ℕ → List ℕ → Parts
-outside p code value payload = record { kind = p.kind; code = code; message_id = p.message_id; token = p.token; options = outer_options p.options ++ (9, value) ∷ []; payload = payload }
+outside p code value payload = record { kind = p.kind; code = code; message_id = p.message_id; token = p.token; options = outer_options p.options ++ (oscore, value) ∷ []; payload = payload }
 
 -- how long what is sealed is, whatever the code outside: the outside, a marker, the plaintext and the tag (RFC 8613, 5.3)
 abbrev pub sealed_length : Parts → List ℕ → ℕ
-sealed_length p value = datagram_length (outside p p.code value []) + (1 + (inner_length (inside p) + 8))
+sealed_length p value = datagram_length (outside p p.code value []) + (1 + (inner_length (inside p) + tag_length))
 
 -- the datagram holds the message, its inside protected by a cipher (RFC 8613, 8.1 and 8.3)
 abbrev pub HoldsSealed : Parts → ℕ → List ℕ → (List ℕ → List ℕ) → List ℕ → Type 0

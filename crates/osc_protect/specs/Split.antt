@@ -1,4 +1,4 @@
--- The two sides of a protection (RFC 8613, 4.1), and that a writer takes options (how the code is seen).
+-- For the proofs: the two sides of a protection (RFC 8613, 4.1), and that a writer takes options.
 use Rattle.std.specs.Prelude.{◌≡◌, ℕ, Bool, List, [], filter}
 use Rattle.osc_coap.specs.declared.class.Class.{Class}
 use Rattle.osc_coap.specs.Class.{class, is_inner, is_outer}

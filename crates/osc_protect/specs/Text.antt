@@ -1,4 +1,4 @@
--- How refusals print: each by its name, a format fault by its own text.
+-- To be believed: how refusals print: each by its name, a format fault by its own text.
 use Rattle.std.specs.Prelude.{ℕ, List, ◌++◌, codes}
 use Rattle.std.specs.Fmt.{decimal}
 use Rattle.osc_coap.specs.Text.{error_text}

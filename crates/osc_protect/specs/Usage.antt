@@ -1,8 +1,9 @@
--- What tells a request from a response (RFC 8613, 4.2 and 8): kind and codes, and the parts that its OSCORE option says.
+-- To be believed: what tells a request from a response (RFC 8613, 4.2 and 8): kind and codes, and the parts that its
+-- OSCORE option says.
 use Rattle.std.specs.Prelude.{ℕ, ◌&&◌, Bool, List, Option, Some, None, is_none, is_some}
 use Rattle.osc_coap.specs.declared.message.Kind.{Kind}
 use Rattle.osc_context.specs.OscoreValue.{OscoreParts}
-use Rattle.osc_protect.specs.Message.{is_request, is_request_code, is_response, is_response_code}
+use Rattle.osc_coap.specs.Code.{is_request, is_request_code, is_response, is_response_code}
 use Rattle.osc_protect.specs.declared.usage.Usage.{Usage}
 use Rattle.osc_protect.specs.declared.usage.Usage.TheVariants.{Request, Response}
 
@@ -26,7 +27,7 @@ abbrev pub is_complete : Usage → OscoreParts → Bool
 is_complete Request v = is_some v.piv && is_some v.kid
 is_complete Response v = is_none v.kid && is_none v.kid_context
 
--- what the OSCORE option of a request says: a number, a kid, a kid context or none (RFC 8613, 6.1)
+-- what a request's OSCORE option says; own rule: a kid context exactly if there's an ID Context (RFC 8613, 5 and 6.1)
 abbrev pub value_of_request : ℕ → Option (List ℕ) → List ℕ → OscoreParts
 value_of_request number kid_context kid = record { piv = Some number; kid_context = kid_context; kid = Some kid }
 

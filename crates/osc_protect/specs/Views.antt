@@ -1,10 +1,10 @@
--- What contracts see of heads, of opened messages and of ciphers: numbers and lists, without where the bytes lie.
+-- How the code is seen: heads, opened messages and ciphers as numbers and lists, without where the bytes lie.
 use Rattle.std.specs.Prelude.{ℕ, List, Option}
 use Rattle.std.specs.Option.{option_map}
 use Rattle.std.specs.Borrow.{Bor}
 use Rattle.osc_coap.specs.Views.{options_left}
 use Rattle.osc_coap.specs.Inner.{InnerParts}
-use Rattle.osc_context.specs.Views.{number_of, parts_of}
+use Rattle.osc_context.specs.Views.{number_of, oscore_parts_of}
 use Rattle.osc_ccm.specs.Ccm.{ccm}
 use Rattle.osc_protect.specs.Head.{Head}
 use Rattle.osc_protect.specs.Usage.{value_of_request}
@@ -20,7 +20,7 @@ shown part = option_map (λ bytes. bytes.now) part
 
 -- the head of a message that was read (how the code is seen)
 abbrev pub head_of : OscoreHead → Head
-head_of h = record { kind = h.kind; message_id = h.message_id; token = h.token.items; parts = parts_of h.option; payload = h.payload.now }
+head_of h = record { kind = h.kind; message_id = h.message_id; token = h.token.items; parts = oscore_parts_of h.option; payload = h.payload.now }
 
 -- the head of a request that was read (how the code is seen)
 abbrev pub seen_head : RequestHead → Head

@@ -7,6 +7,7 @@
 
 ghost use Rattle.std.specs.Prelude.{◌≡◌, ◌≢◌, ◌≤◌, ◌+◌, ◌++◌, ℕ, List, length, take, drop, IfSome, IfNone};
 ghost use Rattle.std.specs.Option.{option_map};
+ghost use Rattle.osc_ccm.specs.Ccm.{tag_length};
 ghost use Rattle.osc_context.specs.AdditionalData.{additional_data_of};
 ghost use Rattle.osc_context.specs.Nonce.{nonce_of};
 ghost use Rattle.osc_context.specs.Views.{as_client, as_server, number_of};
@@ -15,7 +16,7 @@ ghost use Rattle.osc_protect.specs.Protection.{request_cipher, response_cipher, 
 use crate::request_ref::RequestRef;
 use arrayvec::ArrayVec;
 use osc_aes::TableAes;
-use osc_ccm::{open, seal, sealed_length};
+use osc_ccm::{open, protection_length, seal};
 use osc_context::{Context, Kid, Piv, aad, nonce};
 
 /// What the cipher of one message takes beside the plaintext: key, nonce and additional data.
@@ -144,10 +145,10 @@ impl<'a> Aead<'a> {
     /// Seals the plaintext at the front of `payload` where it lies, and answers the length with the tag.
     #[tactic(auto, unfolding(crate::specs::Views::cipher_of))]
     pub(crate) fn seal(&self, payload: &mut [u8], len: usize) -> usize
-        requires room { len + 8 ≤ length payload.old }
+        requires room { len + tag_length ≤ length payload.old }
         requires fits { len ≤ 65535 }
-        ensures end { result ≡ len + 8 }
-        ensures sealed { payload.new ≡ cipher_of self.now (take len payload.old) ++ drop (len + 8) payload.old }
+        ensures end { result ≡ len + tag_length }
+        ensures sealed { payload.new ≡ cipher_of self.now (take len payload.old) ++ drop (len + tag_length) payload.old }
     {
         let cipher = TableAes::new(self.key);
         let additional_data = self.additional_data.as_slice();
@@ -161,13 +162,13 @@ impl<'a> Aead<'a> {
     #[tactic(auto, unfolding(crate::specs::Views::cipher_of))]
     pub(crate) fn open(&self, payload: &mut [u8]) -> Option<usize>
         requires { length payload.old ≤ 65535 }
-        ensures long { IfSome result (λ n. n + 8 ≡ length payload.old) }
+        ensures long { IfSome result (λ n. n + tag_length ≡ length payload.old) }
         ensures sealed { IfSome result (λ n. payload.old ≡ cipher_of self.now (take n payload.new)) }
         ensures tag { IfSome result (λ n. drop n payload.new ≡ drop n payload.old) }
         ensures refused { IfNone result ((m : List ℕ) → payload.old ≢ cipher_of self.now m) }
         ensures unchanged { IfNone result (payload.new ≡ payload.old) }
     {
-        sealed_length();
+        protection_length();
         let cipher = TableAes::new(self.key);
         let additional_data = self.additional_data.as_slice();
         open(&cipher, &self.nonce, additional_data, payload).ok()

@@ -39,7 +39,7 @@ fn judge(usage: Usage, plain: &Message<'_>) -> Result<(), ProtectError>
     ensures refused { IfErr result (λ e. RefusesPlain usage (parts_of plain.now) e) }
 {
     options_ascend();
-    if !is_used(usage, plain.kind, plain.code) {
+    if !is_used(usage, plain) {
         return Err(ProtectError::NotThatKind);
     }
     match first_unsupported(plain.options()) {

@@ -1,10 +1,11 @@
 //! What holds of all datagrams. A call of such a function does nothing: its contract is there for the proof of its
 //! caller.
 
-ghost use Rattle.osc_protect.specs.Laws.{LayerLaws, OneHead, OneRequest, OneResponse, OneSealed, SealedOpens};
+ghost use Rattle.osc_protect.specs.Laws.{OneHead, OneRequest, OneResponse, OneSealed, SealedOpens};
+ghost use Rattle.osc_protect.specs.Layers.{LayerLaws};
 ghost use Rattle.osc_protect.specs.declared.usage.Usage.TheVariants.{Request, Response};
 
-use osc_ccm::{one_plaintext, sealed_length};
+use osc_ccm::{one_plaintext, protection_length};
 use osc_coap::{lengths_by_parts, one_datagram, one_inner, one_text};
 use osc_context::one_option_value;
 
@@ -16,7 +17,7 @@ pub(crate) fn layer_laws()
     one_inner();
     one_option_value();
     one_plaintext();
-    sealed_length();
+    protection_length();
 }
 
 /// A datagram has one head of a request or one refusal of it, and one head of a response or one refusal of that, never both
@@ -61,5 +62,5 @@ pub fn one_sealed()
     one_plaintext();
     one_text();
     lengths_by_parts();
-    sealed_length();
+    protection_length();
 }

@@ -5,7 +5,7 @@ ghost use Rattle.osc_coap.specs.Class.{inner_options, outer_options};
 ghost use Rattle.osc_coap.specs.OptionSpelling.{last_number, marked, option_length, spelling_length};
 ghost use Rattle.osc_coap.specs.Views.{options_left, parts_of};
 ghost use Rattle.osc_protect.specs.Sealed.{sealed_length};
-ghost use Rattle.osc_protect.specs.SealRefusals.{RefusesLength};
+ghost use Rattle.osc_protect.specs.SealRefusals.{RefusesSize};
 
 use crate::protect_error::ProtectError;
 use osc_ccm::TAG_LEN;
@@ -27,7 +27,7 @@ impl Tally {
     fn with(self, number: u16, value_len: usize) -> Option<Tally>
         requires { self.len ≤ 65535 }
         ensures number { IfSome result (λ t. t.number ≡ number) }
-        ensures len { IfSome result (λ t. t.len ≡ self.len + option_length (number - self.number) value_len) }
+        ensures length { IfSome result (λ t. t.len ≡ self.len + option_length (number - self.number) value_len) }
         ensures fits { IfSome result (λ t. t.len ≤ 65535) }
         ensures too_long { IfNone result (65535 < self.len + option_length (number - self.number) value_len) }
     {
@@ -84,7 +84,7 @@ pub(crate) fn judge_length(
     requires { length value.now ≤ 255 }
     ensures short { IsOk result → sealed_length (parts_of plain.now) value.now ≤ 65535 }
     ensures room { IsOk result → sealed_length (parts_of plain.now) value.now ≤ room }
-    ensures refused { IfErr result (λ e. RefusesLength (sealed_length (parts_of plain.now) value.now) room e) }
+    ensures refused { IfErr result (λ e. RefusesSize (sealed_length (parts_of plain.now) value.now) room e) }
 {
     let Some((outer, inner)) = tally_options(plain.options()) else {
         return Err(ProtectError::TooLong);

@@ -18,6 +18,7 @@ mod lengths;
 mod opened;
 mod opening;
 mod option_search;
+mod option_sets;
 mod oscore_head;
 mod protect_error;
 mod request_head;

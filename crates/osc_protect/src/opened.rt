@@ -27,6 +27,7 @@ impl<'b> Opened<'b> {
     ghost use Rattle.osc_protect.specs.Views.{message_of};
 
     /// The inner options in ascending number, each one's number and value.
+    #[must_use]
     pub fn inner(&self) -> Options<'b>
         ensures { options_left result ≡ (message_of self.now).options }
     {

@@ -6,7 +6,7 @@ ghost use Rattle.std.specs.Prelude.{◌≡◌, ◌≢◌, ◌≤◌, ◌+◌, �
 ghost use Rattle.osc_coap.specs.Inner.{InnerParts};
 ghost use Rattle.osc_context.specs.Views.{as_client, as_server, number_of};
 ghost use Rattle.osc_protect.specs.Protection.{ProtectsRequest, ProtectsResponse, requests, responses};
-ghost use Rattle.osc_protect.specs.Refusals.{Names, Refuses, RefusesToDecrypt};
+ghost use Rattle.osc_protect.specs.Refusals.{Names, RefusesToOpen, RefusesToDecrypt};
 ghost use Rattle.osc_protect.specs.Views.{message_of, opened_number, request_number, seen_head, shown};
 ghost use Rattle.osc_protect.specs.declared.unprotect_error.UnprotectError.{UnprotectError};
 ghost use Rattle.osc_protect.specs.declared.unprotect_error.UnprotectError.TheVariants.{WrongContext};
@@ -14,7 +14,7 @@ ghost use Rattle.osc_protect.specs.declared.unprotect_error.UnprotectError.TheVa
 use crate::aead::Aead;
 use crate::laws::{one_head, one_request, one_response};
 use crate::opened::Opened;
-use crate::option_search::{first_value, has_barred};
+use crate::option_search::has_barred;
 use crate::oscore_head::read_head;
 use crate::request_head::{RequestHead, head_of_request};
 use crate::request_ref::RequestRef;
@@ -32,7 +32,9 @@ pub struct Place {
     pub(crate) len: usize,
 }
 
-ghost use Rattle.osc_protect.specs.Opening.{Decrypts, IsDecrypted, Opens, OpensRequestAfter, OpensResponseAfter, ReadsInner, RefusesInner, RefusesRequestAfter, RefusesResponseAfter};
+ghost use Rattle.osc_protect.specs.Opening.{Decrypts, Opens};
+ghost use Rattle.osc_protect.specs.Places.{IsDecrypted, OpensRequestAfter, OpensResponseAfter, RefusesRequestAfter, RefusesResponseAfter};
+ghost use Rattle.osc_protect.specs.Halves.{ReadsInner, RefusesInner};
 
 /// Opens a request in its datagram: `decrypt_request`, then `read_request`. The first refusal in the order of
 /// `UnprotectError` is answered. Those two say what the datagram holds afterwards.
@@ -41,12 +43,12 @@ pub fn open_request<'b>(
     datagram: &'b mut [u8],
 ) -> Result<Opened<'b>, UnprotectError>
     ensures opened { IfOk result (λ o. Opens (requests (as_server context.now)) datagram.old o) }
-    ensures refused { IfErr result (λ e. Refuses (requests (as_server context.now)) datagram.old e) }
+    ensures refused { IfErr result (λ e. RefusesToOpen (requests (as_server context.now)) datagram.old e) }
 
     // Whatever message the datagram protects, that is what opens.
-    ensures only { (n : ℕ) (m : InnerParts) → ProtectsRequest (as_server context.now) n m datagram.old
+    ensures accepts { (n : ℕ) (m : InnerParts) → ProtectsRequest (as_server context.now) n m datagram.old
         → IsOkAnd result (λ o. (opened_number o ≡ Some n) × (message_of o ≡ m)) }
-    ensures exactly { (e : UnprotectError) → Refuses (requests (as_server context.now)) datagram.old e
+    ensures refuses { (e : UnprotectError) → RefusesToOpen (requests (as_server context.now)) datagram.old e
         → IsErrOf result e }
 {
     one_request();
@@ -61,15 +63,15 @@ pub fn open_response<'b>(
     datagram: &'b mut [u8],
 ) -> Result<Opened<'b>, UnprotectError>
     ensures opened { IfOk result (λ o. Opens (responses (as_client context.now) (request_number request.now)) datagram.old o) }
-    ensures refused { IfErr result (λ e. Refuses (responses (as_client context.now) (request_number request.now)) datagram.old e) }
-    ensures named { IfErr result (λ e. e ≢ WrongContext) }
+    ensures refused { IfErr result (λ e. RefusesToOpen (responses (as_client context.now) (request_number request.now)) datagram.old e) }
+    ensures no_wrong_context { IfErr result (λ e. e ≢ WrongContext) }
 
     // Whatever message the datagram protects, that is what opens.
-    ensures only { (own : Option ℕ) (m : InnerParts)
+    ensures accepts { (own : Option ℕ) (m : InnerParts)
         → ProtectsResponse (as_client context.now) (request_number request.now) own m datagram.old
         → IsOkAnd result (λ o. (opened_number o ≡ own) × (message_of o ≡ m)) }
-    ensures exactly { (e : UnprotectError)
-        → Refuses (responses (as_client context.now) (request_number request.now)) datagram.old e
+    ensures refuses { (e : UnprotectError)
+        → RefusesToOpen (responses (as_client context.now) (request_number request.now)) datagram.old e
         → IsErrOf result e }
 {
     one_response();
@@ -82,7 +84,7 @@ fn open_both_of_request<'b>(
     datagram: &'b mut [u8],
 ) -> Result<Opened<'b>, UnprotectError>
     ensures opened { IfOk result (λ o. Opens (requests (as_server context.now)) datagram.old o) }
-    ensures refused { IfErr result (λ e. Refuses (requests (as_server context.now)) datagram.old e) }
+    ensures refused { IfErr result (λ e. RefusesToOpen (requests (as_server context.now)) datagram.old e) }
 {
     let place = decrypt_request(context, datagram)?;
     read_request(datagram, place)
@@ -95,8 +97,8 @@ fn open_both_of_response<'b>(
     datagram: &'b mut [u8],
 ) -> Result<Opened<'b>, UnprotectError>
     ensures opened { IfOk result (λ o. Opens (responses (as_client context.now) (request_number request.now)) datagram.old o) }
-    ensures refused { IfErr result (λ e. Refuses (responses (as_client context.now) (request_number request.now)) datagram.old e) }
-    ensures named { IfErr result (λ e. e ≢ WrongContext) }
+    ensures refused { IfErr result (λ e. RefusesToOpen (responses (as_client context.now) (request_number request.now)) datagram.old e) }
+    ensures no_wrong_context { IfErr result (λ e. e ≢ WrongContext) }
 {
     let place = decrypt_response(context, request, datagram)?;
     read_response(datagram, place)
@@ -111,9 +113,9 @@ pub fn decrypt_request(context: &Context, datagram: &mut [u8]) -> Result<Place, 
     ensures refused { IfErr result (λ e. RefusesToDecrypt (requests (as_server context.now)) datagram.old e) }
     ensures unchanged { OnErr result (datagram.new ≡ datagram.old) }
 
-    ensures only { (n : ℕ) (m : InnerParts)
+    ensures accepts { (n : ℕ) (m : InnerParts)
         → ProtectsRequest (as_server context.now) n m datagram.old → IsOk result }
-    ensures exactly { (e : UnprotectError)
+    ensures refuses { (e : UnprotectError)
         → RefusesToDecrypt (requests (as_server context.now)) datagram.old e → IsErrOf result e }
 {
     one_head();
@@ -133,13 +135,13 @@ pub fn decrypt_response(
     ensures placed { IfOk result (λ place. IsDecrypted datagram.new place) }
     ensures refused { IfErr result
         (λ e. RefusesToDecrypt (responses (as_client context.now) (request_number request.now)) datagram.old e) }
-    ensures named { IfErr result (λ e. e ≢ WrongContext) }
+    ensures no_wrong_context { IfErr result (λ e. e ≢ WrongContext) }
     ensures unchanged { OnErr result (datagram.new ≡ datagram.old) }
 
-    ensures only { (own : Option ℕ) (m : InnerParts)
+    ensures accepts { (own : Option ℕ) (m : InnerParts)
         → ProtectsResponse (as_client context.now) (request_number request.now) own m datagram.old
         → IsOk result }
-    ensures exactly { (e : UnprotectError)
+    ensures refuses { (e : UnprotectError)
         → RefusesToDecrypt (responses (as_client context.now) (request_number request.now)) datagram.old e
         → IsErrOf result e }
 {
@@ -186,7 +188,7 @@ fn decrypt_as_response(
         (λ place. Decrypts (responses (as_client context.now) (request_number request.now)) datagram.old place datagram.new) }
     ensures refused { IfErr result
         (λ e. RefusesToDecrypt (responses (as_client context.now) (request_number request.now)) datagram.old e) }
-    ensures named { IfErr result (λ e. e ≢ WrongContext) }
+    ensures no_wrong_context { IfErr result (λ e. e ≢ WrongContext) }
     ensures unchanged { OnErr result (datagram.new ≡ datagram.old) }
 {
     payload_stands_last();
@@ -268,8 +270,8 @@ fn read_plaintext(usage: Usage, datagram: &[u8], place: Place) -> Result<Opened<
     Ok(Opened {
         kind: message.kind,
         message_id: message.message_id,
-        uri_host: first_value(message.options(), URI_HOST),
-        uri_port: first_value(message.options(), URI_PORT),
+        uri_host: message.options().first(URI_HOST),
+        uri_port: message.options().first(URI_PORT),
         token: message.token,
         code: inner.code,
         payload: inner.payload(),

@@ -1,13 +1,13 @@
 //! Options found by their numbers (RFC 7252, 5.10; RFC 8613, 2 and 4.1).
 
-ghost use Rattle.std.specs.Prelude.{◌≡◌, ◌≤◌, [], ◌∷◌, length, Some, None, MatchOption};
+ghost use Rattle.std.specs.Prelude.{◌≡◌, [], ◌∷◌, MatchOption};
 ghost use Rattle.osc_coap.specs.Views.{options_left};
-ghost use Rattle.osc_protect.specs.Message.{first_number, first_of, has_number, is_barred, is_proxy, is_unsupported, values_at};
+ghost use Rattle.osc_coap.specs.Search.{has_number, values_at};
+ghost use Rattle.osc_protect.specs.Found.{first_number};
+ghost use Rattle.osc_protect.specs.OptionSets.{is_barred, is_proxy, is_unsupported};
 
+use crate::option_sets::{is_barred, is_proxy, is_unsupported};
 use osc_coap::Options;
-use osc_coap::option_numbers::{
-    BLOCK1, BLOCK2, OBSERVE, OSCORE, PROXY_SCHEME, PROXY_URI, URI_HOST, URI_PORT,
-};
 
 /// Goes on behind the next option of this number, and gives its value.
 fn next_at<'a>(options: &mut Options<'a>, wanted: u16) -> Option<&'a [u8]>
@@ -22,16 +22,6 @@ fn next_at<'a>(options: &mut Options<'a>, wanted: u16) -> Option<&'a [u8]>
         }
     }
     None
-}
-
-/// The value of the first option of this number.
-pub(crate) fn first_value<'a>(options: Options<'a>, wanted: u16) -> Option<&'a [u8]>
-    ensures { MatchOption result
-        (first_of (values_at wanted (options_left options.entry)) ≡ None)
-        (λ value. first_of (values_at wanted (options_left options.entry)) ≡ Some value.now) }
-{
-    let mut left = options;
-    next_at(&mut left, wanted)
 }
 
 /// How many options of one number there are, and the value of a single one.
@@ -56,33 +46,6 @@ pub(crate) fn only_value<'a>(options: Options<'a>, wanted: u16) -> Found<'a>
         None => Found::One(value),
         Some(_) => Found::More,
     }
-}
-
-/// Whether an option of this number is for proxies.
-fn is_proxy(number: u16) -> bool
-    ensures { result ≡ is_proxy number }
-{
-    number == PROXY_URI || number == PROXY_SCHEME
-}
-
-/// Whether a message with an option of this number can't be sealed. Own rule: Observe and block-wise transfer are left out,
-/// proxies too, and the OSCORE option is made here.
-fn is_unsupported(number: u16) -> bool
-    ensures { result ≡ is_unsupported number }
-{
-    number == OBSERVE
-        || number == OSCORE
-        || number == BLOCK2
-        || number == BLOCK1
-        || is_proxy(number)
-}
-
-/// Whether an option of this number may not stand inside. Own rule: those that can't be sealed, and Uri-Host and Uri-Port,
-/// which stand outside.
-fn is_barred(number: u16) -> bool
-    ensures { result ≡ is_barred number }
-{
-    number == URI_HOST || number == URI_PORT || is_unsupported(number)
 }
 
 /// Whether one of the options is for proxies.

@@ -20,15 +20,15 @@ pub(crate) struct OscoreHead<'a> {
     pub(crate) payload: &'a [u8],
 }
 
-ghost use Rattle.osc_protect.specs.Head.{HasHead, HeadRefuses, MessageRefuses, ShowsHead};
+ghost use Rattle.osc_protect.specs.Head.{HasHead, HasNoHead, ShowsNoHead, ShowsHead};
 ghost use Rattle.osc_protect.specs.Views.{head_of};
 
 /// Reads the head of a message.
 fn head_of(usage: Usage, message: Message<'_>) -> Result<OscoreHead<'_>, HeadError>
     ensures head { IfOk result (λ h. ShowsHead usage (parts_of message.entry) (head_of h)) }
-    ensures refused { IfErr result (λ e. MessageRefuses usage (parts_of message.entry) e) }
+    ensures refused { IfErr result (λ e. ShowsNoHead usage (parts_of message.entry) e) }
 {
-    if !is_used(usage, message.kind, message.code) {
+    if !is_used(usage, &message) {
         return Err(HeadError::NotThatKind);
     }
     let value = match only_value(message.options(), OSCORE) {
@@ -58,7 +58,7 @@ fn head_of(usage: Usage, message: Message<'_>) -> Result<OscoreHead<'_>, HeadErr
 /// Reads the head of a datagram.
 pub(crate) fn read_head(usage: Usage, datagram: &[u8]) -> Result<OscoreHead<'_>, HeadError>
     ensures head { IfOk result (λ h. HasHead usage datagram.now (head_of h)) }
-    ensures refused { IfErr result (λ e. HeadRefuses usage datagram.now e) }
+    ensures refused { IfErr result (λ e. HasNoHead usage datagram.now e) }
 {
     match parse(datagram) {
         Ok(message) => head_of(usage, message),

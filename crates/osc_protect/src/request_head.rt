@@ -25,13 +25,13 @@ pub struct RequestHead<'a> {
     pub(crate) payload: &'a [u8],
 }
 
-ghost use Rattle.osc_protect.specs.Head.{Head, HasHead, HeadRefuses};
+ghost use Rattle.osc_protect.specs.Head.{Head, HasHead, HasNoHead};
 ghost use Rattle.osc_protect.specs.Views.{seen_head};
 
 /// Reads the head of a request's datagram.
 fn read_request_head(datagram: &[u8]) -> Result<RequestHead<'_>, HeadError>
     ensures head { IfOk result (λ h. HasHead Request datagram.now (seen_head h)) }
-    ensures refused { IfErr result (λ e. HeadRefuses Request datagram.now e) }
+    ensures refused { IfErr result (λ e. HasNoHead Request datagram.now e) }
 {
     let head = match read_head(Usage::Request, datagram) {
         Ok(head) => head,
@@ -56,9 +56,9 @@ fn read_request_head(datagram: &[u8]) -> Result<RequestHead<'_>, HeadError>
 /// first refusal in the order of `HeadError` is answered (RFC 8613, 8.2).
 pub fn head_of_request(datagram: &[u8]) -> Result<RequestHead<'_>, HeadError>
     ensures head { IfOk result (λ h. HasHead Request datagram.now (seen_head h)) }
-    ensures refused { IfErr result (λ e. HeadRefuses Request datagram.now e) }
-    ensures only { (h : Head) → HasHead Request datagram.now h → IsOkAnd result (λ x. seen_head x ≡ h) }
-    ensures exactly { (e : HeadError) → HeadRefuses Request datagram.now e → IsErrOf result e }
+    ensures refused { IfErr result (λ e. HasNoHead Request datagram.now e) }
+    ensures accepts { (h : Head) → HasHead Request datagram.now h → IsOkAnd result (λ x. seen_head x ≡ h) }
+    ensures refuses { (e : HeadError) → HasNoHead Request datagram.now e → IsErrOf result e }
 {
     one_head();
     read_request_head(datagram)

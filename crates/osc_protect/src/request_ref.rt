@@ -15,6 +15,7 @@ impl RequestRef {
     ghost use Rattle.osc_protect.specs.Views.{request_number};
 
     /// The request of this number.
+    #[must_use]
     pub fn new(number: Piv) -> RequestRef
         ensures { request_number result ≡ number_of number }
     {

@@ -10,11 +10,13 @@ ghost use Rattle.osc_coap.specs.Datagram.{Parts, IsDatagram, datagram_length};
 ghost use Rattle.osc_coap.specs.Inner.{IsInner, inner_length};
 ghost use Rattle.osc_coap.specs.Views.{parts_of};
 ghost use Rattle.osc_context.specs.OscoreValue.{IsOscoreValue, most_len};
-ghost use Rattle.osc_context.specs.Views.{as_client, as_server, number_of, parts_of as option_parts};
-ghost use Rattle.osc_protect.specs.Message.{has_number, is_unsupported};
+ghost use Rattle.osc_context.specs.Views.{as_client, as_server, number_of, oscore_parts_of};
+ghost use Rattle.osc_coap.specs.Search.{has_number};
+ghost use Rattle.osc_protect.specs.OptionSets.{is_unsupported};
 ghost use Rattle.osc_protect.specs.Protection.{requests, responses};
 ghost use Rattle.osc_protect.specs.Sealed.{HoldsSealed, SealsRequest, SealsResponse, inside, outside, sealed_length};
-ghost use Rattle.osc_protect.specs.SealRefusals.{FitsToSeal, Makes, RefusesLength, RefusesToSeal};
+ghost use Rattle.osc_protect.specs.SealRefusals.{FitsToSeal, RefusesSize, RefusesToSeal};
+ghost use Rattle.osc_protect.specs.Halves.{Makes};
 ghost use Rattle.osc_protect.specs.Usage.{outer_code_of, value_of_response};
 ghost use Rattle.osc_protect.specs.Views.{cipher_of, request_number};
 ghost use Rattle.osc_protect.specs.declared.protect_error.ProtectError.{ProtectError};
@@ -27,7 +29,7 @@ use crate::request_ref::RequestRef;
 use crate::split::{Side, write_side};
 use crate::usage::{Usage, outer_code};
 use arrayvec::ArrayVec;
-use osc_ccm::sealed_length;
+use osc_ccm::protection_length;
 use osc_coap::option_numbers::OSCORE;
 use osc_coap::{Message, Writer, options_ascend, payload_stands_last};
 use osc_context::{Context, OscoreOption, Piv, one_option_value};
@@ -44,8 +46,8 @@ fn write_outside(plain: &Message<'_>, code: u8, value: &[u8], out: &mut [u8]) ->
     requires fits { datagram_length (outside (parts_of plain.now) code value.now []) ≤ 65535 }
     ensures written { IsDatagram (outside (parts_of plain.now) code value.now []) (take result out.new) }
     ensures behind { drop result out.new ≡ drop result out.old }
-    ensures len { result ≡ datagram_length (outside (parts_of plain.now) code value.now []) }
-    ensures same_len { length out.new ≡ length out.old }
+    ensures length { result ≡ datagram_length (outside (parts_of plain.now) code value.now []) }
+    ensures same_length { length out.new ≡ length out.old }
 {
     options_ascend();
     let mut writer = Writer::begin(out, plain.kind, code, plain.message_id, &plain.token);
@@ -62,8 +64,8 @@ fn write_inside(plain: &Message<'_>, buf: &mut [u8]) -> usize
     requires fits { inner_length (inside (parts_of plain.now)) ≤ 65535 }
     ensures written { IsInner (inside (parts_of plain.now)) (take result buf.new) }
     ensures behind { drop result buf.new ≡ drop result buf.old }
-    ensures len { result ≡ inner_length (inside (parts_of plain.now)) }
-    ensures same_len { length buf.new ≡ length buf.old }
+    ensures length { result ≡ inner_length (inside (parts_of plain.now)) }
+    ensures same_length { length buf.new ≡ length buf.old }
 {
     options_ascend();
     let mut writer = Writer::begin_inner(buf, plain.code);
@@ -85,7 +87,7 @@ fn seal_behind(aead: &Aead<'_>, out: &mut [u8], at: usize, len: usize) -> usize
     ensures behind { drop (at + 9 + len) out.new ≡ drop (at + 9 + len) out.old }
 {
     payload_stands_last();
-    sealed_length();
+    protection_length();
     out[at] = MARKER;
     let sealed = aead.seal(&mut out[at + 1..], len);
     at + 1 + sealed
@@ -93,8 +95,8 @@ fn seal_behind(aead: &Aead<'_>, out: &mut [u8], at: usize, len: usize) -> usize
 
 /// The value that says this of the OSCORE option.
 fn value_that_says(option: OscoreOption<'_>) -> ArrayVec<u8, 255>
-    requires { most_len (option_parts option) ≤ 255 }
-    ensures reads { IsOscoreValue (option_parts option.entry) result.items }
+    requires { most_len (oscore_parts_of option) ≤ 255 }
+    ensures reads { IsOscoreValue (oscore_parts_of option.entry) result.items }
     ensures short { array_vec_len result ≤ 255 }
 {
     let mut value = ArrayVec::new();
@@ -141,7 +143,7 @@ fn seal_judged(
     requires fits { sealed_length (parts_of plain.now) value.now ≤ 65535 }
     requires room { sealed_length (parts_of plain.now) value.now ≤ length out.old }
     ensures sealed { HoldsSealed (parts_of plain.now) (outer_code_of usage) value.now (cipher_of aead.now) (take result out.new) }
-    ensures len { result ≡ sealed_length (parts_of plain.now) value.now }
+    ensures length { result ≡ sealed_length (parts_of plain.now) value.now }
     ensures behind { drop result out.new ≡ drop result out.old }
 {
     let at = write_outside(plain, outer_code(usage), value, out);
@@ -160,12 +162,12 @@ fn seal_in_room(
     requires supported { has_number is_unsupported (parts_of plain.now).options ≡ false }
     requires short { length value.now ≤ 255 }
     ensures sealed { IfOk result (λ n. HoldsSealed (parts_of plain.now) (outer_code_of usage) value.now (cipher_of aead.now) (take n out.new)) }
-    ensures len { IfOk result (λ n. n ≡ sealed_length (parts_of plain.now) value.now) }
+    ensures length { IfOk result (λ n. n ≡ sealed_length (parts_of plain.now) value.now) }
     ensures fits { IfOk result (λ n. n ≤ 65535) }
     ensures room { IfOk result (λ n. n ≤ length out.old) }
     ensures within { IfOk result (λ n. n ≤ length out.new) }
     ensures behind { IfOk result (λ n. drop n out.new ≡ drop n out.old) }
-    ensures refused { IfErr result (λ e. RefusesLength (sealed_length (parts_of plain.now) value.now) (length out.old) e) }
+    ensures refused { IfErr result (λ e. RefusesSize (sealed_length (parts_of plain.now) value.now) (length out.old) e) }
     ensures unchanged { OnErr result (out.new ≡ out.old) }
 {
     judge_length(plain, value, out.len())?;
@@ -185,7 +187,7 @@ pub fn seal_request(
     ensures sealed { IfOk result (λ n. SealsRequest (as_client context.now) (number_of number) (parts_of plain.now) (take n out.new)) }
     ensures within { IfOk result (λ n. n ≤ length out.new) }
     ensures behind { IfOk result (λ n. drop n out.new ≡ drop n out.old) }
-    ensures succeeds { FitsToSeal (requests (as_client context.now)) (number_of number) (parts_of plain.now) (length out.old) → IsOk result }
+    ensures accepts { FitsToSeal (requests (as_client context.now)) (number_of number) (parts_of plain.now) (length out.old) → IsOk result }
     ensures refused { IfErr result (λ e. RefusesToSeal (requests (as_client context.now)) (number_of number) (parts_of plain.now) (length out.old) e) }
     ensures refuses { (e : ProtectError) → RefusesToSeal (requests (as_client context.now)) (number_of number) (parts_of plain.now) (length out.old) e
         → IsErrOf result e }
@@ -209,7 +211,7 @@ pub fn seal_response(
     ensures sealed { IfOk result (λ n. SealsResponse (as_server context.now) (request_number request.now) (option_map number_of own) (parts_of plain.now) (take n out.new)) }
     ensures within { IfOk result (λ n. n ≤ length out.new) }
     ensures behind { IfOk result (λ n. drop n out.new ≡ drop n out.old) }
-    ensures succeeds { FitsToSeal (responses (as_server context.now) (request_number request.now)) (option_map number_of own) (parts_of plain.now) (length out.old)
+    ensures accepts { FitsToSeal (responses (as_server context.now) (request_number request.now)) (option_map number_of own) (parts_of plain.now) (length out.old)
         → IsOk result }
     ensures refused { IfErr result
         (λ e. RefusesToSeal (responses (as_server context.now) (request_number request.now)) (option_map number_of own) (parts_of plain.now) (length out.old) e) }

@@ -1,14 +1,10 @@
 //! What tells a request from a response.
 
 ghost use Rattle.std.specs.Prelude.{◌≡◌};
-ghost use Rattle.osc_context.specs.Views.{parts_of};
-ghost use Rattle.osc_protect.specs.Message.{is_request_code, is_response_code};
+ghost use Rattle.osc_context.specs.Views.{oscore_parts_of};
 
-use osc_coap::Kind;
+use osc_coap::{Message, is_request_code, is_response_code};
 use osc_context::OscoreOption;
-
-/// The code after the last of a request, 0.31.
-const REQUEST_CODE_LIMIT: u8 = 32;
 
 /// The code that a sealed request has outside: 0.02, POST (RFC 8613, 4.2).
 const OUTER_REQUEST_CODE: u8 = 0x02;
@@ -25,21 +21,6 @@ pub(crate) enum Usage {
 
 ghost use Rattle.osc_protect.specs.Usage.{is_code_of, is_complete, is_used, outer_code_of};
 
-/// Whether the code is of a request, 0.01 to 0.31 (RFC 7252, 12.1).
-fn is_request_code(code: u8) -> bool
-    ensures { result ≡ is_request_code code }
-{
-    0 < code && code < REQUEST_CODE_LIMIT
-}
-
-/// Whether the code is of a response, of class 2, 4 or 5 (RFC 7252, 12.1).
-fn is_response_code(code: u8) -> bool
-    ensures { result ≡ is_response_code code }
-{
-    let class = code / 32;
-    class == 2 || class == 4 || class == 5
-}
-
 /// Whether the code is of this usage.
 pub(crate) fn is_code_of(usage: Usage, code: u8) -> bool
     ensures { result ≡ is_code_of usage code }
@@ -50,14 +31,13 @@ pub(crate) fn is_code_of(usage: Usage, code: u8) -> bool
     }
 }
 
-/// Whether kind and code are of this usage: a request is CON or NON, a response may be ACK too (RFC 7252, 4.2 and 4.3).
-pub(crate) fn is_used(usage: Usage, kind: Kind, code: u8) -> bool
-    ensures { result ≡ is_used usage kind code }
+/// Whether kind and code are of this usage.
+pub(crate) fn is_used(usage: Usage, message: &Message<'_>) -> bool
+    ensures { result ≡ is_used usage message.now.kind message.now.code }
 {
-    match (usage, kind) {
-        (_, Kind::Con | Kind::Non) => is_code_of(usage, code),
-        (Usage::Response, Kind::Ack) => is_response_code(code),
-        (Usage::Request, Kind::Ack) | (_, Kind::Rst) => false,
+    match usage {
+        Usage::Request => message.is_request(),
+        Usage::Response => message.is_response(),
     }
 }
 
@@ -74,7 +54,7 @@ pub(crate) fn outer_code(usage: Usage) -> u8
 /// Whether the OSCORE option says what it has to, and no more: in a request a Partial IV and a kid, in a response neither kid
 /// nor kid context; own rule: the response (RFC 8613, 5 and 8.3).
 pub(crate) fn is_complete(usage: Usage, option: OscoreOption<'_>) -> bool
-    ensures { result ≡ is_complete usage (parts_of option.entry) }
+    ensures { result ≡ is_complete usage (oscore_parts_of option.entry) }
 {
     match usage {
         Usage::Request => option.piv.is_some() && option.kid.is_some(),

@@ -1,6 +1,6 @@
 -- A call under a context has one text.
 use Rattle.std.proofs.Common.{◌≡◌, ℕ, List, [], ◌∷◌, sym, ap, ◌∙◌, ◌⊎◌, inl, inr, Result, Ok, Err, IfOk, subst}
-use Rattle.osc_context.specs.Laws.{OneContextRefusal}
+use Rattle.osc_context.specs.Laws.{OneParamsRefusal}
 use Rattle.osc_context.specs.ContextRefusal.{context_error_text}
 use Rattle.osc_context.specs.SecurityContext.{SecurityContext}
 use Rattle.osc_context.specs.declared.context_error.ContextError.{ContextError}
@@ -18,7 +18,7 @@ abbrev pub TellsStatus : Told → Type 0
 TellsStatus told = (lines : List (List ℕ)) (n : ℕ) → told lines n → (n ≡ 0) ⊎ (n ≡ 2)
 
 -- under a context too
-pub one_in_context : OneContextRefusal → (g : Params) (told : Told) → TellsOnce told → TellsOnce (InContext g told)
+pub one_in_context : OneParamsRefusal → (g : Params) (told : Told) → TellsOnce told → TellsOnce (InContext g told)
 one_in_context law g told once xs ys a b (no_context e first text status) (no_context f first_too text_too status_too) =
     (text ∙ ap (λ (r : ContextError). refused_line (context_error_text r) ∷ []) (law g e f first first_too) ∙ sym text_too, status ∙ sym status_too)
 one_in_context law g told once xs ys a b (no_context e first text status) (in_context none it) = absurd (none e first.holds)

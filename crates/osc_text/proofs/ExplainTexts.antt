@@ -1,22 +1,24 @@
 -- What `explain` prints: a line for each OSCORE option, and the one text of a datagram.
 use Rattle.std.proofs.Common.{◌≡◌, ℕ, ◌<◌, ◌==◌, Bool, true, false, List, [], ◌∷◌, ◌++◌, length, get_or, refl, sym, ap, ◌∙◌, ◌⊎◌, inl, inr, subst, Option, Result, Ok, Err}
-use Rattle.std.specs.Prelude.{if◌then◌else◌, filter, map}
+use Rattle.std.specs.Prelude.{if◌then◌else◌}
 use Rattle.std.proofs.lemmas.List.{drop_at, take_at}
 use Rattle.std.proofs.lemmas.List.Elements.{All-drop, All-from_get_or, All-tail, All-take}
 use Rattle.osc_coap.specs.Datagram.{Parts, IsDatagram, head}
 use Rattle.osc_coap.specs.Fault.{HasFault}
-use Rattle.osc_coap.specs.Laws.{IsDatagramOrFault}
+use Rattle.osc_coap.specs.Laws.{BytesAreDatagramOrFaulty}
+use Rattle.osc_coap.specs.OptionNumbers.{oscore}
+use Rattle.osc_coap.specs.Search.{values_at}
 use Rattle.osc_coap.specs.OptionSpelling.{AreBytes, Entry, IsOption, Spells}
 use Rattle.osc_coap.specs.Text.{error_text}
 use Rattle.osc_coap.specs.declared.format_error.Fault.{Fault as FormatFault}
 use Rattle.osc_coap.specs.declared.format_error.FormatError.{FormatError}
 use Rattle.osc_context.specs.Laws.{ValueOrRefusal}
-use Rattle.osc_context.specs.OptionRefusal.{IsFirstRefusal}
+use Rattle.osc_context.specs.OptionRefusal.{IsFirstValueRefusal}
 use Rattle.osc_context.specs.OscoreValue.{OscoreParts, IsOscoreValue}
-use Rattle.osc_context.specs.Views.{parts_of}
+use Rattle.osc_context.specs.Views.{oscore_parts_of}
 use Rattle.osc_context.specs.declared.option_error.OptionError.{OptionError}
 use Rattle.osc_context.specs.declared.oscore_option.OscoreOption.{OscoreOption}
-use Rattle.osc_text.specs.Explanation.{ExplainText, MessageText, ValueLine, ValueLines, message_lines, oscore_values}
+use Rattle.osc_text.specs.Explanation.{ExplainText, MessageText, ValueLine, ValueLines, message_lines}
 use Rattle.osc_text.specs.Explanation.ExplainText.{explained, refused}
 use Rattle.osc_text.specs.Explanation.ValueLine.{says, faulty}
 use Rattle.osc_text.specs.Lines.{oscore_line, oscore_fault_line, refused_line}
@@ -27,12 +29,12 @@ use Rattle.osc_text.proofs.Appending.{SoFar, so_far_more, so_far_error}
 -- ---- the line of a value
 
 -- of a value that was read it is the line of what that says
-pub said_line : (value line : List ℕ) (o : OscoreOption) → ((v : OscoreParts) → IsOscoreValue v value → parts_of o ≡ v) → ((e : OptionError) → IsFirstRefusal value e → ⊥) → ValueLine value line → line ≡ oscore_line (parts_of o)
+pub said_line : (value line : List ℕ) (o : OscoreOption) → ((v : OscoreParts) → IsOscoreValue v value → oscore_parts_of o ≡ v) → ((e : OptionError) → IsFirstValueRefusal value e → ⊥) → ValueLine value line → line ≡ oscore_line (oscore_parts_of o)
 said_line value line o one none (says v is_v text) = text ∙ ap oscore_line (sym (one v is_v))
 said_line value line o one none (faulty e first text) = absurd (none e first)
 
 -- of a value that was refused it is the line of the reason
-pub fault_line : (value line : List ℕ) (f : OptionError) → ((v : OscoreParts) → IsOscoreValue v value → ⊥) → ((e : OptionError) → IsFirstRefusal value e → f ≡ e) → ValueLine value line → line ≡ oscore_fault_line f
+pub fault_line : (value line : List ℕ) (f : OptionError) → ((v : OscoreParts) → IsOscoreValue v value → ⊥) → ((e : OptionError) → IsFirstValueRefusal value e → f ≡ e) → ValueLine value line → line ≡ oscore_fault_line f
 fault_line value line f none one (says v is_v text) = absurd (none v is_v)
 fault_line value line f none one (faulty e first text) = text ∙ ap oscore_fault_line (sym (one e first))
 
@@ -48,25 +50,25 @@ writes_alone value old new r one [] h = absurd h
 writes_alone value old new r one (line ∷ []) h = one line h.0
 writes_alone value old new r one (line ∷ other ∷ lines) h = absurd h.1
 
--- lines of some options, parted by whether the first is an OSCORE option
-parted : (is_oscore : Bool) (entry : Entry) (left : List Entry) (lines : List (List ℕ)) → ValueLines (map (λ o. o.1) (if is_oscore then entry ∷ left else left)) lines → (own : List (List ℕ)) × (rest : List (List ℕ)) × ValueLines (map (λ o. o.1) (if is_oscore then entry ∷ [] else [])) own × ValueLines (map (λ o. o.1) left) rest × (lines ≡ own ++ rest)
-parted false entry left lines h = ([], lines, tt, h, refl)
-parted true entry left [] h = absurd h
-parted true entry left (line ∷ lines) h = (line ∷ [], lines, (h.0, tt), h.1, refl)
+-- lines of some values, parted by whether the first is an OSCORE option's
+parted : (is_oscore : Bool) (value : List ℕ) (left : List (List ℕ)) (lines : List (List ℕ)) → ValueLines (if is_oscore then value ∷ left else left) lines → (own : List (List ℕ)) × (rest : List (List ℕ)) × ValueLines (if is_oscore then value ∷ [] else []) own × ValueLines left rest × (lines ≡ own ++ rest)
+parted false value left lines h = ([], lines, tt, h, refl)
+parted true value left [] h = absurd h
+parted true value left (line ∷ lines) h = (line ∷ [], lines, (h.0, tt), h.1, refl)
 
 -- the lines of some options are those of the first and those of the rest
-pub lines_parted : (entry : Entry) (entries : List Entry) (lines : List (List ℕ)) → ValueLines (oscore_values (entry ∷ entries)) lines → (own : List (List ℕ)) × (rest : List (List ℕ)) × ValueLines (oscore_values (entry ∷ [])) own × ValueLines (oscore_values entries) rest × (lines ≡ own ++ rest)
-lines_parted entry entries lines h = parted (entry.0 == 9) entry (filter (λ o. o.0 == 9) entries) lines h
+pub lines_parted : (entry : Entry) (entries : List Entry) (lines : List (List ℕ)) → ValueLines (values_at oscore (entry ∷ entries)) lines → (own : List (List ℕ)) × (rest : List (List ℕ)) × ValueLines (values_at oscore (entry ∷ [])) own × ValueLines (values_at oscore entries) rest × (lines ≡ own ++ rest)
+lines_parted entry entries lines h = parted (entry.0 == oscore) entry.1 (values_at oscore entries) lines h
 
 -- ---- writing one option after another
 
 -- of the lines of all options those of the options left are still to be written
 abbrev pub Continues : Option (List ℕ) → Option (List ℕ) → List Entry → List Entry → Type 0
-Continues old now all left = (lines : List (List ℕ)) → ValueLines (oscore_values all) lines → (rest : List (List ℕ)) × SoFar old now lines rest × ValueLines (oscore_values left) rest
+Continues old now all left = (lines : List (List ℕ)) → ValueLines (values_at oscore all) lines → (rest : List (List ℕ)) × SoFar old now lines rest × ValueLines (values_at oscore left) rest
 
 -- an option's lines are written, whatever they are
 abbrev pub WritesOwn : Option (List ℕ) → Option (List ℕ) → Entry → Result (Unit {0}) Fault → Type 0
-WritesOwn now new entry r = (own : List (List ℕ)) → ValueLines (oscore_values (entry ∷ [])) own → Writes now new own r
+WritesOwn now new entry r = (own : List (List ℕ)) → ValueLines (values_at oscore (entry ∷ [])) own → Writes now new own r
 
 -- one option more is written
 pub continues_more : (old now new : Option (List ℕ)) (all left : List Entry) (entry : Entry) → Continues old now all (entry ∷ left) → WritesOwn now new entry (Ok tt) → Continues old new all left
@@ -77,7 +79,7 @@ continues_more old now new all left entry so_far own lines h =
     (parts.1, so_far_more old now new lines (parts.0) (parts.1) reached (own (parts.0) parts.2), parts.3)
 
 -- an option's line could not be written
-pub continues_error : (old now new : Option (List ℕ)) (all left : List Entry) (entry : Entry) (e : Fault) → Continues old now all (entry ∷ left) → WritesOwn now new entry (Err e) → (lines : List (List ℕ)) → ValueLines (oscore_values all) lines → Stops old new lines e
+pub continues_error : (old now new : Option (List ℕ)) (all left : List Entry) (entry : Entry) (e : Fault) → Continues old now all (entry ∷ left) → WritesOwn now new entry (Err e) → (lines : List (List ℕ)) → ValueLines (values_at oscore all) lines → Stops old new lines e
 continues_error old now new all left entry e so_far own lines h =
     let before = so_far lines h in
     let parts = lines_parted entry left before.0 before.2 in
@@ -106,12 +108,12 @@ each_value law value bytes = elim (law value bytes) [
 ]
 
 -- a line for the first option, if it is an OSCORE option, and the lines of the rest
-joined : (is_oscore : Bool) (entry : Entry) (left : List Entry) (line : List ℕ) (lines : List (List ℕ)) → ValueLine entry.1 line → ValueLines (map (λ o. o.1) left) lines → (all : List (List ℕ)) × ValueLines (map (λ o. o.1) (if is_oscore then entry ∷ left else left)) all
-joined false entry left line lines own rest = (lines, rest)
-joined true entry left line lines own rest = (line ∷ lines, (own, rest))
+joined : (is_oscore : Bool) (value : List ℕ) (left : List (List ℕ)) (line : List ℕ) (lines : List (List ℕ)) → ValueLine value line → ValueLines left lines → (all : List (List ℕ)) × ValueLines (if is_oscore then value ∷ left else left) all
+joined false value left line lines own rest = (lines, rest)
+joined true value left line lines own rest = (line ∷ lines, (own, rest))
 
 -- the options of bytes have a line for each OSCORE option
-each_option : ValueOrRefusal → (d : ℕ) (entries : List Entry) (text : List ℕ) → AreBytes text → Spells d entries text → (lines : List (List ℕ)) × ValueLines (oscore_values entries) lines
+each_option : ValueOrRefusal → (d : ℕ) (entries : List Entry) (text : List ℕ) → AreBytes text → Spells d entries text → (lines : List (List ℕ)) × ValueLines (values_at oscore entries) lines
 each_option law d [] text bytes spells = ([], tt)
 each_option law d (entry ∷ entries) text bytes spells =
     let tail = spells.2 in
@@ -119,10 +121,10 @@ each_option law d (entry ∷ entries) text bytes spells =
     let parted = subst AreBytes starts.2 bytes in
     let rest = each_option law entry.0 entries tail (bytes_back (starts.0) tail parted) spells.4 in
     let own = each_value law entry.1 (value_bytes _ entry.1 (starts.0) starts.1 (bytes_front (starts.0) tail parted)) in
-    joined (entry.0 == 9) entry (filter (λ o. o.0 == 9) entries) (own.0) (rest.0) own.1 rest.1
+    joined (entry.0 == oscore) entry.1 (values_at oscore entries) (own.0) (rest.0) own.1 rest.1
 
 -- the text of a datagram
-pub each_datagram : IsDatagramOrFault → ValueOrRefusal → (d : List ℕ) → ((i : ℕ) → get_or d i 0 < 256) → (lines : List (List ℕ)) × (status : ℕ) × ExplainText d lines status
+pub each_datagram : BytesAreDatagramOrFaulty → ValueOrRefusal → (d : List ℕ) → ((i : ℕ) → get_or d i 0 < 256) → (lines : List (List ℕ)) × (status : ℕ) × ExplainText d lines status
 each_datagram each law d fits =
     let bytes : AreBytes d = All-from_get_or (λ b. b < 256) d 0 (λ i lt. fits i) in
     elim (each d bytes) [

@@ -1,11 +1,11 @@
 -- A datagram has one text.
 use Rattle.std.proofs.Common.{◌≡◌, ℕ, List, [], ◌∷◌, refl, sym, ap, ◌∙◌, inl, inr, Result, Ok, Err, IfOk, IfErr}
-use Rattle.osc_coap.specs.Laws.{IsOneDatagram}
+use Rattle.osc_coap.specs.Laws.{DatagramIsOneMessage}
 use Rattle.osc_protect.specs.Laws.{OneMessage, OneRequest, OneResponse}
 use Rattle.osc_protect.specs.Opening.{Opens}
 use Rattle.osc_context.specs.SecurityContext.{SecurityContext}
 use Rattle.osc_protect.specs.Protection.{Protection, requests, responses}
-use Rattle.osc_protect.specs.Refusals.{Refuses}
+use Rattle.osc_protect.specs.Refusals.{RefusesToOpen}
 use Rattle.osc_protect.specs.Views.{message_of, request_number}
 use Rattle.osc_protect.specs.declared.opened.Opened.{Opened}
 use Rattle.osc_protect.specs.declared.unprotect_error.UnprotectError.{UnprotectError}
@@ -13,7 +13,8 @@ use Rattle.osc_protect.specs.Text.{unprotect_error_text}
 use Rattle.osc_text.specs.declared.opening.Opening.{Opening}
 use Rattle.osc_text.specs.declared.opening.Opening.TheVariants.{Request, Response}
 use Rattle.osc_text.specs.Lines.{refused_line}
-use Rattle.osc_text.specs.Opening.{DatagramText, OpeningText, opened_lines, outcome_lines, outcome_status, printed_of, seen}
+use Rattle.osc_text.specs.Opening.{DatagramText, OpeningText, opened_lines, printed_of}
+use Rattle.osc_text.specs.Outcomes.{open_lines, open_status, seen}
 use Rattle.osc_text.specs.Opening.DatagramText.{opened, refused}
 use Rattle.osc_text.proofs.ContextTexts.{TellsOnce, TellsStatus}
 
@@ -22,12 +23,12 @@ seen_is : {I : Type 0} (f : Protection I) (d : List ℕ) (o : Opened) (h : Opens
 seen_is f d o h = rw (h.shows.kind, h.shows.message_id, h.shows.token, h.number_is, h.shows.uri_host, h.shows.uri_port) refl
 
 -- the text of what came of an open
-pub text_of_outcome : {I : Type 0} (f : Protection I) (d : List ℕ) (r : Result Opened UnprotectError) → IfOk r (λ o. Opens f d o) → IfErr r (λ e. Refuses f d e) → DatagramText f d (outcome_lines r) (outcome_status r)
+pub text_of_outcome : {I : Type 0} (f : Protection I) (d : List ℕ) (r : Result Opened UnprotectError) → IfOk r (λ o. Opens f d o) → IfErr r (λ e. RefusesToOpen f d e) → DatagramText f d (open_lines r) (open_status r)
 text_of_outcome f d (Ok o) opens refuses = opened opens.outer opens.number (message_of o) opens.datagram opens.protects (ap opened_lines (seen_is f d o opens)) refl
 text_of_outcome f d (Err e) opens refuses = refused e refuses refl refl
 
 -- a datagram has one text and one status under a protection
-one_datagram_text : {I : Type 0} (f : Protection I) → IsOneDatagram → OneMessage f → (d : List ℕ) → TellsOnce (DatagramText f d)
+one_datagram_text : {I : Type 0} (f : Protection I) → DatagramIsOneMessage → OneMessage f → (d : List ℕ) → TellsOnce (DatagramText f d)
 one_datagram_text f one law d xs ys a b (opened p i m is_p protects text status) (opened q k l is_q protects_too text_too status_too) =
     let same : opened_lines (printed_of p (f.parts i).piv m) ≡ opened_lines (printed_of q (f.parts k).piv l) = rw (one p q d is_p is_q, law.number d i k m l protects protects_too, law.message d i k m l protects protects_too) refl in
     (text ∙ same ∙ sym text_too, status ∙ sym status_too)
@@ -37,7 +38,7 @@ one_datagram_text f one law d xs ys a b (refused e refuses text status) (refused
     (text ∙ ap (λ (r : UnprotectError). refused_line (unprotect_error_text r) ∷ []) (law.refusal d e g refuses refuses_too) ∙ sym text_too, status ∙ sym status_too)
 
 -- and one by what is asked
-pub one_opening_text : IsOneDatagram → OneRequest → OneResponse → (client server : SecurityContext) (what : Opening) (d : List ℕ) → TellsOnce (OpeningText client server what d)
+pub one_opening_text : DatagramIsOneMessage → OneRequest → OneResponse → (client server : SecurityContext) (what : Opening) (d : List ℕ) → TellsOnce (OpeningText client server what d)
 one_opening_text one request response client server Request d = one_datagram_text (requests server) one (request server) d
 one_opening_text one request response client server (Response r) d = one_datagram_text (responses client (request_number r)) one (response client (request_number r)) d
 

@@ -1,12 +1,12 @@
 -- A plain datagram has one text by what is asked.
 use Rattle.std.proofs.Common.{◌≡◌, ◌≤◌, ℕ, List, [], ◌∷◌, length, take, refl, sym, ap, subst, ◌∙◌, inl, inr, option_map, Result, Ok, Err, IfOk, IfErr}
 use Rattle.osc_coap.specs.Datagram.{Parts}
-use Rattle.osc_coap.specs.Laws.{IsOneDatagram, HasOneFault, IsNeverBoth}
+use Rattle.osc_coap.specs.Laws.{DatagramIsOneMessage, DatagramHasOneFault, DatagramHasNoFault}
 use Rattle.osc_coap.specs.Text.{error_text}
 use Rattle.osc_coap.specs.declared.format_error.FormatError.{FormatError}
 use Rattle.osc_context.specs.SecurityContext.{SecurityContext}
 use Rattle.osc_context.specs.Views.{number_of}
-use Rattle.osc_protect.specs.Laws.{HasOneForm, OneSealed}
+use Rattle.osc_protect.specs.Laws.{OneForm, OneSealed}
 use Rattle.osc_protect.specs.Protection.{Protection, requests, responses}
 use Rattle.osc_protect.specs.Sealed.{IsSealed}
 use Rattle.osc_protect.specs.SealRefusals.{RefusesToSeal}
@@ -17,13 +17,14 @@ use Rattle.osc_text.specs.Contexts.{Told}
 use Rattle.osc_text.specs.declared.protection.Sealing.{Sealing}
 use Rattle.osc_text.specs.declared.protection.Sealing.TheVariants.{Request, Response}
 use Rattle.osc_text.specs.Lines.{hex_line, refused_line}
-use Rattle.osc_text.specs.Protecting.{PlainText, SealedText, SealingText, most_room, outcome_lines, outcome_status}
+use Rattle.osc_text.specs.Protecting.{PlainText, SealedText, SealingText, most_room}
+use Rattle.osc_text.specs.Outcomes.{seal_lines, seal_status}
 use Rattle.osc_text.specs.Protecting.PlainText.{message, faulty}
 use Rattle.osc_text.specs.Protecting.SealedText.{sealed, refused}
 use Rattle.osc_text.proofs.ContextTexts.{TellsOnce, TellsStatus}
 
 -- the text of what came of a seal
-pub text_of_outcome : {I : Type 0} (f : Protection I) (i : I) (p : Parts) (buffer : List ℕ) (r : Result ℕ ProtectError) → IfOk r (λ n. IsSealed f i p (take n buffer)) → IfErr r (λ e. RefusesToSeal f i p most_room e) → SealedText f i p (outcome_lines buffer r) (outcome_status r)
+pub text_of_outcome : {I : Type 0} (f : Protection I) (i : I) (p : Parts) (buffer : List ℕ) (r : Result ℕ ProtectError) → IfOk r (λ n. IsSealed f i p (take n buffer)) → IfErr r (λ e. RefusesToSeal f i p most_room e) → SealedText f i p (seal_lines buffer r) (seal_status r)
 text_of_outcome f i p buffer (Ok n) is refuses = sealed (take n buffer) is refl refl
 text_of_outcome f i p buffer (Err e) is refuses = refused e refuses refl refl
 
@@ -32,7 +33,7 @@ has_room : {I : Type 0} (f : Protection I) (i : I) (p : Parts) (d : List ℕ) �
 has_room f i p d is = is.holds.2.fits
 
 -- a message has one text and one status under a protection, by one number
-one_sealed_text : {I : Type 0} (f : Protection I) → HasOneForm f → (i : I) (p : Parts) → TellsOnce (SealedText f i p)
+one_sealed_text : {I : Type 0} (f : Protection I) → OneForm f → (i : I) (p : Parts) → TellsOnce (SealedText f i p)
 one_sealed_text f law i p xs ys a b (sealed d is text status) (sealed e is_too text_too status_too) =
     (text ∙ ap (λ (z : List ℕ). hex_line z ∷ []) (law.bytes i p d e is is_too) ∙ sym text_too, status ∙ sym status_too)
 one_sealed_text f law i p xs ys a b (sealed d is text status) (refused e refuses text_too status_too) = absurd (law.never_both i p most_room d e is (has_room f i p d is) refuses)
@@ -50,7 +51,7 @@ same_line : (e f : FormatError) → e.fault ≡ f.fault → e.place ≡ f.place 
 same_line e f fault place = rw (fault, place) refl
 
 -- a plain datagram has one text and one status, where its message has
-pub one_plain_text : IsOneDatagram → HasOneFault → IsNeverBoth → (told : Parts → Told) → ((p : Parts) → TellsOnce (told p)) → (d : List ℕ) → TellsOnce (PlainText told d)
+pub one_plain_text : DatagramIsOneMessage → DatagramHasOneFault → DatagramHasNoFault → (told : Parts → Told) → ((p : Parts) → TellsOnce (told p)) → (d : List ℕ) → TellsOnce (PlainText told d)
 one_plain_text one one_fault never told once d xs ys a b (message p is_p it) (message q is_q it_too) =
     once q xs ys a b (subst (λ (r : Parts). told r xs a) (one p q d is_p is_q) it) it_too
 one_plain_text one one_fault never told once d xs ys a b (message p is_p it) (faulty f fault text_too status_too) = absurd (never p d f.fault f.place is_p fault)

@@ -1,7 +1,7 @@
--- What a call prints under a context that it derives first (RFC 8613, 3.2; own rule: the lines). g is what the context is
--- derived from.
+-- To be believed: what a call prints under a context that it derives first (RFC 8613, 3.2; own rule: the lines). g is
+-- what the context is derived from.
 use Rattle.std.specs.Prelude.{◌≡◌, ℕ, List, [], ◌∷◌, codes}
-use Rattle.osc_context.specs.ContextRefusal.{RefusesFirst, RefusesParams, context_error_text}
+use Rattle.osc_context.specs.ContextRefusal.{IsFirstParamsRefusal, RefusesParams, context_error_text}
 use Rattle.osc_context.specs.SecurityContext.{SecurityContext}
 use Rattle.osc_context.specs.Views.{client_context_of}
 use Rattle.osc_context.specs.declared.context_error.ContextError.{ContextError}
@@ -14,7 +14,7 @@ Told = List (List ℕ) → ℕ → Type 0
 
 -- what a call prints: the line of the first refusal of its context, or what it tells under that (RFC 8613, 3.2)
 pub data InContext (g : Params) (told : Told) (lines : List (List ℕ)) (status : ℕ) : Type 0 where
-  no_context : (e : ContextError) → RefusesFirst g e → lines ≡ refused_line (context_error_text e) ∷ [] → status ≡ 2 → InContext g told lines status
+  no_context : (e : ContextError) → IsFirstParamsRefusal g e → lines ≡ refused_line (context_error_text e) ∷ [] → status ≡ 2 → InContext g told lines status
   in_context : ((e : ContextError) → ¬ RefusesParams g e) → told lines status → InContext g told lines status
 
 -- the lines of the sender's key, the recipient's key and the Common IV, of which the sender is the client (own rule)

@@ -1,4 +1,4 @@
--- Which bytes a word of hex spells (RFC 4648, 8). word is a list of characters, c one of them.
+-- To be believed: which bytes a word of hex spells (RFC 4648, 8). word is a list of characters, c one of them.
 use Rattle.std.specs.Prelude.{◌≡◌, ℕ, ◌+◌, ◌&&◌, nat_le, List, map, if◌then◌else◌}
 use Rattle.hex.specs.Hex.{IsBytes, encode_lower}
 

@@ -1,4 +1,5 @@
--- How values print (own rule: a name, one space, the value, a newline). name and text are characters, bytes any bytes.
+-- To be believed: how values print (own rule: a name, one space, the value, a newline). name and text are characters,
+-- bytes any bytes.
 use Rattle.std.specs.Prelude.{ℕ, ◌/◌, ◌%◌, List, [], ◌∷◌, ◌++◌, Option, Some, None, option_map, codes}
 use Rattle.std.specs.Fmt.{decimal}
 use Rattle.std.specs.Int.{to_be_bytes, w16}
@@ -6,7 +7,7 @@ use Rattle.hex.specs.Hex.{encode_lower}
 use Rattle.osc_coap.specs.declared.message.Kind.{Kind}
 use Rattle.osc_coap.specs.declared.message.Kind.TheVariants.{Con, Non, Ack, Rst}
 use Rattle.osc_coap.specs.OptionSpelling.{Entry}
-use Rattle.osc_context.specs.OptionRefusal.{name_of}
+use Rattle.osc_context.specs.OptionRefusal.{option_error_text}
 use Rattle.osc_context.specs.OscoreValue.{OscoreParts}
 use Rattle.osc_context.specs.PartialIv.{partial_iv_of}
 use Rattle.osc_context.specs.declared.option_error.OptionError.{OptionError}
@@ -84,7 +85,7 @@ oscore_line v = text_line (codes "oscore") (codes "piv " ++ (optional_text (opti
 
 -- the line of a refused value of the OSCORE option: the name of the reason (own rule)
 abbrev pub oscore_fault_line : OptionError → List ℕ
-oscore_fault_line e = text_line (codes "oscore") (codes "fault " ++ name_of e)
+oscore_fault_line e = text_line (codes "oscore") (codes "fault " ++ option_error_text e)
 
 -- the line of a refusal: its text, which is its name, and a format fault's place (own rule)
 abbrev pub refused_line : List ℕ → List ℕ

@@ -1,4 +1,4 @@
--- Which number a word of digits says (own rule). word is a list of characters.
+-- To be believed: which number a word of digits says (own rule). word is a list of characters.
 use Rattle.std.specs.Prelude.{◌≡◌, ℕ, ◌<◌, List, length, true}
 use Rattle.std.specs.Str.{all_ascii_digits}
 use Rattle.std.specs.Str.Parse.{digits_value}

@@ -1,20 +1,20 @@
--- What `open` prints (RFC 8613, 8.2 and 8.4; own rule: the lines). f is a protection, of requests or of responses, i a number
--- that it knows, g what a security context is derived from, client and server are that context, of which this end is the one
--- or the other, d is a datagram, p its parts, m the message that it protects.
-use Rattle.std.specs.Prelude.{◌≡◌, ℕ, List, [], ◌∷◌, ◌++◌, map, Option, Result, Ok, Err, codes}
+-- To be believed: what `open` prints (RFC 8613, 8.2 and 8.4; own rule: the lines). f is a protection, of requests or of
+-- responses, i a number that it knows, g what a security context is derived from, client and server are that context,
+-- of which this end is the one or the other, d is a datagram, p its parts, m the message that it protects.
+use Rattle.std.specs.Prelude.{◌≡◌, ℕ, List, [], ◌∷◌, ◌++◌, map, Option, codes}
 use Rattle.osc_coap.specs.declared.message.Kind.{Kind}
 use Rattle.osc_coap.specs.OptionSpelling.{Entry}
 use Rattle.osc_coap.specs.Datagram.{Parts, IsDatagram}
 use Rattle.osc_coap.specs.Inner.{InnerParts}
-use Rattle.osc_protect.specs.Message.{values_at, first_of}
+use Rattle.osc_coap.specs.Search.{values_at, first_of}
+use Rattle.osc_coap.specs.OptionNumbers.{uri_host, uri_port}
 use Rattle.osc_context.specs.SecurityContext.{SecurityContext}
 use Rattle.osc_context.specs.Views.{client_context_of, server_context_of}
 use Rattle.osc_context.specs.declared.parameters.Params.{Params}
 use Rattle.osc_protect.specs.Protection.{Protection, Protects, requests, responses}
 use Rattle.osc_protect.specs.Text.{unprotect_error_text}
-use Rattle.osc_protect.specs.Refusals.{Refuses}
-use Rattle.osc_protect.specs.Views.{shown, message_of, opened_number, request_number}
-use Rattle.osc_protect.specs.declared.opened.Opened.{Opened}
+use Rattle.osc_protect.specs.Refusals.{RefusesToOpen}
+use Rattle.osc_protect.specs.Views.{request_number}
 use Rattle.osc_protect.specs.declared.unprotect_error.UnprotectError.{UnprotectError}
 use Rattle.osc_text.specs.Contexts.{InContext, Told}
 use Rattle.osc_text.specs.declared.opening.Opening.{Opening}
@@ -39,12 +39,12 @@ opened_lines x = head_lines x.kind x.message_id x.token x.code ++ (number_line x
 
 -- head, Uri-Host and Uri-Port of the datagram, its number or none, the rest of what it protects (RFC 8613, 8.2 and 8.4)
 abbrev pub printed_of : Parts → Option ℕ → InnerParts → Printed
-printed_of p n m = record { kind = p.kind; message_id = p.message_id; token = p.token; code = m.code; number = n; uri_host = first_of (values_at 3 p.options); uri_port = first_of (values_at 7 p.options); options = m.options; payload = m.payload }
+printed_of p n m = record { kind = p.kind; message_id = p.message_id; token = p.token; code = m.code; number = n; uri_host = first_of (values_at uri_host p.options); uri_port = first_of (values_at uri_port p.options); options = m.options; payload = m.payload }
 
 -- what `open` prints of a datagram under a protection, and the status: 2 for a refusal (RFC 8613, 8.2 and 8.4)
 pub data DatagramText {I : Type 0} (f : Protection I) (d : List ℕ) (lines : List (List ℕ)) (status : ℕ) : Type 0 where
   opened : (p : Parts) (i : I) (m : InnerParts) → IsDatagram p d → Protects f i m d → lines ≡ opened_lines (printed_of p (f.parts i).piv m) → status ≡ 0 → DatagramText f d lines status
-  refused : (e : UnprotectError) → Refuses f d e → lines ≡ refused_line (unprotect_error_text e) ∷ [] → status ≡ 2 → DatagramText f d lines status
+  refused : (e : UnprotectError) → RefusesToOpen f d e → lines ≡ refused_line (unprotect_error_text e) ∷ [] → status ≡ 2 → DatagramText f d lines status
 
 -- the same by what is asked: this end opens a request as the server, and a response as the client (RFC 8613, 8.2 and 8.4)
 abbrev pub OpeningText : (client server : SecurityContext) → Opening → List ℕ → Told
@@ -54,17 +54,3 @@ OpeningText client server (Response request) d = DatagramText (responses client 
 -- what `open` prints of a datagram (RFC 8613, 8.2 and 8.4)
 abbrev pub OpenText : Params → Opening → List ℕ → Told
 OpenText g what d = InContext g (OpeningText (client_context_of g) (server_context_of g) what d)
-
--- what was opened, as it is printed (how the code is seen)
-abbrev pub seen : Opened → Printed
-seen o = record { kind = o.kind; message_id = o.message_id; token = o.token.items; code = o.code; number = opened_number o; uri_host = shown o.uri_host; uri_port = shown o.uri_port; options = (message_of o).options; payload = o.payload.now }
-
--- the lines of what came of an open (how the code is seen)
-abbrev pub outcome_lines : Result Opened UnprotectError → List (List ℕ)
-outcome_lines (Ok o) = opened_lines (seen o)
-outcome_lines (Err e) = refused_line (unprotect_error_text e) ∷ []
-
--- the status of what came of an open (how the code is seen)
-abbrev pub outcome_status : Result Opened UnprotectError → ℕ
-outcome_status (Ok o) = 0
-outcome_status (Err e) = 2

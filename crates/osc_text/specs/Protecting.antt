@@ -1,7 +1,7 @@
--- What `protect` prints (RFC 8613, 8.1 and 8.3; own rule: the lines). f is a protection, of requests or of responses, i a
--- number that it knows, g what a security context is derived from, client and server are that context, of which this end is
--- the one or the other, d is a plain datagram and p its parts.
-use Rattle.std.specs.Prelude.{◌≡◌, ℕ, List, [], ◌∷◌, take, Result, Ok, Err}
+-- To be believed: what `protect` prints (RFC 8613, 8.1 and 8.3; own rule: the lines). f is a protection, of requests or
+-- of responses, i a number that it knows, g what a security context is derived from, client and server are that
+-- context, of which this end is the one or the other, d is a plain datagram and p its parts.
+use Rattle.std.specs.Prelude.{◌≡◌, ℕ, List, [], ◌∷◌}
 use Rattle.std.specs.Option.{option_map}
 use Rattle.osc_coap.specs.Datagram.{Parts, IsDatagram}
 use Rattle.osc_coap.specs.Fault.{HasFault}
@@ -43,13 +43,3 @@ pub data PlainText (told : Parts → Told) (d : List ℕ) (lines : List (List �
 -- what `protect` prints of a plain datagram (RFC 8613, 8.1 and 8.3)
 abbrev pub ProtectText : Params → Sealing → List ℕ → Told
 ProtectText g what d = InContext g (PlainText (SealingText (client_context_of g) (server_context_of g) what) d)
-
--- the lines of what came of a seal into this buffer (how the code is seen)
-abbrev pub outcome_lines : List ℕ → Result ℕ ProtectError → List (List ℕ)
-outcome_lines buffer (Ok len) = hex_line (take len buffer) ∷ []
-outcome_lines buffer (Err e) = refused_line (protect_error_text e) ∷ []
-
--- the status of what came of a seal (how the code is seen)
-abbrev pub outcome_status : Result ℕ ProtectError → ℕ
-outcome_status (Ok len) = 0
-outcome_status (Err e) = 2

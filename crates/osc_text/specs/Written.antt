@@ -1,5 +1,5 @@
--- What a writer gained of some lines. old and new are the bytes that it holds before and after, where it tells them;
--- a line is a list of characters.
+-- To be believed: what a writer gained of some lines. old and new are the bytes that it holds before and after, where
+-- it tells them; a line is a list of characters.
 use Rattle.std.specs.Prelude.{ℕ, List, take, Option, Result, Ok, Err}
 use Rattle.std.specs.List.{flat_map}
 use Rattle.std.specs.Io.KnownBytes.{Appends}

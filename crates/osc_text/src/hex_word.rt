@@ -20,7 +20,7 @@ pub enum HexError {
 #[tactic(auto, using(crate::proofs::HexWords::spells_decodes))]
 pub fn read_hex(alloc: Global, word: &str) -> Result<Vec<u8>, HexError>
     ensures spelled { IfOk result (λ bytes. SpellsBytes word.now bytes.items) }
-    ensures bad_hex { result ≡ Err HexError.BadHex → (bytes : List ℕ) → SpellsBytes word.now bytes → ⊥ }
+    ensures refused { result ≡ Err HexError.BadHex → (bytes : List ℕ) → SpellsBytes word.now bytes → ⊥ }
 {
     match hex::decode(alloc, word) {
         Ok(bytes) => Ok(bytes),

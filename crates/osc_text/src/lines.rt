@@ -5,7 +5,8 @@ ghost use Rattle.osc_coap.specs.Views.{options_left};
 ghost use Rattle.osc_context.specs.Views.{number_of};
 ghost use Rattle.osc_protect.specs.Views.{message_of, shown};
 ghost use Rattle.osc_text.specs.Lines.{bytes_text, kind_text, code_text, number_text, text_line, hex_line, bytes_line, kind_line, message_id_line, code_line, head_lines, number_line, part_lines, option_line, refused_line};
-ghost use Rattle.osc_text.specs.Opening.{opened_lines, seen};
+ghost use Rattle.osc_text.specs.Opening.{opened_lines};
+ghost use Rattle.osc_text.specs.Outcomes.{seen};
 ghost use Rattle.osc_text.specs.Written.{Writes};
 
 use crate::fault::Fault;

@@ -19,6 +19,7 @@ fn first_byte(bytes: &[u8]) -> u8
 
 /// The number that a word of decimal digits says, where there is one or more, nothing else, and the number is below 2^40.
 /// Zeros may stand first; there is no sign.
+#[must_use]
 pub fn read_number(word: &str) -> Option<Piv>
     ensures { SomeIff (option_map number_of result) (IsDigitWord word.now × (number_said word.now < 2 ^ 40)) (number_said word.now) }
 {

@@ -22,7 +22,8 @@ pub enum Opening {
     Response(RequestRef),
 }
 
-ghost use Rattle.osc_text.specs.Opening.{OpenText, OpeningText, outcome_lines, outcome_status};
+ghost use Rattle.osc_text.specs.Opening.{OpenText, OpeningText};
+ghost use Rattle.osc_text.specs.Outcomes.{open_lines, open_status};
 ghost use Rattle.osc_text.specs.Written.{Writes};
 
 /// Derives a context, opens a request or a response in its datagram, and writes what it says, one part a line, or the one
@@ -94,8 +95,8 @@ fn write_outcome<W: Write>(
     outcome: Result<Opened<'_>, UnprotectError>,
     out: &mut W,
 ) -> Result<u8, Fault>
-    ensures written { Writes (W.contents out.old) (W.contents out.new) (outcome_lines outcome.entry) result }
-    ensures status { IfOk result (λ s. s ≡ outcome_status outcome.entry) }
+    ensures written { Writes (W.contents out.old) (W.contents out.new) (open_lines outcome.entry) result }
+    ensures status { IfOk result (λ s. s ≡ open_status outcome.entry) }
 {
     match outcome {
         Ok(opened) => {

@@ -2,10 +2,12 @@
 
 ghost use Rattle.std.specs.Prelude.{◌≡◌, ℕ, List, [], ◌∷◌, IfOk, string_bytes, option_map};
 ghost use Rattle.std.specs.Option.{option_copied};
+ghost use Rattle.osc_coap.specs.OptionNumbers.{oscore};
+ghost use Rattle.osc_coap.specs.Search.{values_at};
 ghost use Rattle.osc_coap.specs.Views.{options_left};
 ghost use Rattle.osc_context.specs.PartialIv.{partial_iv_of};
-ghost use Rattle.osc_context.specs.Views.{number_of, parts_of};
-ghost use Rattle.osc_text.specs.Explanation.{ValueLine, ValueLines, oscore_values};
+ghost use Rattle.osc_context.specs.Views.{number_of, oscore_parts_of};
+ghost use Rattle.osc_text.specs.Explanation.{ValueLine, ValueLines};
 ghost use Rattle.osc_text.specs.Lines.{optional_text, oscore_line, oscore_fault_line};
 ghost use Rattle.osc_text.specs.Written.{Writes};
 
@@ -39,7 +41,7 @@ fn piv_text(alloc: Global, piv: Option<Piv>) -> Result<String, AllocError>
 
 /// Writes the line of what an OSCORE option says.
 fn put_said<W: Write>(alloc: Global, said: OscoreOption<'_>, out: &mut W) -> Result<(), Fault>
-    ensures { Writes (W.contents out.old) (W.contents out.new) (oscore_line (parts_of said.entry) ∷ []) result }
+    ensures { Writes (W.contents out.old) (W.contents out.new) (oscore_line (oscore_parts_of said.entry) ∷ []) result }
 {
     let piv = piv_text(alloc, said.piv)?;
     let context = optional_text(alloc, said.kid_context)?;
@@ -74,7 +76,7 @@ fn put_if_oscore<W: Write>(
     value: &[u8],
     out: &mut W,
 ) -> Result<(), Fault>
-    ensures { (lines : List (List ℕ)) → ValueLines (oscore_values ((number, value.now) ∷ [])) lines
+    ensures { (lines : List (List ℕ)) → ValueLines (values_at oscore ((number, value.now) ∷ [])) lines
         → Writes (W.contents out.old) (W.contents out.new) lines result }
 {
     if number == OSCORE {
@@ -89,7 +91,7 @@ pub(crate) fn put_values<W: Write>(
     options: Options<'_>,
     out: &mut W,
 ) -> Result<(), Fault>
-    ensures { (lines : List (List ℕ)) → ValueLines (oscore_values (options_left options.entry)) lines
+    ensures { (lines : List (List ℕ)) → ValueLines (values_at oscore (options_left options.entry)) lines
         → Writes (W.contents out.old) (W.contents out.new) lines result }
 {
     for (number, value) in options {

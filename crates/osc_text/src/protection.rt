@@ -24,7 +24,8 @@ pub enum Sealing {
     },
 }
 
-ghost use Rattle.osc_text.specs.Protecting.{PlainText, ProtectText, SealingText, outcome_lines, outcome_status};
+ghost use Rattle.osc_text.specs.Protecting.{PlainText, ProtectText, SealingText};
+ghost use Rattle.osc_text.specs.Outcomes.{seal_lines, seal_status};
 ghost use Rattle.osc_text.specs.Written.{Writes};
 
 /// Derives a context, seals the request or the response that a plain datagram is, and writes what is sealed in hex, on one
@@ -120,8 +121,8 @@ fn write_outcome<W: Write>(
     out: &mut W,
 ) -> Result<u8, Fault>
     requires within { IfOk outcome (λ len. len ≤ length buffer.now) }
-    ensures written { Writes (W.contents out.old) (W.contents out.new) (outcome_lines buffer.now outcome) result }
-    ensures status { IfOk result (λ s. s ≡ outcome_status outcome) }
+    ensures written { Writes (W.contents out.old) (W.contents out.new) (seal_lines buffer.now outcome) result }
+    ensures status { IfOk result (λ s. s ≡ seal_status outcome) }
 {
     match outcome {
         Ok(len) => {

@@ -1,5 +1,6 @@
--- The time for which a challenge is in force (RFC 9175, 2.3). Moments are numbers of milliseconds; issued is the moment
--- at which the value was issued, clock the present one. Numbers have no bound, and a difference below 0 is 0.
+-- To be believed: the time for which a challenge is in force (RFC 9175, 2.3). Moments are numbers of milliseconds;
+-- issued is the moment at which the value was issued, clock the present one. Numbers have no bound, and a difference
+-- below 0 is 0.
 use Rattle.std.specs.Prelude.{ℕ, ◌-◌, ◌≤◌, List, Option, Some, None, nat_le, if◌then◌else◌}
 
 -- a moment at most 30,000 ms past that of issue; one before it counts as 0 past it (own rule)

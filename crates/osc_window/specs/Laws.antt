@@ -1,4 +1,4 @@
--- Laws of windows over any number of marks (RFC 8613, 7.4). marks are their numbers, newest first.
+-- To be believed: laws of windows over any number of marks (RFC 8613, 7.4). marks are their numbers, newest first.
 use Rattle.std.specs.Prelude.{◌≡◌, ℕ, List, [], ◌∷◌, ◌++◌, IsTrue}
 use Rattle.osc_window.specs.declared.window_size.WindowSize.{WindowSize}
 use Rattle.osc_window.specs.declared.window.Window.{Window}

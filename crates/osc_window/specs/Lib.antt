@@ -1,6 +1,9 @@
+-- to be believed, in reading order
 pub mod Window
-pub mod Gate
-pub mod SpentMask
-pub mod Views
 pub mod Taken
 pub mod Laws
+pub mod Gate
+-- how the code is seen
+pub mod Views
+-- for the proofs
+pub mod SpentMask

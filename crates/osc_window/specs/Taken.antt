@@ -1,5 +1,5 @@
--- Which numbers a window takes (RFC 8613, 7.4). old and new are a window before and after a mark, n and m numbers,
--- floor and spent as in Window.antt.
+-- To be believed: which numbers a window takes (RFC 8613, 7.4). old and new are a window before and after a mark, n and
+-- m numbers, floor and spent as in Window.antt.
 use Rattle.std.specs.Prelude.{◌≡◌, ◌≢◌, ℕ, ◌+◌, ◌<◌, ◌↔◌, List, IsTrue}
 use Rattle.osc_window.specs.declared.window_size.WindowSize.{WindowSize}
 use Rattle.osc_window.specs.declared.window.Window.{Window}

@@ -1,4 +1,4 @@
--- What contracts see of a window and of a gate. Into size_of and takes no proof of another crate looks.
+-- How the code is seen: a window and a gate. Into size_of and takes no proof of another crate looks.
 use Rattle.std.specs.Prelude.{ℕ, List, Bool, true, false, Option, None}
 use Rattle.std.specs.Option.{option_map}
 use Rattle.osc_context.specs.Views.{number_of}

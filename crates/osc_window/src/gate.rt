@@ -1,7 +1,7 @@
 //! The gate of one context: closed from a restart until a request has shown that it is fresh, by an Echo value that it
 //! carries (RFC 8613, B.1.2, and RFC 9175, 2.3). Moments are milliseconds.
 
-ghost use Rattle.std.specs.Prelude.{◌≡◌, ◌∷◌, ◌↔◌, [], ℕ, List, Option, false};
+ghost use Rattle.std.specs.Prelude.{◌≡◌, ◌∷◌, [], ℕ, List, Option, false};
 ghost use Rattle.osc_context.specs.Views.{number_of};
 ghost use Rattle.osc_window.specs.Taken.{IsFromFloor, AgreesWith};
 ghost use Rattle.osc_window.specs.Gate.{IsInForce, challenge_in_force};
@@ -26,6 +26,7 @@ pub enum Gate {
 
 impl Gate {
     /// Answers whether requests are judged by their number.
+    #[must_use]
     pub fn is_open(&self) -> bool
         ensures { result ≡ is_open self.now }
     {
@@ -34,10 +35,13 @@ impl Gate {
 
     /// Answers the challenge, value and moment of issue, where the gate is closed and the clock at most 30,000 ms past
     /// that moment; a clock before it counts as 0 past it (RFC 9175, 2.3; own rule: the time).
+    #[must_use]
     pub fn in_force(&self, clock: u64) -> Option<([u8; 8], u64)>
         ensures value { result ≡ challenge_in_force (challenge_of self.now) clock }
-        ensures exactly { (echo : List ℕ) (issued : ℕ) → (result ≡ Some (echo, issued))
-            ↔ ((challenge_of self.now ≡ Some (echo, issued)) × IsInForce issued clock) }
+        ensures accepted { (echo : List ℕ) (issued : ℕ) → result ≡ Some (echo, issued)
+            → (challenge_of self.now ≡ Some (echo, issued)) × IsInForce issued clock }
+        ensures accepts { (echo : List ℕ) (issued : ℕ) → challenge_of self.now ≡ Some (echo, issued)
+            → IsInForce issued clock → result ≡ Some (echo, issued) }
     {
         match self {
             Gate::Restarted {

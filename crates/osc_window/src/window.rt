@@ -27,6 +27,7 @@ pub struct Window {
 impl Window {
     /// The window of a context that has never restarted: no number is spent (RFC 8613, 3.2.2).
     #[tactic(auto, unfolding(crate::specs::Views::takes, crate::specs::Views::size_of))]
+    #[must_use]
     pub fn fresh(size: WindowSize) -> Window
         ensures made { IsFresh result size }
         ensures agrees { AgreesWith result size 0 [] }
@@ -41,6 +42,7 @@ impl Window {
     /// The window of a restarted context, once a request with this number has shown that it is fresh: the number is
     /// spent, and all below it are too old (RFC 8613, B.1.2).
     #[tactic(auto, unfolding(crate::specs::Views::takes, crate::specs::Views::size_of))]
+    #[must_use]
     pub fn from_floor(floor: Piv, size: WindowSize) -> Window
         ensures made { IsFromFloor result (number_of floor) size }
         ensures agrees { AgreesWith result size (number_of floor) (number_of floor ∷ []) }
@@ -54,6 +56,7 @@ impl Window {
 
     /// Answers the size that the window was made with.
     #[tactic(auto, unfolding(crate::specs::Views::size_of))]
+    #[must_use]
     pub fn size(&self) -> WindowSize
         ensures { result ≡ size_of self.now }
     {
@@ -62,6 +65,7 @@ impl Window {
 
     /// Answers whether the number is new: neither spent nor too old (RFC 8613, 7.4). A number that isn't is a replay.
     #[tactic(auto, unfolding(crate::specs::Views::takes), using(crate::proofs::Masks::taken_above, crate::proofs::Masks::taken_below))]
+    #[must_use]
     pub fn is_new(&self, number: Piv) -> bool
         ensures { result ≡ takes self.now (number_of number) }
     {

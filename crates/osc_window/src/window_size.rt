@@ -3,7 +3,7 @@
 ghost use Rattle.std.specs.Prelude.{◌≡◌, ◌≤◌};
 ghost use Rattle.osc_window.specs.Views.{places_of};
 
-/// The size of a replay window: 32 places, which is the standard's default (RFC 8613, 3.2), or 64 (own rule).
+/// The size of a replay window: 32 places, which is the standard's default (RFC 8613, 3.2.2), or 64 (own rule).
 #[derive(Clone, Copy, Debug, PartialEq, Eq)]
 pub enum WindowSize {
     /// A number can be new from 31 below the highest one on.
@@ -15,6 +15,7 @@ pub enum WindowSize {
 impl WindowSize {
     /// Answers the number of places: a number this far below the highest marked one, or farther, is too old
     /// (RFC 8613, 7.4).
+    #[must_use]
     pub fn places(self) -> u64
         ensures value { result ≡ places_of self }
         ensures least { 32 ≤ result }
@@ -24,5 +25,16 @@ impl WindowSize {
             WindowSize::Places32 => 32,
             WindowSize::Places64 => 64,
         }
+    }
+}
+
+impl Default for WindowSize {
+    ghost use Rattle.osc_window.specs.declared.window_size.WindowSize.TheVariants.{Places32};
+
+    ghost is_default = { λ size. size ≡ Places32 };
+
+    /// The standard's default, 32 places (RFC 8613, 3.2.2).
+    fn default() -> WindowSize {
+        WindowSize::Places32
     }
 }

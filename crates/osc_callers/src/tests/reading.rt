@@ -1,36 +1,35 @@
 //! Callers that prove a fact about a message from the public contracts alone.
 
-ghost use Rattle.std.specs.Prelude.{◌≡◌};
-ghost use Rattle.std.specs.Option.{option_map};
-ghost use Rattle.osc_callers.specs.Callers.{first_value};
-ghost use Rattle.osc_coap.specs.Views.{parts_of};
+ghost use Rattle.std.specs.Prelude.{◌≡◌, ℕ, List};
+ghost use Rattle.std.specs.Option.{option_copied};
+ghost use Rattle.osc_coap.specs.OptionNumbers.{oscore};
+ghost use Rattle.osc_coap.specs.OptionSpelling.{AreBytes, Spells};
+ghost use Rattle.osc_coap.specs.Search.{first_of, values_at};
+ghost use Rattle.osc_coap.specs.Views.{number_before, options_left};
 
-use osc_coap::{Message, parse};
+use osc_coap::option_numbers::OSCORE;
+use osc_coap::{Options, options_are_spelled, parse, parse_inner};
 use std::test::Fail;
 
-/// The value of the first option with this number.
-fn first_of<'a>(message: &Message<'a>, number: u16) -> Option<&'a [u8]>
-    ensures { option_map (λ value. value.now) result ≡ first_value number (parts_of message.now).options }
+/// The first OSCORE option of those that it was handed, whoever read them: bytes spell them.
+fn first_oscore(options: Options<'_>) -> Option<&[u8]>
+    ensures spelled { (text : List ℕ) × AreBytes text
+        × Spells (number_before options.entry) (options_left options.entry) text }
+    ensures first { option_copied result ≡ first_of (values_at oscore (options_left options.entry)) }
 {
-    for (found, value) in message.options() {
-        if found == number {
-            return Some(value);
-        }
-    }
-    None
+    options_are_spelled();
+    options.first(OSCORE)
 }
 
-// The plain request of RFC 8613, C.4, and further options of its numbers (RFC 7252, 3.1).
+// The protected request of RFC 8613, C.4; and an OSCORE option behind another in a plaintext (RFC 7252, 3.1).
 #[test]
-fn first_option_of_a_number(rt: HostRuntime) -> Result<(), Fail> {
-    let message = parse(b"\x44\x01\x5d\x1f\x00\x00\x39\x74\x39localhost\x83tv1\x02xx")?;
-    let expected: [(u16, Option<&[u8]>); 3] = [
-        (3, Some(b"localhost")),
-        (11, Some(b"tv1")),
-        (12, None),
-    ];
-    for (number, value) in expected {
-        assert_eq!(rt; first_of(&message, number), value, "option {number}");
-    }
+fn first_oscore_option(rt: HostRuntime) -> Result<(), Fail> {
+    let message = parse(b"\x44\x02\x5d\x1f\x00\x00\x39\x74\x39localhost\x62\x09\x14\xff\x61")?;
+    assert_eq!(rt;
+        first_oscore(message.options()),
+        Some(b"\x09\x14".as_slice())
+    );
+    let inner = parse_inner(b"\x01\x31x\x61y\x01z")?;
+    assert_eq!(rt; first_oscore(inner.options()), Some(b"y".as_slice()));
     Ok(())
 }

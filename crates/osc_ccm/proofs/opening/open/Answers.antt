@@ -2,13 +2,13 @@ use Rattle.std.proofs.Common.{ℕ, List, ◌≡◌, ◌+◌, ◌-◌, true, fals
 use Rattle.osc_ccm.proofs.Protections.{length-ccm, opens, opens_only, received, restored, right_tag}
 use Rattle.osc_ccm.proofs.opening.open.Goals as goal
 
-pub returns-then-buf-lt-TAG_LEN-clause-only : goal.returns-then-buf-lt-TAG_LEN-clause-only
-returns-then-buf-lt-TAG_LEN-clause-only g c = λ m short e.
+pub returns-then-buf-lt-TAG_LEN-clause-accepts : goal.returns-then-buf-lt-TAG_LEN-clause-accepts
+returns-then-buf-lt-TAG_LEN-clause-accepts g c = λ m short e.
     let protection = length-ccm c.encrypted_length.ensures (g.C.BlockCipher.cipher_key c.args.cipher.now) c.args.nonce.now c.args.aad.now m in
     omega (arith, protection, ap (λ (l : List ℕ). length l) e)
 
-pub returns-then-buf-clause-only : goal.returns-then-buf-clause-only
-returns-then-buf-clause-only g c = λ m short e.
+pub returns-then-buf-clause-accepts : goal.returns-then-buf-clause-accepts
+returns-then-buf-clause-accepts g c = λ m short e.
     let protection = length-ccm c.encrypted_length.ensures (g.C.BlockCipher.cipher_key c.args.cipher.now) c.args.nonce.now c.args.aad.now m in
     omega (arith, protection, ap (λ (l : List ℕ). length l) e)
 
@@ -25,8 +25,8 @@ returns-then-is_same_tag-clause-opened g c =
     c.add_key_stream.ensures c.encrypted_tag-tag.ensures
     (c.if-is_same_tag.ensures.0 refl ∙ there)
 
-pub returns-then-is_same_tag-clause-only : goal.returns-then-is_same_tag-clause-only
-returns-then-is_same_tag-clause-only g c = λ m short e.
+pub returns-then-is_same_tag-clause-accepts : goal.returns-then-is_same_tag-clause-accepts
+returns-then-is_same_tag-clause-accepts g c = λ m short e.
     let whole = c.encrypted_length.ensures in
     let key = g.C.BlockCipher.cipher_key c.args.cipher.now in
     let n = length c.args.buf.now - 8 in
@@ -38,8 +38,8 @@ returns-then-is_same_tag-clause-only g c = λ m short e.
 pub returns-then-is_same_tag-clause-bad_tag : goal.returns-then-is_same_tag-clause-bad_tag
 returns-then-is_same_tag-clause-bad_tag g c = (λ e. cc, λ none. absurd (none.2 _ (returns-then-is_same_tag-clause-opened g c)))
 
-pub returns-clause-only : goal.returns-clause-only
-returns-clause-only g c = λ m short e.
+pub returns-clause-accepts : goal.returns-clause-accepts
+returns-clause-accepts g c = λ m short e.
     let whole = c.encrypted_length.ensures in
     let key = g.C.BlockCipher.cipher_key c.args.cipher.now in
     let n = length c.args.buf.now - 8 in
@@ -58,13 +58,13 @@ returns-clause-bad_tag g c = (
     omega arith,
     λ m e.
         let protection = length-ccm c.encrypted_length.ensures (g.C.BlockCipher.cipher_key c.args.cipher.now) c.args.nonce.now c.args.aad.now m in
-        returns-clause-only g c m (omega (arith, protection, ap (λ (l : List ℕ). length l) e)) e,
+        returns-clause-accepts g c m (omega (arith, protection, ap (λ (l : List ℕ). length l) e)) e,
   ),
   λ _. refl,
 )
 
-pub returns-clause-same : goal.returns-clause-same
-returns-clause-same g c =
+pub returns-clause-unchanged : goal.returns-clause-unchanged
+returns-clause-unchanged g c =
     let whole = c.encrypted_length.ensures in
     let key = g.C.BlockCipher.cipher_key c.args.cipher.now in
     let n = length c.args.buf.now - 8 in

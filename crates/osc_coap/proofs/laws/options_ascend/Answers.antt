@@ -11,5 +11,11 @@ returns-clause-datagram c = λ p bytes h. text_ascends 0 p.options h.spelled h.s
 pub returns-clause-inner : goal.returns-clause-inner
 returns-clause-inner c = λ p bytes h. text_ascends 0 p.options h.spelled h.spells
 
-pub returns-clause-read : goal.returns-clause-read
-returns-clause-read c = λ m. read_ascends 0 m.options.now
+pub returns-clause-held_message : goal.returns-clause-held_message
+returns-clause-held_message c = λ m. read_ascends 0 m.options.now
+
+pub returns-clause-held_inner : goal.returns-clause-held_inner
+returns-clause-held_inner c = λ m. read_ascends 0 m.options.now
+
+pub returns-clause-held_options : goal.returns-clause-held_options
+returns-clause-held_options c = λ s. read_ascends s.number s.rest.now

@@ -7,8 +7,8 @@ returns c = record {
   one_fault = c.one_datagram.ensures.one_fault;
   inner_one = c.one_inner.ensures.one;
   inner_never_both = c.one_inner.ensures.never_both;
-  one_value = c.one_option_value.ensures.value;
-  value_number = c.one_option_value.ensures.number;
+  one_value = c.one_option_value.ensures.one_value;
+  value_number = c.one_option_value.ensures.in_range;
   one_plaintext = c.one_plaintext.ensures;
-  sealed_length = c.sealed_length.ensures;
+  protection_length = c.protection_length.ensures;
 }

@@ -5,11 +5,11 @@ use Rattle.osc_protect.proofs.laws.one_sealed.Goals as goal
 
 pub returns : goal.returns
 returns c =
-    let spelling = c.one_option_value.ensures.spelling in
+    let spelling = c.one_option_value.ensures.one_spelling in
     let text = c.one_text.ensures in
     let lengths = c.lengths_by_parts.ensures in
     let one = c.one_plaintext.ensures in
-    let long = c.sealed_length.ensures in
+    let long = c.protection_length.ensures in
     record {
       request = λ s. form_law (requests s) (requests_sound one long s) spelling text.inner text.datagram lengths.datagram lengths.inner;
       response = λ s n. form_law (responses s n) (responses_sound one long s n) spelling text.inner text.datagram lengths.datagram lengths.inner;

@@ -1,6 +1,7 @@
 use Rattle.std.proofs.Common.{◌≡◌}
 use Rattle.osc_coap.specs.Views.{options_left}
-use Rattle.osc_protect.specs.Message.{first_number, is_unsupported}
+use Rattle.osc_protect.specs.Found.{first_number}
+use Rattle.osc_protect.specs.OptionSets.{is_unsupported}
 use Rattle.osc_protect.proofs.option_search.first_unsupported.Given as goal
 
 abbrev pub invariant-loop-number : goal.invariant-loop-number

@@ -1,6 +1,7 @@
 use Rattle.std.proofs.Common.{◌≡◌}
 use Rattle.osc_coap.specs.Views.{options_left}
-use Rattle.osc_protect.specs.Message.{has_number, is_proxy}
+use Rattle.osc_coap.specs.Search.{has_number}
+use Rattle.osc_protect.specs.OptionSets.{is_proxy}
 use Rattle.osc_protect.proofs.option_search.has_proxy.Given as goal
 
 abbrev pub invariant-loop-number : goal.invariant-loop-number

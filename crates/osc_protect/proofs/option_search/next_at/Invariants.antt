@@ -1,6 +1,6 @@
 use Rattle.std.proofs.Common.{◌≡◌}
 use Rattle.osc_coap.specs.Views.{options_left}
-use Rattle.osc_protect.specs.Message.{values_at}
+use Rattle.osc_coap.specs.Search.{values_at}
 use Rattle.osc_protect.proofs.option_search.next_at.Given as goal
 
 abbrev pub invariant-loop-number : goal.invariant-loop-number

@@ -1,5 +1,5 @@
 use Rattle.std.proofs.Common.{◌≡◌, ℕ, List, ap, Result, Ok, Err, IfOk, IfErr, IsOkAnd, IsErrOf}
-use Rattle.osc_protect.specs.Head.{Head, HasHead, HeadRefuses}
+use Rattle.osc_protect.specs.Head.{Head, HasHead, HasNoHead}
 use Rattle.osc_protect.specs.Views.{seen_head}
 use Rattle.osc_protect.specs.Laws.{OneHead}
 use Rattle.osc_protect.specs.declared.head_error.HeadError.{HeadError}
@@ -7,16 +7,16 @@ use Rattle.osc_protect.specs.declared.request_head.RequestHead.{RequestHead}
 use Rattle.osc_protect.specs.declared.usage.Usage.TheVariants.{Request}
 use Rattle.osc_protect.proofs.request_head.head_of_request.Goals as goal
 
-only : (laws : OneHead Request) (d : List ℕ) (r : Result RequestHead HeadError) → IfOk r (λ h. HasHead Request d (seen_head h)) → IfErr r (λ e. HeadRefuses Request d e) → (h : Head) → HasHead Request d h → IsOkAnd r (λ x. seen_head x ≡ h)
+only : (laws : OneHead Request) (d : List ℕ) (r : Result RequestHead HeadError) → IfOk r (λ h. HasHead Request d (seen_head h)) → IfErr r (λ e. HasNoHead Request d e) → (h : Head) → HasHead Request d h → IsOkAnd r (λ x. seen_head x ≡ h)
 only laws d (Ok x) y z h k = laws.head d (seen_head x) h y k
 only laws d (Err e) y z h k = laws.never_both d h e k z
 
-exactly : (laws : OneHead Request) (d : List ℕ) (r : Result RequestHead HeadError) → IfOk r (λ h. HasHead Request d (seen_head h)) → IfErr r (λ e. HeadRefuses Request d e) → (e : HeadError) → HeadRefuses Request d e → IsErrOf r e
+exactly : (laws : OneHead Request) (d : List ℕ) (r : Result RequestHead HeadError) → IfOk r (λ h. HasHead Request d (seen_head h)) → IfErr r (λ e. HasNoHead Request d e) → (e : HeadError) → HasNoHead Request d e → IsErrOf r e
 exactly laws d (Ok x) y z e k = absurd (laws.never_both d (seen_head x) e y k)
 exactly laws d (Err f) y z e k = ap Err (laws.refusal d f e z k)
 
-pub returns-clause-only : goal.returns-clause-only
-returns-clause-only c = only c.one_head.ensures.request c.args.datagram.now c.read_request_head.result c.read_request_head.ensures.head c.read_request_head.ensures.refused
+pub returns-clause-accepts : goal.returns-clause-accepts
+returns-clause-accepts c = only c.one_head.ensures.request c.args.datagram.now c.read_request_head.result c.read_request_head.ensures.head c.read_request_head.ensures.refused
 
-pub returns-clause-exactly : goal.returns-clause-exactly
-returns-clause-exactly c = exactly c.one_head.ensures.request c.args.datagram.now c.read_request_head.result c.read_request_head.ensures.head c.read_request_head.ensures.refused
+pub returns-clause-refuses : goal.returns-clause-refuses
+returns-clause-refuses c = exactly c.one_head.ensures.request c.args.datagram.now c.read_request_head.result c.read_request_head.ensures.head c.read_request_head.ensures.refused

@@ -18,8 +18,8 @@ returns-clause-sealed c =
     let len = c.write_inside-len.result in
     let buf = c.write_inside-len.new.buf in
     let room = c.requires.room in
-    let at_is = c.write_outside-at.ensures.len in
-    let same_len = c.write_outside-at.ensures.same_len in
+    let at_is = c.write_outside-at.ensures.length in
+    let same_len = c.write_outside-at.ensures.same_length in
     let inside : at < length out = omega (arith, room, at_is, same_len) in
     let both = kept at out buf inside in
     let written : IsDatagram (outside p code value []) (take at out) = subst (λ (k : ℕ). IsDatagram (outside p k value []) (take at out)) c.outer_code.ensures c.write_outside-at.ensures.written in
@@ -37,8 +37,8 @@ returns-clause-behind c =
     let at = c.write_outside-at.result in
     let len = c.write_inside-len.result in
     let room = c.requires.room in
-    let at_is = c.write_outside-at.ensures.len in
-    let same_len = c.write_outside-at.ensures.same_len in
+    let at_is = c.write_outside-at.ensures.length in
+    let same_len = c.write_outside-at.ensures.same_length in
     let inside : at < length out = omega (arith, room, at_is, same_len) in
     subst (λ (z : ℕ). drop z c.seal_behind.new.out ≡ drop z c.args.out.now) (sym c.seal_behind.ensures.end)
     (c.seal_behind.ensures.behind ∙ left_behind c.args.out.now out c.write_inside-len.new.buf at len inside c.write_outside-at.ensures.behind c.write_inside-len.ensures.behind)

@@ -5,8 +5,8 @@ use Rattle.osc_protect.specs.Protection.{requests}
 use Rattle.osc_protect.proofs.Sealings.{fits_all, refuses_all}
 use Rattle.osc_protect.proofs.sealing.seal_request.Goals as goal
 
-pub returns-clause-succeeds : goal.returns-clause-succeeds
-returns-clause-succeeds c = fits_all (requests (as_client c.args.context.now)) (number_of c.args.number) (parts_of c.args.plain.now) (length c.args.out.now) c.seal_as_request.result c.seal_as_request.ensures.refused
+pub returns-clause-accepts : goal.returns-clause-accepts
+returns-clause-accepts c = fits_all (requests (as_client c.args.context.now)) (number_of c.args.number) (parts_of c.args.plain.now) (length c.args.out.now) c.seal_as_request.result c.seal_as_request.ensures.refused
 
 pub returns-clause-refuses : goal.returns-clause-refuses
-returns-clause-refuses c = refuses_all (requests (as_client c.args.context.now)) (number_of c.args.number) (parts_of c.args.plain.now) c.one_option_value.ensures.spelling (length c.args.out.now) c.seal_as_request.result c.seal_as_request.ensures.made c.seal_as_request.ensures.refused
+returns-clause-refuses c = refuses_all (requests (as_client c.args.context.now)) (number_of c.args.number) (parts_of c.args.plain.now) c.one_option_value.ensures.one_spelling (length c.args.out.now) c.seal_as_request.result c.seal_as_request.ensures.made c.seal_as_request.ensures.refused

@@ -7,8 +7,8 @@ use Rattle.osc_protect.specs.Views.{request_number}
 use Rattle.osc_protect.proofs.Sealings.{fits_all, refuses_all}
 use Rattle.osc_protect.proofs.sealing.seal_response.Goals as goal
 
-pub returns-clause-succeeds : goal.returns-clause-succeeds
-returns-clause-succeeds c = fits_all (responses (as_server c.args.context.now) (request_number c.args.request.now)) (option_map number_of c.args.own) (parts_of c.args.plain.now) (length c.args.out.now) c.seal_as_response.result c.seal_as_response.ensures.refused
+pub returns-clause-accepts : goal.returns-clause-accepts
+returns-clause-accepts c = fits_all (responses (as_server c.args.context.now) (request_number c.args.request.now)) (option_map number_of c.args.own) (parts_of c.args.plain.now) (length c.args.out.now) c.seal_as_response.result c.seal_as_response.ensures.refused
 
 pub returns-clause-refuses : goal.returns-clause-refuses
-returns-clause-refuses c = refuses_all (responses (as_server c.args.context.now) (request_number c.args.request.now)) (option_map number_of c.args.own) (parts_of c.args.plain.now) c.one_option_value.ensures.spelling (length c.args.out.now) c.seal_as_response.result c.seal_as_response.ensures.made c.seal_as_response.ensures.refused
+returns-clause-refuses c = refuses_all (responses (as_server c.args.context.now) (request_number c.args.request.now)) (option_map number_of c.args.own) (parts_of c.args.plain.now) c.one_option_value.ensures.one_spelling (length c.args.out.now) c.seal_as_response.result c.seal_as_response.ensures.made c.seal_as_response.ensures.refused

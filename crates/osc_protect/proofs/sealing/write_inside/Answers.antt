@@ -10,5 +10,5 @@ write_side-requires c =
       Plaintext (bare_inner p.code),
       c.args.buf.now,
       c.begin_inner-writer.ensures.made,
-      inside_takes p (options_left c.options.result) (length c.args.buf.now) c.options.ensures (c.options_ascend.ensures.read c.args.plain.now) c.requires.room c.requires.fits,
+      inside_takes p (options_left c.options.result) (length c.args.buf.now) c.options.ensures (c.options_ascend.ensures.held_message c.args.plain.now) c.requires.room c.requires.fits,
     )

@@ -10,7 +10,7 @@ write_side-requires c =
       Datagram (bare p.kind c.args.code p.message_id p.token),
       c.args.out.now,
       c.begin-writer.ensures.made,
-      outside_takes p c.args.code c.args.value.now (options_left c.options.result) (length c.args.out.now) c.options.ensures c.requires.code (c.options_ascend.ensures.read c.args.plain.now) c.requires.room c.requires.fits,
+      outside_takes p c.args.code c.args.value.now (options_left c.options.result) (length c.args.out.now) c.options.ensures c.requires.code (c.options_ascend.ensures.held_message c.args.plain.now) c.requires.room c.requires.fits,
     )
 
 pub unreachable-requires : goal.unreachable-requires
@@ -18,4 +18,4 @@ unreachable-requires c =
     let p = parts_of c.args.plain.now in
     let held = c.write_side.ensures.written (Datagram (bare p.kind c.args.code p.message_id p.token)) c.args.out.now c.begin-writer.ensures.made in
     let takes = oscore_takes p c.args.code c.args.value.now (options_left c.options.result) (length c.args.out.now) c.options.ensures c.requires.code c.requires.supported c.requires.room c.requires.fits in
-    not_err c.option.result _ c.in_default.is ((c.option.ensures.exactly _ _ held).takes takes)
+    not_err c.option.result _ c.in_default.is (c.option.ensures.accepts _ _ held takes)

@@ -33,4 +33,4 @@ unreachable-requires c =
     let split = so_far.2 ∙ ap (λ (os : List Entry). so_far.0 ++ options_on c.args.side os) c.in-Some.ensures.steps
     ∙ ap (λ (os : List Entry). so_far.0 ++ os) (some_more (λ entry. stands_on c.args.side (class entry.0)) (c.in-Some.number, c.in-Some.value.now) (options_left c.next.new.self) is) in
     let takes = takes_next (r.0) so_far.0 (length (r.1)) _ r.3 c.in-Some.number c.in-Some.value.now _ split in
-    not_err c.option.result _ c.in_default.is ((c.option.ensures.exactly _ _ so_far.1).takes takes)
+    not_err c.option.result _ c.in_default.is (c.option.ensures.accepts _ _ so_far.1 takes)

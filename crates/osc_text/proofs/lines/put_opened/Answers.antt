@@ -1,7 +1,8 @@
 use Rattle.std.proofs.Common.{◌∷◌, [], map, codes}
 use Rattle.std.proofs.lemmas.Result.{err_from_is_err_and}
 use Rattle.osc_text.specs.Lines.{head_lines, number_line, part_lines, option_line}
-use Rattle.osc_text.specs.Opening.{opened_lines, seen}
+use Rattle.osc_text.specs.Opening.{opened_lines}
+use Rattle.osc_text.specs.Outcomes.{seen}
 use Rattle.osc_text.proofs.Appending.{so_far_none, so_far_more, so_far_error, so_far_writes}
 use Rattle.osc_text.proofs.lines.put_opened.Goals as goal
 

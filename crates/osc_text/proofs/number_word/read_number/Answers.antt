@@ -10,7 +10,7 @@ returns-then-first_byte-eq43 c =
 pub returns-in-Ok : goal.returns-in-Ok
 returns-in-Ok c =
     let first : get_or c.args.word.now 0 0 ≢ 43 = search rules in
-    number_read c.args.word.now c.parse.result c.in-Ok.number c.new.result c.in-Ok.is c.parse.ensures.value.0 first c.new.ensures.made c.new.ensures.in_range c.new.ensures.too_large
+    number_read c.args.word.now c.parse.result c.in-Ok.number c.new.result c.in-Ok.is c.parse.ensures.value.0 first c.new.ensures.made c.new.ensures.accepted c.new.ensures.refused
 
 pub returns-in-Err : goal.returns-in-Err
 returns-in-Err c =

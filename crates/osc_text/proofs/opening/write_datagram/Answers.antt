@@ -3,7 +3,8 @@ use Rattle.osc_context.specs.Views.{as_client, as_server}
 use Rattle.osc_protect.specs.Protection.{requests, responses}
 use Rattle.osc_protect.specs.Views.{request_number}
 use Rattle.osc_text.specs.declared.opening.Opening.{Opening}
-use Rattle.osc_text.specs.Opening.{OpeningText, outcome_lines, outcome_status}
+use Rattle.osc_text.specs.Opening.{OpeningText}
+use Rattle.osc_text.specs.Outcomes.{open_lines, open_status}
 use Rattle.osc_text.proofs.OpenTexts.{text_of_outcome}
 use Rattle.osc_text.proofs.opening.write_datagram.Goals as goal
 
@@ -13,8 +14,8 @@ returns-in-Request g c =
     let s = c.args.context.now in
     let d = c.args.datagram.now in
     let text = text_of_outcome (requests (as_server s)) d r c.open_request.ensures.opened c.open_request.ensures.refused in
-    let asked = subst (λ (what : Opening). OpeningText (as_client s) (as_server s) what d (outcome_lines r) (outcome_status r)) (sym c.in-Request.is) text in
-    (outcome_lines r, outcome_status r, asked, c.write_outcome.ensures.written, c.write_outcome.ensures.status)
+    let asked = subst (λ (what : Opening). OpeningText (as_client s) (as_server s) what d (open_lines r) (open_status r)) (sym c.in-Request.is) text in
+    (open_lines r, open_status r, asked, c.write_outcome.ensures.written, c.write_outcome.ensures.status)
 
 pub returns-in-Response : goal.returns-in-Response
 returns-in-Response g c =
@@ -22,5 +23,5 @@ returns-in-Response g c =
     let s = c.args.context.now in
     let d = c.args.datagram.now in
     let text = text_of_outcome (responses (as_client s) (request_number c.in-Response.request)) d r c.open_response.ensures.opened c.open_response.ensures.refused in
-    let asked = subst (λ (what : Opening). OpeningText (as_client s) (as_server s) what d (outcome_lines r) (outcome_status r)) (sym c.in-Response.is) text in
-    (outcome_lines r, outcome_status r, asked, c.write_outcome-in-Response.ensures.written, c.write_outcome-in-Response.ensures.status)
+    let asked = subst (λ (what : Opening). OpeningText (as_client s) (as_server s) what d (open_lines r) (open_status r)) (sym c.in-Response.is) text in
+    (open_lines r, open_status r, asked, c.write_outcome-in-Response.ensures.written, c.write_outcome-in-Response.ensures.status)

@@ -1,6 +1,6 @@
 use Rattle.std.proofs.Common.{arith, ◌∙◌, rules}
 use Rattle.osc_aes.specs.Aes128.{aes128, expanded_key}
-use Rattle.osc_aes.specs.RoundWords.{key_of_words}
+use Rattle.osc_aes.specs.Views.{key_of_words}
 use Rattle.osc_aes.proofs.KeyWords.{flat_map-block}
 use Rattle.osc_aes.proofs.table.TableAesBlockCipher.encrypt.Goals as goal
 

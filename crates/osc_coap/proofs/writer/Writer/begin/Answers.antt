@@ -1,6 +1,7 @@
 use Rattle.std.proofs.Common.{refl}
 use Rattle.osc_coap.specs.Writing.{Datagram, bare}
-use Rattle.osc_coap.specs.Writer.{Holds, IsAt}
+use Rattle.osc_coap.specs.Writer.{Holds}
+use Rattle.osc_coap.specs.Held.{IsAt}
 use Rattle.osc_coap.proofs.Grown.{head_stands}
 use Rattle.osc_coap.proofs.writer.Writer.begin.Goals.{then-code-eq0, else-code-eq0}
 use Rattle.osc_coap.proofs.writer.Writer.begin.Goals as goal

@@ -1,16 +1,10 @@
-use Rattle.std.proofs.Common.{◌≡◌, arith, IsErrAnd}
+use Rattle.std.proofs.Common.{arith}
 use Rattle.osc_coap.specs.OptionSpelling.{AreBytes}
 use Rattle.osc_coap.specs.Writer.{Holds}
 use Rattle.osc_coap.proofs.Bytes.{bytes_by_place}
 use Rattle.osc_coap.proofs.Refusals.{option_ok, option_err}
 use Rattle.osc_coap.proofs.Grown.{option_stands, option_last, option_stage}
 use Rattle.osc_coap.proofs.writer.Writer.option.Goals as goal
-
-pub returns-in_err-delta-clause-exactly : goal.returns-in_err-delta-clause-exactly
-unfolding Holds
-returns-in_err-delta-clause-exactly c = λ draft old h.
-    let error : IsErrAnd c.from_residual.result (λ e. e ≡ c.in_err-delta.field-0.0) = c.from_residual.ensures.1 in
-    option_err c.args.self.now draft old c.args.number c.args.value.now c.in_err-delta.field-0.0 c.from_residual.result h c.in_err-delta.ensures error
 
 pub returns-clause-taken : goal.returns-clause-taken
 unfolding Holds
@@ -27,6 +21,22 @@ returns-clause-taken c = λ draft old h.
       stage = option_stage c.args.self.now.stage draft c.args.number c.args.value.now taken.stage h.stage;
     }
 
-pub returns-clause-exactly : goal.returns-clause-exactly
+pub returns-in_err-delta-clause-accepts : goal.returns-in_err-delta-clause-accepts
 unfolding Holds
-returns-clause-exactly c = λ draft old h. option_ok c.args.self.now draft old c.args.number c.in_ok-delta.delta c.args.value.now h c.in_ok-delta.ensures
+returns-in_err-delta-clause-accepts c = λ draft old h. (option_err c.args.self.now draft old c.args.number c.args.value.now c.in_err-delta.field-0.0 c.from_residual.result h c.in_err-delta.ensures c.from_residual.ensures.1).accepts
+
+pub returns-in_err-delta-clause-refused : goal.returns-in_err-delta-clause-refused
+unfolding Holds
+returns-in_err-delta-clause-refused c = λ draft old h. (option_err c.args.self.now draft old c.args.number c.args.value.now c.in_err-delta.field-0.0 c.from_residual.result h c.in_err-delta.ensures c.from_residual.ensures.1).refused
+
+pub returns-in_err-delta-clause-refuses : goal.returns-in_err-delta-clause-refuses
+unfolding Holds
+returns-in_err-delta-clause-refuses c = λ draft old h. (option_err c.args.self.now draft old c.args.number c.args.value.now c.in_err-delta.field-0.0 c.from_residual.result h c.in_err-delta.ensures c.from_residual.ensures.1).refuses
+
+pub returns-clause-accepted : goal.returns-clause-accepted
+unfolding Holds
+returns-clause-accepted c = λ draft old h. (option_ok c.args.self.now draft old c.args.number c.in_ok-delta.delta c.args.value.now h c.in_ok-delta.ensures).accepted
+
+pub returns-clause-refuses : goal.returns-clause-refuses
+unfolding Holds
+returns-clause-refuses c = λ draft old h. (option_ok c.args.self.now draft old c.args.number c.in_ok-delta.delta c.args.value.now h c.in_ok-delta.ensures).refuses

@@ -1,4 +1,4 @@
-use Rattle.std.proofs.Common.{IsErrAnd, ◌≡◌, ◌≢◌, [], ◌∷◌, length, ap, sym, ◌∙◌, arith}
+use Rattle.std.proofs.Common.{◌≡◌, ◌≢◌, [], ◌∷◌, length, ap, sym, ◌∙◌, arith}
 use Rattle.std.proofs.lemmas.Bool.{eqb-false}
 use Rattle.osc_coap.specs.OptionSpelling.{AreBytes}
 use Rattle.osc_coap.specs.OptionText.{placed}
@@ -29,14 +29,22 @@ returns-clause-taken c = λ draft old h.
       stage = payload_stage c.args.self.now.stage draft bytes is_open some h.stage;
     }
 
-pub returns-in_err-judge_payload-clause-exactly : goal.returns-in_err-judge_payload-clause-exactly
+pub returns-in_err-judge_payload-clause-accepts : goal.returns-in_err-judge_payload-clause-accepts
 unfolding Holds
-returns-in_err-judge_payload-clause-exactly c = λ draft old h some.
-    let error : IsErrAnd c.from_residual.result (λ e. e ≡ c.in_err-judge_payload.field-0.0) = c.from_residual.ensures.1 in
-    payload_err c.args.self.now draft old c.args.bytes.now c.in_err-judge_payload.field-0.0 c.from_residual.result h some c.in_err-judge_payload.ensures.judged error
+returns-in_err-judge_payload-clause-accepts c = λ draft old h some. (payload_err c.args.self.now draft old c.args.bytes.now c.in_err-judge_payload.field-0.0 c.from_residual.result h some c.in_err-judge_payload.ensures.judged c.from_residual.ensures.1).accepts
 
-pub returns-clause-exactly : goal.returns-clause-exactly
+pub returns-in_err-judge_payload-clause-refused : goal.returns-in_err-judge_payload-clause-refused
 unfolding Holds
-returns-clause-exactly c = λ draft old h some.
-    let room = c.in_ok-judge_payload.ensures.room in
-    payload_ok c.args.self.now draft old c.args.bytes.now h some c.in_ok-judge_payload.ensures.judged room.0 room.1
+returns-in_err-judge_payload-clause-refused c = λ draft old h some. (payload_err c.args.self.now draft old c.args.bytes.now c.in_err-judge_payload.field-0.0 c.from_residual.result h some c.in_err-judge_payload.ensures.judged c.from_residual.ensures.1).refused
+
+pub returns-in_err-judge_payload-clause-refuses : goal.returns-in_err-judge_payload-clause-refuses
+unfolding Holds
+returns-in_err-judge_payload-clause-refuses c = λ draft old h some. (payload_err c.args.self.now draft old c.args.bytes.now c.in_err-judge_payload.field-0.0 c.from_residual.result h some c.in_err-judge_payload.ensures.judged c.from_residual.ensures.1).refuses
+
+pub returns-clause-accepted : goal.returns-clause-accepted
+unfolding Holds
+returns-clause-accepted c = λ draft old h some. (payload_ok c.args.self.now draft old c.args.bytes.now h some c.in_ok-judge_payload.ensures.judged c.in_ok-judge_payload.ensures.room.0 c.in_ok-judge_payload.ensures.room.1).accepted
+
+pub returns-clause-refuses : goal.returns-clause-refuses
+unfolding Holds
+returns-clause-refuses c = λ draft old h some. (payload_ok c.args.self.now draft old c.args.bytes.now h some c.in_ok-judge_payload.ensures.judged c.in_ok-judge_payload.ensures.room.0 c.in_ok-judge_payload.ensures.room.1).refuses
