@@ -2,27 +2,75 @@
 
 use crate::answer::Answer;
 use crate::fields::Fields;
+use osc_coap::parse;
 use osc_context::Context;
 use osc_protect::{
-    Opened, ProtectError, RequestRef, UnprotectError, check_request, check_response,
-    decrypt_request, decrypt_response, head_of_request, open_request, open_response, read_request,
-    read_response, seal_request, seal_response,
+    Opened, ProtectError, RequestHead, RequestRef, ResponseHead, UnprotectError, check_request,
+    check_response, decrypt_request, decrypt_response, head_of_request, open_request,
+    open_response, read_request, read_response, seal_request, seal_response,
 };
 
 /// What a buffer to seal into is filled with.
 const FILLED_WITH: u8 = 0xaa;
 
+/// What the head of a request says.
+fn shown(head: &RequestHead<'_>, answer: &mut Answer) {
+    answer.kind(head.kind);
+    answer.bytes(&head.message_id.to_be_bytes());
+    answer.bytes(head.token.as_slice());
+    answer.print(head.number.number());
+    answer.bytes(head.kid);
+    answer.part(head.kid_context);
+}
+
+/// The head of a message that is read first.
+fn head_of_message(datagram: &[u8], answer: &mut Answer) {
+    match parse(datagram) {
+        Ok(message) => match RequestHead::read(&message) {
+            Ok(head) => shown(&head, answer),
+            Err(none) => answer.refused(none),
+        },
+        Err(fault) => answer.refused(fault),
+    }
+}
+
+/// The head of a request, of its datagram and of its message.
 pub(crate) fn head(fields: &Fields<'_>, answer: &mut Answer) {
     fields.count(1);
     match head_of_request(fields.bytes(0)) {
+        Ok(head) => shown(&head, answer),
+        Err(refusal) => answer.refused(refusal),
+    }
+    answer.again();
+    head_of_message(fields.bytes(0), answer);
+}
+
+/// The head of a response.
+pub(crate) fn response_head(fields: &Fields<'_>, answer: &mut Answer) {
+    fields.count(1);
+    let Some(message) = fields.message(0) else {
+        return;
+    };
+    match ResponseHead::read(&message) {
         Ok(head) => {
             answer.kind(head.kind);
             answer.bytes(&head.message_id.to_be_bytes());
             answer.bytes(head.token.as_slice());
-            answer.print(head.number.number());
-            answer.bytes(head.kid);
-            answer.part(head.kid_context);
+            answer.number(head.number);
         }
+        Err(none) => answer.refused(none),
+    }
+}
+
+/// Whether the head of a request names the context.
+pub(crate) fn named(fields: &Fields<'_>, context: &Context, answer: &mut Answer) {
+    fields.count(2);
+    match head_of_request(fields.bytes(1)) {
+        Ok(head) => answer.word(if head.names(context) {
+            "named"
+        } else {
+            "other"
+        }),
         Err(refusal) => answer.refused(refusal),
     }
 }

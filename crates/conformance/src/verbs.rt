@@ -96,6 +96,7 @@ fn of_protection(
 ) {
     match verb {
         "head" => protection::head(fields, answer),
+        "response-head" => protection::response_head(fields, answer),
         "check-request" => protection::checked_request(fields, answer),
         "check-response" => protection::checked_response(fields, answer),
         _ => under_a_context(verb, fields, contexts, answer),
@@ -113,6 +114,7 @@ fn under_a_context(
         return fields.refuse();
     };
     match verb {
+        "names" => protection::named(fields, &context, answer),
         "seal-request" => protection::sealed_request(fields, &context, answer),
         "seal-response" => protection::sealed_response(fields, &context, answer),
         "open-request" => protection::opened_request(fields, &context, answer),

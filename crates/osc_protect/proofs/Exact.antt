@@ -10,12 +10,14 @@ use Rattle.osc_coap.specs.Search.{has_number}
 use Rattle.osc_protect.specs.OptionSets.{is_barred}
 use Rattle.osc_protect.specs.Usage.{is_code_of, is_complete}
 use Rattle.osc_protect.specs.Head.{Head, ShowsHead, HasHead, HasNoHead, ShowsNoHead, IsUndecodable}
-use Rattle.osc_protect.specs.Text.{lifted}
+use Rattle.osc_protect.specs.Text.{lifted, raised}
 use Rattle.osc_protect.specs.Protection.{Protection, Protects}
 use Rattle.osc_protect.specs.Refusals.{Names, IsBadInner, RefusesToOpen}
 use Rattle.osc_protect.specs.Laws.{OneHead, OneMessage}
 use Rattle.osc_protect.specs.Layers.{LayerLaws}
 use Rattle.osc_protect.specs.declared.usage.Usage.{Usage}
+use Rattle.osc_protect.specs.declared.head_error.NoHead.{NoHead}
+use Rattle.osc_protect.specs.declared.head_error.NoHead.TheVariants as none
 use Rattle.osc_protect.specs.declared.head_error.HeadError.{HeadError}
 use Rattle.osc_protect.specs.declared.head_error.HeadError.TheVariants as heads
 use Rattle.osc_protect.specs.declared.unprotect_error.UnprotectError.{UnprotectError}
@@ -38,14 +40,15 @@ module _ (laws : LayerLaws) (u : Usage) where
 
   -- ---- heads
 
-  pub heads_one : (d : List ℕ) (h k : Head) → HasHead u d h → HasHead u d k → h ≡ k
-  heads_one d h k x y =
-      let a = shows_at d h y.0 x y.1 in
-      let b = y.2 in
+  shown_one : (p : Parts) (h k : Head) → ShowsHead u p h → ShowsHead u p k → h ≡ k
+  shown_one p h k a b =
       let value : a.value ≡ b.value = single a.value b.value _ a.single b.single in
       let read : IsOscoreValue h.parts b.value = subst (λ (v : List ℕ). IsOscoreValue h.parts v) value a.reads in
       same_head h.kind k.kind h.message_id k.message_id h.token k.token h.parts k.parts h.payload k.payload
       (a.kind ∙ sym b.kind) (a.message_id ∙ sym b.message_id) (a.token ∙ sym b.token) (laws.one_value _ _ b.value read b.reads) (a.payload ∙ sym b.payload)
+
+  pub heads_one : (d : List ℕ) (h k : Head) → HasHead u d h → HasHead u d k → h ≡ k
+  heads_one d h k x y = shown_one y.0 h k (shows_at d h y.0 x y.1) y.2
 
   undecodable_never : (p : Parts) (h : Head) → ShowsHead u p h → IsUndecodable u p → ⊥
   undecodable_never p h k bad =
@@ -69,33 +72,30 @@ module _ (laws : LayerLaws) (u : Usage) where
       wrong_never : (v w : OscoreParts) → v ≡ w → is_complete u v ≡ false → is_complete u w ≡ true → ⊥
       wrong_never v w e wrong right = let bad : false ≡ true = sym wrong ∙ ap (is_complete u) e ∙ right in cc
 
-  message_never : (p : Parts) (h : Head) (e : HeadError) → ShowsHead u p h → ShowsNoHead u p e → ⊥
-  message_never p h (heads.Format e) k r = r
-  message_never p h heads.NotThatKind k r = let used = k.used in cc
-  message_never p h heads.NoOscore k r = let some = k.single in let none = r.1 in cc
-  message_never p h heads.Undecodable k r = undecodable_never p h k r.2
+  message_never : (p : Parts) (h : Head) (e : NoHead) → ShowsHead u p h → ShowsNoHead u p e → ⊥
+  message_never p h none.NotThatKind k r = let used = k.used in cc
+  message_never p h none.NoOscore k r = let some = k.single in let nothing = r.1 in cc
+  message_never p h none.Undecodable k r = undecodable_never p h k r.2
 
   head_never : (d : List ℕ) (h : Head) (e : HeadError) → HasHead u d h → HasNoHead u d e → ⊥
   head_never d h (heads.Format e) x r = laws.never_both x.0 d e.fault e.place x.1 r
-  head_never d h heads.NotThatKind x r = message_never r.0 h heads.NotThatKind (shows_at d h r.0 x r.1) r.2
-  head_never d h heads.NoOscore x r = message_never r.0 h heads.NoOscore (shows_at d h r.0 x r.1) r.2
-  head_never d h heads.Undecodable x r = message_never r.0 h heads.Undecodable (shows_at d h r.0 x r.1) r.2
+  head_never d h heads.NotThatKind x r = message_never r.0 h none.NotThatKind (shows_at d h r.0 x r.1) r.2
+  head_never d h heads.NoOscore x r = message_never r.0 h none.NoOscore (shows_at d h r.0 x r.1) r.2
+  head_never d h heads.Undecodable x r = message_never r.0 h none.Undecodable (shows_at d h r.0 x r.1) r.2
 
-  message_one : (p : Parts) (e f : HeadError) → ShowsNoHead u p e → ShowsNoHead u p f → e ≡ f
-  message_one p (heads.Format e) f r q = absurd r
-  message_one p e (heads.Format f) r q = absurd q
-  message_one p heads.NotThatKind heads.NotThatKind r q = refl
-  message_one p heads.NotThatKind heads.NoOscore r q = let a = q.0 in cc
-  message_one p heads.NotThatKind heads.Undecodable r q = let a = q.0 in cc
-  message_one p heads.NoOscore heads.NotThatKind r q = let a = r.0 in cc
-  message_one p heads.NoOscore heads.NoOscore r q = refl
-  message_one p heads.NoOscore heads.Undecodable r q = absurd (q.1 r.1)
-  message_one p heads.Undecodable heads.NotThatKind r q = let a = r.0 in cc
-  message_one p heads.Undecodable heads.NoOscore r q = absurd (r.1 q.1)
-  message_one p heads.Undecodable heads.Undecodable r q = refl
+  message_one : (p : Parts) (e f : NoHead) → ShowsNoHead u p e → ShowsNoHead u p f → e ≡ f
+  message_one p none.NotThatKind none.NotThatKind r q = refl
+  message_one p none.NotThatKind none.NoOscore r q = let a = q.0 in cc
+  message_one p none.NotThatKind none.Undecodable r q = let a = q.0 in cc
+  message_one p none.NoOscore none.NotThatKind r q = let a = r.0 in cc
+  message_one p none.NoOscore none.NoOscore r q = refl
+  message_one p none.NoOscore none.Undecodable r q = absurd (q.1 r.1)
+  message_one p none.Undecodable none.NotThatKind r q = let a = r.0 in cc
+  message_one p none.Undecodable none.NoOscore r q = absurd (r.1 q.1)
+  message_one p none.Undecodable none.Undecodable r q = refl
 
-  at_one : (d : List ℕ) (p q : Parts) (e f : HeadError) → IsDatagram p d → IsDatagram q d → ShowsNoHead u p e → ShowsNoHead u q f → e ≡ f
-  at_one d p q e f h k r t = message_one q e f (subst (λ (z : Parts). ShowsNoHead u z e) (laws.one p q d h k) r) t
+  at_one : (d : List ℕ) (p q : Parts) (e f : NoHead) → IsDatagram p d → IsDatagram q d → ShowsNoHead u p e → ShowsNoHead u q f → raised e ≡ raised f
+  at_one d p q e f h k r t = ap raised (message_one q e f (subst (λ (z : Parts). ShowsNoHead u z e) (laws.one p q d h k) r) t)
 
   refusal_one : (d : List ℕ) (e f : HeadError) → HasNoHead u d e → HasNoHead u d f → e ≡ f
   refusal_one d (heads.Format e) (heads.Format f) r q = let b = laws.one_fault d e.fault f.fault e.place f.place r q in ap heads.Format (same_error e.fault f.fault e.place f.place b.0 b.1)
@@ -106,17 +106,20 @@ module _ (laws : LayerLaws) (u : Usage) where
   refusal_one d heads.NoOscore (heads.Format f) r q = absurd (laws.never_both r.0 d f.fault f.place r.1 q)
   refusal_one d heads.Undecodable (heads.Format f) r q = absurd (laws.never_both r.0 d f.fault f.place r.1 q)
   refusal_one d heads.NotThatKind heads.NotThatKind r q = refl
-  refusal_one d heads.NotThatKind heads.NoOscore r q = at_one d r.0 q.0 heads.NotThatKind heads.NoOscore r.1 q.1 r.2 q.2
-  refusal_one d heads.NotThatKind heads.Undecodable r q = at_one d r.0 q.0 heads.NotThatKind heads.Undecodable r.1 q.1 r.2 q.2
-  refusal_one d heads.NoOscore heads.NotThatKind r q = at_one d r.0 q.0 heads.NoOscore heads.NotThatKind r.1 q.1 r.2 q.2
+  refusal_one d heads.NotThatKind heads.NoOscore r q = at_one d r.0 q.0 none.NotThatKind none.NoOscore r.1 q.1 r.2 q.2
+  refusal_one d heads.NotThatKind heads.Undecodable r q = at_one d r.0 q.0 none.NotThatKind none.Undecodable r.1 q.1 r.2 q.2
+  refusal_one d heads.NoOscore heads.NotThatKind r q = at_one d r.0 q.0 none.NoOscore none.NotThatKind r.1 q.1 r.2 q.2
   refusal_one d heads.NoOscore heads.NoOscore r q = refl
-  refusal_one d heads.NoOscore heads.Undecodable r q = at_one d r.0 q.0 heads.NoOscore heads.Undecodable r.1 q.1 r.2 q.2
-  refusal_one d heads.Undecodable heads.NotThatKind r q = at_one d r.0 q.0 heads.Undecodable heads.NotThatKind r.1 q.1 r.2 q.2
-  refusal_one d heads.Undecodable heads.NoOscore r q = at_one d r.0 q.0 heads.Undecodable heads.NoOscore r.1 q.1 r.2 q.2
+  refusal_one d heads.NoOscore heads.Undecodable r q = at_one d r.0 q.0 none.NoOscore none.Undecodable r.1 q.1 r.2 q.2
+  refusal_one d heads.Undecodable heads.NotThatKind r q = at_one d r.0 q.0 none.Undecodable none.NotThatKind r.1 q.1 r.2 q.2
+  refusal_one d heads.Undecodable heads.NoOscore r q = at_one d r.0 q.0 none.Undecodable none.NoOscore r.1 q.1 r.2 q.2
   refusal_one d heads.Undecodable heads.Undecodable r q = refl
 
   pub heads_law : OneHead u
   heads_law = record {
+    shown = shown_one;
+    never_shown = message_never;
+    none = message_one;
     head = heads_one;
     never_both = head_never;
     refusal = refusal_one;

@@ -9,3 +9,4 @@ pub mod Splits
 pub mod Sealings
 pub mod SealedOpenings
 pub mod SealedForms
+pub mod ShownHeads

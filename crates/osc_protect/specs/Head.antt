@@ -10,6 +10,9 @@ use Rattle.osc_coap.specs.OptionNumbers.{oscore}
 use Rattle.osc_protect.specs.OptionSets.{is_proxy}
 use Rattle.osc_protect.specs.Usage.{is_complete, is_used}
 use Rattle.osc_protect.specs.declared.usage.Usage.{Usage}
+use Rattle.osc_protect.specs.declared.usage.Usage.TheVariants.{Request, Response}
+use Rattle.osc_protect.specs.declared.head_error.NoHead.{NoHead}
+use Rattle.osc_protect.specs.declared.head_error.NoHead.TheVariants as none
 use Rattle.osc_protect.specs.declared.head_error.HeadError.{HeadError}
 use Rattle.osc_protect.specs.declared.head_error.HeadError.TheVariants.{Format, NotThatKind, NoOscore, Undecodable}
 
@@ -56,15 +59,38 @@ abbrev pub IsUndecodable : Usage → Parts → Type 0
 IsUndecodable u p = HasSeveralValues p ⊎ HasUnreadableValue p ⊎ HasWrongParts u p ⊎ (p.payload ≡ []) ⊎ (has_number is_proxy p.options ≡ true)
 
 -- why a message has no head: not of the usage, no OSCORE option, or an undecodable one (RFC 8613, 8.2 and 8.4)
-abbrev pub ShowsNoHead : Usage → Parts → HeadError → Type 0
-ShowsNoHead u p (Format e) = ⊥
-ShowsNoHead u p NotThatKind = is_used u p.kind p.code ≡ false
-ShowsNoHead u p NoOscore = (is_used u p.kind p.code ≡ true) × (values_at oscore p.options ≡ [])
-ShowsNoHead u p Undecodable = (is_used u p.kind p.code ≡ true) × (values_at oscore p.options ≢ []) × IsUndecodable u p
+abbrev pub ShowsNoHead : Usage → Parts → NoHead → Type 0
+ShowsNoHead u p none.NotThatKind = is_used u p.kind p.code ≡ false
+ShowsNoHead u p none.NoOscore = (is_used u p.kind p.code ≡ true) × (values_at oscore p.options ≡ [])
+ShowsNoHead u p none.Undecodable = (is_used u p.kind p.code ≡ true) × (values_at oscore p.options ≢ []) × IsUndecodable u p
 
 -- why a datagram has no head: it is no message, or one without a head (RFC 8613, 8.2 and 8.4)
 abbrev pub HasNoHead : Usage → List ℕ → HeadError → Type 0
 HasNoHead u d (Format e) = HasFault d e.fault e.place
-HasNoHead u d NotThatKind = (p : Parts) × IsDatagram p d × ShowsNoHead u p NotThatKind
-HasNoHead u d NoOscore = (p : Parts) × IsDatagram p d × ShowsNoHead u p NoOscore
-HasNoHead u d Undecodable = (p : Parts) × IsDatagram p d × ShowsNoHead u p Undecodable
+HasNoHead u d NotThatKind = (p : Parts) × IsDatagram p d × ShowsNoHead u p none.NotThatKind
+HasNoHead u d NoOscore = (p : Parts) × IsDatagram p d × ShowsNoHead u p none.NoOscore
+HasNoHead u d Undecodable = (p : Parts) × IsDatagram p d × ShowsNoHead u p none.Undecodable
+
+-- the message has this head as a request (RFC 8613, 8.2)
+abbrev pub ShowsRequestHead : Parts → Head → Type 0
+ShowsRequestHead p h = ShowsHead Request p h
+
+-- why a message has no head as a request (RFC 8613, 8.2)
+abbrev pub ShowsNoRequestHead : Parts → NoHead → Type 0
+ShowsNoRequestHead p e = ShowsNoHead Request p e
+
+-- the datagram is a message with this head as a request (RFC 8613, 8.2)
+abbrev pub HasRequestHead : List ℕ → Head → Type 0
+HasRequestHead d h = HasHead Request d h
+
+-- why a datagram has no head as a request (RFC 8613, 8.2)
+abbrev pub HasNoRequestHead : List ℕ → HeadError → Type 0
+HasNoRequestHead d e = HasNoHead Request d e
+
+-- the message has this head as a response (RFC 8613, 8.4)
+abbrev pub ShowsResponseHead : Parts → Head → Type 0
+ShowsResponseHead p h = ShowsHead Response p h
+
+-- why a message has no head as a response (RFC 8613, 8.4)
+abbrev pub ShowsNoResponseHead : Parts → NoHead → Type 0
+ShowsNoResponseHead p e = ShowsNoHead Response p e

@@ -6,22 +6,39 @@ use Rattle.osc_coap.specs.Inner.{InnerParts}
 use Rattle.osc_context.specs.SecurityContext.{SecurityContext}
 use Rattle.osc_context.specs.Views.{as_client, as_server}
 use Rattle.osc_context.specs.declared.context.Context.{Context}
-use Rattle.osc_protect.specs.Head.{Head, HasHead, HasNoHead}
+use Rattle.osc_protect.specs.Head.{Head, HasHead, HasNoHead, ShowsHead, ShowsNoHead}
 use Rattle.osc_protect.specs.Sealed.{IsSealed, SealsRequest, SealsResponse, inside}
 use Rattle.osc_protect.specs.Protection.{Protection, Protects, requests, responses}
-use Rattle.osc_protect.specs.Refusals.{RefusesToOpen}
+use Rattle.osc_protect.specs.Refusals.{Names, RefusesToOpen}
 use Rattle.osc_protect.specs.SealRefusals.{RefusesToSeal}
 use Rattle.osc_protect.specs.declared.usage.Usage.{Usage}
+use Rattle.osc_protect.specs.declared.usage.Usage.TheVariants.{Request, Response}
+use Rattle.osc_protect.specs.declared.head_error.NoHead.{NoHead}
 use Rattle.osc_protect.specs.declared.head_error.HeadError.{HeadError}
 use Rattle.osc_protect.specs.declared.protect_error.ProtectError.{ProtectError}
 use Rattle.osc_protect.specs.declared.unprotect_error.UnprotectError.{UnprotectError}
 
--- a datagram has one head, any number in it below 2 ^ 40, or one refusal of it, never both (RFC 8613, 8.2 and 8.4)
+-- a datagram, or a message, has one head, any number in it below 2 ^ 40, or one refusal of it, never both (RFC 8613, 8.2 and 8.4)
 pub record OneHead (u : Usage) : Type 0 where
+  pub shown : (p : Parts) (h k : Head) → ShowsHead u p h → ShowsHead u p k → h ≡ k
+  pub never_shown : (p : Parts) (h : Head) (e : NoHead) → ShowsHead u p h → ShowsNoHead u p e → ⊥
+  pub none : (p : Parts) (e g : NoHead) → ShowsNoHead u p e → ShowsNoHead u p g → e ≡ g
   pub head : (d : List ℕ) (h k : Head) → HasHead u d h → HasHead u d k → h ≡ k
   pub never_both : (d : List ℕ) (h : Head) (e : HeadError) → HasHead u d h → HasNoHead u d e → ⊥
   pub refusal : (d : List ℕ) (e g : HeadError) → HasNoHead u d e → HasNoHead u d g → e ≡ g
   pub in_range : (d : List ℕ) (h : Head) → HasHead u d h → IfSome h.parts.piv (λ n. n < 2 ^ 40)
+
+-- the head of a request is one (RFC 8613, 8.2)
+abbrev pub OneRequestHead : Type 0
+OneRequestHead = OneHead Request
+
+-- the head of a response is one (RFC 8613, 8.4)
+abbrev pub OneResponseHead : Type 0
+OneResponseHead = OneHead Response
+
+-- two contexts that one head names have the same client, and the same ID Context or none (RFC 8613, 8.2)
+abbrev pub NamesOneClient : Type 0
+NamesOneClient = (h : Head) (s t : SecurityContext) (n m : ℕ) → Names (requests s) h n → Names (requests t) h m → (s.client ≡ t.client) × (s.id_context ≡ t.id_context)
 
 -- a datagram protects one message by one number, or has one refusal, never both (RFC 8613, 8.2 and 8.4)
 pub record OneMessage {I : Type 0} (f : Protection I) : Type 0 where

@@ -11,6 +11,7 @@ use Rattle.osc_protect.specs.Usage.{is_used}
 use Rattle.osc_protect.specs.Protection.{Protection}
 use Rattle.osc_protect.specs.Sealed.{sealed_length}
 use Rattle.osc_protect.specs.declared.usage.Usage.{Usage}
+use Rattle.osc_protect.specs.declared.usage.Usage.TheVariants.{Request, Response}
 use Rattle.osc_protect.specs.declared.protect_error.ProtectError.{ProtectError}
 use Rattle.osc_protect.specs.declared.protect_error.ProtectError.TheVariants.{NotThatKind, Unsupported, TooLong, NoRoom}
 
@@ -30,6 +31,22 @@ RefusesPlain u p NoRoom = ⊥
 -- the message is one of this usage that can be sealed where there is room (RFC 8613, 8.1 and 8.3)
 abbrev pub CanBeSealed : Usage → Parts → Type 0
 CanBeSealed u p = (is_used u p.kind p.code ≡ true) × (has_number is_unsupported p.options ≡ false)
+
+-- the message is a request that can be sealed where there is room (RFC 8613, 8.1)
+abbrev pub IsPlainRequest : Parts → Type 0
+IsPlainRequest p = CanBeSealed Request p
+
+-- why a message can't be sealed as a request, whatever the room (RFC 8613, 8.1)
+abbrev pub RefusesPlainRequest : Parts → ProtectError → Type 0
+RefusesPlainRequest p e = RefusesPlain Request p e
+
+-- the message is a response that can be sealed where there is room (RFC 8613, 8.3)
+abbrev pub IsPlainResponse : Parts → Type 0
+IsPlainResponse p = CanBeSealed Response p
+
+-- why a message can't be sealed as a response, whatever the room (RFC 8613, 8.3)
+abbrev pub RefusesPlainResponse : Parts → ProtectError → Type 0
+RefusesPlainResponse p e = RefusesPlain Response p e
 
 -- why what is sealed finds no room, by its length (own rule)
 abbrev pub RefusesSize : ℕ → ℕ → ProtectError → Type 0

@@ -2,12 +2,26 @@
 use Rattle.std.specs.Prelude.{ℕ, List, ◌++◌, codes}
 use Rattle.std.specs.Fmt.{decimal}
 use Rattle.osc_coap.specs.Text.{error_text}
+use Rattle.osc_protect.specs.declared.head_error.NoHead.{NoHead}
+use Rattle.osc_protect.specs.declared.head_error.NoHead.TheVariants as none
 use Rattle.osc_protect.specs.declared.head_error.HeadError.{HeadError}
 use Rattle.osc_protect.specs.declared.head_error.HeadError.TheVariants as heads
 use Rattle.osc_protect.specs.declared.protect_error.ProtectError.{ProtectError}
 use Rattle.osc_protect.specs.declared.protect_error.ProtectError.TheVariants as protects
 use Rattle.osc_protect.specs.declared.unprotect_error.UnprotectError.{UnprotectError}
 use Rattle.osc_protect.specs.declared.unprotect_error.UnprotectError.TheVariants.{Format, NotThatKind, NoOscore, Undecodable, WrongContext, Tag, Inner}
+
+-- why a message has no head, as it prints (own rule)
+abbrev pub no_head_text : NoHead → List ℕ
+no_head_text none.NotThatKind = codes "NotThatKind"
+no_head_text none.NoOscore = codes "NoOscore"
+no_head_text none.Undecodable = codes "Undecodable"
+
+-- the refusal to read a datagram's head that a message without one becomes (own rule)
+abbrev pub raised : NoHead → HeadError
+raised none.NotThatKind = heads.NotThatKind
+raised none.NoOscore = heads.NoOscore
+raised none.Undecodable = heads.Undecodable
 
 -- a refusal to read a head, as it prints (own rule)
 abbrev pub head_error_text : HeadError → List ℕ

@@ -7,10 +7,11 @@ use Rattle.osc_coap.specs.Inner.{InnerParts}
 use Rattle.osc_context.specs.Views.{number_of, oscore_parts_of}
 use Rattle.osc_ccm.specs.Ccm.{ccm}
 use Rattle.osc_protect.specs.Head.{Head}
-use Rattle.osc_protect.specs.Usage.{value_of_request}
+use Rattle.osc_protect.specs.Usage.{value_of_request, value_of_response}
 use Rattle.osc_protect.specs.declared.aead.Aead.{Aead}
 use Rattle.osc_protect.specs.declared.oscore_head.OscoreHead.{OscoreHead}
 use Rattle.osc_protect.specs.declared.request_head.RequestHead.{RequestHead}
+use Rattle.osc_protect.specs.declared.response_head.ResponseHead.{ResponseHead}
 use Rattle.osc_protect.specs.declared.request_ref.RequestRef.{RequestRef}
 use Rattle.osc_protect.specs.declared.opened.Opened.{Opened}
 
@@ -25,6 +26,10 @@ head_of h = record { kind = h.kind; message_id = h.message_id; token = h.token.i
 -- the head of a request that was read (how the code is seen)
 abbrev pub seen_head : RequestHead → Head
 seen_head h = record { kind = h.kind; message_id = h.message_id; token = h.token.items; parts = value_of_request (number_of h.number) (shown h.kid_context) h.kid.now; payload = h.payload.now }
+
+-- the head of a response that was read (how the code is seen)
+abbrev pub seen_response_head : ResponseHead → Head
+seen_response_head h = record { kind = h.kind; message_id = h.message_id; token = h.token.items; parts = value_of_response (option_map number_of h.number); payload = h.payload.now }
 
 -- the number of the request that is named (how the code is seen)
 abbrev pub request_number : RequestRef → ℕ

@@ -2,9 +2,8 @@
 
 ghost use Rattle.std.specs.Prelude.{◌≡◌, IfErr, IsOk, IsErrOf};
 ghost use Rattle.osc_coap.specs.Views.{parts_of};
-ghost use Rattle.osc_protect.specs.SealRefusals.{CanBeSealed, RefusesPlain};
+ghost use Rattle.osc_protect.specs.SealRefusals.{CanBeSealed, IsPlainRequest, IsPlainResponse, RefusesPlain, RefusesPlainRequest, RefusesPlainResponse};
 ghost use Rattle.osc_protect.specs.declared.protect_error.ProtectError.{ProtectError};
-ghost use Rattle.osc_protect.specs.declared.usage.Usage.TheVariants.{Request, Response};
 
 use crate::option_search::first_unsupported;
 use crate::protect_error::ProtectError;
@@ -14,10 +13,10 @@ use osc_coap::{Message, options_ascend};
 /// Whether a message can be sealed as a request, whatever its length: CON or NON with a request code, and none of the options
 /// 6, 9, 23, 27, 35 and 39, of which the lowest is named (RFC 8613, 8.1; own rule: the options).
 pub fn check_request(plain: &Message<'_>) -> Result<(), ProtectError>
-    ensures accepted { IsOk result → CanBeSealed Request (parts_of plain.now) }
-    ensures accepts { CanBeSealed Request (parts_of plain.now) → IsOk result }
-    ensures refused { IfErr result (λ e. RefusesPlain Request (parts_of plain.now) e) }
-    ensures refuses { (e : ProtectError) → RefusesPlain Request (parts_of plain.now) e → IsErrOf result e }
+    ensures accepted { IsOk result → IsPlainRequest (parts_of plain.now) }
+    ensures accepts { IsPlainRequest (parts_of plain.now) → IsOk result }
+    ensures refused { IfErr result (λ e. RefusesPlainRequest (parts_of plain.now) e) }
+    ensures refuses { (e : ProtectError) → RefusesPlainRequest (parts_of plain.now) e → IsErrOf result e }
 {
     judge(Usage::Request, plain)
 }
@@ -25,10 +24,10 @@ pub fn check_request(plain: &Message<'_>) -> Result<(), ProtectError>
 /// Whether a message can be sealed as a response, whatever its length: CON, NON or ACK with a response code, and none of the
 /// options that a request may not have (RFC 8613, 8.3; own rule: the options).
 pub fn check_response(plain: &Message<'_>) -> Result<(), ProtectError>
-    ensures accepted { IsOk result → CanBeSealed Response (parts_of plain.now) }
-    ensures accepts { CanBeSealed Response (parts_of plain.now) → IsOk result }
-    ensures refused { IfErr result (λ e. RefusesPlain Response (parts_of plain.now) e) }
-    ensures refuses { (e : ProtectError) → RefusesPlain Response (parts_of plain.now) e → IsErrOf result e }
+    ensures accepted { IsOk result → IsPlainResponse (parts_of plain.now) }
+    ensures accepts { IsPlainResponse (parts_of plain.now) → IsOk result }
+    ensures refused { IfErr result (λ e. RefusesPlainResponse (parts_of plain.now) e) }
+    ensures refuses { (e : ProtectError) → RefusesPlainResponse (parts_of plain.now) e → IsErrOf result e }
 {
     judge(Usage::Response, plain)
 }

@@ -1,10 +1,40 @@
-//! Why a datagram has no head of a protected message.
+//! Why a message, or a datagram, has no head of a protected message.
 
 use osc_coap::FormatError;
 use std::error::Error;
 use std::fmt;
 
-/// Why a datagram has no head of a protected message, in the order in which it is judged.
+/// Why a message has no head of a protected message, in the order in which it is judged.
+#[derive(Clone, Copy, Debug, PartialEq, Eq)]
+pub enum NoHead {
+    /// The message is not of the kind and code that was asked for: of a request CON or NON with a request code, of a response
+    /// CON, NON or ACK with a response code.
+    NotThatKind,
+    /// There is no OSCORE option.
+    NoOscore,
+    /// There are two or more OSCORE options, or one whose value can't be read; in a request it lacks a Partial IV or a kid, in
+    /// a response it has a kid or a kid context; or there is no payload, or an option for proxies.
+    Undecodable,
+}
+
+impl fmt::Display for NoHead {
+    ghost use Rattle.std.specs.Prelude.{Some};
+    ghost use Rattle.osc_protect.specs.Text.{no_head_text};
+
+    ghost output = { λ none. Some (no_head_text none) };
+
+    fn fmt<W: fmt::Write>(&self, f: &mut fmt::Formatter<W>) -> fmt::Result {
+        match self {
+            NoHead::NotThatKind => f.write_str("NotThatKind"),
+            NoHead::NoOscore => f.write_str("NoOscore"),
+            NoHead::Undecodable => f.write_str("Undecodable"),
+        }
+    }
+}
+
+impl Error for NoHead {}
+
+/// Why a datagram has no head of a protected request, in the order in which it is judged.
 #[derive(Clone, Copy, Debug, PartialEq, Eq)]
 pub enum HeadError {
     /// The bytes are no CoAP message.
@@ -16,6 +46,21 @@ pub enum HeadError {
     /// There are two or more OSCORE options, or one whose value can't be read, or lacks a Partial IV or a kid; or there is
     /// no payload, or an option for proxies.
     Undecodable,
+}
+
+impl From<NoHead> for HeadError {
+    ghost use Rattle.std.specs.Prelude.{◌≡◌};
+    ghost use Rattle.osc_protect.specs.Text.{raised};
+
+    ghost from_gives = { λ none given. given ≡ raised none };
+
+    fn from(none: NoHead) -> HeadError {
+        match none {
+            NoHead::NotThatKind => HeadError::NotThatKind,
+            NoHead::NoOscore => HeadError::NoOscore,
+            NoHead::Undecodable => HeadError::Undecodable,
+        }
+    }
 }
 
 impl fmt::Display for HeadError {

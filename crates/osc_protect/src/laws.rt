@@ -1,9 +1,8 @@
 //! What holds of all datagrams. A call of such a function does nothing: its contract is there for the proof of its
 //! caller.
 
-ghost use Rattle.osc_protect.specs.Laws.{OneHead, OneRequest, OneResponse, OneSealed, SealedOpens};
+ghost use Rattle.osc_protect.specs.Laws.{NamesOneClient, OneRequest, OneRequestHead, OneResponse, OneResponseHead, OneSealed, SealedOpens};
 ghost use Rattle.osc_protect.specs.Layers.{LayerLaws};
-ghost use Rattle.osc_protect.specs.declared.usage.Usage.TheVariants.{Request, Response};
 
 use osc_ccm::{one_plaintext, protection_length};
 use osc_coap::{lengths_by_parts, one_datagram, one_inner, one_text};
@@ -23,11 +22,16 @@ pub(crate) fn layer_laws()
 /// A datagram has one head of a request or one refusal of it, and one head of a response or one refusal of that, never both
 /// (RFC 8613, 8.2 and 8.4).
 pub fn one_head()
-    ensures request { OneHead Request }
-    ensures response { OneHead Response }
+    ensures request { OneRequestHead }
+    ensures response { OneResponseHead }
 {
     layer_laws();
 }
+
+/// Two contexts that the head of a request names have the same client, and the same ID Context or none (RFC 8613, 8.2).
+pub fn one_client()
+    ensures { NamesOneClient }
+{}
 
 /// A datagram protects one request under one number or has one refusal, never both (RFC 8613, 8.2).
 pub fn one_request()

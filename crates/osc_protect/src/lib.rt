@@ -23,14 +23,15 @@ mod oscore_head;
 mod protect_error;
 mod request_head;
 mod request_ref;
+mod response_head;
 mod sealing;
 mod split;
 mod unprotect_error;
 mod usage;
 
 pub use checks::{check_request, check_response};
-pub use head_error::HeadError;
-pub use laws::{one_head, one_request, one_response, one_sealed, sealed_opens};
+pub use head_error::{HeadError, NoHead};
+pub use laws::{one_client, one_head, one_request, one_response, one_sealed, sealed_opens};
 pub use opened::Opened;
 pub use opening::{
     Place, decrypt_request, decrypt_response, open_request, open_response, read_request,
@@ -39,5 +40,6 @@ pub use opening::{
 pub use protect_error::ProtectError;
 pub use request_head::{RequestHead, head_of_request};
 pub use request_ref::RequestRef;
+pub use response_head::ResponseHead;
 pub use sealing::{seal_request, seal_response};
 pub use unprotect_error::UnprotectError;

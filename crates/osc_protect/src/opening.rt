@@ -7,7 +7,7 @@ ghost use Rattle.osc_coap.specs.Inner.{InnerParts};
 ghost use Rattle.osc_context.specs.Views.{as_client, as_server, number_of};
 ghost use Rattle.osc_protect.specs.Protection.{ProtectsRequest, ProtectsResponse, requests, responses};
 ghost use Rattle.osc_protect.specs.Refusals.{Names, RefusesToOpen, RefusesToDecrypt};
-ghost use Rattle.osc_protect.specs.Views.{message_of, opened_number, request_number, seen_head, shown};
+ghost use Rattle.osc_protect.specs.Views.{message_of, opened_number, request_number};
 ghost use Rattle.osc_protect.specs.declared.unprotect_error.UnprotectError.{UnprotectError};
 ghost use Rattle.osc_protect.specs.declared.unprotect_error.UnprotectError.TheVariants.{WrongContext};
 
@@ -16,7 +16,7 @@ use crate::laws::{one_head, one_request, one_response};
 use crate::opened::Opened;
 use crate::option_search::has_barred;
 use crate::oscore_head::read_head;
-use crate::request_head::{RequestHead, head_of_request};
+use crate::request_head::head_of_request;
 use crate::request_ref::RequestRef;
 use crate::unprotect_error::UnprotectError;
 use crate::usage::{Usage, is_code_of};
@@ -163,7 +163,7 @@ fn decrypt_as_request(context: &Context, datagram: &mut [u8]) -> Result<Place, U
         Err(error) => return Err(UnprotectError::from(error)),
     };
     // The context is asked before the tag is checked (RFC 8613, 8.2).
-    if !is_named(&head, context) {
+    if !head.names(context) {
         return Err(UnprotectError::WrongContext);
     }
     let number = head.number;
@@ -202,26 +202,6 @@ fn decrypt_as_response(
     match aead.open(&mut datagram[start..]) {
         Some(len) => Ok(Place { piv: own, len }),
         None => Err(UnprotectError::Tag),
-    }
-}
-
-/// Whether the head names the context: the other end, and the ID Context or none.
-fn is_named(head: &RequestHead<'_>, context: &Context) -> bool
-    ensures yes { result ≡ true → Names (requests (as_server context.now)) (seen_head head.now) (number_of head.now.number) }
-    ensures no { result ≡ false → (n : ℕ) → Names (requests (as_server context.now)) (seen_head head.now) n → ⊥ }
-{
-    head.kid == context.recipient().bytes() && is_in_id_context(head.kid_context, context)
-}
-
-/// Whether there is a kid context exactly if the context has an ID Context, with the same bytes.
-fn is_in_id_context(kid_context: Option<&[u8]>, context: &Context) -> bool
-    ensures yes { result ≡ true → shown kid_context.entry ≡ (as_server context.now).id_context }
-    ensures no { result ≡ false → shown kid_context.entry ≢ (as_server context.now).id_context }
-{
-    match (kid_context, context.id_context()) {
-        (None, None) => true,
-        (Some(kid_context), Some(id_context)) => kid_context == id_context.bytes(),
-        _ => false,
     }
 }
 

@@ -1,9 +1,9 @@
 //! What a protected message says to whoever has no key (RFC 8613, 8.2 and 8.4, steps 1 and 2).
 
-ghost use Rattle.std.specs.Prelude.{IfOk, IfErr};
+ghost use Rattle.std.specs.Prelude.{◌≡◌, IfOk, IfErr};
 ghost use Rattle.osc_coap.specs.Views.{parts_of};
 
-use crate::head_error::HeadError;
+use crate::head_error::{HeadError, NoHead};
 use crate::option_search::{Found, has_proxy, only_value};
 use crate::usage::{Usage, is_complete, is_used};
 use osc_coap::option_numbers::OSCORE;
@@ -23,33 +23,42 @@ pub(crate) struct OscoreHead<'a> {
 ghost use Rattle.osc_protect.specs.Head.{HasHead, HasNoHead, ShowsNoHead, ShowsHead};
 ghost use Rattle.osc_protect.specs.Views.{head_of};
 
-/// Reads the head of a message.
-fn head_of(usage: Usage, message: Message<'_>) -> Result<OscoreHead<'_>, HeadError>
-    ensures head { IfOk result (λ h. ShowsHead usage (parts_of message.entry) (head_of h)) }
-    ensures refused { IfErr result (λ e. ShowsNoHead usage (parts_of message.entry) e) }
+/// The same token once more.
+fn copy_of(token: &Token) -> Token
+    ensures { result.items ≡ token.now.items }
 {
-    if !is_used(usage, &message) {
-        return Err(HeadError::NotThatKind);
+    let mut copy = Token::new();
+    copy.try_extend_from_slice(token.as_slice()).unwrap();
+    copy
+}
+
+/// Reads the head of a message.
+pub(crate) fn head_of<'a>(usage: Usage, message: &Message<'a>) -> Result<OscoreHead<'a>, NoHead>
+    ensures head { IfOk result (λ h. ShowsHead usage (parts_of message.now) (head_of h)) }
+    ensures refused { IfErr result (λ e. ShowsNoHead usage (parts_of message.now) e) }
+{
+    if !is_used(usage, message) {
+        return Err(NoHead::NotThatKind);
     }
     let value = match only_value(message.options(), OSCORE) {
-        Found::Nothing => return Err(HeadError::NoOscore),
+        Found::Nothing => return Err(NoHead::NoOscore),
         Found::One(value) => value,
-        Found::More => return Err(HeadError::Undecodable),
+        Found::More => return Err(NoHead::Undecodable),
     };
     let Ok(option) = OscoreOption::read(value) else {
-        return Err(HeadError::Undecodable);
+        return Err(NoHead::Undecodable);
     };
     if !is_complete(usage, option) {
-        return Err(HeadError::Undecodable);
+        return Err(NoHead::Undecodable);
     }
     let payload = message.payload();
     if payload.is_empty() || has_proxy(message.options()) {
-        return Err(HeadError::Undecodable);
+        return Err(NoHead::Undecodable);
     }
     Ok(OscoreHead {
         kind: message.kind,
         message_id: message.message_id,
-        token: message.token,
+        token: copy_of(&message.token),
         option,
         payload,
     })
@@ -61,7 +70,10 @@ pub(crate) fn read_head(usage: Usage, datagram: &[u8]) -> Result<OscoreHead<'_>,
     ensures refused { IfErr result (λ e. HasNoHead usage datagram.now e) }
 {
     match parse(datagram) {
-        Ok(message) => head_of(usage, message),
+        Ok(message) => match head_of(usage, &message) {
+            Ok(head) => Ok(head),
+            Err(none) => Err(HeadError::from(none)),
+        },
         Err(error) => Err(HeadError::Format(error)),
     }
 }

@@ -1,16 +1,16 @@
 //! What a protected request says to whoever has no key (RFC 8613, 8.2, steps 1 and 2). It is read by itself, since a
 //! server needs it to find the context by which the rest is opened.
 
-ghost use Rattle.std.specs.Prelude.{IfOk, IfErr, IsOkAnd, IsErrOf, List, ℕ, ◌≡◌};
+ghost use Rattle.std.specs.Prelude.{IfOk, IfErr, IsOkAnd, IsErrOf, List, ℕ, ◌≡◌, ◌≢◌, true, false};
+ghost use Rattle.osc_context.specs.Views.{as_server, number_of, oscore_parts_of};
 ghost use Rattle.osc_protect.specs.declared.head_error.HeadError.{HeadError};
-ghost use Rattle.osc_protect.specs.declared.usage.Usage.TheVariants.{Request};
 
-use crate::head_error::HeadError;
+use crate::head_error::{HeadError, NoHead};
 use crate::laws::one_head;
-use crate::oscore_head::read_head;
+use crate::oscore_head::{OscoreHead, head_of, read_head};
 use crate::usage::Usage;
-use osc_coap::{Kind, Token};
-use osc_context::Piv;
+use osc_coap::{Kind, Message, Token};
+use osc_context::{Context, Piv};
 
 /// The head of a protected request. Nothing in it was protected yet.
 #[derive(Debug, Drop)]
@@ -25,23 +25,74 @@ pub struct RequestHead<'a> {
     pub(crate) payload: &'a [u8],
 }
 
-ghost use Rattle.osc_protect.specs.Head.{Head, HasHead, HasNoHead};
-ghost use Rattle.osc_protect.specs.Views.{seen_head};
+ghost use Rattle.osc_protect.specs.Head.{Head, HasNoRequestHead, HasRequestHead};
+ghost use Rattle.osc_protect.specs.Usage.{is_complete};
+ghost use Rattle.osc_protect.specs.Views.{head_of, seen_head, shown};
+ghost use Rattle.osc_protect.specs.declared.usage.Usage.TheVariants.{Request};
 
-/// Reads the head of a request's datagram.
-fn read_request_head(datagram: &[u8]) -> Result<RequestHead<'_>, HeadError>
-    ensures head { IfOk result (λ h. HasHead Request datagram.now (seen_head h)) }
-    ensures refused { IfErr result (λ e. HasNoHead Request datagram.now e) }
+impl<'a> RequestHead<'a> {
+    ghost use Rattle.osc_coap.specs.Views.{parts_of};
+    ghost use Rattle.osc_protect.specs.Head.{ShowsNoRequestHead, ShowsRequestHead};
+    ghost use Rattle.osc_protect.specs.Protection.{requests};
+    ghost use Rattle.osc_protect.specs.Refusals.{Names};
+    ghost use Rattle.osc_protect.specs.declared.head_error.NoHead.{NoHead};
+
+    /// Reads what a message says, as a protected request, to whoever has no key. The first refusal in the order of `NoHead` is
+    /// answered (RFC 8613, 8.2, steps 1 and 2); kind, message ID and token of a refused message are its own.
+    pub fn read(message: &Message<'a>) -> Result<RequestHead<'a>, NoHead>
+        ensures head { IfOk result (λ h. ShowsRequestHead (parts_of message.now) (seen_head h)) }
+        ensures refused { IfErr result (λ e. ShowsNoRequestHead (parts_of message.now) e) }
+        ensures accepts { (h : Head) → ShowsRequestHead (parts_of message.now) h → IsOkAnd result (λ x. seen_head x ≡ h) }
+        ensures refuses { (e : NoHead) → ShowsNoRequestHead (parts_of message.now) e → IsErrOf result e }
+    {
+        one_head();
+        RequestHead::read_shown(message)
+    }
+
+    /// Reads the head of a message.
+    fn read_shown(message: &Message<'a>) -> Result<RequestHead<'a>, NoHead>
+        ensures head { IfOk result (λ h. ShowsRequestHead (parts_of message.now) (seen_head h)) }
+        ensures refused { IfErr result (λ e. ShowsNoRequestHead (parts_of message.now) e) }
+    {
+        match head_of(Usage::Request, message) {
+            Ok(head) => Ok(of_request(head)),
+            Err(none) => Err(none),
+        }
+    }
+
+    /// Whether the head names the context of this end, which is the server: the kid is the other end's identifier, and the kid
+    /// context the ID Context, or neither is there (RFC 8613, 8.2, step 2; own rule: a kid context exactly if there is an ID
+    /// Context).
+    #[must_use]
+    pub fn names(&self, context: &Context) -> bool
+        ensures yes { result ≡ true → Names (requests (as_server context.now)) (seen_head self.now) (number_of self.now.number) }
+        ensures no { result ≡ false → (n : ℕ) → Names (requests (as_server context.now)) (seen_head self.now) n → ⊥ }
+    {
+        self.kid == context.recipient().bytes() && is_in_id_context(self.kid_context, context)
+    }
+}
+
+/// Whether there is a kid context exactly if the context has an ID Context, with the same bytes.
+fn is_in_id_context(kid_context: Option<&[u8]>, context: &Context) -> bool
+    ensures yes { result ≡ true → shown kid_context.entry ≡ (as_server context.now).id_context }
+    ensures no { result ≡ false → shown kid_context.entry ≢ (as_server context.now).id_context }
 {
-    let head = match read_head(Usage::Request, datagram) {
-        Ok(head) => head,
-        Err(error) => return Err(error),
-    };
-    // A request has both, or it has no head.
+    match (kid_context, context.id_context()) {
+        (None, None) => true,
+        (Some(kid_context), Some(id_context)) => kid_context == id_context.bytes(),
+        _ => false,
+    }
+}
+
+/// The head of a request, which has a number and a kid.
+fn of_request(head: OscoreHead<'_>) -> RequestHead<'_>
+    requires { is_complete Request (oscore_parts_of head.option) ≡ true }
+    ensures { seen_head result ≡ head_of head.entry }
+{
     let (Some(number), Some(kid)) = (head.option.piv, head.option.kid) else {
         unreachable!()
     };
-    Ok(RequestHead {
+    RequestHead {
         kind: head.kind,
         message_id: head.message_id,
         token: head.token,
@@ -49,16 +100,27 @@ fn read_request_head(datagram: &[u8]) -> Result<RequestHead<'_>, HeadError>
         kid_context: head.option.kid_context,
         number,
         payload: head.payload,
-    })
+    }
 }
 
-/// Reads what a protected request says to whoever has no key: kind, message ID, token, kid, kid context and number. The
-/// first refusal in the order of `HeadError` is answered (RFC 8613, 8.2).
+/// Reads the head of a request's datagram.
+fn read_request_head(datagram: &[u8]) -> Result<RequestHead<'_>, HeadError>
+    ensures head { IfOk result (λ h. HasRequestHead datagram.now (seen_head h)) }
+    ensures refused { IfErr result (λ e. HasNoRequestHead datagram.now e) }
+{
+    match read_head(Usage::Request, datagram) {
+        Ok(head) => Ok(of_request(head)),
+        Err(error) => Err(error),
+    }
+}
+
+/// Reads what a protected request says to whoever has no key: kind, message ID, token, kid, kid context and number. It is
+/// `parse`, and then `RequestHead::read`. The first refusal in the order of `HeadError` is answered (RFC 8613, 8.2).
 pub fn head_of_request(datagram: &[u8]) -> Result<RequestHead<'_>, HeadError>
-    ensures head { IfOk result (λ h. HasHead Request datagram.now (seen_head h)) }
-    ensures refused { IfErr result (λ e. HasNoHead Request datagram.now e) }
-    ensures accepts { (h : Head) → HasHead Request datagram.now h → IsOkAnd result (λ x. seen_head x ≡ h) }
-    ensures refuses { (e : HeadError) → HasNoHead Request datagram.now e → IsErrOf result e }
+    ensures head { IfOk result (λ h. HasRequestHead datagram.now (seen_head h)) }
+    ensures refused { IfErr result (λ e. HasNoRequestHead datagram.now e) }
+    ensures accepts { (h : Head) → HasRequestHead datagram.now h → IsOkAnd result (λ x. seen_head x ≡ h) }
+    ensures refuses { (e : HeadError) → HasNoRequestHead datagram.now e → IsErrOf result e }
 {
     one_head();
     read_request_head(datagram)

@@ -7,8 +7,8 @@ use Rattle.osc_protect.specs.declared.usage.Usage.TheVariants.{Request}
 use Rattle.osc_protect.proofs.Decrypted.{decrypts, part_bytes, part_is}
 use Rattle.osc_protect.proofs.opening.decrypt_as_request.Goals as goal
 
-pub returns-then-not-is_named-clause-refused : goal.returns-then-not-is_named-clause-refused
-returns-then-not-is_named-clause-refused c = (seen_head c.in-Ok.head, c.in-Ok.ensures.head, c.if-not-is_named.ensures.no refl)
+pub returns-then-not-names-clause-refused : goal.returns-then-not-names-clause-refused
+returns-then-not-names-clause-refused c = (seen_head c.in-Ok.head, c.in-Ok.ensures.head, c.if-not-names.ensures.no refl)
 
 pub returns-in-Some-clause-decrypted : goal.returns-in-Some-clause-decrypted
 returns-in-Some-clause-decrypted c =

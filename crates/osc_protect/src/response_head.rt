@@ -1,0 +1,68 @@
+//! What a protected response says to whoever has no key (RFC 8613, 8.4, steps 1 and 2).
+
+ghost use Rattle.std.specs.Prelude.{IfOk, IfErr, IsOkAnd, IsErrOf, ◌≡◌, true};
+ghost use Rattle.osc_coap.specs.Views.{parts_of};
+ghost use Rattle.osc_context.specs.Views.{oscore_parts_of};
+ghost use Rattle.osc_protect.specs.declared.head_error.NoHead.{NoHead};
+ghost use Rattle.osc_protect.specs.declared.usage.Usage.TheVariants.{Response};
+
+use crate::head_error::NoHead;
+use crate::laws::one_head;
+use crate::oscore_head::{OscoreHead, head_of};
+use crate::usage::Usage;
+use osc_coap::{Kind, Message, Token};
+use osc_context::Piv;
+
+/// The head of a protected response. Nothing in it was protected yet; which request it answers its token tells.
+#[derive(Debug, Drop)]
+pub struct ResponseHead<'a> {
+    pub kind: Kind,
+    pub message_id: u16,
+    pub token: Token,
+    /// The number of the response, where it has one of its own.
+    pub number: Option<Piv>,
+    pub(crate) payload: &'a [u8],
+}
+
+ghost use Rattle.osc_protect.specs.Head.{Head, ShowsNoResponseHead, ShowsResponseHead};
+ghost use Rattle.osc_protect.specs.Usage.{is_complete};
+ghost use Rattle.osc_protect.specs.Views.{head_of, seen_response_head};
+
+impl<'a> ResponseHead<'a> {
+    /// Reads what a message says, as a protected response, to whoever has no key. The first refusal in the order of `NoHead`
+    /// is answered (RFC 8613, 8.4, steps 1 and 2).
+    pub fn read(message: &Message<'a>) -> Result<ResponseHead<'a>, NoHead>
+        ensures head { IfOk result (λ h. ShowsResponseHead (parts_of message.now) (seen_response_head h)) }
+        ensures refused { IfErr result (λ e. ShowsNoResponseHead (parts_of message.now) e) }
+        ensures accepts { (h : Head) → ShowsResponseHead (parts_of message.now) h → IsOkAnd result (λ x. seen_response_head x ≡ h) }
+        ensures refuses { (e : NoHead) → ShowsNoResponseHead (parts_of message.now) e → IsErrOf result e }
+    {
+        one_head();
+        ResponseHead::read_shown(message)
+    }
+
+    /// Reads the head of a message.
+    fn read_shown(message: &Message<'a>) -> Result<ResponseHead<'a>, NoHead>
+        ensures head { IfOk result (λ h. ShowsResponseHead (parts_of message.now) (seen_response_head h)) }
+        ensures refused { IfErr result (λ e. ShowsNoResponseHead (parts_of message.now) e) }
+    {
+        match head_of(Usage::Response, message) {
+            Ok(head) => Ok(of_response(head)),
+            Err(none) => Err(none),
+        }
+    }
+}
+
+/// The head of a response, which has no kid and no kid context.
+fn of_response(head: OscoreHead<'_>) -> ResponseHead<'_>
+    requires { is_complete Response (oscore_parts_of head.option) ≡ true }
+    ensures { seen_response_head result ≡ head_of head.entry }
+{
+    ResponseHead {
+        kind: head.kind,
+        message_id: head.message_id,
+        token: head.token,
+        number: head.option.piv,
+        payload: head.payload,
+    }
+}
