@@ -4,5 +4,6 @@ pub mod Rounds
 pub mod Keys
 pub mod KeyWords
 pub mod Lengths
+pub mod RoundKeys
 pub mod Vectors
 pub mod WordRounds

@@ -1,6 +1,6 @@
 -- For the proofs: AES-128 on words of 32 bits, as in the Rijndael proposal of Daemen and Rijmen, section 5.2.1: a
 -- column is a word whose highest byte stands in row 0. words holds 4 columns, or the 44 words of an expanded key.
-use Rattle.std.specs.Prelude.{◌≡◌, ℕ, ◌+◌, ◌-◌, ◌*◌, ◌/◌, ◌%◌, ◌<◌, List, [], ◌∷◌, slice_index, bit_xor}
+use Rattle.std.specs.Prelude.{◌≡◌, ℕ, ◌+◌, ◌-◌, ◌*◌, ◌/◌, ◌%◌, ◌<◌, ◌≤◌, List, [], ◌∷◌, slice_index, bit_xor}
 use Rattle.std.specs.Int.{byte_at, to_be_bytes, from_be_bytes, rotate_right, w32}
 use Rattle.osc_aes.specs.Field.{mul}
 use Rattle.osc_aes.specs.SubstitutionBox.{substitute}
@@ -32,3 +32,12 @@ add_round_words words i s row column = bit_xor (s row column) (byte_at (3 - row)
 -- the 44 words are w_0 to w_43, column by column: w_(4i + c) at place 11c + i (FIPS 197, 5.2)
 abbrev pub AreWordsOf : List ℕ → List ℕ → Type 0
 AreWordsOf words w = (k : ℕ) → k < 44 → to_be_bytes w32 (slice_index words k) ≡ word_at w (4 * (k % 11) + k / 11)
+
+-- those of the 44 words that belong to round keys 0 to i are the words of an expanded key (FIPS 197, 5.2)
+abbrev pub AreWordsTo : ℕ → List ℕ → List ℕ → Type 0
+AreWordsTo i words w =
+    (k : ℕ) → k < 44 → k % 11 ≤ i → to_be_bytes w32 (slice_index words k) ≡ word_at w (4 * (k % 11) + k / 11)
+
+-- the four words are those of round key i (FIPS 197, 5.2)
+abbrev pub AreRoundKey : ℕ → List ℕ → List ℕ → Type 0
+AreRoundKey i words w = (c : ℕ) → c < 4 → to_be_bytes w32 (slice_index words c) ≡ word_at w (4 * i + c)

@@ -1,12 +1,22 @@
 //! The key schedule (FIPS 197, 5.2): the words w0 to w43, of four bytes each, one after the other.
 
 ghost use Rattle.std.specs.Prelude.{◌≡◌, ◌<◌, ◌≤◌};
+ghost use Rattle.osc_aes.specs.Field.{power};
 ghost use Rattle.osc_aes.specs.Aes128.{added_word, expanded_key, next_word, word_at, xor_word};
 
 use crate::substitution_box::substitute_byte;
 
 // The first bytes of Rcon(1) to Rcon(10); their other three bytes are zero.
 const ROUND_CONSTANTS: [u8; 10] = [0x01, 0x02, 0x04, 0x08, 0x10, 0x20, 0x40, 0x80, 0x1b, 0x36];
+
+// The first byte of Rcon(round + 1).
+#[inline(always)]
+pub(crate) fn round_constant(round: usize) -> u8
+    requires { round < 10 }
+    ensures { result ≡ power 2 round }
+{
+    ROUND_CONSTANTS[round]
+}
 
 // All words of a key.
 pub(crate) fn expand(key: &[u8; 16]) -> [u8; 176]
@@ -41,7 +51,7 @@ fn added_word(last: [u8; 4], index: usize) -> [u8; 4]
     if index % 4 == 0 {
         // RotWord, SubWord and Rcon in one line: only the first byte of Rcon isn't zero.
         [
-            substitute_byte(b) ^ ROUND_CONSTANTS[index / 4 - 1],
+            substitute_byte(b) ^ round_constant(index / 4 - 1),
             substitute_byte(c),
             substitute_byte(d),
             substitute_byte(a),

@@ -4,12 +4,12 @@
 ghost use Rattle.std.specs.Prelude.{◌≡◌, ◌+◌, ◌*◌, ◌<◌, ◌≤◌, ℕ, List, [], ◌∷◌, length, slice_index, bit_xor};
 ghost use Rattle.std.specs.Int.{byte_at, to_be_bytes, w32};
 ghost use Rattle.osc_aes.specs.SubstitutionBox.{substitute};
-ghost use Rattle.osc_aes.specs.Aes128.{block_of, cipher, expanded_key, mix_columns, shift_rows, state_of, sub_bytes, word_at};
-ghost use Rattle.osc_aes.specs.RoundWords.{AreWordsOf, add_round_words, block_of_words, mixed_byte};
+ghost use Rattle.osc_aes.specs.Aes128.{added_word, block_of, cipher, expanded_key, mix_columns, shift_rows, state_of, sub_bytes, word_at};
+ghost use Rattle.osc_aes.specs.RoundWords.{AreRoundKey, AreWordsOf, AreWordsTo, add_round_words, block_of_words, mixed_byte};
 ghost use Rattle.osc_aes.specs.Views.{key_of_words};
 
 use crate::block_cipher::BlockCipher;
-use crate::key_schedule::expand;
+use crate::key_schedule::round_constant;
 use crate::round_words::{table_0, table_1, table_2, table_3};
 use crate::substitution_box::substitute_byte;
 use byteorder::{BigEndian, ByteOrder};
@@ -31,7 +31,7 @@ impl TableAes {
         ensures { ⟦<TableAes as BlockCipher>⟧.cipher_key result ≡ key.now }
     {
         TableAes {
-            words: round_key_words(&expand(key)),
+            words: round_key_words(key),
         }
     }
 }
@@ -47,15 +47,51 @@ impl BlockCipher for TableAes {
     ghost key_len = { λ s. s.key_len };
 }
 
-// An expanded key as numbers, column by column.
-fn round_key_words(bytes: &[u8; 176]) -> [u32; 44]
-    ensures { AreWordsOf result bytes.now }
+// All words of a key, column by column.
+fn round_key_words(key: &[u8; 16]) -> [u32; 44]
+    ensures { AreWordsOf result (expanded_key key.now) }
 {
     let mut words = [0u32; 44];
-    for k in 0..44 {
-        words[k] = read_word(bytes, 4 * (k % 11) + k / 11);
+    words[0] = read_word(key, 0);
+    words[11] = read_word(key, 1);
+    words[22] = read_word(key, 2);
+    words[33] = read_word(key, 3);
+    for round in 0..10 {
+        let [a, b, c, d] = next_words(&words, round);
+        words[round + 1] = a;
+        words[round + 12] = b;
+        words[round + 23] = c;
+        words[round + 34] = d;
     }
     words
+}
+
+// The four words of round key `round + 1`, from those before them.
+#[inline(always)]
+fn next_words(words: &[u32; 44], round: usize) -> [u32; 4]
+    requires { round < 10 }
+    ensures { (key : List ℕ) → length key ≡ 16 → AreWordsTo round words.now (expanded_key key)
+        → AreRoundKey (round + 1) result (expanded_key key) }
+{
+    let last = key_word(words, round, 3);
+    let a = key_word(words, round, 0) ^ added_word(last, round);
+    let b = key_word(words, round, 1) ^ a;
+    let c = key_word(words, round, 2) ^ b;
+    [a, b, c, last ^ c]
+}
+
+// What is added to the first word of round key `round` to make that of the next: RotWord, SubWord and Rcon on `last`,
+// the word between them.
+#[inline(always)]
+fn added_word(last: u32, round: usize) -> u32
+    requires { round < 10 }
+    ensures { to_be_bytes w32 result ≡ added_word (to_be_bytes w32 last) (4 * round + 4) }
+{
+    let row0 = substitute_byte(byte2(last)) ^ round_constant(round);
+    let row1 = substitute_byte(byte1(last));
+    let row2 = substitute_byte(byte0(last));
+    let row3 = substitute_byte(byte3(last));
+    word_of(row0, row1, row2, row3)
 }
 
 // Word `index` of some bytes.
