@@ -12,8 +12,8 @@ use std::mem;
 pub(crate) struct Answer {
     pub(crate) alloc: Global,
     pub(crate) text: String,
-    /// The answer of a first call, where two have to agree.
-    pub(crate) first: Option<String>,
+    /// The answers of earlier calls, where several have to agree.
+    pub(crate) earlier: Vec<String>,
     pub(crate) is_whole: bool,
 }
 
@@ -22,15 +22,17 @@ impl Answer {
         Answer {
             alloc,
             text: String::new(alloc),
-            first: None,
+            earlier: Vec::new(alloc),
             is_whole: true,
         }
     }
 
     /// What comes next has to be what came so far.
     pub(crate) fn again(&mut self) {
-        let first = mem::replace(&mut self.text, String::new(self.alloc));
-        self.first = Some(first);
+        let earlier = mem::replace(&mut self.text, String::new(self.alloc));
+        if self.earlier.push(earlier).is_err() {
+            self.is_whole = false;
+        }
     }
 
     /// Appends to the word that stands last.

@@ -84,10 +84,10 @@ impl<'t> Corpus<'t> {
         if !answer.is_whole {
             return self.differs(rt, row.name, " can't be read");
         }
-        if let Some(first) = &answer.first
-            && first.as_str() != row.wanted
-        {
-            return self.differs(rt, line, first.as_str());
+        for earlier in &answer.earlier {
+            if earlier.as_str() != row.wanted {
+                return self.differs(rt, line, earlier.as_str());
+            }
         }
         if answer.text.as_str() != row.wanted {
             return self.differs(rt, line, answer.text.as_str());

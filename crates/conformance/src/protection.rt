@@ -1,13 +1,19 @@
 //! Calls of osc_protect.
 
+ghost use Rattle.std.specs.Prelude.{ℕ, IfOk};
+ghost use Rattle.osc_context.specs.SecurityContext.{SecurityContext};
+ghost use Rattle.osc_protect.specs.Protection.{responses};
+ghost use Rattle.osc_protect.specs.StageViews.{IsSealedResponse};
+
 use crate::answer::Answer;
 use crate::fields::Fields;
 use osc_coap::parse;
 use osc_context::Context;
 use osc_protect::{
-    Opened, ProtectError, RequestHead, RequestRef, ResponseHead, UnprotectError, check_request,
-    check_response, decrypt_request, decrypt_response, head_of_request, open_request,
-    open_response, read_request, read_response, seal_request, seal_response,
+    HeadError, KeyedContext, Opened, ProtectError, RequestHead, RequestRef, ResponseHead,
+    SealedResponse, UnprotectError, check_request, check_response, decrypt_request,
+    decrypt_response, head_of_request, open_request, open_response, read_request, read_response,
+    seal_request, seal_response,
 };
 
 /// What a buffer to seal into is filled with.
@@ -63,10 +69,10 @@ pub(crate) fn response_head(fields: &Fields<'_>, answer: &mut Answer) {
 }
 
 /// Whether the head of a request names the context.
-pub(crate) fn named(fields: &Fields<'_>, context: &Context, answer: &mut Answer) {
+pub(crate) fn named(fields: &Fields<'_>, context: &KeyedContext, answer: &mut Answer) {
     fields.count(2);
     match head_of_request(fields.bytes(1)) {
-        Ok(head) => answer.word(if head.names(context) {
+        Ok(head) => answer.word(if head.names(context.context()) {
             "named"
         } else {
             "other"
@@ -108,24 +114,36 @@ fn sealed(outcome: Result<usize, ProtectError>, out: &[u8], answer: &mut Answer)
     }
 }
 
-pub(crate) fn sealed_request(fields: &Fields<'_>, context: &Context, answer: &mut Answer) {
+/// A request, sealed over a context and then over one that keeps its schedules.
+pub(crate) fn sealed_request(fields: &Fields<'_>, context: &KeyedContext, answer: &mut Answer) {
     fields.count(4);
+    let (Some(number), Some(plain)) = (fields.partial_iv(1), fields.message(2)) else {
+        return;
+    };
     let mut out = fields.room(3, FILLED_WITH);
-    if let (Some(number), Some(plain)) = (fields.partial_iv(1), fields.message(2)) {
-        let outcome = seal_request(context, number, &plain, out.as_mut_slice());
-        sealed(outcome, out.as_slice(), answer);
-    }
+    let outcome = seal_request(context.context(), number, &plain, out.as_mut_slice());
+    sealed(outcome, out.as_slice(), answer);
+    answer.again();
+    let mut out = fields.room(3, FILLED_WITH);
+    let outcome = context.seal_request(number, &plain, out.as_mut_slice());
+    sealed(outcome, out.as_slice(), answer);
 }
 
-pub(crate) fn sealed_response(fields: &Fields<'_>, context: &Context, answer: &mut Answer) {
+/// A response, sealed over a context and then over one that keeps its schedules.
+pub(crate) fn sealed_response(fields: &Fields<'_>, context: &KeyedContext, answer: &mut Answer) {
     fields.count(5);
     let own = fields.partial_iv(2);
+    let (Some(number), Some(plain)) = (fields.partial_iv(1), fields.message(3)) else {
+        return;
+    };
+    let request = RequestRef::new(number);
     let mut out = fields.room(4, FILLED_WITH);
-    if let (Some(number), Some(plain)) = (fields.partial_iv(1), fields.message(3)) {
-        let request = RequestRef::new(number);
-        let outcome = seal_response(context, &request, own, &plain, out.as_mut_slice());
-        sealed(outcome, out.as_slice(), answer);
-    }
+    let outcome = seal_response(context.context(), &request, own, &plain, out.as_mut_slice());
+    sealed(outcome, out.as_slice(), answer);
+    answer.again();
+    let mut out = fields.room(4, FILLED_WITH);
+    let outcome = context.seal_response(&request, own, &plain, out.as_mut_slice());
+    sealed(outcome, out.as_slice(), answer);
 }
 
 /// What a message says that opened, or why none did.
@@ -147,55 +165,103 @@ fn opened(outcome: Result<Opened<'_>, UnprotectError>, answer: &mut Answer) {
     answer.word("left");
 }
 
-/// A request that is opened in two halves.
-fn request_in_halves<'b>(
-    context: &Context,
+/// A request that is opened in stages.
+fn request_in_stages<'b>(
+    context: &KeyedContext,
     datagram: &'b mut [u8],
 ) -> Result<Opened<'b>, UnprotectError> {
-    let place = decrypt_request(context, datagram)?;
-    read_request(datagram, place)
+    let head = match head_of_request(datagram) {
+        Ok(head) => head,
+        Err(error) => return Err(UnprotectError::from(error)),
+    };
+    if !head.names(context.context()) {
+        return Err(UnprotectError::WrongContext);
+    }
+    let sealed = head.sealed();
+    let Ok(decrypted) = decrypt_request(context, datagram, sealed) else {
+        return Err(UnprotectError::Tag);
+    };
+    match read_request(datagram, decrypted) {
+        Ok(opened) => Ok(opened),
+        Err(_) => Err(UnprotectError::Inner),
+    }
 }
 
-/// A request, opened by one call and then in two halves.
-pub(crate) fn opened_request(fields: &Fields<'_>, context: &Context, answer: &mut Answer) {
+/// A request, opened by one call over a context, by one over the context that keeps its schedules, and in stages.
+pub(crate) fn opened_request(fields: &Fields<'_>, context: &KeyedContext, answer: &mut Answer) {
     fields.count(2);
+    let came = fields.bytes(1);
     let mut datagram = fields.copy(1);
-    opened(open_request(context, datagram.as_mut_slice()), answer);
-    answer.left(fields.bytes(1), datagram.as_slice());
+    let outcome = open_request(context.context(), datagram.as_mut_slice());
+    opened(outcome, answer);
+    answer.left(came, datagram.as_slice());
     answer.again();
     let mut datagram = fields.copy(1);
-    opened(request_in_halves(context, datagram.as_mut_slice()), answer);
-    answer.left(fields.bytes(1), datagram.as_slice());
+    opened(context.open_request(datagram.as_mut_slice()), answer);
+    answer.left(came, datagram.as_slice());
+    answer.again();
+    let mut datagram = fields.copy(1);
+    opened(request_in_stages(context, datagram.as_mut_slice()), answer);
+    answer.left(came, datagram.as_slice());
 }
 
-/// A response that is opened in two halves.
-fn response_in_halves<'b>(
-    context: &Context,
+/// What is to be decrypted of a response.
+fn sealed_of_response(datagram: &[u8]) -> Result<SealedResponse, UnprotectError>
+    ensures { IfOk result (λ x. (s : SecurityContext) (n : ℕ) → IsSealedResponse (responses s n) datagram.now x) }
+{
+    let message = match parse(datagram) {
+        Ok(message) => message,
+        Err(fault) => return Err(UnprotectError::Format(fault)),
+    };
+    match ResponseHead::read(&message) {
+        Ok(head) => Ok(head.sealed()),
+        Err(none) => Err(UnprotectError::from(HeadError::from(none))),
+    }
+}
+
+/// A response that is opened in stages.
+fn response_in_stages<'b>(
+    context: &KeyedContext,
     request: &RequestRef,
     datagram: &'b mut [u8],
 ) -> Result<Opened<'b>, UnprotectError> {
-    let place = decrypt_response(context, request, datagram)?;
-    read_response(datagram, place)
+    let sealed = sealed_of_response(datagram)?;
+    let Ok(decrypted) = decrypt_response(context, request, datagram, sealed) else {
+        return Err(UnprotectError::Tag);
+    };
+    match read_response(datagram, decrypted) {
+        Ok(opened) => Ok(opened),
+        Err(_) => Err(UnprotectError::Inner),
+    }
 }
 
-/// A response, opened by one call and then in two halves.
-pub(crate) fn opened_response(fields: &Fields<'_>, context: &Context, answer: &mut Answer) {
+/// A response, opened by one call over a context, by one over the context that keeps its schedules, and in stages.
+pub(crate) fn opened_response(fields: &Fields<'_>, context: &KeyedContext, answer: &mut Answer) {
     fields.count(3);
     let Some(number) = fields.partial_iv(1) else {
         return fields.refuse();
     };
-    let request = RequestRef::new(number);
+    let (request, came) = (RequestRef::new(number), fields.bytes(2));
     let mut datagram = fields.copy(2);
-    opened(
-        open_response(context, &request, datagram.as_mut_slice()),
-        answer,
-    );
-    answer.left(fields.bytes(2), datagram.as_slice());
+    let outcome = open_response(context.context(), &request, datagram.as_mut_slice());
+    opened(outcome, answer);
+    answer.left(came, datagram.as_slice());
     answer.again();
     let mut datagram = fields.copy(2);
-    opened(
-        response_in_halves(context, &request, datagram.as_mut_slice()),
-        answer,
-    );
-    answer.left(fields.bytes(2), datagram.as_slice());
+    let outcome = context.open_response(&request, datagram.as_mut_slice());
+    opened(outcome, answer);
+    answer.left(came, datagram.as_slice());
+    answer.again();
+    let mut datagram = fields.copy(2);
+    let outcome = response_in_stages(context, &request, datagram.as_mut_slice());
+    opened(outcome, answer);
+    answer.left(came, datagram.as_slice());
+}
+
+/// The text that `Debug` prints of a context that keeps its schedules.
+pub(crate) fn debug(fields: &Fields<'_>, answer: &mut Answer) {
+    match Context::derive(fields.params()) {
+        Ok(context) => answer.debugged(&KeyedContext::new(context)),
+        Err(refusal) => answer.refused(refusal),
+    }
 }

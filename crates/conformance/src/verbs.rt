@@ -3,6 +3,7 @@
 use crate::answer::Answer;
 use crate::fields::{Fields, NamedContext};
 use crate::{ciphers, context, protection, reading, window, writing};
+use osc_protect::KeyedContext;
 
 /// Makes a call of osc_aes, osc_ccm or osc_hkdf, or of a layer above.
 pub(crate) fn make(
@@ -80,6 +81,7 @@ fn of_windows(verb: &str, fields: &Fields<'_>, contexts: &[NamedContext<'_>], an
     match verb {
         "derive" => context::derive(fields, answer),
         "debug-context" => context::debug(fields, answer),
+        "debug-keyed-context" => protection::debug(fields, answer),
         "window" => window::window(fields, answer),
         "gate" => window::gate(fields, answer),
         "challenge" => window::challenge(fields, answer),
@@ -113,6 +115,7 @@ fn under_a_context(
     let Some(context) = fields.context(contexts) else {
         return fields.refuse();
     };
+    let context = KeyedContext::new(context);
     match verb {
         "names" => protection::named(fields, &context, answer),
         "seal-request" => protection::sealed_request(fields, &context, answer),

@@ -1,5 +1,5 @@
 -- The written tables against the definitions, by computation.
-use Rattle.std.proofs.Common.{◌≡◌, ℕ, ◌+◌, ◌-◌, ◌*◌, ◌/◌, ◌%◌, ◌^◌, ◌<◌, List, [], ◌∷◌, refl, ap, ◌∙◌, sym, get_or, map, bit_xor, arith, w32}
+use Rattle.std.proofs.Common.{◌≡◌, ℕ, ◌+◌, ◌-◌, ◌*◌, ◌/◌, ◌%◌, ◌^◌, ◌<◌, List, [], ◌∷◌, refl, ap, ◌∙◌, sym, get_or, map, bit_and, bit_xor, arith, w32}
 use Rattle.std.specs.Int.{to_be_bytes}
 use Rattle.std.specs.List.{range_with_len}
 use Rattle.std.proofs.lemmas.List.FromFn.{get_or-map-range_with_len}
@@ -168,3 +168,55 @@ pub table_row : (r t : ℕ) (rows : ℕ → List ℕ) → ((b : ℕ) → b < 256
     → (w b x : ℕ) → w ≡ round_word t b → b < 256 → b ≡ x → get_or (to_be_bytes w32 w) r 0 ≡ get_or (rows x) r 0
 table_row r t rows law w b x e lt same =
     ap (λ (l : List ℕ). get_or l r 0) (ap (to_be_bytes w32) e ∙ law b lt ∙ ap rows same)
+
+-- what is left of a word of table 2 in the last round
+abbrev pub lone_0 : ℕ → List ℕ
+lone_0 b = substitute b ∷ 0 ∷ 0 ∷ 0 ∷ []
+
+-- row 0 of all words of table 2
+round_word_2_lone : map (λ b. to_be_bytes w32 (bit_and (round_word 2 b) 0xff000000)) (range_with_len 0 256) ≡ map lone_0 (range_with_len 0 256)
+unfolding mul power product_of_squares inverse substitute round_word
+round_word_2_lone = refl
+
+-- row 0 of a word of table 2
+pub round_word_2-lone : (b : ℕ) → b < 256 → to_be_bytes w32 (bit_and (round_word 2 b) 0xff000000) ≡ lone_0 b
+round_word_2-lone = same_on_bytes _ _ round_word_2_lone
+
+-- what is left of a word of table 3 in the last round
+abbrev pub lone_1 : ℕ → List ℕ
+lone_1 b = 0 ∷ substitute b ∷ 0 ∷ 0 ∷ []
+
+-- row 1 of all words of table 3
+round_word_3_lone : map (λ b. to_be_bytes w32 (bit_and (round_word 3 b) 0x00ff0000)) (range_with_len 0 256) ≡ map lone_1 (range_with_len 0 256)
+unfolding mul power product_of_squares inverse substitute round_word
+round_word_3_lone = refl
+
+-- row 1 of a word of table 3
+pub round_word_3-lone : (b : ℕ) → b < 256 → to_be_bytes w32 (bit_and (round_word 3 b) 0x00ff0000) ≡ lone_1 b
+round_word_3-lone = same_on_bytes _ _ round_word_3_lone
+
+-- what is left of a word of table 0 in the last round
+abbrev pub lone_2 : ℕ → List ℕ
+lone_2 b = 0 ∷ 0 ∷ substitute b ∷ 0 ∷ []
+
+-- row 2 of all words of table 0
+round_word_0_lone : map (λ b. to_be_bytes w32 (bit_and (round_word 0 b) 0x0000ff00)) (range_with_len 0 256) ≡ map lone_2 (range_with_len 0 256)
+unfolding mul power product_of_squares inverse substitute round_word
+round_word_0_lone = refl
+
+-- row 2 of a word of table 0
+pub round_word_0-lone : (b : ℕ) → b < 256 → to_be_bytes w32 (bit_and (round_word 0 b) 0x0000ff00) ≡ lone_2 b
+round_word_0-lone = same_on_bytes _ _ round_word_0_lone
+
+-- what is left of a word of table 1 in the last round
+abbrev pub lone_3 : ℕ → List ℕ
+lone_3 b = 0 ∷ 0 ∷ 0 ∷ substitute b ∷ []
+
+-- row 3 of all words of table 1
+round_word_1_lone : map (λ b. to_be_bytes w32 (bit_and (round_word 1 b) 0x000000ff)) (range_with_len 0 256) ≡ map lone_3 (range_with_len 0 256)
+unfolding mul power product_of_squares inverse substitute round_word
+round_word_1_lone = refl
+
+-- row 3 of a word of table 1
+pub round_word_1-lone : (b : ℕ) → b < 256 → to_be_bytes w32 (bit_and (round_word 1 b) 0x000000ff) ≡ lone_3 b
+round_word_1-lone = same_on_bytes _ _ round_word_1_lone

@@ -3,7 +3,7 @@ use Rattle.std.proofs.Common.{◌≡◌, ℕ, zero, suc, ◌+◌, ◌-◌, ◌*�
 use Rattle.std.proofs.lemmas.Nat.{xor_mod, xor_shr, xor_comm}
 use Rattle.std.proofs.lemmas.List.FromFn.{fill_by_all, get_or-map-range_with_len}
 use Rattle.std.specs.Int.{byte_at, to_be_bytes}
-use lib.Bits.{xor_assoc}
+use lib.Bits.{xor_assoc, xor_zero_r}
 use Rattle.osc_aes.specs.Aes128.{State, add_round_key, after_rounds, block_of, cipher, mix_columns, shift_rows, state_of, sub_bytes, word_at}
 use Rattle.osc_aes.specs.RoundWords.{AreWordsOf, add_round_words}
 
@@ -65,6 +65,32 @@ module _ (f : ℕ → ℕ) (additive : (x y : ℕ) → f (bit_xor x y) ≡ bit_x
       → f (bit_xor (bit_xor (bit_xor p q) (bit_xor r s)) key) ≡ bit_xor (bit_xor (bit_xor S P) (bit_xor Q R)) (f key)
   column_byte_3 ep eq er es =
       column_byte_2 ep eq er es ∙ ap (λ (x : ℕ). bit_xor x (f key)) (xor_turn R S P Q)
+
+-- a byte f of the sum of four words and a key, where f is S in one of the four and zero in the others
+module _ (f : ℕ → ℕ) (additive : (x y : ℕ) → f (bit_xor x y) ≡ bit_xor (f x) (f y)) (p q r s key S : ℕ) where
+  -- S in the first
+  pub lone_byte_0 : f p ≡ S → f q ≡ 0 → f r ≡ 0 → f s ≡ 0
+      → f (bit_xor (bit_xor (bit_xor p q) (bit_xor r s)) key) ≡ bit_xor S (f key)
+  lone_byte_0 ep eq er es =
+      column_byte f additive p q r s key S 0 0 0 ep eq er es ∙ ap (λ (x : ℕ). bit_xor x (f key)) (xor_zero_r (bit_xor S 0) ∙ xor_zero_r S)
+
+  -- in the second
+  pub lone_byte_1 : f p ≡ 0 → f q ≡ S → f r ≡ 0 → f s ≡ 0
+      → f (bit_xor (bit_xor (bit_xor p q) (bit_xor r s)) key) ≡ bit_xor S (f key)
+  lone_byte_1 ep eq er es =
+      column_byte_1 f additive p q r s key 0 S 0 0 ep eq er es ∙ ap (λ (x : ℕ). bit_xor x (f key)) (xor_zero_r (bit_xor S 0) ∙ xor_zero_r S)
+
+  -- in the third
+  pub lone_byte_2 : f p ≡ 0 → f q ≡ 0 → f r ≡ S → f s ≡ 0
+      → f (bit_xor (bit_xor (bit_xor p q) (bit_xor r s)) key) ≡ bit_xor S (f key)
+  lone_byte_2 ep eq er es =
+      column_byte_2 f additive p q r s key 0 0 S 0 ep eq er es ∙ ap (λ (x : ℕ). bit_xor x (f key)) (xor_zero_r (bit_xor S 0) ∙ xor_zero_r S)
+
+  -- in the fourth
+  pub lone_byte_3 : f p ≡ 0 → f q ≡ 0 → f r ≡ 0 → f s ≡ S
+      → f (bit_xor (bit_xor (bit_xor p q) (bit_xor r s)) key) ≡ bit_xor S (f key)
+  lone_byte_3 ep eq er es =
+      column_byte_3 f additive p q r s key 0 0 0 S ep eq er es ∙ ap (λ (x : ℕ). bit_xor x (f key)) (xor_zero_r (bit_xor S 0) ∙ xor_zero_r S)
 
 -- a byte of a word in its list
 byte_of_word : (r n : ℕ) → r < 4 → byte_at (3 - r) n ≡ get_or (to_be_bytes w32 n) r 0

@@ -4,5 +4,6 @@ pub mod SubstitutionBox
 pub mod Aes128
 -- how the code is seen
 pub mod Views
+pub mod Keyed
 -- for the proofs
 pub mod RoundWords

@@ -1,8 +1,11 @@
 //! The four tables of a round (Daemen and Rijmen, AES Proposal: Rijndael, 5.2.1): for each byte, the column
 //! that it becomes when it is substituted and mixed, with its row's share highest first. Table 0 holds
-//! 02·S, S, S, 03·S; tables 1, 2 and 3 hold it turned right by one, two and three bytes.
+//! 02·S, S, S, 03·S; tables 1, 2 and 3 hold it turned right by one, two and three bytes. In the last round, which mixes
+//! none, one byte S of such a column is left.
 
-ghost use Rattle.std.specs.Prelude.{◌≡◌};
+ghost use Rattle.std.specs.Prelude.{◌≡◌, [], ◌∷◌};
+ghost use Rattle.std.specs.Int.{to_be_bytes, w32};
+ghost use Rattle.osc_aes.specs.SubstitutionBox.{substitute};
 ghost use Rattle.osc_aes.specs.RoundWords.{round_word};
 
 const T0: [u32; 256] = [
@@ -145,12 +148,15 @@ const T3: [u32; 256] = [
     0x4141c382, 0x9999b029, 0x2d2d775a, 0x0f0f111e, 0xb0b0cb7b, 0x5454fca8, 0xbbbbd66d, 0x16163a2c,
 ];
 
+// The tables one behind the other: a round needs one place in memory for all four.
+const TABLES: [[u32; 256]; 4] = [T0, T1, T2, T3];
+
 // The column that a byte of row 0 becomes.
 #[inline(always)]
 pub(crate) fn table_0(byte: u8) -> u32
     ensures { result ≡ round_word 0 byte }
 {
-    T0[byte as usize]
+    TABLES[0][byte as usize]
 }
 
 // The column that a byte of row 1 becomes.
@@ -158,7 +164,7 @@ pub(crate) fn table_0(byte: u8) -> u32
 pub(crate) fn table_1(byte: u8) -> u32
     ensures { result ≡ round_word 1 byte }
 {
-    T1[byte as usize]
+    TABLES[1][byte as usize]
 }
 
 // The column that a byte of row 2 becomes.
@@ -166,7 +172,7 @@ pub(crate) fn table_1(byte: u8) -> u32
 pub(crate) fn table_2(byte: u8) -> u32
     ensures { result ≡ round_word 2 byte }
 {
-    T2[byte as usize]
+    TABLES[2][byte as usize]
 }
 
 // The column that a byte of row 3 becomes.
@@ -174,5 +180,37 @@ pub(crate) fn table_2(byte: u8) -> u32
 pub(crate) fn table_3(byte: u8) -> u32
     ensures { result ≡ round_word 3 byte }
 {
-    T3[byte as usize]
+    TABLES[3][byte as usize]
+}
+
+// The column with a substituted byte in row 0, and zeros.
+#[inline(always)]
+pub(crate) fn substituted_0(byte: u8) -> u32
+    ensures { to_be_bytes w32 result ≡ substitute byte ∷ 0 ∷ 0 ∷ 0 ∷ [] }
+{
+    table_2(byte) & 0xff00_0000
+}
+
+// The column with a substituted byte in row 1, and zeros.
+#[inline(always)]
+pub(crate) fn substituted_1(byte: u8) -> u32
+    ensures { to_be_bytes w32 result ≡ 0 ∷ substitute byte ∷ 0 ∷ 0 ∷ [] }
+{
+    table_3(byte) & 0x00ff_0000
+}
+
+// The column with a substituted byte in row 2, and zeros.
+#[inline(always)]
+pub(crate) fn substituted_2(byte: u8) -> u32
+    ensures { to_be_bytes w32 result ≡ 0 ∷ 0 ∷ substitute byte ∷ 0 ∷ [] }
+{
+    table_0(byte) & 0x0000_ff00
+}
+
+// The column with a substituted byte in row 3, and zeros.
+#[inline(always)]
+pub(crate) fn substituted_3(byte: u8) -> u32
+    ensures { to_be_bytes w32 result ≡ 0 ∷ 0 ∷ 0 ∷ substitute byte ∷ [] }
+{
+    table_1(byte) & 0x0000_00ff
 }

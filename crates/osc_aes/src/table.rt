@@ -10,7 +10,9 @@ ghost use Rattle.osc_aes.specs.Views.{key_of_words};
 
 use crate::block_cipher::BlockCipher;
 use crate::key_schedule::round_constant;
-use crate::round_words::{table_0, table_1, table_2, table_3};
+use crate::round_words::{
+    substituted_0, substituted_1, substituted_2, substituted_3, table_0, table_1, table_2, table_3,
+};
 use crate::substitution_box::substitute_byte;
 use byteorder::{BigEndian, ByteOrder};
 
@@ -113,16 +115,21 @@ fn key_word(words: &[u32; 44], round: usize, column: usize) -> u32
     words[11 * column + round]
 }
 
-// The columns of the block after all rounds.
+// The columns of the block after all rounds, one a line: a loop would move the columns about in each.
 fn cipher(words: &[u32; 44], block: &[u8; 16]) -> [u32; 4]
     ensures { (w : List ℕ) → AreWordsOf words.now w
         → block_of_words result ≡ cipher w block.now }
 {
-    let mut columns = first_columns(block, words);
-    for round in 0..9 {
-        let next = next_columns(columns, words, round + 1);
-        columns = next;
-    }
+    let columns = first_columns(block, words);
+    let columns = next_columns(columns, words, 1);
+    let columns = next_columns(columns, words, 2);
+    let columns = next_columns(columns, words, 3);
+    let columns = next_columns(columns, words, 4);
+    let columns = next_columns(columns, words, 5);
+    let columns = next_columns(columns, words, 6);
+    let columns = next_columns(columns, words, 7);
+    let columns = next_columns(columns, words, 8);
+    let columns = next_columns(columns, words, 9);
     last_columns(columns, words)
 }
 
@@ -208,11 +215,9 @@ fn last_word(a: u32, b: u32, c: u32, d: u32, key: u32) -> u32
     ensures row2 { byte_at 1 result ≡ bit_xor (substitute (byte_at 1 c)) (byte_at 1 key) }
     ensures row3 { byte_at 0 result ≡ bit_xor (substitute (byte_at 0 d)) (byte_at 0 key) }
 {
-    let row0 = substitute_byte(byte3(a));
-    let row1 = substitute_byte(byte2(b));
-    let row2 = substitute_byte(byte1(c));
-    let row3 = substitute_byte(byte0(d));
-    word_of(row0, row1, row2, row3) ^ key
+    (substituted_0(byte3(a)) ^ substituted_1(byte2(b)))
+        ^ (substituted_2(byte1(c)) ^ substituted_3(byte0(d)))
+        ^ key
 }
 
 // The word with these bytes, the highest first: by std, whose law tells them back.

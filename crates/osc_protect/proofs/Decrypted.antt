@@ -1,19 +1,19 @@
 -- Decrypting the payload where it lies.
-use Rattle.std.proofs.Common.{◌≡◌, ℕ, ◌+◌, ◌-◌, ◌<◌, ◌≤◌, List, ◌++◌, length, take, drop, sym, ap, subst, option_map, ◌∙◌, arith, get_or, length-take, take-append-drop}
-use Rattle.std.proofs.lemmas.List.{get_or-append_right}
+use Rattle.std.proofs.Common.{◌≡◌, ◌≢◌, ℕ, ◌+◌, ◌-◌, ◌<◌, ◌≤◌, List, [], ◌∷◌, ◌++◌, length, take, drop, refl, sym, ap, subst, ◌∙◌, arith, get_or, length-take, take-append-drop, Option, Some, None, IfSome, IfNone, Result, Ok, Err, IfOk, IsOk, IsErr, OnErr}
+use Rattle.std.proofs.lemmas.List.{get_or-append_right, length-append}
 use Rattle.std.proofs.lemmas.List.Elements.{All-from_get_or}
 use borrow.Rule.Slice.PartMut.{put_mid, mid_of}
 use Rattle.osc_protect.proofs.Placing.{mid_last, put_last}
 use Rattle.osc_coap.specs.OptionSpelling.{AreBytes}
-use Rattle.osc_coap.specs.Datagram.{IsDatagram}
+use Rattle.osc_coap.specs.Datagram.{Parts, IsDatagram}
 use Rattle.osc_coap.specs.Laws.{PayloadIsTheEnd, PayloadCanBeReplaced}
-use Rattle.osc_context.specs.Views.{number_of}
-use Rattle.osc_protect.specs.Head.{Head, HasHead}
+use Rattle.osc_protect.specs.Head.{Head}
 use Rattle.osc_protect.specs.Protection.{Protection}
-use Rattle.osc_protect.specs.Refusals.{Names}
-use Rattle.osc_protect.specs.declared.usage.Usage.{Usage}
-use Rattle.osc_protect.specs.Opening.{Decrypts}
-use Rattle.osc_protect.specs.declared.opening.Place.{Place}
+use Rattle.osc_protect.specs.Refusals.{RefusesTag}
+use Rattle.osc_protect.specs.Halves.{DecryptsPayload, HasPayload}
+use Rattle.osc_protect.specs.Laws.{OneHead}
+use Rattle.osc_protect.specs.Stages.{Decrypts, HasPayloadOf, HasSealed, HoldsPlaintext}
+use Rattle.osc_protect.specs.declared.stage_error.BadTag.{BadTag}
 
 -- the part that was written is of bytes, where the whole is
 pub part_bytes : (a : ℕ) (xs ys : List ℕ) → a ≤ length xs → ((i : ℕ) → get_or (put_mid a (length xs - a) xs ys) i 0 < 256) → AreBytes ys
@@ -28,40 +28,123 @@ part_bytes a xs ys h fits =
     let fit = fits (a + i) in
     omega (arith, same, fit))
 
--- the part of the datagram behind the head is its payload
-pub part_is : (last : PayloadIsTheEnd) (u : Usage) (d : List ℕ) (h : Head) → HasHead u d h → mid_of (length d - length h.payload) (length d - (length d - length h.payload)) d ≡ h.payload
-part_is last u d h x =
-    mid_last (length d - length h.payload) d
-    ∙ ap (λ (z : List ℕ). drop (length d - length z) d) x.2.payload
-    ∙ (last x.0 d x.1 x.2.filled).1
-    ∙ sym x.2.payload
+-- the part of the datagram that is decrypted is its payload
+pub part_is : (last : PayloadIsTheEnd) (p : Parts) (d : List ℕ) (len : ℕ) → HasPayload p d len → mid_of (length d - len) (length d - (length d - len)) d ≡ p.payload
+part_is last p d len x =
+    mid_last (length d - len) d
+    ∙ ap (λ (n : ℕ). drop (length d - n) d) x.long
+    ∙ (last p d x.datagram x.filled).1
+
+-- and lies within it
+pub part_within : (last : PayloadIsTheEnd) (p : Parts) (d : List ℕ) (len : ℕ) → HasPayload p d len → len ≤ length d
+part_within last p d len x = let inside = (last p d x.datagram x.filled).0 in let long = x.long in omega (arith, inside, long)
 
 -- a datagram whose payload was decrypted where it lies
-pub decrypts : {I : Type 0} (last : PayloadIsTheEnd) (other : PayloadCanBeReplaced) (f : Protection I) (i : I) (d old ys : List ℕ) (h : Head) (place : Place) (x : HasHead f.usage d h) → AreBytes ys → Names f h i
-    → old ≡ h.payload → length ys ≡ length old → place.len + 8 ≡ length old → old ≡ f.cipher i (take place.len ys) → drop place.len ys ≡ drop place.len old → option_map number_of place.piv ≡ (f.parts i).piv
-    → Decrypts f d place (put_mid (length d - length h.payload) (length d - (length d - length h.payload)) d ys)
-decrypts last other f i d old ys h place x bytes names is same long sealed tag piv =
-    let p = x.0 in
-    let n = place.len in
+pub decrypts : (last : PayloadIsTheEnd) (other : PayloadCanBeReplaced) (p : Parts) (d old ys : List ℕ) (len n : ℕ) (cipher : List ℕ → List ℕ) → HasPayload p d len → AreBytes ys
+    → old ≡ p.payload → length ys ≡ length old → n + 8 ≡ length old → old ≡ cipher (take n ys) → drop n ys ≡ drop n old
+    → DecryptsPayload cipher p n (put_mid (length d - len) (length d - (length d - len)) d ys)
+decrypts last other p d old ys len n cipher x bytes whole same long sealed tag =
     let front : length (take n ys) ≡ n = omega (arith, length-take n ys) in
-    let whole : old ≡ p.payload = is ∙ x.2.payload in
     let made : ys ≡ take n ys ++ drop (length (take n ys)) p.payload =
     sym (take-append-drop n ys) ∙ ap (λ (z : List ℕ). take n ys ++ z) (tag ∙ ap (drop n) whole ∙ ap (λ (k : ℕ). drop k p.payload) (sym front)) in
     let all : length ys ≡ length p.payload = same ∙ ap length whole in
-    let at : put_mid (length d - length h.payload) (length d - (length d - length h.payload)) d ys ≡ take (length d - length p.payload) d ++ ys =
-    put_last (length d - length h.payload) d ys (omega arith) ∙ ap (λ (z : List ℕ). take (length d - length z) d ++ ys) x.2.payload in
-    let put = other p d ys x.1 x.2.filled bytes all in
+    let at : put_mid (length d - len) (length d - (length d - len)) d ys ≡ take (length d - length p.payload) d ++ ys =
+    put_last (length d - len) d ys (omega arith) ∙ ap (λ (k : ℕ). take (length d - k) d ++ ys) x.long in
+    let put = other p d ys x.datagram x.filled bytes all in
     record {
-      outer = p;
-      head = h;
-      number = i;
       plaintext = take n ys;
-      datagram = x.1;
-      shows = x.2;
-      names = names;
-      seals = sym is ∙ sealed;
-      left = subst (λ (z : List ℕ). IsDatagram (record p { payload = z }) (put_mid (length d - length h.payload) (length d - (length d - length h.payload)) d ys)) made
+      seals = sym whole ∙ sealed;
+      left = subst (λ (z : List ℕ). IsDatagram (record p { payload = z }) (put_mid (length d - len) (length d - (length d - len)) d ys)) made
           (subst (λ (z : List ℕ). IsDatagram (record p { payload = ys }) z) (sym at) put);
-      piv = piv;
-      len = sym front;
+      long = sym front;
     }
+
+-- what opening the part made of the message's payload
+pub opens_payload : (last : PayloadIsTheEnd) (other : PayloadCanBeReplaced) (p : Parts) (d ys : List ℕ) (len : ℕ) (cipher : List ℕ → List ℕ) → HasPayload p d len → AreBytes ys
+    → length ys ≡ length (mid_of (length d - len) (length d - (length d - len)) d)
+    → (r : Option ℕ) → IfSome r (λ n. n + 8 ≡ length (mid_of (length d - len) (length d - (length d - len)) d))
+    → IfSome r (λ n. mid_of (length d - len) (length d - (length d - len)) d ≡ cipher (take n ys))
+    → IfSome r (λ n. drop n ys ≡ drop n (mid_of (length d - len) (length d - (length d - len)) d))
+    → IfSome r (λ n. DecryptsPayload cipher p n (put_mid (length d - len) (length d - (length d - len)) d ys))
+opens_payload last other p d ys len cipher x bytes same (Some n) long sealed tag = decrypts last other p d _ ys len n cipher x bytes (part_is last p d len x) same long sealed tag
+opens_payload last other p d ys len cipher x bytes same None long sealed tag = long
+
+-- and where it protects nothing, neither does the payload
+pub refuses_payload : (last : PayloadIsTheEnd) (p : Parts) (d : List ℕ) (len : ℕ) (cipher : List ℕ → List ℕ) → HasPayload p d len
+    → (r : Option ℕ) → IfNone r ((m : List ℕ) → mid_of (length d - len) (length d - (length d - len)) d ≢ cipher m) → IfNone r ((m : List ℕ) → p.payload ≢ cipher m)
+refuses_payload last p d len cipher x (Some n) none = none
+refuses_payload last p d len cipher x None none = λ m e. none m (part_is last p d len x ∙ e)
+
+-- ---- the stage as its caller sees it
+
+-- a payload that isn't empty stays so where its front is changed
+some_left : (a b : List ℕ) → b ≢ [] → a ++ drop (length a) b ≢ []
+some_left [] b some = some
+some_left (x ∷ xs) b some = λ e. cc
+
+module _ {I : Type 0} (f : Protection I) (old : List ℕ) (i : I) (len : ℕ) (x : HasSealed f old i len) where
+  pub has_payload : HasPayload (x.has.0) old len
+  has_payload = record { datagram = x.has.1; filled = x.has.2.filled; long = x.long ∙ ap length x.has.2.payload }
+
+  -- what became of the message's payload, said of the datagram's head
+  pub decrypts_as : (cipher : List ℕ → List ℕ) (n : ℕ) (new : List ℕ) → ((m : List ℕ) → cipher m ≡ f.cipher i m) → DecryptsPayload cipher (x.has.0) n new → Decrypts f old i n new
+  decrypts_as cipher n new is y =
+      let p = x.has.0 in
+      let shows = x.has.2 in
+      record {
+        outer = p;
+        head = x.head;
+        plaintext = y.plaintext;
+        datagram = x.has.1;
+        shows = shows;
+        names = x.names;
+        seals = shows.payload ∙ y.seals ∙ is y.plaintext;
+        left = y.left;
+        has = (
+          record p { payload = y.plaintext ++ drop (length y.plaintext) p.payload },
+          y.left,
+          record {
+            kind = shows.kind;
+            message_id = shows.message_id;
+            token = shows.token;
+            payload = ap (λ (z : List ℕ). y.plaintext ++ drop (length y.plaintext) z) shows.payload;
+            used = shows.used;
+            value = shows.value;
+            single = shows.single;
+            reads = shows.reads;
+            complete = shows.complete;
+            direct = shows.direct;
+            filled = some_left y.plaintext p.payload shows.filled;
+          },
+        );
+        long = y.long;
+      }
+
+  -- a payload that protects no plaintext, said of the datagram's head
+  pub refuses_as : (cipher : List ℕ → List ℕ) → ((m : List ℕ) → cipher m ≡ f.cipher i m) → ((m : List ℕ) → x.has.0.payload ≢ cipher m) → RefusesTag f old
+  refuses_as cipher is none = (x.head, x.has, i, x.names, λ m e. none m (sym x.has.2.payload ∙ e ∙ sym (is m)))
+
+module _ {I : Type 0} (f : Protection I) (laws : OneHead f.usage) (one_number : (i j : I) → f.parts i ≡ f.parts j → i ≡ j) (d : List ℕ) where
+  never_held : RefusesTag f d → HoldsPlaintext f d → ⊥
+  never_held r x =
+      let same : x.0 ≡ r.0 = laws.head d x.0 r.0 x.1 r.1 in
+      let number : x.2 ≡ r.2 = one_number (x.2) (r.2) (sym x.3 ∙ ap (λ (h : Head). h.parts) same ∙ r.3) in
+      r.4 (x.4) (sym (ap (λ (h : Head). h.payload) same) ∙ x.5 ∙ ap (λ (j : I). f.cipher j (x.4)) number)
+
+  -- what protects a plaintext is decrypted
+  pub accepts_held : {X : Type 0} (r : Result X BadTag) → OnErr r (RefusesTag f d) → HoldsPlaintext f d → IsOk r
+  accepts_held (Ok x) refused held = refl
+  accepts_held (Err e) refused held = absurd (never_held refused held)
+
+  -- and what doesn't isn't
+  pub refuses_held : {X : Type 0} (i : X → I) (len : X → ℕ) (new : List ℕ) (r : Result X BadTag) → IfOk r (λ x. Decrypts f d (i x) (len x) new) → RefusesTag f d → IsErr r
+  refuses_held i len new (Ok x) it refused = absurd (never_held refused (it.head, (it.outer, it.datagram, it.shows), i x, it.names, it.plaintext, it.seals))
+  refuses_held i len new (Err e) it refused = refl
+
+-- what was decrypted leaves a payload that is as long
+pub decrypted_left : {I : Type 0} (f : Protection I) (old : List ℕ) (i : I) (len : ℕ) (new : List ℕ) → Decrypts f old i len new → HasPayloadOf new len
+decrypted_left f old i len new it =
+    let rest = drop (length it.plaintext) it.outer.payload in
+    let size = length-append it.plaintext rest in
+    let long = it.long in
+    (record it.outer { payload = it.plaintext ++ rest }, it.left, omega (arith, size, long))

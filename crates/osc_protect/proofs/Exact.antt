@@ -167,10 +167,10 @@ module _ {I : Type 0} (laws : LayerLaws) (f : Protection I) (sound : IsSound f) 
   parted_one d e g (inr x) (inr y) = after_one y.0 e g (subst (λ (h : Head). After h e) (heads_one laws f.usage d x.0 y.0 x.1 y.1) x.2) y.2
 
   -- the head of a protection
-  abbrev head_of_protection : (i : I) (m : InnerParts) (d : List ℕ) → Protects f i m d → Head
+  abbrev pub head_of_protection : (i : I) (m : InnerParts) (d : List ℕ) → Protects f i m d → Head
   head_of_protection i m d x = record { kind = x.outer.kind; message_id = x.outer.message_id; token = x.outer.token; parts = f.parts i; payload = x.outer.payload }
 
-  protection_head : (i : I) (m : InnerParts) (d : List ℕ) (x : Protects f i m d) → HasHead f.usage d (head_of_protection i m d x)
+  pub protection_head : (i : I) (m : InnerParts) (d : List ℕ) (x : Protects f i m d) → HasHead f.usage d (head_of_protection i m d x)
   protection_head i m d x =
       let long = sound.long i x.plaintext in
       let full : length x.outer.payload ≡ length x.plaintext + 8 = ap length x.sealed ∙ long in (

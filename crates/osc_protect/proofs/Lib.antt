@@ -1,8 +1,9 @@
+pub mod Ciphers
 pub mod Placing
 pub mod Protections
 pub mod Exact
 pub mod Decrypted
-pub mod ReadAfter
+pub mod Staged
 pub mod SealedLengths
 pub mod Supported
 pub mod Splits
@@ -10,3 +11,6 @@ pub mod Sealings
 pub mod SealedOpenings
 pub mod SealedForms
 pub mod ShownHeads
+pub mod NamedHeads
+pub mod OpenedAlike
+pub mod CipherInputs

@@ -1,18 +1,16 @@
 -- What is sealed is a protection.
-use Rattle.std.proofs.Common.{◌≡◌, ℕ, ◌==◌, ◌||◌, Bool, true, false, List, [], ◌∷◌, ◌++◌, refl, sym, subst, arith, inl, inr}
+use Rattle.std.proofs.Common.{◌≡◌, ℕ, ◌==◌, ◌||◌, Bool, true, false, List, [], ◌∷◌, ◌++◌, refl, arith, inl, inr}
 use Rattle.osc_coap.specs.Class.{class, is_inner, is_outer, inner_options, outer_options}
 use Rattle.osc_coap.specs.OptionSpelling.{Entry}
 use Rattle.osc_coap.specs.declared.message.Kind.{Kind}
 use Rattle.osc_coap.specs.declared.message.Kind.TheVariants.{Con, Non, Ack, Rst}
 use Rattle.osc_coap.specs.Datagram.{Parts}
 use Rattle.osc_coap.specs.Inner.{InnerParts}
-use Rattle.osc_context.specs.SecurityContext.{SecurityContext}
-use Rattle.osc_context.specs.Views.{as_client, as_server}
 use Rattle.osc_coap.specs.Search.{values_at, has_number}
 use Rattle.osc_coap.specs.OptionNumbers.{oscore}
 use Rattle.osc_protect.specs.OptionSets.{is_proxy, is_barred, is_unsupported}
 use Rattle.osc_protect.specs.Usage.{is_code_of, is_used, outer_code_of}
-use Rattle.osc_protect.specs.Protection.{Protection, Protects, ProtectsRequest, ProtectsResponse, requests, responses}
+use Rattle.osc_protect.specs.Protection.{Protection, Protects, requests, responses}
 use Rattle.osc_protect.specs.Sealed.{inside, outside, IsSealed}
 use Rattle.osc_protect.specs.Laws.{OneMessage, OneRequest, OneResponse, ProtectsAlone, SealedOpens}
 use Rattle.osc_protect.specs.declared.usage.Usage.{Usage}
@@ -82,7 +80,7 @@ used_outside Response Ack code h = (refl, h)
 used_outside Response Rst code h = absurd (cc)
 
 -- what is sealed is a protection of the plain message's inside
-seals_protect : {I : Type 0} (f : Protection I) (i : I) (p : Parts) (d : List ℕ) → IsSealed f i p d → Protects f i (inside p) d
+pub seals_protect : {I : Type 0} (f : Protection I) (i : I) (p : Parts) (d : List ℕ) → IsSealed f i p d → Protects f i (inside p) d
 seals_protect f i p d x = record {
   outer = outside p (outer_code_of f.usage) x.value (f.cipher i (x.holds.0));
   datagram = x.holds.2;
@@ -98,6 +96,12 @@ seals_protect f i p d x = record {
   sealed = refl;
 }
 
+-- with what was sealed outside
+pub sealed_outside : {I : Type 0} (f : Protection I) (i : I) (p : Parts) (d : List ℕ) (x : IsSealed f i p d)
+    → (seals_protect f i p d x).outer ≡ outside p (outer_code_of f.usage) x.value (f.cipher i (x.holds.0))
+unfolding seals_protect
+sealed_outside f i p d x = refl
+
 -- and of no other message
 protects_alone : {I : Type 0} (f : Protection I) → OneMessage f → (i : I) (m : InnerParts) (d : List ℕ) → Protects f i m d → ProtectsAlone f i m d
 protects_alone f law i m d x = record {
@@ -107,8 +111,6 @@ protects_alone f law i m d x = record {
 
 pub sealed_law : OneRequest → OneResponse → SealedOpens
 sealed_law request response = record {
-  request = λ client server n p d same x. protects_alone (requests (as_server server)) (request (as_server server)) n (inside p) d
-      (subst (λ (s : SecurityContext). ProtectsRequest s n (inside p) d) same (seals_protect (requests (as_client client)) n p d x));
-  response = λ client server n own p d same x. protects_alone (responses (as_client client) n) (response (as_client client) n) own (inside p) d
-      (subst (λ (s : SecurityContext). ProtectsResponse s n own (inside p) d) (sym same) (seals_protect (responses (as_server server) n) own p d x));
+  request = λ s n p d x. protects_alone (requests s) (request s) n (inside p) d (seals_protect (requests s) n p d x);
+  response = λ s n own p d x. protects_alone (responses s n) (response s n) own (inside p) d (seals_protect (responses s n) own p d x);
 }

@@ -94,3 +94,11 @@ ShowsResponseHead p h = ShowsHead Response p h
 -- why a message has no head as a response (RFC 8613, 8.4)
 abbrev pub ShowsNoResponseHead : Parts → NoHead → Type 0
 ShowsNoResponseHead p e = ShowsNoHead Response p e
+
+-- the datagram is a message with this head as a response (RFC 8613, 8.4)
+abbrev pub HasResponseHead : List ℕ → Head → Type 0
+HasResponseHead d h = HasHead Response d h
+
+-- why a datagram has no head as a response (RFC 8613, 8.4)
+abbrev pub HasNoResponseHead : List ℕ → HeadError → Type 0
+HasNoResponseHead d e = HasNoHead Response d e

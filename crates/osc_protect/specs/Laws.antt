@@ -1,22 +1,25 @@
--- To be believed: what holds of all datagrams, of requests and of responses (RFC 8613, 8): the contracts of laws.rt. f
--- is a protection, i, j and k are numbers that it knows, u is a usage.
-use Rattle.std.specs.Prelude.{◌≡◌, ◌<◌, ◌≤◌, ◌^◌, ℕ, List, length, Option, IfSome}
+-- To be believed: what holds of all datagrams, of requests and of responses (RFC 8613, 8): contracts of laws.rt. f and g
+-- are protections of one usage, i, j and k numbers that they know, u is a usage, s and t are security contexts, d is a
+-- datagram, h a head, o and q are what was opened.
+use Rattle.std.specs.Prelude.{◌≡◌, ◌<◌, ◌≤◌, ◌⊎◌, ◌^◌, ℕ, List, length, Option, IfSome}
 use Rattle.osc_coap.specs.Datagram.{Parts}
 use Rattle.osc_coap.specs.Inner.{InnerParts}
 use Rattle.osc_context.specs.SecurityContext.{SecurityContext}
-use Rattle.osc_context.specs.Views.{as_client, as_server}
-use Rattle.osc_context.specs.declared.context.Context.{Context}
 use Rattle.osc_protect.specs.Head.{Head, HasHead, HasNoHead, ShowsHead, ShowsNoHead}
 use Rattle.osc_protect.specs.Sealed.{IsSealed, SealsRequest, SealsResponse, inside}
 use Rattle.osc_protect.specs.Protection.{Protection, Protects, requests, responses}
 use Rattle.osc_protect.specs.Refusals.{Names, RefusesToOpen}
 use Rattle.osc_protect.specs.SealRefusals.{RefusesToSeal}
+use Rattle.osc_protect.specs.Opening.{Opens}
+use Rattle.osc_protect.specs.Views.{shown, message_of, opened_number}
+use Rattle.osc_protect.specs.declared.opened.Opened.{Opened}
 use Rattle.osc_protect.specs.declared.usage.Usage.{Usage}
 use Rattle.osc_protect.specs.declared.usage.Usage.TheVariants.{Request, Response}
 use Rattle.osc_protect.specs.declared.head_error.NoHead.{NoHead}
 use Rattle.osc_protect.specs.declared.head_error.HeadError.{HeadError}
 use Rattle.osc_protect.specs.declared.protect_error.ProtectError.{ProtectError}
 use Rattle.osc_protect.specs.declared.unprotect_error.UnprotectError.{UnprotectError}
+use Rattle.osc_protect.specs.declared.unprotect_error.UnprotectError.TheVariants.{Tag, Inner}
 
 -- a datagram, or a message, has one head, any number in it below 2 ^ 40, or one refusal of it, never both (RFC 8613, 8.2 and 8.4)
 pub record OneHead (u : Usage) : Type 0 where
@@ -55,19 +58,64 @@ OneRequest = (s : SecurityContext) → OneMessage (requests s)
 abbrev pub OneResponse : Type 0
 OneResponse = (s : SecurityContext) (n : ℕ) → OneMessage (responses s n)
 
--- two ends hold one context: what the one sees as the client, the other sees as the server (RFC 8613, 3.1)
-abbrev pub AreMirrored : Context → Context → Type 0
-AreMirrored client server = as_client client ≡ as_server server
+-- what is protected has a head that says the number; once sealed, of the plain message's kind, message ID and token (RFC 8613, 8.1 and 8.3)
+pub record ProtectionsShowHeads {I : Type 0} (f : Protection I) : Type 0 where
+  pub protects : (d : List ℕ) (i : I) (m : InnerParts) → Protects f i m d → (h : Head) × HasHead f.usage d h × Names f h i
+  pub sealed : (d : List ℕ) (i : I) (p : Parts) → IsSealed f i p d → (h : Head) × HasHead f.usage d h × Names f h i × (h.kind ≡ p.kind) × (h.message_id ≡ p.message_id) × (h.token ≡ p.token)
+
+-- a request that is protected shows its head (RFC 8613, 8.1)
+abbrev pub RequestsShowHeads : Type 0
+RequestsShowHeads = (s : SecurityContext) → ProtectionsShowHeads (requests s)
+
+-- a response that is protected shows its head (RFC 8613, 8.3)
+abbrev pub ResponsesShowHeads : Type 0
+ResponsesShowHeads = (s : SecurityContext) (n : ℕ) → ProtectionsShowHeads (responses s n)
+
+-- where the head names the context, the tag is refused or the plaintext, and nothing else (RFC 8613, 8.2 and 8.4)
+abbrev pub NamedRefusals : {I : Type 0} → Protection I → Type 0
+NamedRefusals {I} f = (d : List ℕ) (h : Head) (i : I) (e : UnprotectError) → HasHead f.usage d h → Names f h i → RefusesToOpen f d e → (e ≡ Tag) ⊎ (e ≡ Inner)
+
+-- how a request is refused whose head names the context (RFC 8613, 8.2)
+abbrev pub NamedRequestRefusals : Type 0
+NamedRequestRefusals = (s : SecurityContext) → NamedRefusals (requests s)
+
+-- how a response is refused whose head says a number or none (RFC 8613, 8.4)
+abbrev pub NamedResponseRefusals : Type 0
+NamedResponseRefusals = (s : SecurityContext) (n : ℕ) → NamedRefusals (responses s n)
+
+-- where the head says what f says by i, and g protects the datagram by j, f and g say the same (RFC 8613, 8.2 and 8.4)
+abbrev pub SaysOneThing : {I J : Type 0} → Protection I → Protection J → Type 0
+SaysOneThing {I} {J} f g = (d : List ℕ) (h : Head) (i : I) (j : J) (m : InnerParts) → HasHead f.usage d h → Names f h i → Protects g j m d → f.parts i ≡ g.parts j
+
+-- a datagram opens as one message, with one head, number and hosts (RFC 8613, 8.2 and 8.4)
+pub record OneOpened {I : Type 0} (f : Protection I) : Type 0 where
+  pub kind : (d : List ℕ) (o q : Opened) → Opens f d o → Opens f d q → o.kind ≡ q.kind
+  pub message_id : (d : List ℕ) (o q : Opened) → Opens f d o → Opens f d q → o.message_id ≡ q.message_id
+  pub token : (d : List ℕ) (o q : Opened) → Opens f d o → Opens f d q → o.token.items ≡ q.token.items
+  pub uri_host : (d : List ℕ) (o q : Opened) → Opens f d o → Opens f d q → shown o.uri_host ≡ shown q.uri_host
+  pub uri_port : (d : List ℕ) (o q : Opened) → Opens f d o → Opens f d q → shown o.uri_port ≡ shown q.uri_port
+  pub number : (d : List ℕ) (o q : Opened) → Opens f d o → Opens f d q → opened_number o ≡ opened_number q
+  pub message : (d : List ℕ) (o q : Opened) → Opens f d o → Opens f d q → message_of o ≡ message_of q
+
+-- whoever reads a request, its option says one thing, and it opens as one message (RFC 8613, 8.2)
+pub record OneRequestReading : Type 0 where
+  pub named : (s t : SecurityContext) → SaysOneThing (requests s) (requests t)
+  pub opened : (s : SecurityContext) → OneOpened (requests s)
+
+-- whoever reads a response, its option says one thing, and it opens as one message (RFC 8613, 8.4)
+pub record OneResponseReading : Type 0 where
+  pub named : (s t : SecurityContext) (n m : ℕ) → SaysOneThing (responses s n) (responses t m)
+  pub opened : (s : SecurityContext) (n : ℕ) → OneOpened (responses s n)
 
 -- the datagram protects the message by this number, and nothing else (RFC 8613, 8.2 and 8.4)
 pub record ProtectsAlone {I : Type 0} (f : Protection I) (i : I) (m : InnerParts) (d : List ℕ) : Type 0 where
   pub opens : Protects f i m d
   pub nothing_else : (k : I) (l : InnerParts) → Protects f k l d → (k ≡ i) × (l ≡ m)
 
--- what one end seals protects the plain message's inside at the other end, and nothing else (RFC 8613, 8.1 to 8.4)
+-- what one end of a context seals protects the plain message's inside at the other, and nothing else (RFC 8613, 8.1 to 8.4)
 pub record SealedOpens : Type 0 where
-  pub request : (client server : Context) (n : ℕ) (p : Parts) (d : List ℕ) → AreMirrored client server → SealsRequest (as_client client) n p d → ProtectsAlone (requests (as_server server)) n (inside p) d
-  pub response : (client server : Context) (n : ℕ) (own : Option ℕ) (p : Parts) (d : List ℕ) → AreMirrored client server → SealsResponse (as_server server) n own p d → ProtectsAlone (responses (as_client client) n) own (inside p) d
+  pub request : (s : SecurityContext) (n : ℕ) (p : Parts) (d : List ℕ) → SealsRequest s n p d → ProtectsAlone (requests s) n (inside p) d
+  pub response : (s : SecurityContext) (n : ℕ) (own : Option ℕ) (p : Parts) (d : List ℕ) → SealsResponse s n own p d → ProtectsAlone (responses s n) own (inside p) d
 
 -- a plain message has one sealed form by one number, or one refusal, never both where that form has room (RFC 8613, 8.1 and 8.3)
 pub record OneForm {I : Type 0} (f : Protection I) : Type 0 where

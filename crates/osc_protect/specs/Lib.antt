@@ -7,13 +7,16 @@ pub mod Sealed
 pub mod SealRefusals
 pub mod Refusals
 pub mod Opening
+pub mod Stages
 pub mod Laws
+pub mod CipherLaws
 pub mod Text
 -- how the code is seen
 pub mod Views
-pub mod Places
+pub mod StageViews
 -- for the proofs
 pub mod Found
 pub mod Split
+pub mod Ends
 pub mod Halves
 pub mod Layers

@@ -1,16 +1,12 @@
--- To be believed: what opening gives, and what it leaves (RFC 8613, 8.2 and 8.4). f is a protection, of requests or of
--- responses, s a security context, n a request's number, d, old and new are datagrams, o is what was opened.
-use Rattle.std.specs.Prelude.{◌≡◌, ℕ, ◌++◌, List, length, drop, option_map}
+-- To be believed: what opening gives (RFC 8613, 8.2 and 8.4). f is a protection, of requests or of responses, d a
+-- datagram, p the parts of a message, o what was opened.
+use Rattle.std.specs.Prelude.{◌≡◌, ℕ, List}
 use Rattle.osc_coap.specs.Datagram.{Parts, IsDatagram}
-use Rattle.osc_context.specs.Views.{number_of}
 use Rattle.osc_coap.specs.Search.{values_at, first_of}
 use Rattle.osc_coap.specs.OptionNumbers.{uri_host, uri_port}
-use Rattle.osc_protect.specs.Head.{Head, ShowsHead}
 use Rattle.osc_protect.specs.Protection.{Protection, Protects}
-use Rattle.osc_protect.specs.Refusals.{Names}
 use Rattle.osc_protect.specs.Views.{shown, message_of, opened_number}
 use Rattle.osc_protect.specs.declared.opened.Opened.{Opened}
-use Rattle.osc_protect.specs.declared.opening.Place.{Place}
 
 -- what comes from outside the protection: the head, the first Uri-Host and Uri-Port (RFC 8613, 8.2 and 8.4)
 pub record ShowsOuter (p : Parts) (o : Opened) : Type 0 where
@@ -28,17 +24,3 @@ pub record Opens {I : Type 0} (f : Protection I) (d : List ℕ) (o : Opened) : T
   pub outer : Parts
   pub datagram : IsDatagram outer d
   pub shows : ShowsOuter outer o
-
--- of the old datagram the payload became the plaintext and the old tag, all else stayed (RFC 8613, 8.2 and 8.4)
-pub record Decrypts {I : Type 0} (f : Protection I) (old : List ℕ) (place : Place) (new : List ℕ) : Type 0 where
-  pub outer : Parts
-  pub head : Head
-  pub number : I
-  pub plaintext : List ℕ
-  pub datagram : IsDatagram outer old
-  pub shows : ShowsHead f.usage outer head
-  pub names : Names f head number
-  pub seals : head.payload ≡ f.cipher number plaintext
-  pub left : IsDatagram (record outer { payload = plaintext ++ drop (length plaintext) outer.payload }) new
-  pub piv : option_map number_of place.piv ≡ (f.parts number).piv
-  pub len : place.len ≡ length plaintext

@@ -46,13 +46,3 @@ RefusesToOpen f d Undecodable = HasNoHead f.usage d heads.Undecodable
 RefusesToOpen f d WrongContext = RefusesContext f d
 RefusesToOpen f d Tag = RefusesTag f d
 RefusesToOpen f d Inner = RefusesPlaintext f d
-
--- the condition of each refusal to decrypt: all but that of the plaintext (RFC 8613, 8.2 and 8.4)
-abbrev pub RefusesToDecrypt : {I : Type 0} → Protection I → List ℕ → UnprotectError → Type 0
-RefusesToDecrypt f d (Format e) = RefusesToOpen f d (Format e)
-RefusesToDecrypt f d NotThatKind = RefusesToOpen f d NotThatKind
-RefusesToDecrypt f d NoOscore = RefusesToOpen f d NoOscore
-RefusesToDecrypt f d Undecodable = RefusesToOpen f d Undecodable
-RefusesToDecrypt f d WrongContext = RefusesToOpen f d WrongContext
-RefusesToDecrypt f d Tag = RefusesToOpen f d Tag
-RefusesToDecrypt f d Inner = ⊥

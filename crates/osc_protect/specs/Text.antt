@@ -53,3 +53,11 @@ protect_error_text protects.NotThatKind = codes "NotThatKind"
 protect_error_text (protects.Unsupported n) = codes "Unsupported " ++ decimal n
 protect_error_text protects.TooLong = codes "TooLong"
 protect_error_text protects.NoRoom = codes "NoRoom"
+
+-- a bad tag, as it prints (own rule)
+abbrev pub bad_tag_text : List ℕ
+bad_tag_text = codes "Tag"
+
+-- a bad plaintext, as it prints (own rule)
+abbrev pub bad_inner_text : List ℕ
+bad_inner_text = codes "Inner"

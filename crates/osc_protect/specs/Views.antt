@@ -4,11 +4,15 @@ use Rattle.std.specs.Option.{option_map}
 use Rattle.std.specs.Borrow.{Bor}
 use Rattle.osc_coap.specs.Views.{options_left}
 use Rattle.osc_coap.specs.Inner.{InnerParts}
-use Rattle.osc_context.specs.Views.{number_of, oscore_parts_of}
+use Rattle.osc_context.specs.Views.{as_client, as_server, number_of, oscore_parts_of}
+use Rattle.osc_context.specs.declared.context.Context.{Context}
+use Rattle.osc_aes.specs.Keyed.{key_of}
 use Rattle.osc_ccm.specs.Ccm.{ccm}
 use Rattle.osc_protect.specs.Head.{Head}
+use Rattle.osc_protect.specs.Protection.{Protection, requests, responses}
 use Rattle.osc_protect.specs.Usage.{value_of_request, value_of_response}
 use Rattle.osc_protect.specs.declared.aead.Aead.{Aead}
+use Rattle.osc_protect.specs.declared.keyed_context.KeyedContext.{KeyedContext}
 use Rattle.osc_protect.specs.declared.oscore_head.OscoreHead.{OscoreHead}
 use Rattle.osc_protect.specs.declared.request_head.RequestHead.{RequestHead}
 use Rattle.osc_protect.specs.declared.response_head.ResponseHead.{ResponseHead}
@@ -37,7 +41,27 @@ request_number r = number_of r.number
 
 -- the cipher of one message, from a plaintext to what protects it (RFC 8613, 5)
 unfoldable pub cipher_of : Aead → List ℕ → List ℕ
-cipher_of a plaintext = ccm a.key.now a.nonce a.additional_data.items plaintext
+cipher_of a plaintext = ccm (key_of a.schedule.now) a.nonce a.additional_data.items plaintext
+
+-- the context whose schedules are kept (how the code is seen)
+abbrev pub context_of : KeyedContext → Context
+context_of k = k.context
+
+-- the requests that this end seals: it is their client (RFC 8613, 8.1)
+abbrev pub sealed_requests : Context → Protection ℕ
+sealed_requests c = requests (as_client c)
+
+-- the requests that this end opens: the other end is their client (RFC 8613, 8.2)
+abbrev pub opened_requests : Context → Protection ℕ
+opened_requests c = requests (as_server c)
+
+-- the responses that this end seals, to a request of the other end (RFC 8613, 8.3)
+abbrev pub sealed_responses : Context → RequestRef → Protection (Option ℕ)
+sealed_responses c r = responses (as_server c) (request_number r)
+
+-- the responses that this end opens, to a request of its own (RFC 8613, 8.4)
+abbrev pub opened_responses : Context → RequestRef → Protection (Option ℕ)
+opened_responses c r = responses (as_client c) (request_number r)
 
 -- the message that was opened: its code, inner options and payload (how the code is seen)
 abbrev pub message_of : Opened → InnerParts

@@ -2,17 +2,25 @@
 //! opened in the datagram that carries it.
 //!
 //! ```
-//! let context = Context::derive(Params { secret, salt, id_context: None, sender, recipient })?;
-//! let opened = open_request(&context, &mut datagram)?;
+//! let context = KeyedContext::new(Context::derive(Params { secret, salt, id_context: None, sender, recipient })?);
+//! let opened = context.open_request(&mut datagram)?;
 //! for (number, value) in opened.inner() { .. }
 //!
-//! let len = seal_response(&context, &RequestRef::new(number), None, &plain, &mut out)?;
+//! let len = context.seal_response(&RequestRef::new(number), None, &plain, &mut out)?;
 //! ```
+//!
+//! A call is `open_request`. `open_request_by` is the same over the end whose key it takes, for a `Context` and a
+//! `KeyedContext` alike; `open_request_forward` does the work, and has the clauses that run from its answer to what holds, to
+//! which the call adds their converses by a law. Other calls have such workers under the same names, where a proof needs
+//! them.
 #![tactic(auto)]
 
 mod aead;
 mod checks;
+mod decrypting;
+mod ends;
 mod head_error;
+mod keyed_context;
 mod laws;
 mod lengths;
 mod opened;
@@ -21,25 +29,33 @@ mod option_search;
 mod option_sets;
 mod oscore_head;
 mod protect_error;
+mod reading;
 mod request_head;
 mod request_ref;
 mod response_head;
 mod sealing;
 mod split;
+mod stage_error;
+mod stages;
 mod unprotect_error;
 mod usage;
 
 pub use checks::{check_request, check_response};
+pub use decrypting::{decrypt_request, decrypt_response};
 pub use head_error::{HeadError, NoHead};
-pub use laws::{one_client, one_head, one_request, one_response, one_sealed, sealed_opens};
-pub use opened::Opened;
-pub use opening::{
-    Place, decrypt_request, decrypt_response, open_request, open_response, read_request,
-    read_response,
+pub use keyed_context::KeyedContext;
+pub use laws::{
+    named_refusals, one_cipher_input, one_client, one_head, one_reading, one_request, one_response,
+    one_sealed, protections_show_heads, sealed_opens,
 };
+pub use opened::Opened;
+pub use opening::{open_request, open_response};
 pub use protect_error::ProtectError;
+pub use reading::{read_request, read_response};
 pub use request_head::{RequestHead, head_of_request};
 pub use request_ref::RequestRef;
 pub use response_head::ResponseHead;
 pub use sealing::{seal_request, seal_response};
+pub use stage_error::{BadInner, BadTag};
+pub use stages::{DecryptedRequest, DecryptedResponse, SealedRequest, SealedResponse};
 pub use unprotect_error::UnprotectError;

@@ -8,6 +8,7 @@ ghost use Rattle.osc_protect.specs.declared.head_error.HeadError.{HeadError};
 use crate::head_error::{HeadError, NoHead};
 use crate::laws::one_head;
 use crate::oscore_head::{OscoreHead, head_of, read_head};
+use crate::stages::SealedRequest;
 use crate::usage::Usage;
 use osc_coap::{Kind, Message, Token};
 use osc_context::{Context, Piv};
@@ -31,10 +32,13 @@ ghost use Rattle.osc_protect.specs.Views.{head_of, seen_head, shown};
 ghost use Rattle.osc_protect.specs.declared.usage.Usage.TheVariants.{Request};
 
 impl<'a> RequestHead<'a> {
+    ghost use Rattle.osc_context.specs.SecurityContext.{SecurityContext};
     ghost use Rattle.osc_coap.specs.Views.{parts_of};
     ghost use Rattle.osc_protect.specs.Head.{ShowsNoRequestHead, ShowsRequestHead};
     ghost use Rattle.osc_protect.specs.Protection.{requests};
     ghost use Rattle.osc_protect.specs.Refusals.{Names};
+    ghost use Rattle.osc_protect.specs.StageViews.{IsSealedRequest};
+    ghost use Rattle.osc_protect.specs.Views.{opened_requests};
     ghost use Rattle.osc_protect.specs.declared.head_error.NoHead.{NoHead};
 
     /// Reads what a message says, as a protected request, to whoever has no key. The first refusal in the order of `NoHead` is
@@ -46,11 +50,11 @@ impl<'a> RequestHead<'a> {
         ensures refuses { (e : NoHead) → ShowsNoRequestHead (parts_of message.now) e → IsErrOf result e }
     {
         one_head();
-        RequestHead::read_shown(message)
+        RequestHead::read_forward(message)
     }
 
     /// Reads the head of a message.
-    fn read_shown(message: &Message<'a>) -> Result<RequestHead<'a>, NoHead>
+    fn read_forward(message: &Message<'a>) -> Result<RequestHead<'a>, NoHead>
         ensures head { IfOk result (λ h. ShowsRequestHead (parts_of message.now) (seen_head h)) }
         ensures refused { IfErr result (λ e. ShowsNoRequestHead (parts_of message.now) e) }
     {
@@ -60,13 +64,25 @@ impl<'a> RequestHead<'a> {
         }
     }
 
+    /// What `decrypt_request` takes of the head: where the ciphertext lies, and the number.
+    #[must_use]
+    pub fn sealed(&self) -> SealedRequest
+        ensures { (s : SecurityContext) (d : List ℕ) → HasRequestHead d (seen_head self.now) → Names (requests s) (seen_head self.now) (number_of self.now.number)
+            → IsSealedRequest (requests s) d result }
+    {
+        SealedRequest {
+            number: self.number,
+            len: self.payload.len(),
+        }
+    }
+
     /// Whether the head names the context of this end, which is the server: the kid is the other end's identifier, and the kid
     /// context the ID Context, or neither is there (RFC 8613, 8.2, step 2; own rule: a kid context exactly if there is an ID
     /// Context).
     #[must_use]
     pub fn names(&self, context: &Context) -> bool
-        ensures yes { result ≡ true → Names (requests (as_server context.now)) (seen_head self.now) (number_of self.now.number) }
-        ensures no { result ≡ false → (n : ℕ) → Names (requests (as_server context.now)) (seen_head self.now) n → ⊥ }
+        ensures yes { result ≡ true → Names (opened_requests context.now) (seen_head self.now) (number_of self.now.number) }
+        ensures no { result ≡ false → (n : ℕ) → Names (opened_requests context.now) (seen_head self.now) n → ⊥ }
     {
         self.kid == context.recipient().bytes() && is_in_id_context(self.kid_context, context)
     }
@@ -104,7 +120,7 @@ fn of_request(head: OscoreHead<'_>) -> RequestHead<'_>
 }
 
 /// Reads the head of a request's datagram.
-fn read_request_head(datagram: &[u8]) -> Result<RequestHead<'_>, HeadError>
+fn head_of_request_forward(datagram: &[u8]) -> Result<RequestHead<'_>, HeadError>
     ensures head { IfOk result (λ h. HasRequestHead datagram.now (seen_head h)) }
     ensures refused { IfErr result (λ e. HasNoRequestHead datagram.now e) }
 {
@@ -123,5 +139,5 @@ pub fn head_of_request(datagram: &[u8]) -> Result<RequestHead<'_>, HeadError>
     ensures refuses { (e : HeadError) → HasNoRequestHead datagram.now e → IsErrOf result e }
 {
     one_head();
-    read_request_head(datagram)
+    head_of_request_forward(datagram)
 }

@@ -1,14 +1,15 @@
 //! What a protected response says to whoever has no key (RFC 8613, 8.4, steps 1 and 2).
 
-ghost use Rattle.std.specs.Prelude.{IfOk, IfErr, IsOkAnd, IsErrOf, ◌≡◌, true};
+ghost use Rattle.std.specs.Prelude.{IfOk, IfErr, IsOkAnd, IsErrOf, List, ℕ, ◌≡◌, true};
 ghost use Rattle.osc_coap.specs.Views.{parts_of};
 ghost use Rattle.osc_context.specs.Views.{oscore_parts_of};
 ghost use Rattle.osc_protect.specs.declared.head_error.NoHead.{NoHead};
 ghost use Rattle.osc_protect.specs.declared.usage.Usage.TheVariants.{Response};
 
-use crate::head_error::NoHead;
+use crate::head_error::{HeadError, NoHead};
 use crate::laws::one_head;
-use crate::oscore_head::{OscoreHead, head_of};
+use crate::oscore_head::{OscoreHead, head_of, read_head};
+use crate::stages::SealedResponse;
 use crate::usage::Usage;
 use osc_coap::{Kind, Message, Token};
 use osc_context::Piv;
@@ -24,11 +25,15 @@ pub struct ResponseHead<'a> {
     pub(crate) payload: &'a [u8],
 }
 
-ghost use Rattle.osc_protect.specs.Head.{Head, ShowsNoResponseHead, ShowsResponseHead};
+ghost use Rattle.osc_protect.specs.Head.{Head, HasNoResponseHead, HasResponseHead, ShowsNoResponseHead, ShowsResponseHead};
 ghost use Rattle.osc_protect.specs.Usage.{is_complete};
 ghost use Rattle.osc_protect.specs.Views.{head_of, seen_response_head};
 
 impl<'a> ResponseHead<'a> {
+    ghost use Rattle.osc_context.specs.SecurityContext.{SecurityContext};
+    ghost use Rattle.osc_protect.specs.Protection.{responses};
+    ghost use Rattle.osc_protect.specs.StageViews.{IsSealedResponse};
+
     /// Reads what a message says, as a protected response, to whoever has no key. The first refusal in the order of `NoHead`
     /// is answered (RFC 8613, 8.4, steps 1 and 2).
     pub fn read(message: &Message<'a>) -> Result<ResponseHead<'a>, NoHead>
@@ -38,17 +43,28 @@ impl<'a> ResponseHead<'a> {
         ensures refuses { (e : NoHead) → ShowsNoResponseHead (parts_of message.now) e → IsErrOf result e }
     {
         one_head();
-        ResponseHead::read_shown(message)
+        ResponseHead::read_forward(message)
     }
 
     /// Reads the head of a message.
-    fn read_shown(message: &Message<'a>) -> Result<ResponseHead<'a>, NoHead>
+    fn read_forward(message: &Message<'a>) -> Result<ResponseHead<'a>, NoHead>
         ensures head { IfOk result (λ h. ShowsResponseHead (parts_of message.now) (seen_response_head h)) }
         ensures refused { IfErr result (λ e. ShowsNoResponseHead (parts_of message.now) e) }
     {
         match head_of(Usage::Response, message) {
             Ok(head) => Ok(of_response(head)),
             Err(none) => Err(none),
+        }
+    }
+
+    /// What `decrypt_response` takes of the head: where the ciphertext lies, and the number, where there is one.
+    #[must_use]
+    pub fn sealed(&self) -> SealedResponse
+        ensures { (s : SecurityContext) (n : ℕ) (d : List ℕ) → HasResponseHead d (seen_response_head self.now) → IsSealedResponse (responses s n) d result }
+    {
+        SealedResponse {
+            number: self.number,
+            len: self.payload.len(),
         }
     }
 }
@@ -64,5 +80,16 @@ fn of_response(head: OscoreHead<'_>) -> ResponseHead<'_>
         token: head.token,
         number: head.option.piv,
         payload: head.payload,
+    }
+}
+
+/// Reads the head of a response's datagram.
+pub(crate) fn head_of_response(datagram: &[u8]) -> Result<ResponseHead<'_>, HeadError>
+    ensures head { IfOk result (λ h. HasResponseHead datagram.now (seen_response_head h)) }
+    ensures refused { IfErr result (λ e. HasNoResponseHead datagram.now e) }
+{
+    match read_head(Usage::Response, datagram) {
+        Ok(head) => Ok(of_response(head)),
+        Err(error) => Err(error),
     }
 }

@@ -18,11 +18,12 @@ ghost use Rattle.osc_protect.specs.Sealed.{HoldsSealed, SealsRequest, SealsRespo
 ghost use Rattle.osc_protect.specs.SealRefusals.{FitsToSeal, RefusesSize, RefusesToSeal};
 ghost use Rattle.osc_protect.specs.Halves.{Makes};
 ghost use Rattle.osc_protect.specs.Usage.{outer_code_of, value_of_response};
-ghost use Rattle.osc_protect.specs.Views.{cipher_of, request_number};
+ghost use Rattle.osc_protect.specs.Views.{cipher_of, request_number, sealed_requests, sealed_responses};
 ghost use Rattle.osc_protect.specs.declared.protect_error.ProtectError.{ProtectError};
 
 use crate::aead::Aead;
 use crate::checks::{check_request, check_response};
+use crate::ends::Sender;
 use crate::lengths::judge_length;
 use crate::protect_error::ProtectError;
 use crate::request_ref::RequestRef;
@@ -108,7 +109,7 @@ fn value_that_says(option: OscoreOption<'_>) -> ArrayVec<u8, 255>
 
 /// The value of a request's OSCORE option: number, ID Context and the sender's identifier (RFC 8613, 6.1).
 fn request_value(context: &Context, number: Piv) -> ArrayVec<u8, 255>
-    ensures reads { IsOscoreValue ((requests (as_client context.now)).parts (number_of number)) result.items }
+    ensures reads { IsOscoreValue ((sealed_requests context.now).parts (number_of number)) result.items }
     ensures short { array_vec_len result ≤ 255 }
 {
     value_that_says(OscoreOption {
@@ -187,14 +188,14 @@ pub fn seal_request(
     ensures sealed { IfOk result (λ n. SealsRequest (as_client context.now) (number_of number) (parts_of plain.now) (take n out.new)) }
     ensures within { IfOk result (λ n. n ≤ length out.new) }
     ensures behind { IfOk result (λ n. drop n out.new ≡ drop n out.old) }
-    ensures accepts { FitsToSeal (requests (as_client context.now)) (number_of number) (parts_of plain.now) (length out.old) → IsOk result }
-    ensures refused { IfErr result (λ e. RefusesToSeal (requests (as_client context.now)) (number_of number) (parts_of plain.now) (length out.old) e) }
-    ensures refuses { (e : ProtectError) → RefusesToSeal (requests (as_client context.now)) (number_of number) (parts_of plain.now) (length out.old) e
+    ensures accepts { FitsToSeal (sealed_requests context.now) (number_of number) (parts_of plain.now) (length out.old) → IsOk result }
+    ensures refused { IfErr result (λ e. RefusesToSeal (sealed_requests context.now) (number_of number) (parts_of plain.now) (length out.old) e) }
+    ensures refuses { (e : ProtectError) → RefusesToSeal (sealed_requests context.now) (number_of number) (parts_of plain.now) (length out.old) e
         → IsErrOf result e }
     ensures unchanged { OnErr result (out.new ≡ out.old) }
 {
-    one_option_value();
-    seal_as_request(context, number, plain, out)
+    let schedule = Sender::schedule_of(context);
+    seal_request_by(Sender::new(context, &schedule), number, plain, out)
 }
 
 /// Seals a response to a request, under an own number of the server or else with the request's nonce, and answers how many
@@ -211,57 +212,106 @@ pub fn seal_response(
     ensures sealed { IfOk result (λ n. SealsResponse (as_server context.now) (request_number request.now) (option_map number_of own) (parts_of plain.now) (take n out.new)) }
     ensures within { IfOk result (λ n. n ≤ length out.new) }
     ensures behind { IfOk result (λ n. drop n out.new ≡ drop n out.old) }
-    ensures accepts { FitsToSeal (responses (as_server context.now) (request_number request.now)) (option_map number_of own) (parts_of plain.now) (length out.old)
-        → IsOk result }
-    ensures refused { IfErr result
-        (λ e. RefusesToSeal (responses (as_server context.now) (request_number request.now)) (option_map number_of own) (parts_of plain.now) (length out.old) e) }
+    ensures accepts { FitsToSeal (sealed_responses context.now request.now) (option_map number_of own) (parts_of plain.now) (length out.old) → IsOk result }
+    ensures refused { IfErr result (λ e. RefusesToSeal (sealed_responses context.now request.now) (option_map number_of own) (parts_of plain.now) (length out.old) e) }
     ensures refuses { (e : ProtectError)
-        → RefusesToSeal (responses (as_server context.now) (request_number request.now)) (option_map number_of own) (parts_of plain.now) (length out.old) e
+        → RefusesToSeal (sealed_responses context.now request.now) (option_map number_of own) (parts_of plain.now) (length out.old) e
         → IsErrOf result e }
     ensures unchanged { OnErr result (out.new ≡ out.old) }
 {
-    one_option_value();
-    seal_as_response(context, request, own, plain, out)
+    let schedule = Sender::schedule_of(context);
+    seal_response_by(Sender::new(context, &schedule), request, own, plain, out)
 }
 
-/// Judges a request, then its length, then seals it.
-fn seal_as_request(
-    context: &Context,
+/// Seals a request under the sender's key.
+pub(crate) fn seal_request_by(
+    sender: Sender<'_>,
     number: Piv,
     plain: &Message<'_>,
     out: &mut [u8],
 ) -> Result<usize, ProtectError>
-    ensures sealed { IfOk result (λ n. SealsRequest (as_client context.now) (number_of number) (parts_of plain.now) (take n out.new)) }
-    ensures made { IfOk result (λ n. Makes (requests (as_client context.now)) (number_of number) (parts_of plain.now) (length out.old) n) }
+    ensures sealed { IfOk result (λ n. SealsRequest (as_client sender.entry.context.now) (number_of number) (parts_of plain.now) (take n out.new)) }
     ensures within { IfOk result (λ n. n ≤ length out.new) }
     ensures behind { IfOk result (λ n. drop n out.new ≡ drop n out.old) }
-    ensures refused { IfErr result (λ e. RefusesToSeal (requests (as_client context.now)) (number_of number) (parts_of plain.now) (length out.old) e) }
+    ensures accepts { FitsToSeal (sealed_requests sender.entry.context.now) (number_of number) (parts_of plain.now) (length out.old) → IsOk result }
+    ensures refused { IfErr result (λ e. RefusesToSeal (sealed_requests sender.entry.context.now) (number_of number) (parts_of plain.now) (length out.old) e) }
+    ensures refuses { (e : ProtectError) → RefusesToSeal (sealed_requests sender.entry.context.now) (number_of number) (parts_of plain.now) (length out.old) e
+        → IsErrOf result e }
     ensures unchanged { OnErr result (out.new ≡ out.old) }
 {
-    check_request(plain)?;
-    let value = request_value(context, number);
-    let aead = Aead::to_seal_request(context, number);
-    seal_in_room(Usage::Request, value.as_slice(), &aead, plain, out)
+    one_option_value();
+    seal_request_forward(sender, number, plain, out)
 }
 
-/// Judges a response, then its length, then seals it.
-fn seal_as_response(
-    context: &Context,
+/// Seals a response under the sender's key.
+pub(crate) fn seal_response_by(
+    sender: Sender<'_>,
     request: &RequestRef,
     own: Option<Piv>,
     plain: &Message<'_>,
     out: &mut [u8],
 ) -> Result<usize, ProtectError>
-    ensures sealed { IfOk result (λ n. SealsResponse (as_server context.now) (request_number request.now) (option_map number_of own) (parts_of plain.now) (take n out.new)) }
-    ensures made { IfOk result (λ n. Makes (responses (as_server context.now) (request_number request.now)) (option_map number_of own) (parts_of plain.now) (length out.old) n) }
+    ensures sealed { IfOk result (λ n. SealsResponse (as_server sender.entry.context.now) (request_number request.now) (option_map number_of own) (parts_of plain.now) (take n out.new)) }
+    ensures within { IfOk result (λ n. n ≤ length out.new) }
+    ensures behind { IfOk result (λ n. drop n out.new ≡ drop n out.old) }
+    ensures accepts { FitsToSeal (sealed_responses sender.entry.context.now request.now) (option_map number_of own) (parts_of plain.now) (length out.old) → IsOk result }
+    ensures refused { IfErr result (λ e. RefusesToSeal (sealed_responses sender.entry.context.now request.now) (option_map number_of own) (parts_of plain.now) (length out.old) e) }
+    ensures refuses { (e : ProtectError)
+        → RefusesToSeal (sealed_responses sender.entry.context.now request.now) (option_map number_of own) (parts_of plain.now) (length out.old) e
+        → IsErrOf result e }
+    ensures unchanged { OnErr result (out.new ≡ out.old) }
+{
+    one_option_value();
+    seal_response_forward(sender, request, own, plain, out)
+}
+
+/// Judges a request, then its length, then seals it.
+fn seal_request_forward(
+    sender: Sender<'_>,
+    number: Piv,
+    plain: &Message<'_>,
+    out: &mut [u8],
+) -> Result<usize, ProtectError>
+    ensures sealed { IfOk result (λ n. SealsRequest (as_client sender.entry.context.now) (number_of number) (parts_of plain.now) (take n out.new)) }
+    ensures made { IfOk result (λ n. Makes (sealed_requests sender.entry.context.now) (number_of number) (parts_of plain.now) (length out.old) n) }
+    ensures within { IfOk result (λ n. n ≤ length out.new) }
+    ensures behind { IfOk result (λ n. drop n out.new ≡ drop n out.old) }
+    ensures refused { IfErr result (λ e. RefusesToSeal (sealed_requests sender.entry.context.now) (number_of number) (parts_of plain.now) (length out.old) e) }
+    ensures unchanged { OnErr result (out.new ≡ out.old) }
+{
+    check_request(plain)?;
+    let context = sender.context;
+    let value = request_value(context, number);
+    let aead = Aead::of_request(sender.end(), context.common_iv(), number);
+    seal_in_room(Usage::Request, value.as_slice(), &aead, plain, out)
+}
+
+/// Judges a response, then its length, then seals it.
+fn seal_response_forward(
+    sender: Sender<'_>,
+    request: &RequestRef,
+    own: Option<Piv>,
+    plain: &Message<'_>,
+    out: &mut [u8],
+) -> Result<usize, ProtectError>
+    ensures sealed { IfOk result (λ n. SealsResponse (as_server sender.entry.context.now) (request_number request.now) (option_map number_of own) (parts_of plain.now) (take n out.new)) }
+    ensures made { IfOk result (λ n. Makes (sealed_responses sender.entry.context.now request.now) (option_map number_of own) (parts_of plain.now) (length out.old) n) }
     ensures within { IfOk result (λ n. n ≤ length out.new) }
     ensures behind { IfOk result (λ n. drop n out.new ≡ drop n out.old) }
     ensures refused { IfErr result
-        (λ e. RefusesToSeal (responses (as_server context.now) (request_number request.now)) (option_map number_of own) (parts_of plain.now) (length out.old) e) }
+        (λ e. RefusesToSeal (sealed_responses sender.entry.context.now request.now) (option_map number_of own) (parts_of plain.now) (length out.old) e) }
     ensures unchanged { OnErr result (out.new ≡ out.old) }
 {
     check_response(plain)?;
+    let context = sender.context;
+    let client = context.recipient();
     let value = response_value(own);
-    let aead = Aead::to_seal_response(context, request, own);
+    let aead = Aead::of_response(
+        sender.end(),
+        context.common_iv(),
+        client,
+        request.number,
+        own,
+    );
     seal_in_room(Usage::Response, value.as_slice(), &aead, plain, out)
 }

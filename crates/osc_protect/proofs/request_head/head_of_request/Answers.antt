@@ -16,7 +16,7 @@ exactly laws d (Ok x) y z e k = absurd (laws.never_both d (seen_head x) e y k)
 exactly laws d (Err f) y z e k = ap Err (laws.refusal d f e z k)
 
 pub returns-clause-accepts : goal.returns-clause-accepts
-returns-clause-accepts c = only c.one_head.ensures.request c.args.datagram.now c.read_request_head.result c.read_request_head.ensures.head c.read_request_head.ensures.refused
+returns-clause-accepts c = only c.one_head.ensures.request c.args.datagram.now c.head_of_request_forward.result c.head_of_request_forward.ensures.head c.head_of_request_forward.ensures.refused
 
 pub returns-clause-refuses : goal.returns-clause-refuses
-returns-clause-refuses c = exactly c.one_head.ensures.request c.args.datagram.now c.read_request_head.result c.read_request_head.ensures.head c.read_request_head.ensures.refused
+returns-clause-refuses c = exactly c.one_head.ensures.request c.args.datagram.now c.head_of_request_forward.result c.head_of_request_forward.ensures.head c.head_of_request_forward.ensures.refused

@@ -5,7 +5,7 @@ use Rattle.osc_protect.proofs.ShownHeads.{shown_accepts, shown_refuses}
 use Rattle.osc_protect.proofs.response_head.ResponseHead.read.Goals as goal
 
 pub returns-clause-accepts : goal.returns-clause-accepts
-returns-clause-accepts c = shown_accepts seen_response_head Response c.one_head.ensures.response (parts_of c.args.message.now) c.read_shown.result c.read_shown.ensures.head c.read_shown.ensures.refused
+returns-clause-accepts c = shown_accepts seen_response_head Response c.one_head.ensures.response (parts_of c.args.message.now) c.read_forward.result c.read_forward.ensures.head c.read_forward.ensures.refused
 
 pub returns-clause-refuses : goal.returns-clause-refuses
-returns-clause-refuses c = shown_refuses seen_response_head Response c.one_head.ensures.response (parts_of c.args.message.now) c.read_shown.result c.read_shown.ensures.head c.read_shown.ensures.refused
+returns-clause-refuses c = shown_refuses seen_response_head Response c.one_head.ensures.response (parts_of c.args.message.now) c.read_forward.result c.read_forward.ensures.head c.read_forward.ensures.refused

@@ -1,0 +1,123 @@
+-- The stages of opening together: what is read after decrypting is what the datagram protects.
+use Rattle.std.proofs.Common.{◌≡◌, ◌≢◌, ℕ, List, ◌++◌, length, take, drop, refl, sym, ap, subst, ◌∙◌, option_map, Option, Result, Ok, Err, IfOk, IfErr, IsErr, IsOkAnd, IsErrOf, OnErr}
+use Rattle.std.proofs.lemmas.List.{take_at}
+use Rattle.osc_coap.specs.Datagram.{Parts, IsDatagram}
+use Rattle.osc_coap.specs.Inner.{InnerParts, IsInner}
+use Rattle.osc_coap.specs.Laws.{DatagramIsOneMessage}
+use Rattle.osc_context.specs.OscoreValue.{OscoreParts, IsOscoreValue}
+use Rattle.osc_context.specs.Views.{number_of}
+use Rattle.osc_context.specs.declared.partial_iv.Piv.{Piv}
+use Rattle.osc_protect.specs.Head.{HasNoHead}
+use Rattle.osc_protect.specs.Text.{lifted}
+use Rattle.osc_protect.specs.Protection.{Protection, Protects}
+use Rattle.osc_protect.specs.Refusals.{IsBadInner, RefusesPlaintext, RefusesToOpen}
+use Rattle.osc_protect.specs.Views.{message_of, opened_number}
+use Rattle.osc_protect.specs.Opening.{ShowsOuter, Opens}
+use Rattle.osc_protect.specs.Stages.{Decrypts}
+use Rattle.osc_protect.specs.Halves.{ReadsInner, RefusesInner}
+use Rattle.osc_protect.specs.Laws.{OneMessage}
+use Rattle.osc_protect.specs.declared.head_error.HeadError.{HeadError}
+use Rattle.osc_protect.specs.declared.head_error.HeadError.TheVariants as heads
+use Rattle.osc_protect.specs.declared.opened.Opened.{Opened}
+use Rattle.osc_protect.specs.declared.stage_error.BadInner.{BadInner}
+use Rattle.osc_protect.specs.declared.unprotect_error.UnprotectError.{UnprotectError}
+use Rattle.osc_protect.specs.declared.unprotect_error.UnprotectError.TheVariants.{Format, NotThatKind, NoOscore, Undecodable, WrongContext, Inner}
+
+-- ---- what is read is what the datagram protected, for either outcome of reading
+
+module _ {I : Type 0} (one : DatagramIsOneMessage) (f : Protection I) (old new : List ℕ) (i : I) (len : ℕ) (it : Decrypts f old i len new) where
+  after : Parts
+  after = record it.outer { payload = it.plaintext ++ drop (length it.plaintext) it.outer.payload }
+
+  -- the payload's front is the plaintext
+  front : (q : Parts) → IsDatagram q new → take len q.payload ≡ it.plaintext
+  unfolding after
+  front q h =
+      ap (λ (p : Parts). take len p.payload) (one q after new h it.left)
+      ∙ take_at it.plaintext (drop (length it.plaintext) it.outer.payload) len (sym it.long)
+
+  same_outer : (q : Parts) (o : Opened) → IsDatagram q new → ShowsOuter q o → ShowsOuter it.outer o
+  unfolding after
+  same_outer q o h k =
+      let j : ShowsOuter after o = subst (λ (p : Parts). ShowsOuter p o) (one q after new h it.left) k in
+      record { kind = j.kind; message_id = j.message_id; token = j.token; uri_host = j.uri_host; uri_port = j.uri_port }
+
+  pub reads_open : (number : Option Piv) → option_map number_of number ≡ (f.parts i).piv → (o : Opened) → ReadsInner f.usage new number len o → Opens f old o
+  reads_open number is o r =
+      let inner : IsInner (message_of o) it.plaintext = subst (λ (m : List ℕ). IsInner (message_of o) m) (front r.outer r.datagram) r.spells in
+      record {
+        number = i;
+        number_is = ap (option_map number_of) r.piv ∙ is;
+        protects = record {
+          outer = it.outer;
+          datagram = it.datagram;
+          used = it.shows.used;
+          value = it.shows.value;
+          single = it.shows.single;
+          reads = subst (λ (v : OscoreParts). IsOscoreValue v it.shows.value) it.names it.shows.reads;
+          direct = it.shows.direct;
+          code = r.code;
+          allowed = r.allowed;
+          plaintext = it.plaintext;
+          spells = inner;
+          sealed = sym it.shows.payload ∙ it.seals;
+        };
+        outer = it.outer;
+        datagram = it.datagram;
+        shows = same_outer r.outer o r.datagram r.shows;
+      }
+
+  pub refuses_open : RefusesInner f.usage new len → RefusesPlaintext f old
+  refuses_open h =
+      let bad : IsBadInner f.usage it.plaintext = subst (IsBadInner f.usage) (front (h.0) h.1) h.2 in
+      (it.head, (it.outer, it.datagram, it.shows), i, it.names, it.plaintext, it.seals, bad)
+
+-- a fact of each outcome, made of another
+pub when_ok : {X E : Type 0} {P Q : X → Type 0} (r : Result X E) → ((x : X) → P x → Q x) → IfOk r P → IfOk r Q
+when_ok (Ok x) f h = f x h
+when_ok (Err e) f h = h
+
+pub when_err : {X E : Type 0} {P Q : Type 0} (r : Result X E) → (P → Q) → OnErr r P → OnErr r Q
+when_err (Ok x) f h = h
+when_err (Err e) f h = f h
+
+-- ---- refusals of the head
+
+-- are refusals to open, and not of the context
+pub head_refuses : {I : Type 0} (f : Protection I) (d : List ℕ) (e : HeadError) (g : UnprotectError) → HasNoHead f.usage d e → g ≡ lifted e → RefusesToOpen f d g
+head_refuses f d (heads.Format e) g h is = subst (RefusesToOpen f d) (sym is) h
+head_refuses f d heads.NotThatKind g h is = subst (RefusesToOpen f d) (sym is) h
+head_refuses f d heads.NoOscore g h is = subst (RefusesToOpen f d) (sym is) h
+head_refuses f d heads.Undecodable g h is = subst (RefusesToOpen f d) (sym is) h
+
+pub head_named : (e : HeadError) (g : UnprotectError) → g ≡ lifted e → g ≢ WrongContext
+head_named (heads.Format e) g is = λ wrong. let bad : Format e ≡ WrongContext = sym is ∙ wrong in cc
+head_named heads.NotThatKind g is = λ wrong. let bad : NotThatKind ≡ WrongContext = sym is ∙ wrong in cc
+head_named heads.NoOscore g is = λ wrong. let bad : NoOscore ≡ WrongContext = sym is ∙ wrong in cc
+head_named heads.Undecodable g is = λ wrong. let bad : Undecodable ≡ WrongContext = sym is ∙ wrong in cc
+
+-- ---- both directions
+
+module _ {I : Type 0} (f : Protection I) (laws : OneMessage f) (d : List ℕ) where
+  only_ok : (i : I) (m : InnerParts) (o : Opened) → Opens f d o → Protects f i m d → (opened_number o ≡ (f.parts i).piv) × (message_of o ≡ m)
+  only_ok i m o x y = (x.number_is ∙ ap (λ (j : I). (f.parts j).piv) (laws.number d x.number i (message_of o) m x.protects y), laws.message d x.number i (message_of o) m x.protects y)
+
+  pub only_all : (r : Result Opened UnprotectError) → IfOk r (λ o. Opens f d o) → IfErr r (λ e. RefusesToOpen f d e)
+      → (i : I) (m : InnerParts) → Protects f i m d → IsOkAnd r (λ o. (opened_number o ≡ (f.parts i).piv) × (message_of o ≡ m))
+  only_all (Ok o) h k i m y = only_ok i m o h y
+  only_all (Err e) h k i m y = laws.never_both d i m e y k
+
+  pub exactly_all : (r : Result Opened UnprotectError) → IfOk r (λ o. Opens f d o) → IfErr r (λ e. RefusesToOpen f d e)
+      → (e : UnprotectError) → RefusesToOpen f d e → IsErrOf r e
+  exactly_all (Ok o) h k e y = absurd (laws.never_both d h.number (message_of o) e h.protects y)
+  exactly_all (Err g) h k e y = ap Err (laws.refusal d g e k y)
+
+  -- the same of reading alone
+  pub only_read : (r : Result Opened BadInner) → IfOk r (λ o. Opens f d o) → OnErr r (RefusesPlaintext f d)
+      → (i : I) (m : InnerParts) → Protects f i m d → IsOkAnd r (λ o. (opened_number o ≡ (f.parts i).piv) × (message_of o ≡ m))
+  only_read (Ok o) h k i m y = only_ok i m o h y
+  only_read (Err e) h k i m y = laws.never_both d i m Inner y k
+
+  pub exactly_read : (r : Result Opened BadInner) → IfOk r (λ o. Opens f d o) → OnErr r (RefusesPlaintext f d) → RefusesPlaintext f d → IsErr r
+  exactly_read (Ok o) h k y = absurd (laws.never_both d h.number (message_of o) Inner h.protects y)
+  exactly_read (Err e) h k y = refl

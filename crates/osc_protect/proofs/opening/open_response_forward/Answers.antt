@@ -1,0 +1,10 @@
+use Rattle.std.proofs.Common.{rules}
+use Rattle.osc_context.specs.Views.{as_client}
+use Rattle.osc_protect.specs.Refusals.{RefusesToOpen}
+use Rattle.osc_protect.specs.Views.{opened_responses, request_number}
+use Rattle.osc_protect.proofs.opening.open_response_forward.Goals as goal
+
+pub returns-in_err-sealed-clause-refused : goal.returns-in_err-sealed-clause-refused
+returns-in_err-sealed-clause-refused c =
+    let refused : RefusesToOpen (opened_responses c.args.recipient.context.now c.args.request.now) c.args.datagram.now _ = c.in_err-sealed.ensures.refused (as_client c.args.recipient.context.now) (request_number c.args.request.now) in
+    search rules

@@ -1,0 +1,47 @@
+-- How the code is seen: the values that the stages of opening hand on. s is a security context, n a request's number, d,
+-- old and new are datagrams, o is what was opened.
+use Rattle.std.specs.Prelude.{ℕ, List, Option}
+use Rattle.std.specs.Option.{option_map}
+use Rattle.osc_context.specs.SecurityContext.{SecurityContext}
+use Rattle.osc_context.specs.Views.{number_of}
+use Rattle.osc_protect.specs.Protection.{Protection, requests, responses}
+use Rattle.osc_protect.specs.Refusals.{RefusesPlaintext}
+use Rattle.osc_protect.specs.Opening.{Opens}
+use Rattle.osc_protect.specs.Stages.{Decrypts, HasSealed}
+use Rattle.osc_protect.specs.declared.opened.Opened.{Opened}
+use Rattle.osc_protect.specs.declared.stages.DecryptedRequest.{DecryptedRequest}
+use Rattle.osc_protect.specs.declared.stages.DecryptedResponse.{DecryptedResponse}
+use Rattle.osc_protect.specs.declared.stages.SealedRequest.{SealedRequest}
+use Rattle.osc_protect.specs.declared.stages.SealedResponse.{SealedResponse}
+
+-- the value is of the datagram's head, which names the context (how the code is seen)
+abbrev pub IsSealedRequest : Protection ℕ → List ℕ → SealedRequest → Type 0
+IsSealedRequest f d x = HasSealed f d (number_of x.number) x.len
+
+-- the value is of the datagram's head, which is of a response (how the code is seen)
+abbrev pub IsSealedResponse : Protection (Option ℕ) → List ℕ → SealedResponse → Type 0
+IsSealedResponse f d x = HasSealed f d (option_map number_of x.number) x.len
+
+-- the value says what the old datagram was decrypted to (how the code is seen)
+abbrev pub DecryptsRequest : Protection ℕ → List ℕ → DecryptedRequest → List ℕ → Type 0
+DecryptsRequest f old x new = Decrypts f old (number_of x.number) x.len new
+
+-- the value says what the old datagram was decrypted to, of a response (how the code is seen)
+abbrev pub DecryptsResponse : Protection (Option ℕ) → List ℕ → DecryptedResponse → List ℕ → Type 0
+DecryptsResponse f old x new = Decrypts f old (option_map number_of x.number) x.len new
+
+-- each datagram that was decrypted to this one, as a request, protects what was read of it (RFC 8613, 8.2)
+abbrev pub OpensRequestAfter : List ℕ → DecryptedRequest → Opened → Type 0
+OpensRequestAfter new x o = (s : SecurityContext) (old : List ℕ) → DecryptsRequest (requests s) old x new → Opens (requests s) old o
+
+-- each datagram that was decrypted to this one, as a request, protects a bad plaintext (RFC 8613, 8.2)
+abbrev pub RefusesRequestAfter : List ℕ → DecryptedRequest → Type 0
+RefusesRequestAfter new x = (s : SecurityContext) (old : List ℕ) → DecryptsRequest (requests s) old x new → RefusesPlaintext (requests s) old
+
+-- each datagram that was decrypted to this one, as a response, protects what was read of it (RFC 8613, 8.4)
+abbrev pub OpensResponseAfter : List ℕ → DecryptedResponse → Opened → Type 0
+OpensResponseAfter new x o = (s : SecurityContext) (n : ℕ) (old : List ℕ) → DecryptsResponse (responses s n) old x new → Opens (responses s n) old o
+
+-- each datagram that was decrypted to this one, as a response, protects a bad plaintext (RFC 8613, 8.4)
+abbrev pub RefusesResponseAfter : List ℕ → DecryptedResponse → Type 0
+RefusesResponseAfter new x = (s : SecurityContext) (n : ℕ) (old : List ℕ) → DecryptsResponse (responses s n) old x new → RefusesPlaintext (responses s n) old

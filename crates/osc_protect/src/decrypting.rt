@@ -1,0 +1,104 @@
+//! The stage of opening that needs a key: a payload is decrypted where it lies (RFC 8613, 8.2 and 8.4). The head was read
+//! before, and named the context, so a bad tag is the one refusal.
+
+ghost use Rattle.std.specs.Prelude.{◌≡◌, IfOk, IsErr, IsOk, OnErr};
+ghost use Rattle.osc_protect.specs.Refusals.{RefusesTag};
+ghost use Rattle.osc_protect.specs.Stages.{HasPayloadOf, HoldsPlaintext};
+ghost use Rattle.osc_protect.specs.StageViews.{DecryptsRequest, DecryptsResponse, IsSealedRequest, IsSealedResponse};
+ghost use Rattle.osc_protect.specs.Views.{context_of, opened_requests, opened_responses};
+
+use crate::aead::Aead;
+use crate::ends::Recipient;
+use crate::keyed_context::KeyedContext;
+use crate::laws::one_head;
+use crate::request_ref::RequestRef;
+use crate::stage_error::BadTag;
+use crate::stages::{DecryptedRequest, DecryptedResponse, SealedRequest, SealedResponse};
+
+/// Decrypts a request in its datagram. `sealed` is of the datagram's head, and this head names the context. At Ok the payload
+/// is the plaintext, and behind it the old tag (RFC 8613, 8.2, steps 3 to 6).
+pub fn decrypt_request(
+    context: &KeyedContext,
+    datagram: &mut [u8],
+    sealed: SealedRequest,
+) -> Result<DecryptedRequest, BadTag>
+    requires { IsSealedRequest (opened_requests (context_of context.now)) datagram.old sealed }
+    ensures decrypted { IfOk result (λ x. DecryptsRequest (opened_requests (context_of context.now)) datagram.old x datagram.new) }
+    ensures placed { IfOk result (λ x. HasPayloadOf datagram.new x.len) }
+    ensures accepts { HoldsPlaintext (opened_requests (context_of context.now)) datagram.old → IsOk result }
+    ensures refused { OnErr result (RefusesTag (opened_requests (context_of context.now)) datagram.old) }
+    ensures refuses { RefusesTag (opened_requests (context_of context.now)) datagram.old → IsErr result }
+    ensures unchanged { OnErr result (datagram.new ≡ datagram.old) }
+{
+    one_head();
+    decrypt_request_forward(context.recipient(), datagram, sealed)
+}
+
+/// Decrypts a response in its datagram. `sealed` is of the datagram's head. At Ok the payload is the plaintext, and behind it
+/// the old tag (RFC 8613, 8.4, steps 3 to 6).
+pub fn decrypt_response(
+    context: &KeyedContext,
+    request: &RequestRef,
+    datagram: &mut [u8],
+    sealed: SealedResponse,
+) -> Result<DecryptedResponse, BadTag>
+    requires { IsSealedResponse (opened_responses (context_of context.now) request.now) datagram.old sealed }
+    ensures decrypted { IfOk result (λ x. DecryptsResponse (opened_responses (context_of context.now) request.now) datagram.old x datagram.new) }
+    ensures placed { IfOk result (λ x. HasPayloadOf datagram.new x.len) }
+    ensures accepts { HoldsPlaintext (opened_responses (context_of context.now) request.now) datagram.old → IsOk result }
+    ensures refused { OnErr result (RefusesTag (opened_responses (context_of context.now) request.now) datagram.old) }
+    ensures refuses { RefusesTag (opened_responses (context_of context.now) request.now) datagram.old → IsErr result }
+    ensures unchanged { OnErr result (datagram.new ≡ datagram.old) }
+{
+    one_head();
+    decrypt_response_forward(context.recipient(), request, datagram, sealed)
+}
+
+/// Decrypts a request under the recipient's key.
+pub(crate) fn decrypt_request_forward(
+    recipient: Recipient<'_>,
+    datagram: &mut [u8],
+    sealed: SealedRequest,
+) -> Result<DecryptedRequest, BadTag>
+    requires { IsSealedRequest (opened_requests recipient.context.now) datagram.old sealed }
+    ensures decrypted { IfOk result (λ x. DecryptsRequest (opened_requests recipient.entry.context.now) datagram.old x datagram.new) }
+    ensures placed { IfOk result (λ x. HasPayloadOf datagram.new x.len) }
+    ensures refused { OnErr result (RefusesTag (opened_requests recipient.entry.context.now) datagram.old) }
+    ensures unchanged { OnErr result (datagram.new ≡ datagram.old) }
+{
+    let number = sealed.number;
+    let aead = Aead::of_request(recipient.end(), recipient.context.common_iv(), number);
+    match aead.open_payload(datagram, sealed.len) {
+        Some(len) => Ok(DecryptedRequest { number, len }),
+        None => Err(BadTag),
+    }
+}
+
+/// Decrypts a response under the recipient's key.
+pub(crate) fn decrypt_response_forward(
+    recipient: Recipient<'_>,
+    request: &RequestRef,
+    datagram: &mut [u8],
+    sealed: SealedResponse,
+) -> Result<DecryptedResponse, BadTag>
+    requires { IsSealedResponse (opened_responses recipient.context.now request.now) datagram.old sealed }
+    ensures decrypted { IfOk result (λ x. DecryptsResponse (opened_responses recipient.entry.context.now request.now) datagram.old x datagram.new) }
+    ensures placed { IfOk result (λ x. HasPayloadOf datagram.new x.len) }
+    ensures refused { OnErr result (RefusesTag (opened_responses recipient.entry.context.now request.now) datagram.old) }
+    ensures unchanged { OnErr result (datagram.new ≡ datagram.old) }
+{
+    let context = recipient.context;
+    let number = sealed.number;
+    let client = context.sender();
+    let aead = Aead::of_response(
+        recipient.end(),
+        context.common_iv(),
+        client,
+        request.number,
+        number,
+    );
+    match aead.open_payload(datagram, sealed.len) {
+        Some(len) => Ok(DecryptedResponse { number, len }),
+        None => Err(BadTag),
+    }
+}

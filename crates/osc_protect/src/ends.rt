@@ -1,0 +1,92 @@
+//! The ends of a context (RFC 8613, 3.1), each with the schedule of its key: identifier and key travel together, so that a
+//! key never meets the identifier of the other end.
+
+ghost use Rattle.std.specs.Prelude.{◌≡◌};
+ghost use Rattle.osc_aes.specs.Keyed.{key_of};
+ghost use Rattle.osc_context.specs.Views.{as_client, as_server};
+
+use osc_aes::TableAes;
+use osc_context::{Context, Kid};
+
+/// An end, as the cipher of a message takes it: its identifier, and the schedule of its key.
+#[derive(Clone, Copy)]
+pub(crate) struct End<'a> {
+    pub(crate) kid: &'a Kid,
+    pub(crate) schedule: &'a TableAes,
+}
+
+/// A context with the schedule of the sender's key: what this end seals with.
+#[derive(Clone, Copy)]
+pub(crate) struct Sender<'a> {
+    pub(crate) context: &'a Context,
+    schedule: &'a TableAes,
+    ghost keyed: { key_of schedule.now ≡ (as_client context.now).client_key },
+}
+
+/// A context with the schedule of the recipient's key: what this end opens with.
+#[derive(Clone, Copy)]
+pub(crate) struct Recipient<'a> {
+    pub(crate) context: &'a Context,
+    schedule: &'a TableAes,
+    ghost keyed: { key_of schedule.now ≡ (as_server context.now).client_key },
+}
+
+impl<'a> Sender<'a> {
+    ghost use Rattle.osc_protect.specs.Ends.{IsClientOf, IsServerOf};
+
+    /// The schedule of the sender's key.
+    pub(crate) fn schedule_of(context: &Context) -> TableAes
+        ensures { key_of result ≡ (as_client context.now).client_key }
+    {
+        TableAes::new(context.sender_key())
+    }
+
+    /// A context with that schedule.
+    pub(crate) fn new(context: &'a Context, schedule: &'a TableAes) -> Sender<'a>
+        requires { key_of schedule.now ≡ (as_client context.now).client_key }
+        ensures { result.context.now ≡ context.entry.now }
+    {
+        Sender { context, schedule }
+    }
+
+    /// This end: the client of requests, and the server of responses.
+    pub(crate) fn end(self) -> End<'a>
+        ensures client { IsClientOf (as_client self.entry.context.now) result }
+        ensures server { IsServerOf (as_server self.entry.context.now) result }
+    {
+        End {
+            kid: self.context.sender(),
+            schedule: self.schedule,
+        }
+    }
+}
+
+impl<'a> Recipient<'a> {
+    ghost use Rattle.osc_protect.specs.Ends.{IsClientOf, IsServerOf};
+
+    /// The schedule of the recipient's key.
+    pub(crate) fn schedule_of(context: &Context) -> TableAes
+        ensures { key_of result ≡ (as_server context.now).client_key }
+    {
+        TableAes::new(context.recipient_key())
+    }
+
+    /// A context with that schedule.
+    pub(crate) fn new(context: &'a Context, schedule: &'a TableAes) -> Recipient<'a>
+        requires { key_of schedule.now ≡ (as_server context.now).client_key }
+        ensures { result.context.now ≡ context.entry.now }
+    {
+        Recipient { context, schedule }
+    }
+
+    /// The other end: the client of requests, and the server of responses.
+    pub(crate) fn end(self) -> End<'a>
+        ensures client { IsClientOf (as_server self.entry.context.now) result }
+        ensures server { IsServerOf (as_client self.entry.context.now) result }
+    {
+        End {
+            kid: self.context.recipient(),
+            schedule: self.schedule,
+        }
+    }
+}

@@ -1,0 +1,156 @@
+//! A security context that keeps the schedules of its two keys.
+
+ghost use Rattle.std.specs.Prelude.{◌≡◌, ◌≢◌, ◌≤◌, ℕ, List, Option, Some, length, take, drop, IfOk, IfErr, IsOk, IsOkAnd, IsErrOf, OnErr};
+ghost use Rattle.std.specs.Option.{option_map};
+ghost use Rattle.osc_aes.specs.Keyed.{key_of};
+ghost use Rattle.osc_coap.specs.Inner.{InnerParts};
+ghost use Rattle.osc_coap.specs.Views.{parts_of};
+ghost use Rattle.osc_context.specs.Views.{as_client, as_server, number_of};
+ghost use Rattle.osc_protect.specs.declared.protect_error.ProtectError.{ProtectError};
+ghost use Rattle.osc_protect.specs.declared.unprotect_error.UnprotectError.{UnprotectError};
+ghost use Rattle.osc_protect.specs.declared.unprotect_error.UnprotectError.TheVariants.{WrongContext};
+
+use crate::ends::{Recipient, Sender};
+use crate::opened::Opened;
+use crate::opening::{open_request_by, open_response_by};
+use crate::protect_error::ProtectError;
+use crate::request_ref::RequestRef;
+use crate::sealing::{seal_request_by, seal_response_by};
+use crate::unprotect_error::UnprotectError;
+use osc_aes::TableAes;
+use osc_coap::Message;
+use osc_context::{Context, Piv};
+use std::fmt;
+
+/// A security context and the schedules of its two keys, for an end that seals and opens more than one message. Its `Debug`
+/// shows no key and no schedule.
+#[derive(Drop)]
+pub struct KeyedContext {
+    context: Context,
+    sender: TableAes,
+    recipient: TableAes,
+    ghost sender_keyed: { key_of sender ≡ (as_client context).client_key },
+    ghost recipient_keyed: { key_of recipient ≡ (as_server context).client_key },
+}
+
+impl KeyedContext {
+    ghost use Rattle.osc_protect.specs.Opening.{Opens};
+    ghost use Rattle.osc_protect.specs.Protection.{ProtectsRequest, ProtectsResponse};
+    ghost use Rattle.osc_protect.specs.Refusals.{RefusesToOpen};
+    ghost use Rattle.osc_protect.specs.Sealed.{SealsRequest, SealsResponse};
+    ghost use Rattle.osc_protect.specs.SealRefusals.{FitsToSeal, RefusesToSeal};
+    ghost use Rattle.osc_protect.specs.Views.{context_of, message_of, opened_number, opened_requests, opened_responses, request_number, sealed_requests, sealed_responses};
+
+    /// Makes both schedules.
+    #[must_use]
+    pub fn new(context: Context) -> KeyedContext
+        ensures { context_of result ≡ context }
+    {
+        KeyedContext {
+            sender: Sender::schedule_of(&context),
+            recipient: Recipient::schedule_of(&context),
+            context,
+        }
+    }
+
+    /// The context.
+    #[must_use]
+    pub fn context(&self) -> &Context
+        ensures { result.now ≡ context_of self.now }
+    {
+        &self.context
+    }
+
+    /// What this end seals with.
+    fn sender(&self) -> Sender<'_>
+        ensures { result.context.now ≡ context_of self.now }
+    {
+        Sender::new(&self.context, &self.sender)
+    }
+
+    /// What this end opens with.
+    pub(crate) fn recipient(&self) -> Recipient<'_>
+        ensures { result.context.now ≡ context_of self.now }
+    {
+        Recipient::new(&self.context, &self.recipient)
+    }
+
+    /// As [`crate::seal_request`], under the schedule that is kept.
+    pub fn seal_request(
+        &self,
+        number: Piv,
+        plain: &Message<'_>,
+        out: &mut [u8],
+    ) -> Result<usize, ProtectError>
+        ensures sealed { IfOk result (λ n. SealsRequest (as_client (context_of self.now)) (number_of number) (parts_of plain.now) (take n out.new)) }
+        ensures within { IfOk result (λ n. n ≤ length out.new) }
+        ensures behind { IfOk result (λ n. drop n out.new ≡ drop n out.old) }
+        ensures accepts { FitsToSeal (sealed_requests (context_of self.now)) (number_of number) (parts_of plain.now) (length out.old) → IsOk result }
+        ensures refused { IfErr result (λ e. RefusesToSeal (sealed_requests (context_of self.now)) (number_of number) (parts_of plain.now) (length out.old) e) }
+        ensures refuses { (e : ProtectError) → RefusesToSeal (sealed_requests (context_of self.now)) (number_of number) (parts_of plain.now) (length out.old) e
+            → IsErrOf result e }
+        ensures unchanged { OnErr result (out.new ≡ out.old) }
+    {
+        seal_request_by(self.sender(), number, plain, out)
+    }
+
+    /// As [`crate::seal_response`], under the schedule that is kept.
+    pub fn seal_response(
+        &self,
+        request: &RequestRef,
+        own: Option<Piv>,
+        plain: &Message<'_>,
+        out: &mut [u8],
+    ) -> Result<usize, ProtectError>
+        ensures sealed { IfOk result (λ n. SealsResponse (as_server (context_of self.now)) (request_number request.now) (option_map number_of own) (parts_of plain.now) (take n out.new)) }
+        ensures within { IfOk result (λ n. n ≤ length out.new) }
+        ensures behind { IfOk result (λ n. drop n out.new ≡ drop n out.old) }
+        ensures accepts { FitsToSeal (sealed_responses (context_of self.now) request.now) (option_map number_of own) (parts_of plain.now) (length out.old)
+            → IsOk result }
+        ensures refused { IfErr result
+            (λ e. RefusesToSeal (sealed_responses (context_of self.now) request.now) (option_map number_of own) (parts_of plain.now) (length out.old) e) }
+        ensures refuses { (e : ProtectError)
+            → RefusesToSeal (sealed_responses (context_of self.now) request.now) (option_map number_of own) (parts_of plain.now) (length out.old) e
+            → IsErrOf result e }
+        ensures unchanged { OnErr result (out.new ≡ out.old) }
+    {
+        seal_response_by(self.sender(), request, own, plain, out)
+    }
+
+    /// As [`crate::open_request`], under the schedule that is kept.
+    pub fn open_request<'b>(&self, datagram: &'b mut [u8]) -> Result<Opened<'b>, UnprotectError>
+        ensures opened { IfOk result (λ o. Opens (opened_requests (context_of self.now)) datagram.old o) }
+        ensures accepts { (n : ℕ) (m : InnerParts) → ProtectsRequest (as_server (context_of self.now)) n m datagram.old
+            → IsOkAnd result (λ o. (opened_number o ≡ Some n) × (message_of o ≡ m)) }
+        ensures refused { IfErr result (λ e. RefusesToOpen (opened_requests (context_of self.now)) datagram.old e) }
+        ensures refuses { (e : UnprotectError) → RefusesToOpen (opened_requests (context_of self.now)) datagram.old e → IsErrOf result e }
+    {
+        open_request_by(self.recipient(), datagram)
+    }
+
+    /// As [`crate::open_response`], under the schedule that is kept.
+    pub fn open_response<'b>(
+        &self,
+        request: &RequestRef,
+        datagram: &'b mut [u8],
+    ) -> Result<Opened<'b>, UnprotectError>
+        ensures opened { IfOk result (λ o. Opens (opened_responses (context_of self.now) request.now) datagram.old o) }
+        ensures accepts { (own : Option ℕ) (m : InnerParts)
+            → ProtectsResponse (as_client (context_of self.now)) (request_number request.now) own m datagram.old
+            → IsOkAnd result (λ o. (opened_number o ≡ own) × (message_of o ≡ m)) }
+        ensures refused { IfErr result (λ e. RefusesToOpen (opened_responses (context_of self.now) request.now) datagram.old e) }
+        ensures refuses { (e : UnprotectError) → RefusesToOpen (opened_responses (context_of self.now) request.now) datagram.old e → IsErrOf result e }
+        ensures no_wrong_context { IfErr result (λ e. e ≢ WrongContext) }
+    {
+        open_response_by(self.recipient(), request, datagram)
+    }
+}
+
+impl fmt::Debug for KeyedContext {
+    /// Shows the context as that shows itself; the schedules are left out.
+    fn fmt<W: fmt::Write>(&self, f: &mut fmt::Formatter<W>) -> fmt::Result {
+        f.debug_struct("KeyedContext")
+            .field("context", &self.context)
+            .finish_non_exhaustive()
+    }
+}

@@ -1,0 +1,57 @@
+//! What calls of the layers cost: nanoseconds a call, the least of some runs. README.md tells how to run it.
+#![tactic(auto)]
+
+mod ciphers;
+mod messages;
+mod stopwatch;
+
+use crate::stopwatch::Stopwatch;
+use std::process::ExitCode;
+use std::rt::{Clock, Env};
+use std::{env, io};
+
+const USAGE: &str = "usage: speed all | schedule | block | ccm | message | parse
+Measures calls, and prints a line each: its name, and nanoseconds a call.";
+
+/// Measures what the word names, and answers the status.
+fn run<R: Clock + Print + Eprint>(rt: &R, word: &str) -> io::Result<u8> {
+    let mut watch = Stopwatch::new(rt);
+    match word {
+        "all" => {
+            ciphers::schedule(&mut watch)?;
+            ciphers::block(&mut watch)?;
+            ciphers::ccm(&mut watch)?;
+            messages::message(&mut watch)?;
+            messages::parsing(&mut watch)?;
+        }
+        "schedule" => ciphers::schedule(&mut watch)?,
+        "block" => ciphers::block(&mut watch)?,
+        "ccm" => ciphers::ccm(&mut watch)?,
+        "message" => messages::message(&mut watch)?,
+        "parse" => messages::parsing(&mut watch)?,
+        _ => {
+            eprintln!(rt; "{USAGE}")?;
+            return Ok(2);
+        }
+    }
+    watch.end()?;
+    Ok(0)
+}
+
+/// Measures what the program's first word names; with no word it prints its usage.
+fn measure<R: Clock + Print + Eprint + Env + Alloc>(rt: &R) -> io::Result<u8> {
+    let mut words = env::args(rt)?;
+    let _name = words.next();
+    match words.next() {
+        Some(word) => run(rt, word.as_str()),
+        None => {
+            println!(rt; "{USAGE}")?;
+            Ok(0)
+        }
+    }
+}
+
+fn main(rt: HostRuntime) -> io::Result<ExitCode> {
+    let status = measure(&rt)?;
+    Ok(ExitCode::from(status))
+}
