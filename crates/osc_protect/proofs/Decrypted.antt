@@ -1,6 +1,6 @@
 -- Decrypting the payload where it lies.
-use Rattle.std.proofs.Common.{◌≡◌, ◌≢◌, ℕ, ◌+◌, ◌-◌, ◌<◌, ◌≤◌, List, [], ◌∷◌, ◌++◌, length, take, drop, refl, sym, ap, subst, ◌∙◌, arith, get_or, length-take, take-append-drop, Option, Some, None, IfSome, IfNone, Result, Ok, Err, IfOk, IsOk, IsErr, OnErr}
-use Rattle.std.proofs.lemmas.List.{get_or-append_right, length-append}
+use Rattle.std.proofs.Common.{◌≡◌, ◌≢◌, ℕ, ◌+◌, ◌-◌, ◌<◌, ◌≤◌, List, ◌++◌, length, take, drop, refl, sym, ap, subst, ◌∙◌, arith, get_or, length-take, take-append-drop, Option, Some, None, IfSome, IfNone, Result, Ok, Err, IfOk, IsOk, IsErr, OnErr}
+use Rattle.std.proofs.lemmas.List.{get_or-append_right}
 use Rattle.std.proofs.lemmas.List.Elements.{All-from_get_or}
 use borrow.Rule.Slice.PartMut.{put_mid, mid_of}
 use Rattle.osc_protect.proofs.Placing.{mid_last, put_last}
@@ -12,7 +12,7 @@ use Rattle.osc_protect.specs.Protection.{Protection}
 use Rattle.osc_protect.specs.Refusals.{RefusesTag}
 use Rattle.osc_protect.specs.Halves.{DecryptsPayload, HasPayload}
 use Rattle.osc_protect.specs.Laws.{OneHead}
-use Rattle.osc_protect.specs.Stages.{Decrypts, HasPayloadOf, HasSealed, HoldsPlaintext}
+use Rattle.osc_protect.specs.Stages.{Decrypts, HoldsPlaintext}
 use Rattle.osc_protect.specs.declared.stage_error.BadTag.{BadTag}
 
 -- the part that was written is of bytes, where the whole is
@@ -77,53 +77,6 @@ refuses_payload last p d len cipher x None none = λ m e. none m (part_is last p
 
 -- ---- the stage as its caller sees it
 
--- a payload that isn't empty stays so where its front is changed
-some_left : (a b : List ℕ) → b ≢ [] → a ++ drop (length a) b ≢ []
-some_left [] b some = some
-some_left (x ∷ xs) b some = λ e. cc
-
-module _ {I : Type 0} (f : Protection I) (old : List ℕ) (i : I) (len : ℕ) (x : HasSealed f old i len) where
-  pub has_payload : HasPayload (x.has.0) old len
-  has_payload = record { datagram = x.has.1; filled = x.has.2.filled; long = x.long ∙ ap length x.has.2.payload }
-
-  -- what became of the message's payload, said of the datagram's head
-  pub decrypts_as : (cipher : List ℕ → List ℕ) (n : ℕ) (new : List ℕ) → ((m : List ℕ) → cipher m ≡ f.cipher i m) → DecryptsPayload cipher (x.has.0) n new → Decrypts f old i n new
-  decrypts_as cipher n new is y =
-      let p = x.has.0 in
-      let shows = x.has.2 in
-      record {
-        outer = p;
-        head = x.head;
-        plaintext = y.plaintext;
-        datagram = x.has.1;
-        shows = shows;
-        names = x.names;
-        seals = shows.payload ∙ y.seals ∙ is y.plaintext;
-        left = y.left;
-        has = (
-          record p { payload = y.plaintext ++ drop (length y.plaintext) p.payload },
-          y.left,
-          record {
-            kind = shows.kind;
-            message_id = shows.message_id;
-            token = shows.token;
-            payload = ap (λ (z : List ℕ). y.plaintext ++ drop (length y.plaintext) z) shows.payload;
-            used = shows.used;
-            value = shows.value;
-            single = shows.single;
-            reads = shows.reads;
-            complete = shows.complete;
-            direct = shows.direct;
-            filled = some_left y.plaintext p.payload shows.filled;
-          },
-        );
-        long = y.long;
-      }
-
-  -- a payload that protects no plaintext, said of the datagram's head
-  pub refuses_as : (cipher : List ℕ → List ℕ) → ((m : List ℕ) → cipher m ≡ f.cipher i m) → ((m : List ℕ) → x.has.0.payload ≢ cipher m) → RefusesTag f old
-  refuses_as cipher is none = (x.head, x.has, i, x.names, λ m e. none m (sym x.has.2.payload ∙ e ∙ sym (is m)))
-
 module _ {I : Type 0} (f : Protection I) (laws : OneHead f.usage) (one_number : (i j : I) → f.parts i ≡ f.parts j → i ≡ j) (d : List ℕ) where
   never_held : RefusesTag f d → HoldsPlaintext f d → ⊥
   never_held r x =
@@ -140,11 +93,3 @@ module _ {I : Type 0} (f : Protection I) (laws : OneHead f.usage) (one_number : 
   pub refuses_held : {X : Type 0} (i : X → I) (len : X → ℕ) (new : List ℕ) (r : Result X BadTag) → IfOk r (λ x. Decrypts f d (i x) (len x) new) → RefusesTag f d → IsErr r
   refuses_held i len new (Ok x) it refused = absurd (never_held refused (it.head, (it.outer, it.datagram, it.shows), i x, it.names, it.plaintext, it.seals))
   refuses_held i len new (Err e) it refused = refl
-
--- what was decrypted leaves a payload that is as long
-pub decrypted_left : {I : Type 0} (f : Protection I) (old : List ℕ) (i : I) (len : ℕ) (new : List ℕ) → Decrypts f old i len new → HasPayloadOf new len
-decrypted_left f old i len new it =
-    let rest = drop (length it.plaintext) it.outer.payload in
-    let size = length-append it.plaintext rest in
-    let long = it.long in
-    (record it.outer { payload = it.plaintext ++ rest }, it.left, omega (arith, size, long))

@@ -1,11 +1,11 @@
 -- What the proofs need of a protection, and that requests and responses have it.
-use Rattle.std.proofs.Common.{◌≡◌, ◌≢◌, ℕ, ◌+◌, List, length, refl, ap, Option, Some, None, arith, true}
+use Rattle.std.proofs.Common.{◌≡◌, ◌≢◌, ℕ, ◌+◌, List, length, refl, ap, Option, Some, arith, true}
 use Rattle.std.specs.Option.{unwrap_or}
 use Rattle.osc_ccm.specs.Laws.{OnePlaintext, ProtectionLength}
 use Rattle.osc_context.specs.OscoreValue.{OscoreParts}
 use Rattle.osc_context.specs.SecurityContext.{SecurityContext}
 use Rattle.osc_protect.specs.Protection.{Protection, request_cipher, requests, response_cipher, responses}
-use Rattle.osc_protect.specs.Usage.{is_complete, outer_code_of, value_of_response}
+use Rattle.osc_protect.specs.Usage.{is_complete, outer_code_of}
 use Rattle.osc_protect.specs.declared.usage.Usage.{Usage}
 use Rattle.osc_protect.specs.declared.usage.Usage.TheVariants.{Request, Response}
 
@@ -37,17 +37,6 @@ responses_sound one long s n = record {
   long = λ own m. long _ _ _ m;
   complete = λ own. refl;
 }
-
--- what a complete option of a response says is its own number
-pub says_own : (v : OscoreParts) → is_complete Response v ≡ true → v ≡ value_of_response v.piv
-says_own v complete = from_parts v.piv v.kid_context v.kid complete
-  where
-    from_parts : (piv : Option ℕ) (context kid : Option (List ℕ)) → is_complete Response (record { piv = piv; kid_context = context; kid = kid }) ≡ true
-        → ◌≡◌ {A = OscoreParts} (record { piv = piv; kid_context = context; kid = kid }) (value_of_response piv)
-    from_parts piv None None h = refl
-    from_parts piv None (Some kid) h = absurd (cc)
-    from_parts piv (Some context) None h = absurd (cc)
-    from_parts piv (Some context) (Some kid) h = absurd (cc)
 
 -- no code outside is 0.00
 pub outer_code_some : (u : Usage) → outer_code_of u ≢ 0

@@ -1,5 +1,5 @@
 -- The stages of opening together: what is read after decrypting is what the datagram protects.
-use Rattle.std.proofs.Common.{◌≡◌, ◌≢◌, ℕ, List, ◌++◌, length, take, drop, refl, sym, ap, subst, ◌∙◌, option_map, Option, Result, Ok, Err, IfOk, IfErr, IsErr, IsOkAnd, IsErrOf, OnErr}
+use Rattle.std.proofs.Common.{◌≡◌, ℕ, List, ◌++◌, length, take, drop, refl, sym, ap, subst, ◌∙◌, option_map, Option, Result, Ok, Err, IfOk, IfErr, IsErr, IsOkAnd, IsErrOf, OnErr}
 use Rattle.std.proofs.lemmas.List.{take_at}
 use Rattle.osc_coap.specs.Datagram.{Parts, IsDatagram}
 use Rattle.osc_coap.specs.Inner.{InnerParts, IsInner}
@@ -7,8 +7,6 @@ use Rattle.osc_coap.specs.Laws.{DatagramIsOneMessage}
 use Rattle.osc_context.specs.OscoreValue.{OscoreParts, IsOscoreValue}
 use Rattle.osc_context.specs.Views.{number_of}
 use Rattle.osc_context.specs.declared.partial_iv.Piv.{Piv}
-use Rattle.osc_protect.specs.Head.{HasNoHead}
-use Rattle.osc_protect.specs.Text.{lifted}
 use Rattle.osc_protect.specs.Protection.{Protection, Protects}
 use Rattle.osc_protect.specs.Refusals.{IsBadInner, RefusesPlaintext, RefusesToOpen}
 use Rattle.osc_protect.specs.Views.{message_of, opened_number}
@@ -16,12 +14,10 @@ use Rattle.osc_protect.specs.Opening.{ShowsOuter, Opens}
 use Rattle.osc_protect.specs.Stages.{Decrypts}
 use Rattle.osc_protect.specs.Halves.{ReadsInner, RefusesInner}
 use Rattle.osc_protect.specs.Laws.{OneMessage}
-use Rattle.osc_protect.specs.declared.head_error.HeadError.{HeadError}
-use Rattle.osc_protect.specs.declared.head_error.HeadError.TheVariants as heads
 use Rattle.osc_protect.specs.declared.opened.Opened.{Opened}
 use Rattle.osc_protect.specs.declared.stage_error.BadInner.{BadInner}
 use Rattle.osc_protect.specs.declared.unprotect_error.UnprotectError.{UnprotectError}
-use Rattle.osc_protect.specs.declared.unprotect_error.UnprotectError.TheVariants.{Format, NotThatKind, NoOscore, Undecodable, WrongContext, Inner}
+use Rattle.osc_protect.specs.declared.unprotect_error.UnprotectError.TheVariants.{Inner}
 
 -- ---- what is read is what the datagram protected, for either outcome of reading
 
@@ -80,21 +76,6 @@ when_ok (Err e) f h = h
 pub when_err : {X E : Type 0} {P Q : Type 0} (r : Result X E) → (P → Q) → OnErr r P → OnErr r Q
 when_err (Ok x) f h = h
 when_err (Err e) f h = f h
-
--- ---- refusals of the head
-
--- are refusals to open, and not of the context
-pub head_refuses : {I : Type 0} (f : Protection I) (d : List ℕ) (e : HeadError) (g : UnprotectError) → HasNoHead f.usage d e → g ≡ lifted e → RefusesToOpen f d g
-head_refuses f d (heads.Format e) g h is = subst (RefusesToOpen f d) (sym is) h
-head_refuses f d heads.NotThatKind g h is = subst (RefusesToOpen f d) (sym is) h
-head_refuses f d heads.NoOscore g h is = subst (RefusesToOpen f d) (sym is) h
-head_refuses f d heads.Undecodable g h is = subst (RefusesToOpen f d) (sym is) h
-
-pub head_named : (e : HeadError) (g : UnprotectError) → g ≡ lifted e → g ≢ WrongContext
-head_named (heads.Format e) g is = λ wrong. let bad : Format e ≡ WrongContext = sym is ∙ wrong in cc
-head_named heads.NotThatKind g is = λ wrong. let bad : NotThatKind ≡ WrongContext = sym is ∙ wrong in cc
-head_named heads.NoOscore g is = λ wrong. let bad : NoOscore ≡ WrongContext = sym is ∙ wrong in cc
-head_named heads.Undecodable g is = λ wrong. let bad : Undecodable ≡ WrongContext = sym is ∙ wrong in cc
 
 -- ---- both directions
 

@@ -2,7 +2,7 @@
 //! server, which opens it.
 
 use crate::stopwatch::Stopwatch;
-use osc_coap::parse;
+use osc_coap::{Message, parse};
 use osc_context::{Context, ContextError, Params, Piv};
 use osc_protect::{KeyedContext, open_request, seal_request};
 use std::io;
@@ -48,12 +48,13 @@ pub(crate) fn message<R: Clock + Print>(watch: &mut Stopwatch<'_, R>) -> io::Res
     let Ok(server) = context_of(&SERVER, &[]) else {
         return Err(io::Error::other("the server's context was refused"));
     };
-    by_context(watch, &client, &server)?;
-    by_keyed_context(
-        watch,
-        &KeyedContext::new(client),
-        &KeyedContext::new(server),
-    )
+    let Ok(plain) = parse(&PLAIN) else {
+        return Err(io::Error::other("the plain request was refused"));
+    };
+    by_context(watch, &client, &server, &plain)?;
+    let client = KeyedContext::new(client);
+    let server = KeyedContext::new(server);
+    by_keyed_context(watch, &client, &server, &plain)
 }
 
 /// The calls over a context, with a schedule each time.
@@ -61,14 +62,12 @@ fn by_context<R: Clock + Print>(
     watch: &mut Stopwatch<'_, R>,
     client: &Context,
     server: &Context,
+    plain: &Message<'_>,
 ) -> io::Result<()> {
-    let Ok(plain) = parse(&PLAIN) else {
-        return Err(io::Error::other("the plain request was refused"));
-    };
     let mut out = SEALED;
     watch.figure("seal_request", || {
         let number = Piv::new(NUMBER)?;
-        seal_request(client, number, &plain, &mut out).ok()?;
+        seal_request(client, number, plain, &mut out).ok()?;
         Some(out[34])
     })?;
     let mut datagram = SEALED;
@@ -84,14 +83,12 @@ fn by_keyed_context<R: Clock + Print>(
     watch: &mut Stopwatch<'_, R>,
     client: &KeyedContext,
     server: &KeyedContext,
+    plain: &Message<'_>,
 ) -> io::Result<()> {
-    let Ok(plain) = parse(&PLAIN) else {
-        return Err(io::Error::other("the plain request was refused"));
-    };
     let mut out = SEALED;
     watch.figure("seal_request-kept-keys", || {
         let number = Piv::new(NUMBER)?;
-        client.seal_request(number, &plain, &mut out).ok()?;
+        client.seal_request(number, plain, &mut out).ok()?;
         Some(out[34])
     })?;
     let mut datagram = SEALED;
