@@ -124,3 +124,13 @@ pub(crate) fn debug(fields: &Fields<'_>, answer: &mut Answer) {
         Err(refusal) => answer.refused(refusal),
     }
 }
+
+/// Whether requests with a kid, and a kid context or none, are for the context.
+pub(crate) fn answers_to(fields: &Fields<'_>, context: &Context, answer: &mut Answer) {
+    fields.count(3);
+    answer.word(if context.answers_to(fields.bytes(1), fields.part(2)) {
+        "answers"
+    } else {
+        "other"
+    });
+}

@@ -146,20 +146,23 @@ pub(crate) fn sealed_response(fields: &Fields<'_>, context: &KeyedContext, answe
     sealed(outcome, out.as_slice(), answer);
 }
 
+/// What a message says that opened.
+pub(crate) fn show_opened(opened: &Opened<'_>, answer: &mut Answer) {
+    answer.kind(opened.kind);
+    answer.bytes(&opened.message_id.to_be_bytes());
+    answer.bytes(opened.token.as_slice());
+    answer.code(opened.code);
+    answer.number(opened.piv);
+    answer.part(opened.uri_host);
+    answer.part(opened.uri_port);
+    answer.options(opened.inner());
+    answer.bytes(opened.payload);
+}
+
 /// What a message says that opened, or why none did.
 fn opened(outcome: Result<Opened<'_>, UnprotectError>, answer: &mut Answer) {
     match outcome {
-        Ok(opened) => {
-            answer.kind(opened.kind);
-            answer.bytes(&opened.message_id.to_be_bytes());
-            answer.bytes(opened.token.as_slice());
-            answer.code(opened.code);
-            answer.number(opened.piv);
-            answer.part(opened.uri_host);
-            answer.part(opened.uri_port);
-            answer.options(opened.inner());
-            answer.bytes(opened.payload);
-        }
+        Ok(opened) => show_opened(&opened, answer),
         Err(refusal) => answer.refused(refusal),
     }
     answer.word("left");

@@ -105,7 +105,7 @@ fn of_protection(
     }
 }
 
-/// A call of osc_protect under a context.
+/// A call of osc_context or osc_protect under a context.
 fn under_a_context(
     verb: &str,
     fields: &Fields<'_>,
@@ -115,13 +115,14 @@ fn under_a_context(
     let Some(context) = fields.context(contexts) else {
         return fields.refuse();
     };
-    let context = KeyedContext::new(context);
+    let keyed = KeyedContext::new(context);
     match verb {
-        "names" => protection::named(fields, &context, answer),
-        "seal-request" => protection::sealed_request(fields, &context, answer),
-        "seal-response" => protection::sealed_response(fields, &context, answer),
-        "open-request" => protection::opened_request(fields, &context, answer),
-        "open-response" => protection::opened_response(fields, &context, answer),
+        "answers-to" => context::answers_to(fields, keyed.context(), answer),
+        "names" => protection::named(fields, &keyed, answer),
+        "seal-request" => protection::sealed_request(fields, &keyed, answer),
+        "seal-response" => protection::sealed_response(fields, &keyed, answer),
+        "open-request" => protection::opened_request(fields, &keyed, answer),
+        "open-response" => protection::opened_response(fields, &keyed, answer),
         _ => fields.refuse(),
     }
 }

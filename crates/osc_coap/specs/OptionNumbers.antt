@@ -17,6 +17,10 @@ uri_port = 7
 abbrev pub oscore : ℕ
 oscore = 9
 
+-- the number of Max-Age (RFC 7252, 5.10.5)
+abbrev pub max_age : ℕ
+max_age = 14
+
 -- the number of Block2 (RFC 7959, 2.1)
 abbrev pub block2 : ℕ
 block2 = 23

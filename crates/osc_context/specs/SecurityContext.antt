@@ -19,3 +19,7 @@ pub record IsUsable (c : SecurityContext) : Type 0 where
   pub client_key_length : length c.client_key ≡ key_length
   pub server_key_length : length c.server_key ≡ key_length
   pub common_iv_length : length c.common_iv ≡ nonce_length
+
+-- requests with this kid, and this kid context or none, are for this context (RFC 8613, 8.2, step 2; own rule: a kid context exactly if there is an ID Context)
+abbrev pub AnswersTo : SecurityContext → List ℕ → Option (List ℕ) → Type 0
+AnswersTo c kid kid_context = (c.client ≡ kid) × (c.id_context ≡ kid_context)

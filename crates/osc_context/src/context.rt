@@ -1,10 +1,10 @@
 //! A security context, as one of its two ends holds it (RFC 8613, 3.1).
 
-ghost use Rattle.std.specs.Prelude.{◌≡◌, ◌≢◌, IfOk, IfErr, IsOk, IsErrOf};
+ghost use Rattle.std.specs.Prelude.{◌≡◌, ◌≢◌, IfOk, IfErr, IsOk, IsErrOf, true, false};
 ghost use Rattle.std.specs.Option.{option_copied, option_map};
 ghost use Rattle.osc_context.specs.ContextRefusal.{IsFirstParamsRefusal, RefusesParams};
 ghost use Rattle.osc_context.specs.PrivateWords.{PassesBelow};
-ghost use Rattle.osc_context.specs.SecurityContext.{IsUsable};
+ghost use Rattle.osc_context.specs.SecurityContext.{AnswersTo, IsUsable};
 ghost use Rattle.osc_context.specs.declared.context_error.ContextError.{ContextError};
 
 use crate::context_error::ContextError;
@@ -99,6 +99,29 @@ impl Context {
         ensures { option_copied result ≡ (as_client self.now).id_context }
     {
         self.id_context.as_ref()
+    }
+
+    /// Whether requests with this kid, and this kid context or none, are for this end of the context, the server: the kid is the
+    /// other end's identifier, and the kid context the ID Context, or neither is there (RFC 8613, 8.2, step 2; own rule: a kid
+    /// context exactly if there is an ID Context).
+    #[must_use]
+    pub fn answers_to(&self, kid: &[u8], kid_context: Option<&[u8]>) -> bool
+        ensures yes { result ≡ true → AnswersTo (as_server self.now) kid.now (option_map (λ bytes. bytes.now) kid_context.entry) }
+        ensures no { result ≡ false → AnswersTo (as_server self.now) kid.now (option_map (λ bytes. bytes.now) kid_context.entry) → ⊥ }
+    {
+        self.recipient_id.bytes() == kid && self.is_in(kid_context)
+    }
+
+    /// Whether there is a kid context exactly if there is an ID Context, with the same bytes.
+    fn is_in(&self, kid_context: Option<&[u8]>) -> bool
+        ensures yes { result ≡ true → (as_server self.now).id_context ≡ option_map (λ bytes. bytes.now) kid_context.entry }
+        ensures no { result ≡ false → (as_server self.now).id_context ≢ option_map (λ bytes. bytes.now) kid_context.entry }
+    {
+        match (kid_context, self.id_context()) {
+            (None, None) => true,
+            (Some(kid_context), Some(id_context)) => kid_context == id_context.bytes(),
+            _ => false,
+        }
     }
 
     /// The key under which this end seals.

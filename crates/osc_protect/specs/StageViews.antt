@@ -7,7 +7,7 @@ use Rattle.osc_context.specs.Views.{number_of}
 use Rattle.osc_protect.specs.Protection.{Protection, requests, responses}
 use Rattle.osc_protect.specs.Refusals.{RefusesPlaintext}
 use Rattle.osc_protect.specs.Opening.{Opens}
-use Rattle.osc_protect.specs.Stages.{Decrypts, HasSealed}
+use Rattle.osc_protect.specs.Stages.{Decrypts, HasPayloadOf, HasSealed}
 use Rattle.osc_protect.specs.declared.opened.Opened.{Opened}
 use Rattle.osc_protect.specs.declared.stages.DecryptedRequest.{DecryptedRequest}
 use Rattle.osc_protect.specs.declared.stages.DecryptedResponse.{DecryptedResponse}
@@ -29,6 +29,14 @@ DecryptsRequest f old x new = Decrypts f old (number_of x.number) x.len new
 -- the value says what the old datagram was decrypted to, of a response (how the code is seen)
 abbrev pub DecryptsResponse : Protection (Option ℕ) → List ℕ → DecryptedResponse → List ℕ → Type 0
 DecryptsResponse f old x new = Decrypts f old (option_map number_of x.number) x.len new
+
+-- the datagram's payload has room for the plaintext of the value (how the code is seen)
+abbrev pub FitsRequest : List ℕ → DecryptedRequest → Type 0
+FitsRequest d x = HasPayloadOf d x.len
+
+-- the same of a response (how the code is seen)
+abbrev pub FitsResponse : List ℕ → DecryptedResponse → Type 0
+FitsResponse d x = HasPayloadOf d x.len
 
 -- each datagram that was decrypted to this one, as a request, protects what was read of it (RFC 8613, 8.2)
 abbrev pub OpensRequestAfter : List ℕ → DecryptedRequest → Opened → Type 0

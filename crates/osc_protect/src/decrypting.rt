@@ -3,8 +3,8 @@
 
 ghost use Rattle.std.specs.Prelude.{◌≡◌, IfOk, IsErr, IsOk, OnErr};
 ghost use Rattle.osc_protect.specs.Refusals.{RefusesTag};
-ghost use Rattle.osc_protect.specs.Stages.{HasPayloadOf, HoldsPlaintext};
-ghost use Rattle.osc_protect.specs.StageViews.{DecryptsRequest, DecryptsResponse, IsSealedRequest, IsSealedResponse};
+ghost use Rattle.osc_protect.specs.Stages.{HoldsPlaintext};
+ghost use Rattle.osc_protect.specs.StageViews.{DecryptsRequest, DecryptsResponse, FitsRequest, FitsResponse, IsSealedRequest, IsSealedResponse};
 ghost use Rattle.osc_protect.specs.Views.{context_of, opened_requests, opened_responses};
 
 use crate::aead::Aead;
@@ -24,7 +24,7 @@ pub fn decrypt_request(
 ) -> Result<DecryptedRequest, BadTag>
     requires { IsSealedRequest (opened_requests (context_of context.now)) datagram.old sealed }
     ensures decrypted { IfOk result (λ x. DecryptsRequest (opened_requests (context_of context.now)) datagram.old x datagram.new) }
-    ensures placed { IfOk result (λ x. HasPayloadOf datagram.new x.len) }
+    ensures placed { IfOk result (λ x. FitsRequest datagram.new x) }
     ensures accepts { HoldsPlaintext (opened_requests (context_of context.now)) datagram.old → IsOk result }
     ensures refused { OnErr result (RefusesTag (opened_requests (context_of context.now)) datagram.old) }
     ensures refuses { RefusesTag (opened_requests (context_of context.now)) datagram.old → IsErr result }
@@ -44,7 +44,7 @@ pub fn decrypt_response(
 ) -> Result<DecryptedResponse, BadTag>
     requires { IsSealedResponse (opened_responses (context_of context.now) request.now) datagram.old sealed }
     ensures decrypted { IfOk result (λ x. DecryptsResponse (opened_responses (context_of context.now) request.now) datagram.old x datagram.new) }
-    ensures placed { IfOk result (λ x. HasPayloadOf datagram.new x.len) }
+    ensures placed { IfOk result (λ x. FitsResponse datagram.new x) }
     ensures accepts { HoldsPlaintext (opened_responses (context_of context.now) request.now) datagram.old → IsOk result }
     ensures refused { OnErr result (RefusesTag (opened_responses (context_of context.now) request.now) datagram.old) }
     ensures refuses { RefusesTag (opened_responses (context_of context.now) request.now) datagram.old → IsErr result }
@@ -62,7 +62,7 @@ pub(crate) fn decrypt_request_forward(
 ) -> Result<DecryptedRequest, BadTag>
     requires { IsSealedRequest (opened_requests recipient.context.now) datagram.old sealed }
     ensures decrypted { IfOk result (λ x. DecryptsRequest (opened_requests recipient.entry.context.now) datagram.old x datagram.new) }
-    ensures placed { IfOk result (λ x. HasPayloadOf datagram.new x.len) }
+    ensures placed { IfOk result (λ x. FitsRequest datagram.new x) }
     ensures refused { OnErr result (RefusesTag (opened_requests recipient.entry.context.now) datagram.old) }
     ensures unchanged { OnErr result (datagram.new ≡ datagram.old) }
 {
@@ -83,7 +83,7 @@ pub(crate) fn decrypt_response_forward(
 ) -> Result<DecryptedResponse, BadTag>
     requires { IsSealedResponse (opened_responses recipient.context.now request.now) datagram.old sealed }
     ensures decrypted { IfOk result (λ x. DecryptsResponse (opened_responses recipient.entry.context.now request.now) datagram.old x datagram.new) }
-    ensures placed { IfOk result (λ x. HasPayloadOf datagram.new x.len) }
+    ensures placed { IfOk result (λ x. FitsResponse datagram.new x) }
     ensures refused { OnErr result (RefusesTag (opened_responses recipient.entry.context.now request.now) datagram.old) }
     ensures unchanged { OnErr result (datagram.new ≡ datagram.old) }
 {

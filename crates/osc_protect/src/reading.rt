@@ -9,7 +9,7 @@ ghost use Rattle.osc_protect.specs.Halves.{ReadsInner, RefusesInner};
 ghost use Rattle.osc_protect.specs.Protection.{ProtectsRequest, ProtectsResponse, requests, responses};
 ghost use Rattle.osc_protect.specs.Refusals.{RefusesPlaintext};
 ghost use Rattle.osc_protect.specs.Stages.{HasPayloadOf};
-ghost use Rattle.osc_protect.specs.StageViews.{DecryptsRequest, DecryptsResponse, OpensRequestAfter, OpensResponseAfter, RefusesRequestAfter, RefusesResponseAfter};
+ghost use Rattle.osc_protect.specs.StageViews.{DecryptsRequest, DecryptsResponse, FitsRequest, FitsResponse, OpensRequestAfter, OpensResponseAfter, RefusesRequestAfter, RefusesResponseAfter};
 ghost use Rattle.osc_protect.specs.Views.{message_of, opened_number};
 
 use crate::laws::{one_request, one_response};
@@ -24,7 +24,7 @@ use osc_context::Piv;
 
 /// Reads a request that was decrypted. The datagram is as `decrypt_request` left it, and the value the one that it gave.
 pub fn read_request(datagram: &[u8], decrypted: DecryptedRequest) -> Result<Opened<'_>, BadInner>
-    requires { HasPayloadOf datagram.now decrypted.len }
+    requires { FitsRequest datagram.now decrypted }
     ensures opened { IfOk result (λ o. OpensRequestAfter datagram.now decrypted o) }
     ensures accepts { (s : SecurityContext) (old : List ℕ) (n : ℕ) (m : InnerParts) → DecryptsRequest (requests s) old decrypted datagram.now
         → ProtectsRequest s n m old → IsOkAnd result (λ o. (opened_number o ≡ Some n) × (message_of o ≡ m)) }
@@ -38,7 +38,7 @@ pub fn read_request(datagram: &[u8], decrypted: DecryptedRequest) -> Result<Open
 
 /// Reads a response that was decrypted. The datagram is as `decrypt_response` left it, and the value the one that it gave.
 pub fn read_response(datagram: &[u8], decrypted: DecryptedResponse) -> Result<Opened<'_>, BadInner>
-    requires { HasPayloadOf datagram.now decrypted.len }
+    requires { FitsResponse datagram.now decrypted }
     ensures opened { IfOk result (λ o. OpensResponseAfter datagram.now decrypted o) }
     ensures accepts { (s : SecurityContext) (n : ℕ) (old : List ℕ) (own : Option ℕ) (m : InnerParts) → DecryptsResponse (responses s n) old decrypted datagram.now
         → ProtectsResponse s n own m old → IsOkAnd result (λ o. (opened_number o ≡ own) × (message_of o ≡ m)) }
@@ -55,7 +55,7 @@ fn read_request_forward(
     datagram: &[u8],
     decrypted: DecryptedRequest,
 ) -> Result<Opened<'_>, BadInner>
-    requires { HasPayloadOf datagram.now decrypted.len }
+    requires { FitsRequest datagram.now decrypted }
     ensures opened { IfOk result (λ o. OpensRequestAfter datagram.now decrypted o) }
     ensures refused { OnErr result (RefusesRequestAfter datagram.now decrypted) }
 {
@@ -69,7 +69,7 @@ fn read_response_forward(
     datagram: &[u8],
     decrypted: DecryptedResponse,
 ) -> Result<Opened<'_>, BadInner>
-    requires { HasPayloadOf datagram.now decrypted.len }
+    requires { FitsResponse datagram.now decrypted }
     ensures opened { IfOk result (λ o. OpensResponseAfter datagram.now decrypted o) }
     ensures refused { OnErr result (RefusesResponseAfter datagram.now decrypted) }
 {

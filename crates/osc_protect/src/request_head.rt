@@ -76,27 +76,14 @@ impl<'a> RequestHead<'a> {
         }
     }
 
-    /// Whether the head names the context of this end, which is the server: the kid is the other end's identifier, and the kid
-    /// context the ID Context, or neither is there (RFC 8613, 8.2, step 2; own rule: a kid context exactly if there is an ID
-    /// Context).
+    /// Whether the head names the context of this end, which is the server, as [`Context::answers_to`] tells (RFC 8613, 8.2,
+    /// step 2).
     #[must_use]
     pub fn names(&self, context: &Context) -> bool
         ensures yes { result ≡ true → Names (opened_requests context.now) (seen_head self.now) (number_of self.now.number) }
         ensures no { result ≡ false → (n : ℕ) → Names (opened_requests context.now) (seen_head self.now) n → ⊥ }
     {
-        self.kid == context.recipient().bytes() && is_in_id_context(self.kid_context, context)
-    }
-}
-
-/// Whether there is a kid context exactly if the context has an ID Context, with the same bytes.
-fn is_in_id_context(kid_context: Option<&[u8]>, context: &Context) -> bool
-    ensures yes { result ≡ true → shown kid_context.entry ≡ (as_server context.now).id_context }
-    ensures no { result ≡ false → shown kid_context.entry ≢ (as_server context.now).id_context }
-{
-    match (kid_context, context.id_context()) {
-        (None, None) => true,
-        (Some(kid_context), Some(id_context)) => kid_context == id_context.bytes(),
-        _ => false,
+        context.answers_to(self.kid, self.kid_context)
     }
 }
 

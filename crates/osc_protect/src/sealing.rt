@@ -94,41 +94,41 @@ fn seal_behind(aead: &Aead<'_>, out: &mut [u8], at: usize, len: usize) -> usize
     at + 1 + sealed
 }
 
-/// The value that says this of the OSCORE option.
-fn value_that_says(option: OscoreOption<'_>) -> ArrayVec<u8, 255>
+/// Writes the value that says this of the OSCORE option.
+fn write_value(option: OscoreOption<'_>, value: &mut ArrayVec<u8, 255>)
     requires { most_len (oscore_parts_of option) ≤ 255 }
-    ensures reads { IsOscoreValue (oscore_parts_of option.entry) result.items }
-    ensures short { array_vec_len result ≤ 255 }
+    ensures reads { IsOscoreValue (oscore_parts_of option.entry) value.new.items }
+    ensures short { array_vec_len value.new ≤ 255 }
 {
-    let mut value = ArrayVec::new();
-    match option.write(&mut value) {
-        Ok(()) => value,
-        Err(_) => unreachable!(),
-    }
+    let Ok(()) = option.write(value) else {
+        unreachable!()
+    };
 }
 
-/// The value of a request's OSCORE option: number, ID Context and the sender's identifier (RFC 8613, 6.1).
-fn request_value(context: &Context, number: Piv) -> ArrayVec<u8, 255>
-    ensures reads { IsOscoreValue ((sealed_requests context.now).parts (number_of number)) result.items }
-    ensures short { array_vec_len result ≤ 255 }
+/// Writes the value of a request's OSCORE option: number, ID Context and the sender's identifier (RFC 8613, 6.1).
+fn write_request_value(context: &Context, number: Piv, value: &mut ArrayVec<u8, 255>)
+    ensures reads { IsOscoreValue ((sealed_requests context.now).parts (number_of number)) value.new.items }
+    ensures short { array_vec_len value.new ≤ 255 }
 {
-    value_that_says(OscoreOption {
+    let option = OscoreOption {
         piv: Some(number),
         kid_context: context.id_context().map(|id_context| id_context.bytes()),
         kid: Some(context.sender().bytes()),
-    })
+    };
+    write_value(option, value);
 }
 
-/// The value of a response's OSCORE option: its own number, where it has one (RFC 8613, 6.1 and 8.3).
-fn response_value(own: Option<Piv>) -> ArrayVec<u8, 255>
-    ensures reads { IsOscoreValue (value_of_response (option_map number_of own)) result.items }
-    ensures short { array_vec_len result ≤ 255 }
+/// Writes the value of a response's OSCORE option: its own number, where it has one (RFC 8613, 6.1 and 8.3).
+fn write_response_value(own: Option<Piv>, value: &mut ArrayVec<u8, 255>)
+    ensures reads { IsOscoreValue (value_of_response (option_map number_of own)) value.new.items }
+    ensures short { array_vec_len value.new ≤ 255 }
 {
-    value_that_says(OscoreOption {
+    let option = OscoreOption {
         piv: own,
         kid_context: None,
         kid: None,
-    })
+    };
+    write_value(option, value);
 }
 
 /// Seals a message that was judged: there is room for it.
@@ -281,7 +281,8 @@ fn seal_request_forward(
 {
     check_request(plain)?;
     let context = sender.context;
-    let value = request_value(context, number);
+    let mut value = ArrayVec::new();
+    write_request_value(context, number, &mut value);
     let aead = Aead::of_request(sender.end(), context.common_iv(), number);
     seal_in_room(Usage::Request, value.as_slice(), &aead, plain, out)
 }
@@ -305,7 +306,8 @@ fn seal_response_forward(
     check_response(plain)?;
     let context = sender.context;
     let client = context.recipient();
-    let value = response_value(own);
+    let mut value = ArrayVec::new();
+    write_response_value(own, &mut value);
     let aead = Aead::of_response(
         sender.end(),
         context.common_iv(),

@@ -3,18 +3,20 @@
 
 mod ciphers;
 mod messages;
+mod serving;
 mod stopwatch;
 
 use crate::stopwatch::Stopwatch;
+use std::alloc::Global;
 use std::process::ExitCode;
 use std::rt::{Clock, Env};
 use std::{env, io};
 
-const USAGE: &str = "usage: speed all | schedule | block | ccm | message | parse
+const USAGE: &str = "usage: speed all | schedule | block | ccm | message | parse | server
 Measures calls, and prints a line each: its name, and nanoseconds a call.";
 
 /// Measures what the word names, and answers the status.
-fn run<R: Clock + Print + Eprint>(rt: &R, word: &str) -> io::Result<u8> {
+fn run<R: Clock + Print + Eprint + Alloc<A = Global>>(rt: &R, word: &str) -> io::Result<u8> {
     let mut watch = Stopwatch::new(rt);
     match word {
         "all" => {
@@ -23,12 +25,14 @@ fn run<R: Clock + Print + Eprint>(rt: &R, word: &str) -> io::Result<u8> {
             ciphers::ccm(&mut watch)?;
             messages::message(&mut watch)?;
             messages::parsing(&mut watch)?;
+            serving::serving(&mut watch, rt.alloc())?;
         }
         "schedule" => ciphers::schedule(&mut watch)?,
         "block" => ciphers::block(&mut watch)?,
         "ccm" => ciphers::ccm(&mut watch)?,
         "message" => messages::message(&mut watch)?,
         "parse" => messages::parsing(&mut watch)?,
+        "server" => serving::serving(&mut watch, rt.alloc())?,
         _ => {
             eprintln!(rt; "{USAGE}")?;
             return Ok(2);
@@ -39,7 +43,7 @@ fn run<R: Clock + Print + Eprint>(rt: &R, word: &str) -> io::Result<u8> {
 }
 
 /// Measures what the program's first word names; with no word it prints its usage.
-fn measure<R: Clock + Print + Eprint + Env + Alloc>(rt: &R) -> io::Result<u8> {
+fn measure<R: Clock + Print + Eprint + Env + Alloc<A = Global>>(rt: &R) -> io::Result<u8> {
     let mut words = env::args(rt)?;
     let _name = words.next();
     match words.next() {

@@ -1,0 +1,279 @@
+//! Calls of osc_endpoint: a server, step by step.
+
+use crate::answer::Answer;
+use crate::fields::{Fields, NamedContext};
+use crate::server_entry::show;
+use crate::server_steps::{FILLED_WITH, Step, events_of, index, is_event, number, steps_of};
+use osc_coap::parse;
+use osc_endpoint::{
+    Answering, Arrival, Decided, Outcome, Seen, Server, ServerEntry, ServerEvent, Start, Taken,
+    Ticket, read_decided, run_server, run_server_on,
+};
+use osc_window::WindowSize;
+use std::alloc::Global;
+
+/// `add CONTEXT fresh|restarted NEXT SIZE`.
+fn add(
+    server: &mut Server,
+    fields: &Fields<'_>,
+    contexts: &[NamedContext<'_>],
+    answer: &mut Answer,
+) {
+    fields.count(4);
+    let Some(context) = fields.context(contexts) else {
+        return fields.refuse();
+    };
+    let next = number(fields, 2);
+    let start = if fields.word(1) == "fresh" {
+        Start::Fresh(next)
+    } else {
+        Start::Restarted(next)
+    };
+    let size = if fields.number(3) == 32 {
+        WindowSize::Places32
+    } else {
+        WindowSize::Places64
+    };
+    match server.add(context, start, size) {
+        Ok(index) => {
+            answer.word("added");
+            answer.print(index);
+        }
+        Err(refusal) => answer.refused(refusal),
+    }
+    answer.word(";");
+}
+
+/// An outcome as an entry shows it, and its ticket.
+fn part(outcome: Outcome<'_>) -> (Seen<'_>, Option<Ticket>) {
+    let seen = match outcome {
+        Outcome::Deliver(opened, ticket) => {
+            let seen = Seen::Deliver {
+                opened,
+                context: ticket.context(),
+                number: ticket.number(),
+            };
+            return (seen, Some(ticket));
+        }
+        Outcome::Malformed(fault) => Seen::Malformed(fault),
+        Outcome::NotRequest => Seen::NotRequest,
+        Outcome::Plain => Seen::Plain,
+        Outcome::Undecodable => Seen::Undecodable,
+        Outcome::NoContext => Seen::NoContext,
+        Outcome::Replay => Seen::Replay,
+        Outcome::BadTag => Seen::BadTag,
+        Outcome::BadInner => Seen::BadInner,
+        Outcome::Challenge { echo, issued } => Seen::Challenge { echo, issued },
+        Outcome::SequenceExhausted => Seen::SequenceExhausted,
+        Outcome::KeeperFailed => Seen::KeeperFailed,
+    };
+    (seen, None)
+}
+
+/// A datagram, by one call.
+fn take<'a>(server: &mut Server, arrival: &'a mut Arrival) -> (ServerEntry<'a>, Option<Ticket>) {
+    let Arrival {
+        now,
+        fresh,
+        bytes,
+        out,
+    } = arrival;
+    let Taken { outcome, reply } = server.take(*now, *fresh, bytes, out);
+    let (seen, ticket) = part(outcome);
+    let reply = &out[..reply];
+    (ServerEntry::Took { seen, reply }, ticket)
+}
+
+/// A datagram, by the two halves of that call.
+fn take_in_halves<'a>(
+    server: &mut Server,
+    arrival: &'a mut Arrival,
+) -> (ServerEntry<'a>, Option<Ticket>) {
+    let Arrival {
+        now,
+        fresh,
+        bytes,
+        out,
+    } = arrival;
+    let Decided { decision, reply } = server.decide(*now, *fresh, bytes, out);
+    let (seen, ticket) = part(read_decided(bytes, decision));
+    let reply = &out[..reply];
+    (ServerEntry::Took { seen, reply }, ticket)
+}
+
+/// A reply to the request of an earlier event.
+fn reply<'a>(
+    server: &mut Server,
+    tickets: &mut [Option<Ticket>],
+    answering: &'a mut Answering,
+) -> ServerEntry<'a> {
+    let Answering {
+        of,
+        own,
+        mid,
+        plain,
+        out,
+    } = answering;
+    let of = *of;
+    if of >= tickets.len() {
+        return ServerEntry::NoTicket;
+    }
+    let Some(ticket) = tickets[of].take() else {
+        return ServerEntry::NoTicket;
+    };
+    let message = match parse(plain) {
+        Ok(message) => message,
+        Err(fault) => {
+            tickets[of] = Some(ticket);
+            return ServerEntry::BadPlain(fault);
+        }
+    };
+    match server.reply(ticket, *own, *mid, &message, out) {
+        Ok(len) => ServerEntry::Replied(Ok(&out[..len])),
+        Err((refusal, ticket)) => {
+            tickets[of] = Some(ticket);
+            ServerEntry::Replied(Err(refusal))
+        }
+    }
+}
+
+/// An event, by calls.
+fn call<'a>(
+    server: &mut Server,
+    tickets: &mut [Option<Ticket>],
+    event: &'a mut ServerEvent,
+    in_halves: bool,
+) -> (ServerEntry<'a>, Option<Ticket>) {
+    match event {
+        ServerEvent::Datagram(arrival) => {
+            if in_halves {
+                take_in_halves(server, arrival)
+            } else {
+                take(server, arrival)
+            }
+        }
+        ServerEvent::Reply(answering) => (reply(server, tickets, answering), None),
+        ServerEvent::Restart { context, next } => {
+            let entry = ServerEntry::Restarted(server.restart(*context, *next));
+            (entry, None)
+        }
+    }
+}
+
+/// What is left of each event: of a datagram its bytes, of a reply whether nothing was written into its room.
+fn left(steps: &[Step<'_>], events: &[ServerEvent], answer: &mut Answer) {
+    answer.word("left");
+    let mut rest = events;
+    for step in steps {
+        if !is_event(step) {
+            continue;
+        }
+        let Some((event, tail)) = rest.split_first() else {
+            return;
+        };
+        match event {
+            ServerEvent::Datagram(arrival) => answer.left(step.fields.bytes(3), &arrival.bytes),
+            ServerEvent::Reply(answering) => answer.rest(&answering.out, FILLED_WITH),
+            ServerEvent::Restart { .. } => {}
+        }
+        rest = tail;
+    }
+}
+
+/// All steps, one call each.
+fn by_calls(
+    steps: &[Step<'_>],
+    contexts: &[NamedContext<'_>],
+    in_halves: bool,
+    answer: &mut Answer,
+) {
+    let mut events = events_of(steps, answer);
+    let (mut server, mut tickets) = (Server::new(), Vec::new(answer.alloc));
+    let mut rest = events.as_mut_slice();
+    for step in steps {
+        match step.verb {
+            "add" => add(&mut server, &step.fields, contexts, answer),
+            "advance" => {
+                server.advance(step.fields.number(0));
+                answer.word("advanced ;");
+            }
+            "is-open" => {
+                let is_open = server.is_open(index(&step.fields, 0));
+                answer.word(if is_open { "open ;" } else { "closed ;" });
+            }
+            _ => {
+                let Some((event, tail)) = rest.split_first_mut() else {
+                    return step.fields.refuse();
+                };
+                let (entry, ticket) = call(&mut server, &mut tickets, event, in_halves);
+                show(&entry, answer);
+                if tickets.push(ticket).is_err() {
+                    answer.is_whole = false;
+                }
+                rest = tail;
+            }
+        }
+    }
+    left(steps, &events, answer);
+}
+
+/// The contexts are added, and then the events run.
+fn by_a_run(
+    steps: &[Step<'_>],
+    contexts: &[NamedContext<'_>],
+    keeps_rest: bool,
+    answer: &mut Answer,
+) {
+    let alloc = answer.alloc;
+    let mut server = Server::new();
+    for step in steps {
+        if step.verb == "add" {
+            add(&mut server, &step.fields, contexts, answer);
+        }
+    }
+    let mut events = events_of(steps, answer);
+    run(alloc, &mut server, &mut events, keeps_rest, answer);
+    left(steps, &events, answer);
+}
+
+/// The events run, and their log is shown.
+fn run(
+    alloc: Global,
+    server: &mut Server,
+    events: &mut [ServerEvent],
+    keeps_rest: bool,
+    answer: &mut Answer,
+) {
+    let mut log = Vec::new(alloc);
+    let outcome = if keeps_rest {
+        let mut rest = events;
+        run_server_on(alloc, server, &mut rest, &mut log)
+    } else {
+        run_server(alloc, server, events, &mut log)
+    };
+    if outcome.is_err() {
+        answer.is_whole = false;
+    }
+    for entry in &log {
+        show(entry, answer);
+    }
+}
+
+/// Makes the calls of a row's steps: by `take`, by its halves, and, where the steps are contexts that are added and then
+/// events alone, by both runs.
+pub(crate) fn steps(text: &str, contexts: &[NamedContext<'_>], answer: &mut Answer) {
+    let steps = steps_of(text, answer);
+    by_calls(&steps, contexts, false, answer);
+    answer.again();
+    by_calls(&steps, contexts, true, answer);
+    let added = steps.iter().take_while(|step| step.verb == "add").count();
+    if steps.iter().skip(added).all(is_event) {
+        answer.again();
+        by_a_run(&steps, contexts, false, answer);
+        answer.again();
+        by_a_run(&steps, contexts, true, answer);
+    }
+    if steps.iter().any(|step| step.fields.is_bad()) {
+        answer.is_whole = false;
+    }
+}

@@ -1,0 +1,108 @@
+//! The steps of a server's row.
+
+use crate::answer::Answer;
+use crate::fields::Fields;
+use osc_context::Piv;
+use osc_endpoint::{Answering, Arrival, Fresh, ServerEvent};
+
+/// What the room for a reply is filled with.
+pub(crate) const FILLED_WITH: u8 = 0xaa;
+
+/// A step of a row: its verb, and its fields.
+#[derive(Drop)]
+pub(crate) struct Step<'t> {
+    pub(crate) verb: &'t str,
+    pub(crate) fields: Fields<'t>,
+}
+
+/// The steps of a row, which semicolons part.
+pub(crate) fn steps_of<'t>(text: &'t str, answer: &mut Answer) -> Vec<Step<'t>> {
+    let mut steps = Vec::new(answer.alloc);
+    for step in text.split(';') {
+        let (verb, rest) = step.trim().split_once(' ').unwrap_or(("", ""));
+        let fields = Fields::read(answer.alloc, rest);
+        if steps.push(Step { verb, fields }).is_err() {
+            answer.is_whole = false;
+        }
+    }
+    steps
+}
+
+/// The number of a field.
+pub(crate) fn number(fields: &Fields<'_>, place: usize) -> Piv {
+    match fields.partial_iv(place) {
+        Some(number) => number,
+        None => {
+            fields.refuse();
+            Piv::MAX
+        }
+    }
+}
+
+/// A small number, as an index is.
+pub(crate) fn index(fields: &Fields<'_>, place: usize) -> usize {
+    fields.short(place) as usize
+}
+
+/// A message ID of two bytes.
+fn message_id(fields: &Fields<'_>, place: usize) -> u16 {
+    u16::from_be_bytes(fields.array::<2>(place))
+}
+
+/// `take NOW ECHO MID DATAGRAM`.
+fn arrival(fields: &Fields<'_>) -> Arrival {
+    fields.count(4);
+    let fresh = Fresh {
+        echo: fields.array::<8>(1),
+        mid: message_id(fields, 2),
+    };
+    Arrival {
+        now: fields.number(0),
+        fresh,
+        bytes: fields.copy(3),
+        out: [FILLED_WITH; 64],
+    }
+}
+
+/// `reply STEP own|shared MID PLAIN ROOM`.
+fn answering(fields: &Fields<'_>) -> Answering {
+    fields.count(5);
+    Answering {
+        of: index(fields, 0),
+        own: fields.word(1) == "own",
+        mid: message_id(fields, 2),
+        plain: fields.copy(3),
+        out: fields.room(4, FILLED_WITH),
+    }
+}
+
+/// The event of a step, where it is one.
+fn event_of(step: &Step<'_>) -> Option<ServerEvent> {
+    match step.verb {
+        "take" => Some(ServerEvent::Datagram(arrival(&step.fields))),
+        "reply" => Some(ServerEvent::Reply(answering(&step.fields))),
+        "restart" => Some(ServerEvent::Restart {
+            context: index(&step.fields, 0),
+            next: number(&step.fields, 1),
+        }),
+        _ => None,
+    }
+}
+
+/// The events of a row's steps.
+pub(crate) fn events_of(steps: &[Step<'_>], answer: &mut Answer) -> Vec<ServerEvent> {
+    let mut events = Vec::new(answer.alloc);
+    for step in steps {
+        if let Some(event) = event_of(step) {
+            if events.push(event).is_err() {
+                answer.is_whole = false;
+            }
+        }
+    }
+    events
+}
+
+/// A step that runs know.
+pub(crate) fn is_event(step: &Step<'_>) -> bool {
+    matches!(step.verb, "take" | "reply" | "restart")
+}

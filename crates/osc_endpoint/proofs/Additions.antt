@@ -1,0 +1,92 @@
+-- A context that is added.
+use Rattle.std.proofs.Common.{◌≡◌, ℕ, zero, suc, ◌+◌, ◌<◌, ◌≤◌, ◌∙◌, sym, ap, subst, refl, arith, Bool, true, false, Option, Some, None, List, [], ◌∷◌, ◌++◌, length, length-append, if◌then◌else◌, inl, inr}
+use Rattle.std.specs.Prelude.{slice_get, ◌==◌, cond}
+use Rattle.std.proofs.lemmas.Bool.{eq-eqb, ne_eqb, cases_eq, cases_order}
+use Rattle.std.proofs.lemmas.Option.{slice_get_past}
+use Rattle.osc_context.specs.SecurityContext.{SecurityContext}
+use Rattle.osc_window.specs.declared.window_size.WindowSize.{WindowSize}
+use Rattle.osc_endpoint.specs.declared.server.Server.{Server}
+use Rattle.osc_endpoint.specs.declared.slot.Slot.{Slot}
+use Rattle.osc_endpoint.specs.declared.start.Start.{Start}
+use Rattle.osc_endpoint.specs.declared.start.Start.TheVariants.{Fresh, Restarted}
+use Rattle.osc_endpoint.specs.Agrees.{Agrees, HoldsLife, SlotAgrees, PlaceAgrees, TableAgrees, OneEach}
+use Rattle.osc_endpoint.specs.Life.{Life, born}
+use Rattle.osc_endpoint.specs.ServerAnswer.{HaveSameLookup, IsTaken}
+use Rattle.osc_endpoint.specs.ServerHistory.{History, Then, Add, Added, life}
+
+slice_get-pushed : (xs : List (Option Slot)) (y : Option Slot) → slice_get (xs ++ y ∷ []) (length xs) ≡ Some y
+slice_get-pushed [] y = refl
+slice_get-pushed (x ∷ xs) y = slice_get-pushed xs y
+
+slice_get-kept : (xs : List (Option Slot)) (y : Option Slot) (i : ℕ) → i < length xs → slice_get (xs ++ y ∷ []) i ≡ slice_get xs i
+slice_get-kept [] y i h = absurd (omega arith)
+slice_get-kept (x ∷ xs) y zero h = refl
+slice_get-kept (x ∷ xs) y (suc i) h = slice_get-kept xs y i (omega arith)
+
+none_of : (o : Option Life) → PlaceAgrees None o → o ≡ None
+none_of None h = refl
+none_of (Some l) h = absurd h
+
+past_life : (slots : List (Option Slot)) (lives : ℕ → Option Life) (i : ℕ) → length slots ≤ i → TableAgrees slots lives → lives i ≡ None
+past_life slots lives i h table = none_of (lives i) (subst (λ o. PlaceAgrees o (lives i)) (slice_get_past slots i h) (table.at i))
+
+place_from : (o p : Option (Option Slot)) (l m : Option Life) → o ≡ p → l ≡ m → PlaceAgrees p m → PlaceAgrees o l
+place_from o p l m e f h = subst (λ x. PlaceAgrees x l) (sym e) (subst (λ y. PlaceAgrees p y) (sym f) h)
+
+pub table_push : (slots : List (Option Slot)) (lives : ℕ → Option Life) (s : Option Slot) (l : Life) (n : ℕ) → TableAgrees slots lives → HoldsLife s l → n ≡ length slots
+    → TableAgrees (slots ++ s ∷ []) (λ i. if i == n then Some l else lives i)
+table_push slots lives s l n table k is = record {
+  at = λ j. elim (cases_order j n) [
+    | inl same ↦
+        place_from _ (Some s) _ (Some l)
+        (ap (slice_get (slots ++ s ∷ [])) (same ∙ is) ∙ slice_get-pushed slots s)
+        (ap (λ b. cond b (Some l) (lives j)) (eq-eqb j n same))
+        k
+    | inr other ↦ elim other [
+      | inl below ↦
+          place_from _ _ _ _ (slice_get-kept slots s j (omega arith))
+          (ap (λ b. cond b (Some l) (lives j)) (ne_eqb j n (λ e. omega arith)))
+          (table.at j)
+      | inr above ↦
+          place_from _ None _ None
+          (slice_get_past (slots ++ s ∷ []) j (omega (arith, length-append slots (s ∷ []))))
+          (ap (λ b. cond b (Some l) (lives j)) (ne_eqb j n (λ e. omega arith)) ∙ past_life slots lives j (omega arith) table)
+          tt
+    ]
+  ];
+}
+
+-- where a life is read behind an addition
+life_now : (h : History) (s : SecurityContext) (start : Start) (size : WindowSize) (n i : ℕ) (of : Life) → life (Then h (Add s start size) (Added n)) i ≡ Some of
+    → (b : Bool) → (i == n) ≡ b → cond b (Some (born s start size)) (life h i) ≡ Some of
+life_now h s start size n i of e b f = subst (λ c. cond c (Some (born s start size)) (life h i) ≡ Some of) f e
+
+born_context : (s : SecurityContext) (start : Start) (size : WindowSize) (of : Life) → Some (born s start size) ≡ Some of → s ≡ of.context
+born_context s (Fresh next) size of e = let f : born s (Fresh next) size ≡ of = cc in ap (λ (l : Life). l.context) f
+born_context s (Restarted next) size of e = let f : born s (Restarted next) size ≡ of = cc in ap (λ (l : Life). l.context) f
+
+pub one_more : (h : History) (s : SecurityContext) (start : Start) (size : WindowSize) (n : ℕ) → OneEach h → (IsTaken h s → ⊥) → OneEach (Then h (Add s start size) (Added n))
+one_more h s start size n each free i j of other e f same = elim (cases_eq i n) [
+  | inl a ↦ elim (cases_eq j n) [
+    | inl b ↦ a ∙ sym b
+    | inr c ↦
+        let here = born_context s start size of (life_now h s start size n i of e true (eq-eqb i n a)) in
+        absurd (free (j, other, life_now h s start size n j other f false (ne_eqb j n c), subst (HaveSameLookup other.context) (sym here) (sym same.0, sym same.1)))
+  ]
+  | inr a ↦ elim (cases_eq j n) [
+    | inl b ↦
+        let here = born_context s start size other (life_now h s start size n j other f true (eq-eqb j n b)) in
+        absurd (free (i, of, life_now h s start size n i of e false (ne_eqb i n a), subst (HaveSameLookup of.context) (sym here) same))
+    | inr c ↦ each i j of other (life_now h s start size n i of e false (ne_eqb i n a)) (life_now h s start size n j other f false (ne_eqb j n c)) same
+  ]
+]
+
+pub agrees_added : (old new : Server) (h : History) (s : SecurityContext) (start : Start) (size : WindowSize) (slot : Slot) (n : ℕ) → Agrees old h → (IsTaken h s → ⊥)
+    → new.clock ≡ old.clock → n ≡ length old.slots.items → new.slots.items ≡ old.slots.items ++ Some slot ∷ [] → SlotAgrees slot (born s start size)
+    → Agrees new (Then h (Add s start size) (Added n))
+agrees_added old new h s start size slot n a free same index items begins = record {
+  clock_is = same ∙ a.clock_is;
+  contexts = ap (λ (xs : List (Option Slot)). length xs) items ∙ length-append old.slots.items (Some slot ∷ []) ∙ ap (λ k. k + 1) a.contexts;
+  places = subst (λ xs. TableAgrees xs (λ i. if i == n then Some (born s start size) else life h i)) (sym items) (table_push old.slots.items (life h) (Some slot) (born s start size) n a.places begins index);
+  one_each = one_more h s start size n a.one_each free;
+}

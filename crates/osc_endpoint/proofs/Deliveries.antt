@@ -1,0 +1,139 @@
+-- What a server delivers, exactly.
+use Rattle.std.proofs.Common.{◌≡◌, ℕ, ◌∙◌, sym, ap, subst, refl, true, false, Option, Some, None, List, []}
+use Rattle.std.specs.Prelude.{max, unwrap_or}
+use Rattle.osc_coap.specs.Inner.{InnerParts}
+use Rattle.osc_protect.specs.Laws.{OneRequest, OneRequestReading}
+use Rattle.osc_protect.specs.Protection.{ProtectsRequest, requests}
+use Rattle.osc_protect.specs.Refusals.{RefusesPlaintext, RefusesTag}
+use Rattle.osc_protect.specs.declared.unprotect_error.UnprotectError.TheVariants.{Format, NotThatKind, NoOscore, Undecodable as BadHead, WrongContext, Tag, Inner}
+use Rattle.osc_endpoint.specs.declared.outcome.Outcome.{Outcome}
+use Rattle.osc_endpoint.specs.declared.outcome.Outcome.TheVariants as outcomes
+use Rattle.osc_endpoint.specs.Agrees.{OneEach}
+use Rattle.osc_endpoint.specs.Life.{Life, Admits, Carries, IsNewIn, is_open, in_force}
+use Rattle.osc_endpoint.specs.ServerAnswer.{IsRequestOf, TakeAnswer, WantsEcho, Delivers}
+use Rattle.osc_endpoint.specs.ServerHistory as server
+use Rattle.osc_protect.specs.Views.{message_of}
+use Rattle.osc_endpoint.specs.Received.{Received}
+use Rattle.osc_endpoint.specs.Views.{Shows, delivery_of}
+use Rattle.osc_endpoint.proofs.Judgments.{same_parts}
+
+-- context, number and message of a delivery
+abbrev pub delivered : server.Answer → Option (ℕ × ℕ × InnerParts)
+delivered (server.Deliver received ticket) = Some (ticket.context, ticket.number, received.message)
+delivered answer = None
+
+-- the outcome says what the answer does
+pub shown_delivery : (outcome : Outcome) (answer : server.Answer) → Shows outcome answer → delivery_of outcome ≡ delivered answer
+shown_delivery (outcomes.Malformed e) (server.Malformed fault place) s = refl
+shown_delivery outcomes.NotRequest server.NotRequest s = refl
+shown_delivery outcomes.Plain server.Plain s = refl
+shown_delivery outcomes.Undecodable server.Undecodable s = refl
+shown_delivery outcomes.NoContext server.NoContext s = refl
+shown_delivery outcomes.Replay server.Replay s = refl
+shown_delivery outcomes.BadTag server.BadTag s = refl
+shown_delivery outcomes.BadInner (server.BadInner i n) s = refl
+shown_delivery (outcomes.Challenge echo issued) (server.Challenge i n given moment) s = refl
+shown_delivery outcomes.SequenceExhausted server.SequenceExhausted s = refl
+shown_delivery (outcomes.Deliver o t) (server.Deliver received ticket) s =
+    ap (λ (x : server.TicketValues). Some (x.context, x.number, message_of o)) s.1 ∙ ap (λ (r : Received). Some (ticket.context, ticket.number, r.message)) s.0
+shown_delivery outcome answer s = absurd s
+
+-- what one delivery says
+abbrev pub Told : Type 0
+Told = ℕ × ℕ × InnerParts
+
+same_told : (x y : Told) → Some x ≡ Some y → (x.0 ≡ y.0) × (x.1 ≡ y.1) × (x.2 ≡ y.2)
+same_told x y e = (ap (λ (o : Option Told). (unwrap_or o x).0) e, ap (λ (o : Option Told). (unwrap_or o x).1) e, ap (λ (o : Option Told). (unwrap_or o x).2) e)
+
+-- a delivery is one of the definition
+pub row_delivers : (h : server.History) (now mid : ℕ) (echo d reply : List ℕ) (answer : server.Answer) (i n : ℕ) (m : InnerParts)
+    → TakeAnswer h (record { clock = max (server.clock h) now; echo = echo; mid = mid; bytes = d }) answer reply
+    → delivered answer ≡ Some (i, n, m) → Delivers h now d i n m
+row_delivers h now mid echo d reply (server.Deliver received ticket) i n m (index, number, of, request, (receives, admits, values, none)) e =
+    let told : server.TicketValues → Option Told = λ x. Some (x.context, x.number, received.message) in
+    let same = same_told (index, number, received.message) (i, n, m) (ap told (sym values) ∙ e) in
+    let index_is : index ≡ i = same.0 in
+    let number_is : number ≡ n = same.1 in
+    let message_is : received.message ≡ m = same.2 in
+    record {
+      of = of;
+      life_is = ap (server.life h) (sym index_is) ∙ request.life_is;
+      protects = subst (λ x. ProtectsRequest of.context x m d) number_is (subst (λ x. ProtectsRequest of.context number x d) message_is receives.protects);
+      admits = subst (λ x. Admits of (max (server.clock h) now) x m) number_is (subst (λ x. Admits of (max (server.clock h) now) number x) message_is admits);
+    }
+row_delivers h now mid echo d reply (server.Malformed fault place) i n m row e = cc
+row_delivers h now mid echo d reply server.NotRequest i n m row e = cc
+row_delivers h now mid echo d reply server.Plain i n m row e = cc
+row_delivers h now mid echo d reply server.Undecodable i n m row e = cc
+row_delivers h now mid echo d reply server.NoContext i n m row e = cc
+row_delivers h now mid echo d reply server.Replay i n m row e = cc
+row_delivers h now mid echo d reply server.BadTag i n m row e = cc
+row_delivers h now mid echo d reply (server.BadInner k l) i n m row e = cc
+row_delivers h now mid echo d reply (server.Challenge k l given issued) i n m row e = cc
+row_delivers h now mid echo d reply server.SequenceExhausted i n m row e = cc
+
+-- the context and number of a datagram that protects a message are those that its head names
+pub record IsSame (i j n k : ℕ) (of other : Life) : Type 0 where
+  pub index : i ≡ j
+  pub number : n ≡ k
+  pub life : of ≡ other
+
+pub same_named : (h : server.History) (i j n k : ℕ) (of other : Life) → OneEach h → server.life h i ≡ Some of → server.life h j ≡ Some other
+    → (requests of.context).parts n ≡ (requests other.context).parts k → IsSame i j n k of other
+same_named h i j n k of other each here there parts =
+    let index : i ≡ j = each i j of other here there (ap (λ v. unwrap_or v.kid []) parts, ap (λ v. v.kid_context) parts) in
+    record {
+      index = index;
+      number = ap (λ v. unwrap_or v.piv 0) parts;
+      life = let e : Some of ≡ Some other = sym here ∙ ap (server.life h) index ∙ there in cc;
+    }
+
+same_place : (h : server.History) (d : List ℕ) (i j n k : ℕ) (of other : Life) (m : InnerParts) → OneRequestReading → OneEach h
+    → IsRequestOf h d i n of → server.life h j ≡ Some other → ProtectsRequest other.context k m d → IsSame i j n k of other
+same_place h d i j n k of other m one each request life_is protects =
+    same_named h i j n k of other each request.life_is life_is (same_parts of.context other.context n k m d one (request.head, request.has_head, request.names) protects)
+
+-- a request that is admitted wants no Echo value
+pub no_want : (of other : Life) (n k clock : ℕ) (d : List ℕ) (m : InnerParts) → OneRequest → of ≡ other
+    → WantsEcho of n clock d → ProtectsRequest other.context k m d → Admits other clock k m → ⊥
+no_want of other n k clock d m laws same (closed, l, protects, carries) by admits =
+    let there = subst (λ (x : Life). ProtectsRequest x.context n l d) same protects in
+    let message : l ≡ m = (laws other.context).message d n k l m there by in
+    let shut : is_open other ≡ false = ap is_open (sym same) ∙ closed in
+    let carried : Carries (in_force other clock) l = subst (Carries (in_force other clock)) (sym message) (admits.1 shut) in
+    carries (subst (λ x. Carries (in_force x clock) l) (sym same) carried)
+
+-- what is to be delivered is
+pub delivers_row : (h : server.History) (now mid : ℕ) (echo d reply : List ℕ) (answer : server.Answer) (i n : ℕ) (m : InnerParts)
+    → OneRequestReading → OneRequest → OneEach h
+    → TakeAnswer h (record { clock = max (server.clock h) now; echo = echo; mid = mid; bytes = d }) answer reply
+    → Delivers h now d i n m → delivered answer ≡ Some (i, n, m)
+delivers_row h now mid echo d reply (server.Malformed fault place) i n m one laws each row is =
+    absurd ((laws is.of.context).never_both d n m (Format (record { fault = fault; place = place })) is.protects row.0)
+delivers_row h now mid echo d reply server.NotRequest i n m one laws each row is = absurd ((laws is.of.context).never_both d n m NotThatKind is.protects row.0)
+delivers_row h now mid echo d reply server.Plain i n m one laws each row is = absurd ((laws is.of.context).never_both d n m NoOscore is.protects row.0)
+delivers_row h now mid echo d reply server.Undecodable i n m one laws each row is = absurd ((laws is.of.context).never_both d n m BadHead is.protects row.0)
+delivers_row h now mid echo d reply server.NoContext i n m one laws each (none, says) is =
+    absurd ((laws is.of.context).never_both d n m WrongContext is.protects (none.0, none.1, λ k names. none.2 i is.of is.life_is k names))
+delivers_row h now mid echo d reply server.Replay i n m one laws each (j, k, of, request, (replay, says)) is =
+    let s = same_place h d j i k n of is.of m one each request is.life_is is.protects in
+    let opened : is_open is.of ≡ true = ap is_open (sym s.life) ∙ replay.0 in
+    absurd (replay.1 (subst (λ x. IsNewIn x k) (sym s.life) (subst (IsNewIn is.of) (sym s.number) (is.admits.0 opened))))
+delivers_row h now mid echo d reply server.BadTag i n m one laws each (j, k, of, request, (passes, refuses, says)) is =
+    let s = same_place h d j i k n of is.of m one each request is.life_is is.protects in
+    absurd ((laws is.of.context).never_both d n m Tag is.protects (subst (λ (x : Life). RefusesTag (requests x.context) d) s.life refuses))
+delivers_row h now mid echo d reply (server.BadInner a b) i n m one laws each (j, k, of, request, (passes, refuses, index, number, none)) is =
+    let s = same_place h d j i k n of is.of m one each request is.life_is is.protects in
+    absurd ((laws is.of.context).never_both d n m Inner is.protects (subst (λ (x : Life). RefusesPlaintext (requests x.context) d) s.life refuses))
+delivers_row h now mid echo d reply (server.Challenge a b given issued) i n m one laws each (j, k, of, request, row) is =
+    let s = same_place h d j i k n of is.of m one each request is.life_is is.protects in
+    absurd (no_want of is.of k n _ d m laws s.life row.0 is.protects is.admits)
+delivers_row h now mid echo d reply server.SequenceExhausted i n m one laws each (j, k, of, request, row) is =
+    let s = same_place h d j i k n of is.of m one each request is.life_is is.protects in
+    absurd (no_want of is.of k n _ d m laws s.life row.0 is.protects is.admits)
+delivers_row h now mid echo d reply (server.Deliver received ticket) i n m one laws each (j, k, of, request, (receives, admits, values, none)) is =
+    let s = same_place h d j i k n of is.of m one each request is.life_is is.protects in
+    let there = subst (λ (x : Life). ProtectsRequest x.context k received.message d) s.life receives.protects in
+    let message : received.message ≡ m = (laws is.of.context).message d k n received.message m there is.protects in
+    ap (λ (x : server.TicketValues). Some (x.context, x.number, received.message)) values
+    ∙ ap (λ x. Some (x, k, received.message)) s.index ∙ ap (λ x. Some (i, x, received.message)) s.number ∙ ap (λ x. Some (i, n, x)) message

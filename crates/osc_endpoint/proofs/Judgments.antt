@@ -1,0 +1,199 @@
+-- What a context answers to a request that names it.
+use Rattle.std.proofs.Common.{◌≡◌, ℕ, ◌<◌, ◌≤◌, ◌^◌, ◌∙◌, sym, ap, subst, refl, arith, false, Option, Some, None, List, [], if◌then◌else◌}
+use Rattle.std.specs.Prelude.{IsTrue, ◌==◌, unwrap_or, slice_get}
+use Rattle.std.proofs.lemmas.Bool.{eq-eqb}
+use Rattle.osc_coap.specs.Datagram.{IsDatagram}
+use Rattle.osc_coap.specs.Inner.{InnerParts}
+use Rattle.osc_coap.specs.Laws.{DatagramIsOneMessage}
+use Rattle.osc_context.specs.SecurityContext.{SecurityContext}
+use Rattle.osc_context.specs.Views.{as_server, number_of}
+use Rattle.osc_window.specs.declared.gate.Gate.{Gate}
+use Rattle.osc_window.specs.declared.gate.Gate.TheVariants as gates
+use Rattle.osc_window.specs.Views.{takes}
+use Rattle.osc_protect.specs.Laws.{OneRequestReading}
+use Rattle.osc_protect.specs.Opening.{Opens}
+use Rattle.osc_protect.specs.StageViews.{DecryptsRequest, OpensRequestAfter, RefusesRequestAfter}
+use Rattle.osc_protect.specs.Protection.{Protects, ProtectsRequest, requests}
+use Rattle.osc_protect.specs.Refusals.{RefusesPlaintext, RefusesTag}
+use Rattle.osc_protect.specs.Sealed.{SealsResponse}
+use Rattle.osc_protect.specs.Views.{context_of, message_of}
+use Rattle.osc_protect.specs.declared.opened.Opened.{Opened}
+use Rattle.osc_protect.specs.declared.stages.DecryptedRequest.{DecryptedRequest}
+use Rattle.osc_endpoint.specs.declared.asker.Asker.{Asker}
+use Rattle.osc_endpoint.specs.declared.decision.Decision.TheVariants as decisions
+use Rattle.osc_endpoint.specs.declared.judging.Named.{Named}
+use Rattle.osc_endpoint.specs.declared.slot.Slot.{Slot}
+use Rattle.osc_endpoint.specs.Agrees.{GateAgrees, SlotAgrees}
+use Rattle.osc_endpoint.specs.Deciding.{IsOpenedIn, WasDecrypted}
+use Rattle.osc_endpoint.specs.Judging.{IsAskerOf, IsNamed, GatePasses, GateRefuses, JudgesTo, RefusesEcho}
+use Rattle.osc_endpoint.specs.Life.{Life, Mark, Delivered, Spoiled, Challenged, Passes, Carries, is_open, in_force, marked}
+use Rattle.osc_endpoint.specs.Received.{Receives}
+use Rattle.osc_endpoint.specs.Replies.{ErrorText, SaysError, as_reply, error_message, challenge_message, replay, bad_tag}
+use Rattle.osc_endpoint.specs.ServerAnswer.{IsReplay, SaysChallenge, challenge_given}
+use Rattle.osc_endpoint.specs.ServerHistory as server
+use Rattle.osc_endpoint.specs.Views.{received_of}
+
+-- the mark stands in the life of the very context
+pub marked_here : (s : Slot) (l : Life) (i : ℕ) (m : Mark) → SlotAgrees s (marked (Some m) l) → SlotAgrees s (marked (if i == i then Some m else None) l)
+marked_here s l i m h = subst (λ b. SlotAgrees s (marked (if b then Some m else None) l)) (sym (eq-eqb i i refl)) h
+
+-- what the gate says of a number, the life says too
+pub gate_passes : (g : Gate) (l : Life) (n : ℕ) → GateAgrees g l → GatePasses g n → Passes l n
+gate_passes (gates.Restarted kept) l n a p = λ opened. absurd (let c = a.0 in cc)
+gate_passes (gates.Open window) l n a p = λ opened. (a.1.takes_new n).0 p
+
+pub gate_refuses : (g : Gate) (l : Life) (n : ℕ) → GateAgrees g l → GateRefuses g n → IsReplay l n
+gate_refuses (gates.Restarted kept) l n a r = absurd r
+gate_refuses (gates.Open window) l n a r = (a.0, λ new. let t : IsTrue (takes window n) = (a.1.takes_new n).1 new in cc)
+
+-- a reply under the asker's head is one under the request's
+pub says_error : (a : Asker) (d : List ℕ) (mid : ℕ) (e : ErrorText) (reply : List ℕ) → IsAskerOf a d
+    → IsDatagram (as_reply a.kind a.message_id a.token.items mid (error_message e)) reply → SaysError d mid e reply
+says_error a d mid e reply (p, datagram, kind, id, token) h = (p, datagram, rw (kind, id, token) at h)
+
+-- a datagram whose head names a context and a number protects a message by these alone
+pub same_parts : (s t : SecurityContext) (n k : ℕ) (m : InnerParts) (d : List ℕ) → OneRequestReading → IsNamed s n d → ProtectsRequest t k m d
+    → (requests s).parts n ≡ (requests t).parts k
+same_parts s t n k m d laws (head, has, names) protects = laws.named s t d head n k m has names protects
+
+pub named_number : (s : SecurityContext) (n k : ℕ) (m : InnerParts) (d : List ℕ) → OneRequestReading → IsNamed s n d → ProtectsRequest s k m d → k ≡ n
+named_number s n k m d laws named protects = sym (ap (λ v. unwrap_or v.piv 0) (same_parts s s n k m d laws named protects))
+
+-- what is opened of one datagram is one thing
+pub opens_alike : (s : SecurityContext) (d : List ℕ) (o x : Opened) → OneRequestReading → Opens (requests s) d o → Opens (requests s) d x → received_of x ≡ received_of o
+opens_alike s d o x laws a b =
+    let one = laws.opened s in
+    let kind = one.kind d x o b a in
+    let message_id = one.message_id d x o b a in
+    let token = one.token d x o b a in
+    let uri_host = one.uri_host d x o b a in
+    let uri_port = one.uri_port d x o b a in
+    let number = one.number d x o b a in
+    let message = one.message d x o b a in
+    cc
+
+-- what is read of a decrypted datagram is the message that it protects by the number that its head names
+pub receives : (s : SecurityContext) (n : ℕ) (d new : List ℕ) (x : DecryptedRequest) (o : Opened) → OneRequestReading
+    → IsNamed s n d → DecryptsRequest (requests s) d x new → OpensRequestAfter new x o → Receives (requests s) n d (received_of o)
+receives s n d new x o laws named decrypts opens =
+    let a = opens s d decrypts in
+    let same : a.number ≡ n = named_number s n a.number (message_of o) d laws named a.protects in
+    record {
+      number = a.number_is ∙ ap (λ k. ((requests s).parts k).piv) same;
+      protects = subst (λ k. Protects (requests s) k (message_of o) d) same a.protects;
+      outer = a.outer;
+      datagram = a.datagram;
+      kind = a.shows.kind;
+      message_id = a.shows.message_id;
+      token = a.shows.token;
+      uri_host = a.shows.uri_host;
+      uri_port = a.shows.uri_port;
+    }
+
+-- what decryption leaves
+pub opened_in : (slots : List (Option Slot)) (i : ℕ) (s : Slot) (d new : List ℕ) (x : DecryptedRequest) → slice_get slots i ≡ Some (Some s)
+    → DecryptsRequest (requests (as_server (context_of s.context))) d x new → IsOpenedIn slots d new
+opened_in slots i s d new x at decrypts = (i, s, at, number_of x.number, x.len, decrypts)
+
+pub was_decrypted : (s : SecurityContext) (d new : List ℕ) (x : DecryptedRequest) (o : Opened) → DecryptsRequest (requests s) d x new → OpensRequestAfter new x o → WasDecrypted x new
+was_decrypted s d new x o decrypts opens = let a = opens s d decrypts in (s, d, a.number, message_of o, decrypts, a.protects)
+
+-- ---- the rows
+
+pub exhausted : (l : Life) (r : Named) (d new : List ℕ) (slot : Slot) → SlotAgrees slot l → RefusesEcho l r d → 2 ^ 40 ≤ slot.next
+    → JudgesTo l r d (record { decision = decisions.SequenceExhausted; reply = 0 }) new [] (Some slot)
+exhausted l r d new slot a wants full =
+    record {
+      answer = server.SequenceExhausted;
+      row = (wants, (λ has. omega (arith, has, a.next, full)), refl);
+      decides = tt;
+      agrees = a;
+    }
+
+-- the sealed reply, under the words of the life
+says_challenge : (l : Life) (slot : Slot) (asker : Asker) (n own mid : ℕ) (d echo reply : List ℕ) → SlotAgrees slot l → own ≡ slot.next → IsAskerOf asker d
+    → SealsResponse (as_server (context_of slot.context)) n (Some own) (as_reply asker.kind asker.message_id asker.token.items mid (challenge_message echo)) reply
+    → SaysChallenge l n d mid echo reply
+says_challenge l slot asker n own mid d echo reply a is (p, datagram, kind, id, token) sealed =
+    let by_life = subst (λ s. SealsResponse s n (Some own) (as_reply asker.kind asker.message_id asker.token.items mid (challenge_message echo)) reply) a.context sealed in
+    let by_own = subst (λ k. SealsResponse l.context n (Some k) (as_reply asker.kind asker.message_id asker.token.items mid (challenge_message echo)) reply) (is ∙ a.next) by_life in
+    (p, datagram, rw (kind, id, token) at by_own)
+
+pub challenged : (l : Life) (r : Named) (d new reply echo : List ℕ) (issued own len : ℕ) (old slot : Slot)
+    → SlotAgrees old l → RefusesEcho l r d → IsAskerOf r.asker d → own ≡ old.next → own < 2 ^ 40
+    → (echo, issued) ≡ challenge_given l r.clock r.fresh.echo
+    → SealsResponse (as_server (context_of old.context)) (number_of r.number) (Some own) (as_reply r.asker.kind r.asker.message_id r.asker.token.items r.fresh.mid (challenge_message echo)) reply
+    → SlotAgrees slot (marked (Some (Challenged echo issued)) l)
+    → JudgesTo l r d (record { decision = decisions.Challenge echo issued; reply = len }) new reply (Some slot)
+challenged l r d new reply echo issued own len old slot a wants asker is less given sealed agrees =
+    record {
+      answer = server.Challenge r.index (number_of r.number) echo issued;
+      row = (wants, omega (arith, less, is, a.next), given, refl, refl, says_challenge l old r.asker (number_of r.number) own r.fresh.mid d echo reply a is asker sealed);
+      decides = (refl, refl);
+      agrees = marked_here slot l r.index (Challenged echo issued) agrees;
+    }
+
+pub spoiled : (l : Life) (r : Named) (d new : List ℕ) (x : DecryptedRequest) (old slot : Slot)
+    → SlotAgrees old l → GatePasses old.gate (number_of r.number) → DecryptsRequest (requests (as_server (context_of old.context))) d x new → RefusesRequestAfter new x
+    → SlotAgrees slot (marked (Some (Spoiled (number_of r.number))) l)
+    → JudgesTo l r d (record { decision = decisions.BadInner; reply = 0 }) new [] (Some slot)
+spoiled l r d new x old slot a passes decrypts refuses agrees =
+    let refused : RefusesPlaintext (requests (as_server (context_of old.context))) d = refuses (as_server (context_of old.context)) d decrypts in
+    record {
+      answer = server.BadInner r.index (number_of r.number);
+      row = (gate_passes old.gate l (number_of r.number) a.gate passes, subst (λ s. RefusesPlaintext (requests s) d) a.context refused, refl, refl, refl);
+      decides = tt;
+      agrees = marked_here slot l r.index (Spoiled (number_of r.number)) agrees;
+    }
+
+-- what a request is refused for that doesn't carry the value in force
+pub wants_echo : (l : Life) (r : Named) (d new : List ℕ) (x : DecryptedRequest) (o : Opened) (old : Slot) → OneRequestReading
+    → SlotAgrees old l → IsNamed (as_server (context_of old.context)) (number_of r.number) d → DecryptsRequest (requests (as_server (context_of old.context))) d x new → OpensRequestAfter new x o
+    → (is_open l ≡ false) × (Carries (in_force l r.clock) (message_of o) → ⊥) → RefusesEcho l r d
+wants_echo l r d new x o old laws a named decrypts opens closed =
+    let got = receives (as_server (context_of old.context)) (number_of r.number) d new x o laws named decrypts opens in
+    (closed.0, message_of o, subst (λ s. ProtectsRequest s (number_of r.number) (message_of o) d) a.context got.protects, closed.1)
+
+pub delivered : (l : Life) (r : Named) (d new : List ℕ) (x : DecryptedRequest) (o : Opened) (life : ℕ) (old slot : Slot) → DatagramIsOneMessage → OneRequestReading
+    → SlotAgrees old l → GatePasses old.gate (number_of r.number) → IsNamed (as_server (context_of old.context)) (number_of r.number) d → IsAskerOf r.asker d
+    → DecryptsRequest (requests (as_server (context_of old.context))) d x new → OpensRequestAfter new x o
+    → (is_open l ≡ false → Carries (in_force l r.clock) (message_of o)) → life ≡ old.life
+    → SlotAgrees slot (marked (Some (Delivered (number_of r.number))) l)
+    → JudgesTo l r d (record { decision = decisions.Deliver x (record { context = r.index; life = life; number = r.number; asker = r.asker }); reply = 0 }) new [] (Some slot)
+delivered l r d new x o life old slot one laws a passes named asker decrypts opens carries same agrees =
+    let got = receives (as_server (context_of old.context)) (number_of r.number) d new x o laws named decrypts opens in
+    let outer : asker.0 ≡ got.outer = one asker.0 got.outer d asker.1 got.datagram in
+    record {
+      answer = server.Deliver (received_of o) (record { context = r.index; life = life; number = number_of r.number; kind = r.asker.kind; message_id = r.asker.message_id; token = r.asker.token.items });
+      row = (
+        subst (λ s. Receives (requests s) (number_of r.number) d (received_of o)) a.context got,
+        (gate_passes old.gate l (number_of r.number) a.gate passes, carries),
+        (let k = got.kind in let i = got.message_id in let t = got.token in let p = asker.2 in let q = asker.3 in let u = asker.4 in let c : life ≡ l.count = same ∙ a.life in cc),
+        refl,
+      );
+      decides = ((λ q h. opens_alike (as_server (context_of old.context)) d o q laws (opens (as_server (context_of old.context)) d decrypts) (h (as_server (context_of old.context)) d decrypts)), refl);
+      agrees = marked_here slot l r.index (Delivered (number_of r.number)) agrees;
+    }
+
+pub replayed : (l : Life) (r : Named) (d reply : List ℕ) (len : ℕ) (slot : Slot) → SlotAgrees slot l → GateRefuses slot.gate (number_of r.number) → IsAskerOf r.asker d
+    → IsDatagram (as_reply r.asker.kind r.asker.message_id r.asker.token.items r.fresh.mid (error_message replay)) reply
+    → JudgesTo l r d (record { decision = decisions.Replay; reply = len }) d reply (Some slot)
+replayed l r d reply len slot a refuses asker written =
+    record {
+      answer = server.Replay;
+      row = (gate_refuses slot.gate l (number_of r.number) a.gate refuses, says_error r.asker d r.fresh.mid replay reply asker written);
+      decides = tt;
+      agrees = a;
+    }
+
+pub untagged : (l : Life) (r : Named) (d new reply : List ℕ) (len : ℕ) (slot : Slot) → SlotAgrees slot l → GatePasses slot.gate (number_of r.number) → IsAskerOf r.asker d
+    → RefusesTag (requests (as_server (context_of slot.context))) d
+    → IsDatagram (as_reply r.asker.kind r.asker.message_id r.asker.token.items r.fresh.mid (error_message bad_tag)) reply
+    → JudgesTo l r d (record { decision = decisions.BadTag; reply = len }) new reply (Some slot)
+untagged l r d new reply len slot a passes asker refused written =
+    record {
+      answer = server.BadTag;
+      row = (gate_passes slot.gate l (number_of r.number) a.gate passes, subst (λ s. RefusesTag (requests s) d) a.context refused, says_error r.asker d r.fresh.mid bad_tag reply asker written);
+      decides = tt;
+      agrees = a;
+    }

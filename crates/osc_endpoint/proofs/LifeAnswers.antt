@@ -1,0 +1,151 @@
+-- That a life has one answer to a request that names it.
+use Rattle.std.proofs.Common.{◌≡◌, ℕ, ◌∙◌, sym, ap, subst, refl, false, Option, Some, List}
+use Rattle.std.proofs.lemmas.Bool.{both_ways}
+use Rattle.osc_coap.specs.Datagram.{Parts, IsDatagram}
+use Rattle.osc_coap.specs.Inner.{InnerParts}
+use Rattle.osc_coap.specs.OptionNumbers.{uri_host as uri_host_number, uri_port as uri_port_number}
+use Rattle.osc_coap.specs.Search.{values_at, first_of}
+use Rattle.osc_context.specs.SecurityContext.{SecurityContext}
+use Rattle.osc_protect.specs.Protection.{ProtectsRequest, requests}
+use Rattle.osc_protect.specs.Refusals.{RefusesToOpen}
+use Rattle.osc_protect.specs.Sealed.{SealsResponse}
+use Rattle.osc_protect.specs.declared.unprotect_error.UnprotectError.{UnprotectError}
+use Rattle.osc_protect.specs.declared.unprotect_error.UnprotectError.TheVariants.{Tag, Inner}
+use Rattle.osc_endpoint.specs.AnswerLaws.{AnswerLaws}
+use Rattle.osc_endpoint.specs.Life.{Life, Passes, is_open, next_own}
+use Rattle.osc_endpoint.specs.Received.{Received, Receives}
+use Rattle.osc_endpoint.specs.Replies.{ErrorText, SaysError, as_reply, bad_tag, challenge_message, error_message, replay}
+use Rattle.osc_endpoint.specs.ServerAnswer.{Arrival, IsReplay, LifeAnswer, SaysChallenge}
+use Rattle.osc_endpoint.specs.ServerHistory.{Answer, BadInner, BadTag, Challenge, Deliver, Replay, SequenceExhausted, TicketValues, Took}
+use Rattle.osc_endpoint.proofs.Deliveries.{no_want}
+
+-- ---- replies
+
+-- an error has one text
+pub one_error : AnswerLaws → (d : List ℕ) (mid : ℕ) (e : ErrorText) (r s : List ℕ) → SaysError d mid e r → SaysError d mid e s → r ≡ s
+one_error laws d mid e r s (p, datagram, written) (q, other, again) =
+    let same : q ≡ p = laws.one q p d other datagram in
+    laws.text (as_reply p.kind p.message_id p.token mid (error_message e)) r s written
+    (subst (λ (x : Parts). IsDatagram (as_reply x.kind x.message_id x.token mid (error_message e)) s) same again)
+
+-- a challenge too
+one_challenge : AnswerLaws → (of : Life) (n : ℕ) (d : List ℕ) (mid : ℕ) (echo r s : List ℕ) → SaysChallenge of n d mid echo r → SaysChallenge of n d mid echo s → r ≡ s
+one_challenge laws of n d mid echo r s (p, datagram, written) (q, other, again) =
+    let same : q ≡ p = laws.one q p d other datagram in
+    (laws.sealed.response of.context n).bytes (Some (next_own of)) (as_reply p.kind p.message_id p.token mid (challenge_message echo)) r s written
+    (subst (λ (x : Parts). SealsResponse of.context n (Some (next_own of)) (as_reply x.kind x.message_id x.token mid (challenge_message echo)) s) same again)
+
+-- what is given is one value, and its moment
+same_given : (z : List ℕ × ℕ) (echo other : List ℕ) (issued moment : ℕ) → (echo, issued) ≡ z → (other, moment) ≡ z → (echo ≡ other) × (issued ≡ moment)
+same_given z echo other issued moment x y = let same = x ∙ sym y in (ap (λ (k : List ℕ × ℕ). k.0) same, ap (λ (k : List ℕ × ℕ). k.1) same)
+
+-- ---- deliveries
+
+-- what is received under a message
+abbrev received_by : Parts → Option ℕ → InnerParts → Received
+received_by p number message = record {
+  kind = p.kind;
+  message_id = p.message_id;
+  token = p.token;
+  uri_host = first_of (values_at uri_host_number p.options);
+  uri_port = first_of (values_at uri_port_number p.options);
+  number = number;
+  message = message;
+}
+
+received_is : (s : SecurityContext) (n : ℕ) (d : List ℕ) (r : Received) (x : Receives (requests s) n d r) → r ≡ received_by x.outer (Some n) r.message
+received_is s n d r x =
+    ap (λ k. record r { kind = k }) x.kind
+    ∙ ap (λ k. record r { kind = x.outer.kind; message_id = k }) x.message_id
+    ∙ ap (λ k. record r { kind = x.outer.kind; message_id = x.outer.message_id; token = k }) x.token
+    ∙ ap (λ k. record (received_by x.outer r.number r.message) { uri_host = k; uri_port = r.uri_port }) x.uri_host
+    ∙ ap (λ k. record (received_by x.outer r.number r.message) { uri_port = k }) x.uri_port
+    ∙ ap (λ k. received_by x.outer k r.message) x.number
+
+one_received : AnswerLaws → (s : SecurityContext) (n : ℕ) (d : List ℕ) (r q : Received) → Receives (requests s) n d r → Receives (requests s) n d q → r ≡ q
+one_received laws s n d r q x y =
+    let outer : x.outer ≡ y.outer = laws.one x.outer y.outer d x.datagram y.datagram in
+    let message : r.message ≡ q.message = (laws.request s).message d n n r.message q.message x.protects y.protects in
+    received_is s n d r x ∙ ap (λ p. received_by p (Some n) r.message) outer ∙ ap (received_by y.outer (Some n)) message ∙ sym (received_is s n d q y)
+
+-- the ticket of a delivery
+abbrev ticket_by : Life → ℕ → ℕ → Received → TicketValues
+ticket_by of i n r = record { context = i; life = of.count; number = n; kind = r.kind; message_id = r.message_id; token = r.token }
+
+-- ---- rows
+
+-- a closed life lets each number pass
+shut_passes : (of : Life) (n : ℕ) → is_open of ≡ false → Passes of n
+shut_passes of n shut is = absurd (both_ways (is_open of) shut is)
+
+no_replay : (of : Life) (n : ℕ) → IsReplay of n → Passes of n → ⊥
+no_replay of n replay passes = replay.1 (passes replay.0)
+
+-- a datagram that is refused protects nothing
+no_refusal : AnswerLaws → (of : Life) (n : ℕ) (d : List ℕ) (e : UnprotectError) (m : InnerParts) → RefusesToOpen (requests of.context) d e → ProtectsRequest of.context n m d → ⊥
+no_refusal laws of n d e m refuses protects = (laws.request of.context).never_both d n m e protects refuses
+
+no_two_refusals : AnswerLaws → (of : Life) (d : List ℕ) → RefusesToOpen (requests of.context) d Tag → RefusesToOpen (requests of.context) d Inner → ⊥
+no_two_refusals laws of d x y = let e : Tag ≡ Inner = (laws.request of.context).refusal d Tag Inner x y in cc
+
+module _ (laws : AnswerLaws) (of : Life) (i n : ℕ) (a : Arrival) where
+  -- the rows of a life don't overlap, and each fixes its bytes
+  pub one_life_answer : (x y : Answer) (r s : List ℕ) → LifeAnswer of i n a x r → LifeAnswer of i n a y s → Took x r ≡ Took y s
+  one_life_answer Replay Replay r s x y = ap (Took Replay) (one_error laws a.bytes a.mid replay r s x.1 y.1)
+  one_life_answer Replay BadTag r s x y = absurd (no_replay of n x.0 y.0)
+  one_life_answer Replay (BadInner j k) r s x y = absurd (no_replay of n x.0 y.0)
+  one_life_answer Replay (Challenge j k echo issued) r s x y = absurd (no_replay of n x.0 (shut_passes of n y.0.0))
+  one_life_answer Replay SequenceExhausted r s x y = absurd (no_replay of n x.0 (shut_passes of n y.0.0))
+  one_life_answer Replay (Deliver received ticket) r s x y = absurd (no_replay of n x.0 y.1.0)
+  one_life_answer BadTag Replay r s x y = absurd (no_replay of n y.0 x.0)
+  one_life_answer BadTag BadTag r s x y = ap (Took BadTag) (one_error laws a.bytes a.mid bad_tag r s x.2 y.2)
+  one_life_answer BadTag (BadInner j k) r s x y = absurd (no_two_refusals laws of a.bytes x.1 y.1)
+  one_life_answer BadTag (Challenge j k echo issued) r s x y = absurd (no_refusal laws of n a.bytes Tag y.0.1 x.1 y.0.2)
+  one_life_answer BadTag SequenceExhausted r s x y = absurd (no_refusal laws of n a.bytes Tag y.0.1 x.1 y.0.2)
+  one_life_answer BadTag (Deliver received ticket) r s x y = absurd (no_refusal laws of n a.bytes Tag received.message x.1 y.0.protects)
+  one_life_answer (BadInner j k) Replay r s x y = absurd (no_replay of n y.0 x.0)
+  one_life_answer (BadInner j k) BadTag r s x y = absurd (no_two_refusals laws of a.bytes y.1 x.1)
+  one_life_answer (BadInner j k) (BadInner l o) r s x y =
+      let index : j ≡ l = x.2 ∙ sym y.2 in
+      let number : k ≡ o = x.3 ∙ sym y.3 in
+      let bytes : r ≡ s = x.4 ∙ sym y.4 in
+      cc
+  one_life_answer (BadInner j k) (Challenge l o echo issued) r s x y = absurd (no_refusal laws of n a.bytes Inner y.0.1 x.1 y.0.2)
+  one_life_answer (BadInner j k) SequenceExhausted r s x y = absurd (no_refusal laws of n a.bytes Inner y.0.1 x.1 y.0.2)
+  one_life_answer (BadInner j k) (Deliver received ticket) r s x y = absurd (no_refusal laws of n a.bytes Inner received.message x.1 y.0.protects)
+  one_life_answer (Challenge j k echo issued) Replay r s x y = absurd (no_replay of n y.0 (shut_passes of n x.0.0))
+  one_life_answer (Challenge j k echo issued) BadTag r s x y = absurd (no_refusal laws of n a.bytes Tag x.0.1 y.1 x.0.2)
+  one_life_answer (Challenge j k echo issued) (BadInner l o) r s x y = absurd (no_refusal laws of n a.bytes Inner x.0.1 y.1 x.0.2)
+  one_life_answer (Challenge j k echo issued) (Challenge l o other moment) r s x y =
+      let given = same_given _ echo other issued moment x.2 y.2 in
+      let echo_is : echo ≡ other = given.0 in
+      let issued_is : issued ≡ moment = given.1 in
+      let index : j ≡ l = x.3 ∙ sym y.3 in
+      let number : k ≡ o = x.4 ∙ sym y.4 in
+      let bytes : r ≡ s = one_challenge laws of n a.bytes a.mid echo r s x.5 (subst (λ z. SaysChallenge of n a.bytes a.mid z s) (sym echo_is) y.5) in
+      cc
+  one_life_answer (Challenge j k echo issued) SequenceExhausted r s x y = absurd (y.1 x.1)
+  one_life_answer (Challenge j k echo issued) (Deliver received ticket) r s x y = absurd (no_want of of n n a.clock a.bytes received.message laws.request refl x.0 y.0.protects y.1)
+  one_life_answer SequenceExhausted Replay r s x y = absurd (no_replay of n y.0 (shut_passes of n x.0.0))
+  one_life_answer SequenceExhausted BadTag r s x y = absurd (no_refusal laws of n a.bytes Tag x.0.1 y.1 x.0.2)
+  one_life_answer SequenceExhausted (BadInner l o) r s x y = absurd (no_refusal laws of n a.bytes Inner x.0.1 y.1 x.0.2)
+  one_life_answer SequenceExhausted (Challenge j k echo issued) r s x y = absurd (x.1 y.1)
+  one_life_answer SequenceExhausted SequenceExhausted r s x y = ap (Took SequenceExhausted) (x.2 ∙ sym y.2)
+  one_life_answer SequenceExhausted (Deliver received ticket) r s x y = absurd (no_want of of n n a.clock a.bytes received.message laws.request refl x.0 y.0.protects y.1)
+  one_life_answer (Deliver received ticket) Replay r s x y = absurd (no_replay of n y.0 x.1.0)
+  one_life_answer (Deliver received ticket) BadTag r s x y = absurd (no_refusal laws of n a.bytes Tag received.message y.1 x.0.protects)
+  one_life_answer (Deliver received ticket) (BadInner l o) r s x y = absurd (no_refusal laws of n a.bytes Inner received.message y.1 x.0.protects)
+  one_life_answer (Deliver received ticket) (Challenge j k echo issued) r s x y = absurd (no_want of of n n a.clock a.bytes received.message laws.request refl y.0 x.0.protects x.1)
+  one_life_answer (Deliver received ticket) SequenceExhausted r s x y = absurd (no_want of of n n a.clock a.bytes received.message laws.request refl y.0 x.0.protects x.1)
+  one_life_answer (Deliver received ticket) (Deliver other given) r s x y =
+      let message : received ≡ other = one_received laws of.context n a.bytes received other x.0 y.0 in
+      let tickets : ticket ≡ given = x.2 ∙ ap (ticket_by of i n) message ∙ sym y.2 in
+      let bytes : r ≡ s = x.3 ∙ sym y.3 in
+      cc
+  one_life_answer Replay answer r s x y = absurd y
+  one_life_answer BadTag answer r s x y = absurd y
+  one_life_answer (BadInner j k) answer r s x y = absurd y
+  one_life_answer (Challenge j k echo issued) answer r s x y = absurd y
+  one_life_answer SequenceExhausted answer r s x y = absurd y
+  one_life_answer (Deliver received ticket) answer r s x y = absurd y
+  one_life_answer answer other r s x y = absurd x

@@ -1,0 +1,5 @@
+use Rattle.osc_endpoint.proofs.OwnNumbers.{own_numbers}
+use Rattle.osc_endpoint.proofs.laws.own_numbers_once.Goals as goal
+
+pub returns : goal.returns
+returns c = own_numbers c.protections_show_heads.ensures.response

@@ -1,0 +1,52 @@
+-- How the code is seen: that a server is as its history says.
+use Rattle.std.specs.Prelude.{◌≡◌, ℕ, true, false, List, Option, Some, None, length, slice_get}
+use Rattle.osc_context.specs.Views.{as_server}
+use Rattle.osc_window.specs.declared.gate.Gate.{Gate}
+use Rattle.osc_window.specs.declared.gate.Gate.TheVariants as gates
+use Rattle.osc_window.specs.Taken.{AgreesWith}
+use Rattle.osc_protect.specs.Views.{context_of}
+use Rattle.osc_endpoint.specs.declared.slot.Slot.{Slot}
+use Rattle.osc_endpoint.specs.declared.server.Server.{Server}
+use Rattle.osc_endpoint.specs.Life.{Life, is_open, next_own, floor, spent, challenge}
+use Rattle.osc_endpoint.specs.ServerAnswer.{HaveSameLookup}
+use Rattle.osc_endpoint.specs.ServerHistory.{History, clock, added, life}
+
+-- a closed gate has the life's last challenge; an open one takes exactly the numbers that are new in it (RFC 8613, 7.4)
+abbrev pub GateAgrees : Gate → Life → Type 0
+GateAgrees (gates.Restarted kept) l = (is_open l ≡ false) × (kept ≡ challenge l.marks)
+GateAgrees (gates.Open window) l = (is_open l ≡ true) × AgreesWith window l.size (floor l.fresh l.marks) (spent l.fresh l.marks)
+
+-- a context of the server is as its present life says (RFC 8613, 3.1)
+pub record SlotAgrees (s : Slot) (l : Life) : Type 0 where
+  pub context : as_server (context_of s.context) ≡ l.context
+  pub size : s.size ≡ l.size
+  pub gate : GateAgrees s.gate l
+  pub next : s.next ≡ next_own l
+  pub life : s.life ≡ l.count
+
+-- a place of the table holds a context that is as this life says (how the code is seen)
+abbrev pub HoldsLife : Option Slot → Life → Type 0
+HoldsLife None l = ⊥
+HoldsLife (Some s) l = SlotAgrees s l
+
+-- a place of the table and the present life of that context, or neither (how the code is seen)
+abbrev pub PlaceAgrees : Option (Option Slot) → Option Life → Type 0
+PlaceAgrees None None = Unit {0}
+PlaceAgrees None (Some l) = ⊥
+PlaceAgrees (Some p) None = ⊥
+PlaceAgrees (Some p) (Some l) = HoldsLife p l
+
+-- each place of the table is as its context's life says (how the code is seen)
+pub record TableAgrees (slots : List (Option Slot)) (lives : ℕ → Option Life) : Type 0 where
+  pub at : (i : ℕ) → PlaceAgrees (slice_get slots i) (lives i)
+
+-- no two contexts are ones that a request could name both (RFC 8613, 3.3)
+abbrev pub OneEach : History → Type 0
+OneEach h = (i j : ℕ) (of other : Life) → life h i ≡ Some of → life h j ≡ Some other → HaveSameLookup of.context other.context → i ≡ j
+
+-- the server is as its history says (RFC 8613, 3.1)
+pub record Agrees (s : Server) (h : History) : Type 0 where
+  pub clock_is : s.clock ≡ clock h
+  pub contexts : length s.slots.items ≡ added h
+  pub places : TableAgrees s.slots.items (life h)
+  pub one_each : OneEach h

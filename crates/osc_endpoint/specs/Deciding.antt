@@ -1,0 +1,86 @@
+-- How the code is seen: what a server decides of a datagram before it lends slices of it. h is a history, slots are the places of
+-- the table, d is the datagram as it came, new what was left of it.
+use Rattle.std.specs.Prelude.{◌≡◌, ℕ, List, Option, Some, slice_get}
+use Rattle.osc_coap.specs.Inner.{InnerParts}
+use Rattle.osc_context.specs.SecurityContext.{SecurityContext}
+use Rattle.osc_context.specs.Views.{as_server}
+use Rattle.osc_protect.specs.Protection.{ProtectsRequest, requests}
+use Rattle.osc_protect.specs.Stages.{Decrypts}
+use Rattle.osc_protect.specs.StageViews.{DecryptsRequest, FitsRequest, OpensRequestAfter}
+use Rattle.osc_protect.specs.Views.{context_of}
+use Rattle.osc_protect.specs.declared.opened.Opened.{Opened}
+use Rattle.osc_protect.specs.declared.stages.DecryptedRequest.{DecryptedRequest}
+use Rattle.osc_endpoint.specs.declared.decision.Decided.{Decided}
+use Rattle.osc_endpoint.specs.declared.decision.Decision.{Decision}
+use Rattle.osc_endpoint.specs.declared.decision.Decision.TheVariants as decisions
+use Rattle.osc_endpoint.specs.declared.outcome.Outcome.{Outcome}
+use Rattle.osc_endpoint.specs.declared.server.Server.{Server}
+use Rattle.osc_endpoint.specs.declared.slot.Slot.{Slot}
+use Rattle.osc_endpoint.specs.declared.start.Fresh.{Fresh}
+use Rattle.osc_endpoint.specs.Agrees.{Agrees}
+use Rattle.osc_endpoint.specs.Received.{Received}
+use Rattle.osc_endpoint.specs.ServerAnswer.{ServerAnswer}
+use Rattle.osc_endpoint.specs.ServerHistory as server
+use Rattle.osc_endpoint.specs.Views.{Shows, received_of, values_of}
+
+-- the datagram was decrypted to the new one, and protects some message (RFC 8613, 8.2)
+abbrev pub WasDecrypted : DecryptedRequest → List ℕ → Type 0
+WasDecrypted x new = (s : SecurityContext) × (d : List ℕ) × (n : ℕ) × (m : InnerParts) × DecryptsRequest (requests s) d x new × ProtectsRequest s n m d
+
+-- what is read says this (RFC 8613, 8.2)
+abbrev pub ReadsAs : DecryptedRequest → List ℕ → Received → Type 0
+ReadsAs x new r = (o : Opened) → OpensRequestAfter new x o → received_of o ≡ r
+
+-- what was decided can be shown from the datagram that was left (how the code is seen)
+abbrev pub CanShow : Decision → List ℕ → Type 0
+CanShow (decisions.Deliver x ticket) new = FitsRequest new x × WasDecrypted x new
+CanShow decision new = Unit {0}
+
+-- what was decided is this answer, the delivered message as it can be read from the datagram that was left (how the code is seen)
+abbrev pub Decides : Decision → List ℕ → server.Answer → Type 0
+Decides (decisions.Malformed e) new (server.Malformed fault place) = (e.fault ≡ fault) × (e.place ≡ place)
+Decides decisions.NotRequest new server.NotRequest = Unit {0}
+Decides decisions.Plain new server.Plain = Unit {0}
+Decides decisions.Undecodable new server.Undecodable = Unit {0}
+Decides decisions.NoContext new server.NoContext = Unit {0}
+Decides decisions.Replay new server.Replay = Unit {0}
+Decides decisions.BadTag new server.BadTag = Unit {0}
+Decides decisions.BadInner new (server.BadInner i n) = Unit {0}
+Decides (decisions.Challenge echo issued) new (server.Challenge i n given moment) = (echo ≡ given) × (issued ≡ moment)
+Decides decisions.SequenceExhausted new server.SequenceExhausted = Unit {0}
+Decides (decisions.Deliver x t) new (server.Deliver received ticket) = ReadsAs x new received × (values_of t ≡ ticket)
+Decides decision new answer = ⊥
+
+-- under a context of the table the payload became the plaintext, and behind it the old tag; all else stayed (RFC 8613, 8.2)
+abbrev pub IsOpenedIn : List (Option Slot) → List ℕ → List ℕ → Type 0
+IsOpenedIn slots d new = (i : ℕ) × (s : Slot) × (slice_get slots i ≡ Some (Some s)) × (n : ℕ) × (len : ℕ)
+    × Decrypts (requests (as_server (context_of s.context))) d n len new
+
+-- what is left of the datagram: it as it came, or opened from a bad plaintext on (RFC 8613, 8.2)
+abbrev pub Leaves : List (Option Slot) → Decision → List ℕ → List ℕ → Type 0
+Leaves slots (decisions.Malformed e) d new = new ≡ d
+Leaves slots decisions.NotRequest d new = new ≡ d
+Leaves slots decisions.Plain d new = new ≡ d
+Leaves slots decisions.Undecodable d new = new ≡ d
+Leaves slots decisions.NoContext d new = new ≡ d
+Leaves slots decisions.Replay d new = new ≡ d
+Leaves slots decisions.BadTag d new = new ≡ d
+Leaves slots decision d new = IsOpenedIn slots d new
+
+-- the same of a server and its contexts (RFC 8613, 8.2)
+abbrev pub LeavesBy : Server → Decision → List ℕ → List ℕ → Type 0
+LeavesBy s decision d new = Leaves s.slots.items decision d new
+
+-- what was decided of a datagram is the answer after the history, and the server agrees with both (how the code is seen)
+pub record DecidesTo (h : server.History) (now : ℕ) (fresh : Fresh) (d : List ℕ) (result : Decided) (new reply : List ℕ) (s : Server) : Type 0 where
+  pub answer : server.Answer
+  pub row : ServerAnswer h (server.Datagram now fresh.echo fresh.mid d) (server.Took answer reply)
+  pub decides : Decides result.decision new answer
+  pub agrees : Agrees s (server.Then h (server.Datagram now fresh.echo fresh.mid d) (server.Took answer reply))
+
+-- the outcome shows the answer after the history, and the server agrees with both (how the code is seen)
+pub record Takes (h : server.History) (now : ℕ) (fresh : Fresh) (d : List ℕ) (outcome : Outcome) (reply : List ℕ) (s : Server) : Type 0 where
+  pub answer : server.Answer
+  pub row : ServerAnswer h (server.Datagram now fresh.echo fresh.mid d) (server.Took answer reply)
+  pub shows : Shows outcome answer
+  pub agrees : Agrees s (server.Then h (server.Datagram now fresh.echo fresh.mid d) (server.Took answer reply))

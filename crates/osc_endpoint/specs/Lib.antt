@@ -1,0 +1,22 @@
+-- to be believed, in reading order
+pub mod Received
+pub mod Replies
+pub mod Life
+pub mod ServerHistory
+pub mod ServerAnswer
+pub mod ServerRun
+pub mod Laws
+pub mod Text
+-- how the code is seen
+pub mod Views
+pub mod Agrees
+pub mod Deciding
+-- for the proofs
+pub mod AnswerLaws
+pub mod ErrorReplies
+pub mod Heads
+pub mod Judging
+pub mod Replying
+pub mod Restarting
+pub mod Serving
+pub mod Table

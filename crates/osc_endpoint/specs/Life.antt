@@ -1,0 +1,127 @@
+-- To be believed: one life of a server's context, from the moment at which it was added or restarted (RFC 8613, 7.4 and B.1.2): by what was
+-- answered in it. l is a life, marks what its answers left, newest first, fresh whether it was added fresh and never
+-- restarted, n the number of a request, m the message that it protects. Moments are milliseconds.
+use Rattle.std.specs.Prelude.{◌≡◌, ℕ, ◌+◌, ◌<◌, ◌^◌, List, [], ◌∷◌, Bool, true, false, Option, Some, None, unwrap_or, if◌then◌else◌}
+use Rattle.osc_coap.specs.Inner.{InnerParts}
+use Rattle.osc_context.specs.SecurityContext.{SecurityContext}
+use Rattle.osc_context.specs.Views.{number_of}
+use Rattle.osc_window.specs.declared.window_size.WindowSize.{WindowSize}
+use Rattle.osc_window.specs.Views.{places_of}
+use Rattle.osc_window.specs.Window.{IsNew}
+use Rattle.osc_window.specs.Gate.{challenge_in_force}
+use Rattle.osc_coap.specs.OptionNumbers as numbers
+use Rattle.osc_coap.specs.Search.{values_at, first_of}
+use Rattle.osc_endpoint.specs.declared.start.Start.{Start}
+use Rattle.osc_endpoint.specs.declared.start.Start.TheVariants.{Fresh, Restarted}
+
+-- what an answer leaves: a number that was delivered, one of a bad plaintext, a challenge, a reply with an own number (own rule)
+pub data Mark : Type 0 where
+  Delivered : (number : ℕ) → Mark
+  Spoiled : (number : ℕ) → Mark
+  Challenged : (echo : List ℕ) (issued : ℕ) → Mark
+  Answered : Mark
+
+-- a life: its context and window size, how many lives were before it, its first own number, and its marks (RFC 8613, 3.1)
+pub record Life : Type 0 where
+  pub context : SecurityContext
+  pub size : WindowSize
+  pub count : ℕ
+  pub fresh : Bool
+  pub first : ℕ
+  pub marks : List Mark
+
+-- it was added fresh and never restarted, or a request was delivered in it (RFC 8613, B.1.2)
+abbrev pub opened : Bool → List Mark → Bool
+opened fresh [] = fresh
+opened fresh (Delivered n ∷ marks) = true
+opened fresh (Spoiled n ∷ marks) = opened fresh marks
+opened fresh (Challenged echo issued ∷ marks) = opened fresh marks
+opened fresh (Answered ∷ marks) = opened fresh marks
+
+-- the number of the first request that was delivered (RFC 8613, B.1.2)
+abbrev pub first_delivered : List Mark → Option ℕ
+first_delivered [] = None
+first_delivered (Delivered n ∷ marks) = Some (unwrap_or (first_delivered marks) n)
+first_delivered (Spoiled n ∷ marks) = first_delivered marks
+first_delivered (Challenged echo issued ∷ marks) = first_delivered marks
+first_delivered (Answered ∷ marks) = first_delivered marks
+
+-- the least number that can be new: that of the first delivery after a restart, else 0 (RFC 8613, B.1.2)
+abbrev pub floor : Bool → List Mark → ℕ
+floor fresh marks = if fresh then 0 else unwrap_or (first_delivered marks) 0
+
+-- the numbers of what was delivered, and of bad plaintexts that came while it was open (RFC 8613, 7.4)
+abbrev pub spent : Bool → List Mark → List ℕ
+spent fresh [] = []
+spent fresh (Delivered n ∷ marks) = n ∷ spent fresh marks
+spent fresh (Spoiled n ∷ marks) = if opened fresh marks then n ∷ spent fresh marks else spent fresh marks
+spent fresh (Challenged echo issued ∷ marks) = spent fresh marks
+spent fresh (Answered ∷ marks) = spent fresh marks
+
+-- the value of the last challenge, and when it was issued (RFC 9175, 2.3)
+abbrev pub challenge : List Mark → Option (List ℕ × ℕ)
+challenge [] = None
+challenge (Delivered n ∷ marks) = challenge marks
+challenge (Spoiled n ∷ marks) = challenge marks
+challenge (Challenged echo issued ∷ marks) = Some (echo, issued)
+challenge (Answered ∷ marks) = challenge marks
+
+-- how many own numbers were used: one for each challenge, one for each reply that asked for it (RFC 8613, 7.2.1)
+abbrev pub own_count : List Mark → ℕ
+own_count [] = 0
+own_count (Delivered n ∷ marks) = own_count marks
+own_count (Spoiled n ∷ marks) = own_count marks
+own_count (Challenged echo issued ∷ marks) = own_count marks + 1
+own_count (Answered ∷ marks) = own_count marks + 1
+
+-- requests are judged by their number (RFC 8613, B.1.2)
+abbrev pub is_open : Life → Bool
+is_open l = opened l.fresh l.marks
+
+-- the life is there, and open (RFC 8613, B.1.2)
+abbrev pub is_open_life : Option Life → Bool
+is_open_life None = false
+is_open_life (Some l) = is_open l
+
+-- the next own number; none is left from 2 ^ 40 on (RFC 8613, 7.2.1)
+abbrev pub next_own : Life → ℕ
+next_own l = l.first + own_count l.marks
+
+-- an own number is left (RFC 8613, 7.2.1)
+abbrev pub HasOwn : Life → Type 0
+HasOwn l = next_own l < 2 ^ 40
+
+-- a number that is new in this life, while it is open (RFC 8613, 7.4)
+abbrev pub IsNewIn : Life → ℕ → Type 0
+IsNewIn l n = IsNew (places_of l.size) (floor l.fresh l.marks) (spent l.fresh l.marks) n
+
+-- the challenge that is in force at this moment; none once the life is open (RFC 9175, 2.3; own rule: the time)
+abbrev pub in_force : Life → ℕ → Option (List ℕ × ℕ)
+in_force l clock = if is_open l then None else challenge_in_force (challenge l.marks) clock
+
+-- the message's first inner Echo option is the challenge's value (RFC 9175, 2.3)
+abbrev pub Carries : Option (List ℕ × ℕ) → InnerParts → Type 0
+Carries None m = ⊥
+Carries (Some challenge) m = first_of (values_at numbers.echo m.options) ≡ Some challenge.0
+
+-- it isn't a replay: the life is closed, or the number is new (RFC 8613, 7.4)
+abbrev pub Passes : Life → ℕ → Type 0
+Passes l n = is_open l ≡ true → IsNewIn l n
+
+-- what decides whether a request is delivered: its number in an open life, else the challenge (RFC 8613, 7.4 and B.1.2)
+abbrev pub Admits : Life → ℕ → ℕ → InnerParts → Type 0
+Admits l clock n m = (is_open l ≡ true → IsNewIn l n) × (is_open l ≡ false → Carries (in_force l clock) m)
+
+-- a life with one mark more, or none (own rule)
+abbrev pub marked : Option Mark → Life → Life
+marked None l = l
+marked (Some mark) l = record l { marks = mark ∷ l.marks }
+
+-- the life of a context that is added (RFC 8613, B.1)
+abbrev pub born : SecurityContext → Start → WindowSize → Life
+born context (Fresh next) size = record { context = context; size = size; count = 0; fresh = true; first = number_of next; marks = [] }
+born context (Restarted next) size = record { context = context; size = size; count = 0; fresh = false; first = number_of next; marks = [] }
+
+-- the life that a restart begins (RFC 8613, B.1)
+abbrev pub renewed : ℕ → Life → Life
+renewed next l = record { context = l.context; size = l.size; count = l.count + 1; fresh = false; first = next; marks = [] }

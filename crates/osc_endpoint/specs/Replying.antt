@@ -1,0 +1,46 @@
+-- For the proofs: what a context of a server answers to a reply by a ticket.
+use Rattle.std.specs.Prelude.{◌≡◌, ℕ, List, take, Bool, Option, Some, None, Result, Ok, Err, if◌then◌else◌}
+use Rattle.osc_coap.specs.Datagram.{Parts}
+use Rattle.osc_protect.specs.declared.protect_error.ProtectError.{ProtectError}
+use Rattle.osc_protect.specs.declared.protect_error.ProtectError.TheVariants as protects
+use Rattle.osc_endpoint.specs.declared.server_error.ReplyError.{ReplyError}
+use Rattle.osc_endpoint.specs.declared.server_error.ReplyError.TheVariants.{StaleTicket, NotThatKind, Unsupported, TooLong, NoRoom}
+use Rattle.osc_endpoint.specs.Life.{Life, Mark, Answered}
+use Rattle.osc_endpoint.specs.ServerAnswer.{LifeReply}
+use Rattle.osc_endpoint.specs.ServerHistory.{Entry, Replied, NotReplied, TicketValues, reply_mark_at}
+
+-- the refusal of a reply that a refusal to seal becomes (own rule)
+abbrev pub lifted : ProtectError → ReplyError
+lifted protects.NotThatKind = NotThatKind
+lifted (protects.Unsupported n) = Unsupported n
+lifted protects.TooLong = TooLong
+lifted protects.NoRoom = NoRoom
+
+-- the entry of a reply, whose text stands at the front of the buffer (how the code is seen)
+abbrev pub reply_entry : Result ℕ ReplyError → List ℕ → Entry
+reply_entry (Ok n) out = Replied (take n out)
+reply_entry (Err e) out = NotReplied e
+
+-- what a reply leaves in its life (RFC 8613, 7.2.1)
+abbrev pub reply_mark : Result ℕ ReplyError → Bool → Option Mark
+reply_mark (Ok n) own = if own then Some Answered else None
+reply_mark (Err e) own = None
+
+-- what it leaves in the life of context i (RFC 8613, 7.2.1)
+abbrev pub marks_at : Result ℕ ReplyError → ℕ → TicketValues → Bool → Option Mark
+marks_at (Ok n) i t own = reply_mark_at i t own
+marks_at (Err e) i t own = None
+
+-- the ticket is of the present life that is kept there, if it is there (how the code is seen)
+abbrev pub IsPresentIn : (ℕ → Option Life) → TicketValues → Life → Type 0
+IsPresentIn lives t of = (lives t.context ≡ Some of) × (t.life ≡ of.count)
+
+-- the life answers a reply by a ticket of these values: stale, or as it does (how the code is seen)
+abbrev pub PlaceReply : Life → TicketValues → Bool → Parts → ℕ → Entry → Type 0
+PlaceReply of t own p room (NotReplied StaleTicket) = t.life ≡ of.count → ⊥
+PlaceReply of t own p room entry = (t.life ≡ of.count) × LifeReply of t.number own p room entry
+
+-- the table answers a reply by a ticket of these values: stale, or as its life does (how the code is seen)
+abbrev pub TableReply : (ℕ → Option Life) → TicketValues → Bool → Parts → ℕ → Entry → Type 0
+TableReply lives t own p room (NotReplied StaleTicket) = (of : Life) → IsPresentIn lives t of → ⊥
+TableReply lives t own p room entry = (of : Life) × IsPresentIn lives t of × LifeReply of t.number own p room entry

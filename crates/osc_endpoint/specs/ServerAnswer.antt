@@ -1,0 +1,162 @@
+-- To be believed: what a server answers to each event, after a history (RFC 8613, 7.4, 8.2, 8.3 and B.1.2; RFC 9175, 2.3). The rows stand in
+-- the order in which they are judged; each has its own condition, and that no earlier one holds. h is a history, d a datagram,
+-- i the index of a context, n the number of a request, of the present life of that context, m a message, clock the moment with
+-- the event's own in it, mid and echo what was handed in afresh.
+use Rattle.std.specs.Prelude.{◌≡◌, ◌≢◌, ℕ, ◌+◌, ◌<◌, ◌≤◌, ◌^◌, List, [], length, Bool, true, false, Option, Some, None, unwrap_or, max, if◌then◌else◌}
+use Rattle.osc_coap.specs.Datagram.{Parts, IsDatagram}
+use Rattle.osc_coap.specs.Fault.{HasFault}
+use Rattle.osc_coap.specs.Inner.{InnerParts}
+use Rattle.osc_context.specs.SecurityContext.{SecurityContext}
+use Rattle.osc_protect.specs.Head.{Head, HasRequestHead, HasNoRequestHead}
+use Rattle.osc_protect.specs.Protection.{ProtectsRequest, requests, responses}
+use Rattle.osc_protect.specs.Refusals.{Names, RefusesPlaintext, RefusesTag}
+use Rattle.osc_protect.specs.Sealed.{SealsResponse}
+use Rattle.osc_protect.specs.SealRefusals.{IsPlainResponse, RefusesPlainResponse, RefusesToSeal}
+use Rattle.osc_protect.specs.declared.head_error.HeadError.TheVariants as heads
+use Rattle.osc_protect.specs.declared.protect_error.ProtectError.TheVariants as seals
+use Rattle.osc_endpoint.specs.declared.server_error.AddError.TheVariants.{Full, SameLookup}
+use Rattle.osc_endpoint.specs.declared.server_error.ReplyError.TheVariants.{StaleTicket, NotThatKind, Unsupported, SequenceExhausted as NoOwnLeft, TooLong, NoRoom}
+use Rattle.osc_endpoint.specs.declared.server_error.RestartError.TheVariants.{NoSuchContext, LivesExhausted}
+use Rattle.osc_endpoint.specs.Received.{Receives}
+use Rattle.osc_endpoint.specs.Replies.{SaysError, as_reply, challenge_message, undecodable, no_context, replay, bad_tag}
+use Rattle.osc_endpoint.specs.Life.{Life, Passes, Admits, Carries, HasOwn, IsNewIn, is_open, in_force, next_own}
+use Rattle.osc_endpoint.specs.ServerHistory.{History, Event, Entry, Answer, TicketValues, Add, Datagram, Reply, Restart, Advance, Malformed, NotRequest, Plain, Undecodable, NoContext, Replay, BadTag, BadInner, Challenge, SequenceExhausted, Deliver, Added, NotAdded, Took, Replied, NotReplied, Restarted, NotRestarted, Advanced, clock, added, life}
+
+-- its identifiers are as short as a nonce wants them, and differ (RFC 8613, 3.3)
+pub record IsContext (s : SecurityContext) : Type 0 where
+  pub client : length s.client ≤ 7
+  pub server : length s.server ≤ 7
+  pub differ : s.client ≢ s.server
+
+-- a request for the one would be one for the other: the same client and the same ID Context, or none as well (RFC 8613, 3.3)
+abbrev pub HaveSameLookup : SecurityContext → SecurityContext → Type 0
+HaveSameLookup s t = (s.client ≡ t.client) × (s.id_context ≡ t.id_context)
+
+-- a context is there that requests for this one would name too (RFC 8613, 3.3)
+abbrev pub IsTaken : History → SecurityContext → Type 0
+IsTaken h s = (i : ℕ) × (of : Life) × (life h i ≡ Some of) × HaveSameLookup of.context s
+
+-- the answer to Add (own rule: eight contexts)
+abbrev pub AddAnswer : History → SecurityContext → Entry → Type 0
+AddAnswer h s (NotAdded Full) = 8 ≤ added h
+AddAnswer h s (NotAdded SameLookup) = (added h < 8) × IsTaken h s
+AddAnswer h s (Added index) = (added h < 8) × (IsTaken h s → ⊥) × (index ≡ added h)
+AddAnswer h s entry = ⊥
+
+-- the datagram's head names this context, which is there, and this number (RFC 8613, 8.2)
+pub record IsRequestOf (h : History) (d : List ℕ) (i n : ℕ) (of : Life) : Type 0 where
+  pub head : Head
+  pub has_head : HasRequestHead d head
+  pub life_is : life h i ≡ Some of
+  pub names : Names (requests of.context) head n
+
+-- the datagram's head names no context that is there (RFC 8613, 8.2)
+abbrev pub NamesNone : History → List ℕ → Type 0
+NamesNone h d = (head : Head) × HasRequestHead d head
+    × ((i : ℕ) (of : Life) → life h i ≡ Some of → (n : ℕ) → Names (requests of.context) head n → ⊥)
+
+-- a datagram that came: the clock with its moment in it, the fresh Echo value and message ID, and its bytes (own rule)
+pub record Arrival : Type 0 where
+  pub clock : ℕ
+  pub echo : List ℕ
+  pub mid : ℕ
+  pub bytes : List ℕ
+
+-- the life is open, and the number isn't new (RFC 8613, 7.4)
+abbrev pub IsReplay : Life → ℕ → Type 0
+IsReplay of n = (is_open of ≡ true) × (IsNewIn of n → ⊥)
+
+-- the life is closed, and the request doesn't carry the value in force (RFC 8613, B.1.2)
+abbrev pub WantsEcho : Life → ℕ → ℕ → List ℕ → Type 0
+WantsEcho of n clock d = (is_open of ≡ false) × (m : InnerParts) × ProtectsRequest of.context n m d × (Carries (in_force of clock) m → ⊥)
+
+-- the value in force once more, and when it was issued; where none is, the fresh one, now (RFC 9175, 2.3)
+abbrev pub challenge_given : Life → ℕ → List ℕ → List ℕ × ℕ
+challenge_given of clock echo = unwrap_or (in_force of clock) (echo, clock)
+
+-- the reply is the challenge, sealed with the next own number (RFC 8613, 8.3; RFC 9175, 2.3)
+abbrev pub SaysChallenge : Life → ℕ → List ℕ → ℕ → List ℕ → List ℕ → Type 0
+SaysChallenge of n d mid echo reply = (p : Parts) × IsDatagram p d
+    × SealsResponse of.context n (Some (next_own of)) (as_reply p.kind p.message_id p.token mid (challenge_message echo)) reply
+
+-- the answer of the life that the head names, and its reply, row by row from the window on (RFC 8613, 7.4, 8.2 and B.1.2)
+abbrev pub LifeAnswer : Life → ℕ → ℕ → Arrival → Answer → List ℕ → Type 0
+LifeAnswer of i n a Replay reply = IsReplay of n × SaysError a.bytes a.mid replay reply
+LifeAnswer of i n a BadTag reply = Passes of n × RefusesTag (requests of.context) a.bytes × SaysError a.bytes a.mid bad_tag reply
+LifeAnswer of i n a (BadInner j k) reply = Passes of n × RefusesPlaintext (requests of.context) a.bytes × (j ≡ i) × (k ≡ n) × (reply ≡ [])
+LifeAnswer of i n a (Challenge j k given issued) reply =
+    WantsEcho of n a.clock a.bytes × HasOwn of × ((given, issued) ≡ challenge_given of a.clock a.echo) × (j ≡ i) × (k ≡ n)
+    × SaysChallenge of n a.bytes a.mid given reply
+LifeAnswer of i n a SequenceExhausted reply = WantsEcho of n a.clock a.bytes × (HasOwn of → ⊥) × (reply ≡ [])
+LifeAnswer of i n a (Deliver received ticket) reply =
+    Receives (requests of.context) n a.bytes received × Admits of a.clock n received.message
+    × (ticket ≡ record { context = i; life = of.count; number = n; kind = received.kind; message_id = received.message_id; token = received.token })
+    × (reply ≡ [])
+LifeAnswer of i n a answer reply = ⊥
+
+-- a row of the life that the head names (RFC 8613, 8.2)
+abbrev pub NamedAnswer : History → Arrival → Answer → List ℕ → Type 0
+NamedAnswer h a answer reply = (i : ℕ) × (n : ℕ) × (of : Life) × IsRequestOf h a.bytes i n of × LifeAnswer of i n a answer reply
+
+-- the answer to a datagram, and its reply, row by row (RFC 8613, 8.2 and B.1.2; own rule: the order)
+abbrev pub TakeAnswer : History → Arrival → Answer → List ℕ → Type 0
+TakeAnswer h a (Malformed fault place) reply = HasFault a.bytes fault place × (reply ≡ [])
+TakeAnswer h a NotRequest reply = HasNoRequestHead a.bytes heads.NotThatKind × (reply ≡ [])
+TakeAnswer h a Plain reply = HasNoRequestHead a.bytes heads.NoOscore × (reply ≡ [])
+TakeAnswer h a Undecodable reply = HasNoRequestHead a.bytes heads.Undecodable × SaysError a.bytes a.mid undecodable reply
+TakeAnswer h a NoContext reply = NamesNone h a.bytes × SaysError a.bytes a.mid no_context reply
+TakeAnswer h a answer reply = NamedAnswer h a answer reply
+
+-- the ticket is of the present life of a context that is there (own rule)
+abbrev pub IsPresent : History → TicketValues → Life → Type 0
+IsPresent h ticket of = (life h ticket.context ≡ Some of) × (ticket.life ≡ of.count)
+
+-- a fact of the ticket's life, which is the present one (own rule)
+abbrev pub OfTicket : History → TicketValues → (Life → Type 0) → Type 0
+OfTicket h ticket P = (of : Life) × IsPresent h ticket of × P of
+
+-- the number that a reply is sealed with: the next own number where it is asked for (RFC 8613, 8.3)
+abbrev pub own_number : Bool → Life → Option ℕ
+own_number own of = if own then Some (next_own of) else None
+
+-- an own number is left, where it is asked for (RFC 8613, 7.2.1)
+abbrev pub HasAsked : Bool → Life → Type 0
+HasAsked own of = own ≡ true → HasOwn of
+
+-- the answer of the ticket's life to Reply, row by row; p is the message under its head (RFC 8613, 8.3)
+abbrev pub LifeReply : Life → ℕ → Bool → Parts → ℕ → Entry → Type 0
+LifeReply of n own p room (NotReplied NotThatKind) = RefusesPlainResponse p seals.NotThatKind
+LifeReply of n own p room (NotReplied (Unsupported k)) = RefusesPlainResponse p (seals.Unsupported k)
+LifeReply of n own p room (NotReplied NoOwnLeft) = IsPlainResponse p × (own ≡ true) × (HasOwn of → ⊥)
+LifeReply of n own p room (NotReplied TooLong) = HasAsked own of × RefusesToSeal (responses of.context n) (own_number own of) p room seals.TooLong
+LifeReply of n own p room (NotReplied NoRoom) = HasAsked own of × RefusesToSeal (responses of.context n) (own_number own of) p room seals.NoRoom
+LifeReply of n own p room (Replied bytes) = HasAsked own of × SealsResponse of.context n (own_number own of) p bytes × (length bytes ≤ room)
+LifeReply of n own p room entry = ⊥
+
+-- the answer to Reply: a stale ticket first (RFC 8613, 8.3; own rule: the order)
+abbrev pub ReplyAnswer : History → TicketValues → Bool → Parts → ℕ → Entry → Type 0
+ReplyAnswer h t own p room (NotReplied StaleTicket) = (of : Life) → IsPresent h t of → ⊥
+ReplyAnswer h t own p room entry = OfTicket h t (λ of. LifeReply of t.number own p room entry)
+
+-- the answer to Restart, by the present life of the context, if it is there (own rule: 2 ^ 64 - 1 restarts)
+abbrev pub LifeRestart : Option Life → Entry → Type 0
+LifeRestart None (NotRestarted NoSuchContext) = Unit {0}
+LifeRestart (Some of) (NotRestarted LivesExhausted) = 2 ^ 64 ≤ of.count + 1
+LifeRestart (Some of) Restarted = of.count + 1 < 2 ^ 64
+LifeRestart of entry = ⊥
+
+-- the entry is the server's answer to the event after this history (RFC 8613, 8.2 and 8.3)
+abbrev pub ServerAnswer : History → Event → Entry → Type 0
+ServerAnswer h (Add s start size) entry = IsContext s × AddAnswer h s entry
+ServerAnswer h (Datagram now echo mid d) (Took answer reply) = TakeAnswer h (record { clock = max (clock h) now; echo = echo; mid = mid; bytes = d }) answer reply
+ServerAnswer h (Reply t own mid plain room) entry = ReplyAnswer h t own (as_reply t.kind t.message_id t.token mid plain) room entry
+ServerAnswer h (Restart i next) entry = LifeRestart (life h i) entry
+ServerAnswer h (Advance now) Advanced = Unit {0}
+ServerAnswer h event entry = ⊥
+
+-- the datagram protects this message under context i and number n, which is admitted (RFC 8613, 7.4, 8.2 and B.1.2)
+pub record Delivers (h : History) (now : ℕ) (d : List ℕ) (i n : ℕ) (m : InnerParts) : Type 0 where
+  pub of : Life
+  pub life_is : life h i ≡ Some of
+  pub protects : ProtectsRequest of.context n m d
+  pub admits : Admits of (max (clock h) now) n m

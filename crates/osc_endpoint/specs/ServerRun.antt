@@ -1,0 +1,81 @@
+-- To be believed: a run of a server: the log of its events, and the history that they add to. h and g are the histories before and after, ts
+-- and us the tickets that the run has before and after, one place an event.
+use Rattle.std.specs.Prelude.{◌≡◌, ◌++◌, ◌∷◌, [], ℕ, List, Bool, Option, Some, None, Ok, Err, map, length, slice_get, slice_set}
+use Rattle.std.specs.Option.{option_and_then, option_map}
+use Rattle.osc_coap.specs.Datagram.{Parts, IsDatagram}
+use Rattle.osc_coap.specs.Fault.{HasFault}
+use Rattle.osc_context.specs.Views.{number_of}
+use Rattle.osc_endpoint.specs.declared.server_event.Seen.{Seen}
+use Rattle.osc_endpoint.specs.declared.server_event.Seen.TheVariants as seen
+use Rattle.osc_endpoint.specs.declared.server_event.ServerEvent.{ServerEvent}
+use Rattle.osc_endpoint.specs.declared.server_event.ServerEvent.TheVariants as events
+use Rattle.osc_endpoint.specs.declared.server_event.ServerEntry.{ServerEntry}
+use Rattle.osc_endpoint.specs.declared.server_event.ServerEntry.TheVariants as entries
+use Rattle.osc_endpoint.specs.ServerHistory.{History, Then, Event, Entry, Answer, TicketValues, Datagram, Reply, Restart, Malformed, NotRequest, Plain, Undecodable, NoContext, Replay, BadTag, BadInner, Challenge, SequenceExhausted, Deliver, Took, Replied, NotReplied, Restarted, NotRestarted}
+use Rattle.osc_endpoint.specs.ServerAnswer.{ServerAnswer}
+use Rattle.osc_endpoint.specs.Views.{received_of, values_of}
+use Rattle.osc_endpoint.specs.declared.ticket.Ticket.{Ticket}
+
+-- what the log shows of an answer: a delivery without its ticket (how the code is seen)
+abbrev pub Logs : Seen → Answer → Type 0
+Logs (seen.Malformed e) (Malformed fault place) = (e.fault ≡ fault) × (e.place ≡ place)
+Logs seen.NotRequest NotRequest = Unit {0}
+Logs seen.Plain Plain = Unit {0}
+Logs seen.Undecodable Undecodable = Unit {0}
+Logs seen.NoContext NoContext = Unit {0}
+Logs seen.Replay Replay = Unit {0}
+Logs seen.BadTag BadTag = Unit {0}
+Logs seen.BadInner (BadInner i n) = Unit {0}
+Logs (seen.Challenge echo issued) (Challenge i n given moment) = (echo ≡ given) × (issued ≡ moment)
+Logs seen.SequenceExhausted SequenceExhausted = Unit {0}
+Logs (seen.Deliver opened context number) (Deliver received ticket) = (received_of opened ≡ received) × (context ≡ ticket.context) × (number_of number ≡ ticket.number)
+Logs x answer = ⊥
+
+-- the ticket that an answer gives, if it does (own rule)
+abbrev pub ticket_of : Answer → Option TicketValues
+ticket_of (Deliver received ticket) = Some ticket
+ticket_of answer = None
+
+-- the ticket that is left at this place (own rule)
+abbrev pub ticket_at : List (Option TicketValues) → ℕ → Option TicketValues
+ticket_at ts i = option_and_then (λ t. t) (slice_get ts i)
+
+-- the server answers the event so, and the history goes on by both (own rule)
+abbrev pub GoesOn : History → Event → Entry → History → Type 0
+GoesOn h event entry g = ServerAnswer h event entry × (g ≡ Then h event entry)
+
+-- a reply by the ticket at this place; one that is accepted takes it (own rule)
+abbrev pub ReplyStep : History → List (Option TicketValues) → ℕ → Bool → ℕ → List ℕ → ℕ → ServerEntry → History → List (Option TicketValues) → Type 0
+ReplyStep h ts of own mid plain room entries.NoTicket g us = (ticket_at ts of ≡ None) × (g ≡ h) × (us ≡ ts)
+ReplyStep h ts of own mid plain room (entries.BadPlain e) g us =
+    (t : TicketValues) × (ticket_at ts of ≡ Some t) × HasFault plain e.fault e.place × (g ≡ h) × (us ≡ ts)
+ReplyStep h ts of own mid plain room (entries.Replied (Ok text)) g us =
+    (t : TicketValues) × (ticket_at ts of ≡ Some t) × (p : Parts) × IsDatagram p plain
+    × GoesOn h (Reply t own mid p room) (Replied text.now) g × (us ≡ slice_set ts of None)
+ReplyStep h ts of own mid plain room (entries.Replied (Err e)) g us =
+    (t : TicketValues) × (ticket_at ts of ≡ Some t) × (p : Parts) × IsDatagram p plain
+    × GoesOn h (Reply t own mid p room) (NotReplied e) g × (us ≡ ts)
+ReplyStep h ts of own mid plain room entry g us = ⊥
+
+-- one event, its entry, the history behind it, and the tickets, with a place more (own rule)
+abbrev pub RunStep : History → List (Option TicketValues) → ServerEvent → ServerEntry → History → List (Option TicketValues) → Type 0
+RunStep h ts (events.Datagram a) (entries.Took x reply) g us =
+    (answer : Answer) × Logs x answer
+    × GoesOn h (Datagram a.now a.fresh.echo a.fresh.mid a.bytes.items) (Took answer reply.now) g × (us ≡ ts ++ ticket_of answer ∷ [])
+RunStep h ts (events.Reply r) entry g us =
+    (left : List (Option TicketValues)) × ReplyStep h ts r.of r.own r.mid r.plain.items (length r.out.items) entry g left × (us ≡ left ++ None ∷ [])
+RunStep h ts (events.Restart context next) (entries.Restarted (Ok x)) g us = GoesOn h (Restart context (number_of next)) Restarted g × (us ≡ ts ++ None ∷ [])
+RunStep h ts (events.Restart context next) (entries.Restarted (Err e)) g us = GoesOn h (Restart context (number_of next)) (NotRestarted e) g × (us ≡ ts ++ None ∷ [])
+RunStep h ts event entry g us = ⊥
+
+-- the log of these events, one entry each, from this history on (own rule)
+abbrev pub Run : History → List (Option TicketValues) → List ServerEvent → List ServerEntry → History → List (Option TicketValues) → Type 0
+Run h ts [] [] g us = (g ≡ h) × (us ≡ ts)
+Run h ts [] (entry ∷ log) g us = ⊥
+Run h ts (event ∷ events) [] g us = ⊥
+Run h ts (event ∷ events) (entry ∷ log) g us =
+    (mid : History) × (vs : List (Option TicketValues)) × RunStep h ts event entry mid vs × Run mid vs events log g us
+
+-- the tickets of a run, as the definitions see them (how the code is seen)
+abbrev pub values_in : List (Option Ticket) → List (Option TicketValues)
+values_in tickets = map (option_map values_of) tickets

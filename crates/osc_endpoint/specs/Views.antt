@@ -1,0 +1,57 @@
+-- How the code is seen: tickets, outcomes and answers as numbers and lists, without where the bytes lie.
+use Rattle.std.specs.Prelude.{◌≡◌, ℕ, List, take, Option, Some, None, Result, Ok, Err}
+use Rattle.osc_coap.specs.Inner.{InnerParts}
+use Rattle.osc_context.specs.Views.{number_of}
+use Rattle.osc_protect.specs.Views.{shown, message_of, opened_number}
+use Rattle.osc_protect.specs.declared.opened.Opened.{Opened}
+use Rattle.osc_endpoint.specs.declared.ticket.Ticket.{Ticket}
+use Rattle.osc_endpoint.specs.declared.outcome.Outcome.{Outcome}
+use Rattle.osc_endpoint.specs.declared.outcome.Outcome.TheVariants as outcomes
+use Rattle.osc_endpoint.specs.declared.server_error.AddError.{AddError}
+use Rattle.osc_endpoint.specs.declared.server_error.ReplyError.{ReplyError}
+use Rattle.osc_endpoint.specs.declared.server_error.RestartError.{RestartError}
+use Rattle.osc_endpoint.specs.Received.{Received}
+use Rattle.osc_endpoint.specs.ServerHistory as server
+
+-- what a ticket holds (how the code is seen)
+abbrev pub values_of : Ticket → server.TicketValues
+values_of t = record { context = t.context; life = t.life; number = number_of t.number; kind = t.asker.kind; message_id = t.asker.message_id; token = t.asker.token.items }
+
+-- what an opened message says (how the code is seen)
+abbrev pub received_of : Opened → Received
+received_of o = record { kind = o.kind; message_id = o.message_id; token = o.token.items; uri_host = shown o.uri_host; uri_port = shown o.uri_port; number = opened_number o; message = message_of o }
+
+-- the outcome shows this answer: all of it but the context and number of a bad plaintext and of a challenge (how the code is seen)
+abbrev pub Shows : Outcome → server.Answer → Type 0
+Shows (outcomes.Malformed e) (server.Malformed fault place) = (e.fault ≡ fault) × (e.place ≡ place)
+Shows outcomes.NotRequest server.NotRequest = Unit {0}
+Shows outcomes.Plain server.Plain = Unit {0}
+Shows outcomes.Undecodable server.Undecodable = Unit {0}
+Shows outcomes.NoContext server.NoContext = Unit {0}
+Shows outcomes.Replay server.Replay = Unit {0}
+Shows outcomes.BadTag server.BadTag = Unit {0}
+Shows outcomes.BadInner (server.BadInner i n) = Unit {0}
+Shows (outcomes.Challenge echo issued) (server.Challenge i n given moment) = (echo ≡ given) × (issued ≡ moment)
+Shows outcomes.SequenceExhausted server.SequenceExhausted = Unit {0}
+Shows (outcomes.Deliver o t) (server.Deliver received ticket) = (received_of o ≡ received) × (values_of t ≡ ticket)
+Shows outcome answer = ⊥
+
+-- context, number and message of a delivery, if it is one (how the code is seen)
+abbrev pub delivery_of : Outcome → Option (ℕ × ℕ × InnerParts)
+delivery_of (outcomes.Deliver o t) = Some (t.context, number_of t.number, message_of o)
+delivery_of outcome = None
+
+-- the entry of an Add (how the code is seen)
+abbrev pub added_entry : Result ℕ AddError → server.Entry
+added_entry (Ok index) = server.Added index
+added_entry (Err e) = server.NotAdded e
+
+-- the entry of a Restart (how the code is seen)
+abbrev pub restarted_entry : Result Unit RestartError → server.Entry
+restarted_entry (Ok x) = server.Restarted
+restarted_entry (Err e) = server.NotRestarted e
+
+-- the entry of a call of the server, which hands the ticket of a refused reply back (how the code is seen)
+abbrev pub server_entry : Result ℕ (ReplyError × Ticket) → List ℕ → server.Entry
+server_entry (Ok n) out = server.Replied (take n out)
+server_entry (Err e) out = server.NotReplied e.0

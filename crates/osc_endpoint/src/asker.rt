@@ -1,0 +1,59 @@
+//! Whom a reply goes to.
+
+use osc_coap::{Kind, Message, Token};
+
+/// What a reply takes from the head of its request (RFC 7252, 5.2 and 5.3.2).
+#[derive(Debug, Drop)]
+pub(crate) struct Asker {
+    pub(crate) kind: Kind,
+    pub(crate) message_id: u16,
+    pub(crate) token: Token,
+}
+
+impl Asker {
+    ghost use Rattle.std.specs.Prelude.{◌≡◌};
+    ghost use Rattle.osc_coap.specs.Views.{parts_of};
+    ghost use Rattle.osc_endpoint.specs.Replies.{reply_kind, reply_id};
+
+    /// Whom a reply to this message goes to.
+    pub(crate) fn of(message: Message<'_>) -> Asker
+        ensures kind { result.kind ≡ (parts_of message.entry).kind }
+        ensures message_id { result.message_id ≡ (parts_of message.entry).message_id }
+        ensures token { result.token.items ≡ (parts_of message.entry).token }
+    {
+        Asker {
+            kind: message.kind,
+            message_id: message.message_id,
+            token: message.token,
+        }
+    }
+
+    /// A copy of the token.
+    pub(crate) fn token(&self) -> Token
+        ensures { result.items ≡ self.now.token.items }
+    {
+        let mut token = Token::new();
+        token.try_extend_from_slice(self.token.as_slice()).unwrap();
+        token
+    }
+
+    /// A reply to a CON is an ACK, one to a NON a NON (RFC 7252, 5.2).
+    pub(crate) fn reply_kind(&self) -> Kind
+        ensures { result ≡ reply_kind self.now.kind }
+    {
+        match self.kind {
+            Kind::Con => Kind::Ack,
+            Kind::Non | Kind::Ack | Kind::Rst => Kind::Non,
+        }
+    }
+
+    /// An ACK has the request's message ID, a NON the one that is handed in (RFC 7252, 4.2 and 4.3).
+    pub(crate) fn reply_id(&self, mid: u16) -> u16
+        ensures { result ≡ reply_id self.now.kind self.now.message_id mid }
+    {
+        match self.kind {
+            Kind::Con => self.message_id,
+            Kind::Non | Kind::Ack | Kind::Rst => mid,
+        }
+    }
+}

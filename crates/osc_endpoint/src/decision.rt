@@ -1,0 +1,28 @@
+//! What a server decided of a datagram, before it lends slices of it.
+
+use crate::ticket::Ticket;
+use osc_coap::FormatError;
+use osc_protect::DecryptedRequest;
+
+/// What a server decided of a datagram: an outcome, but of a delivery where its plaintext lies.
+#[derive(Debug, Drop)]
+pub enum Decision {
+    Malformed(FormatError),
+    NotRequest,
+    Plain,
+    Undecodable,
+    NoContext,
+    Replay,
+    BadTag,
+    BadInner,
+    Challenge { echo: [u8; 8], issued: u64 },
+    SequenceExhausted,
+    Deliver(DecryptedRequest, Ticket),
+}
+
+/// What a server decided, and how many bytes of reply stand at the front of `out`; none where it is 0.
+#[derive(Debug, Drop)]
+pub struct Decided {
+    pub decision: Decision,
+    pub reply: usize,
+}

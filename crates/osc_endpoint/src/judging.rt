@@ -1,0 +1,158 @@
+//! How a context judges a request that names it, from the window on.
+
+ghost use Rattle.std.specs.Prelude.{◌≡◌, ◌≤◌, ℕ, List, Option, Some, slice_get, take, drop, false};
+ghost use Rattle.osc_context.specs.Views.{as_server, number_of};
+ghost use Rattle.osc_window.specs.Views.{is_open as is_open_gate};
+ghost use Rattle.osc_protect.specs.Protection.{requests};
+ghost use Rattle.osc_protect.specs.StageViews.{DecryptsRequest, FitsRequest, IsSealedRequest};
+ghost use Rattle.osc_protect.specs.Views.{context_of};
+
+use crate::asker::Asker;
+use crate::challenge_reply::write_challenge;
+use crate::decision::{Decided, Decision};
+use crate::error_reply::{ErrorReply, write_error};
+use crate::slot::Slot;
+use crate::start::Fresh;
+use crate::ticket::Ticket;
+use osc_coap::one_datagram;
+use osc_context::Piv;
+use osc_protect::{DecryptedRequest, SealedRequest, decrypt_request, one_reading, read_request};
+
+/// A request that names a context: its index, its number, what is handed in with it, whom a reply goes to, and what is to be
+/// decrypted.
+#[derive(Drop)]
+pub(crate) struct Named {
+    pub(crate) index: usize,
+    pub(crate) number: Piv,
+    pub(crate) clock: u64,
+    pub(crate) fresh: Fresh,
+    pub(crate) asker: Asker,
+    pub(crate) sealed: SealedRequest,
+}
+
+impl Slot {
+    ghost use Rattle.osc_endpoint.specs.Agrees.{SlotAgrees};
+    ghost use Rattle.osc_endpoint.specs.Deciding.{CanShow, IsOpenedIn, Leaves};
+    ghost use Rattle.osc_endpoint.specs.Judging.{GatePasses, IsAskerOf, IsNamed, JudgesTo, RefusesEcho};
+    ghost use Rattle.osc_endpoint.specs.Life.{Life};
+
+    /// Answers a request that doesn't carry the challenge in force: by one, where an own number is left.
+    fn demand(&mut self, request: &Named, out: &mut [u8; 64]) -> Decided
+        requires { is_open_gate self.old.gate ≡ false }
+        ensures context { self.new.context ≡ self.old.context }
+        ensures decided { (l : Life) (d new : List ℕ) → SlotAgrees self.old l → RefusesEcho l request.now d
+            → IsAskerOf request.now.asker d
+            → JudgesTo l request.now d result new (take result.reply out.new) (Some self.new) }
+        ensures shown { (new : List ℕ) → CanShow result.decision new }
+        ensures leaves { (slots : List (Option Slot)) (d new : List ℕ) → IsOpenedIn slots d new → Leaves slots result.decision d new }
+        ensures within { result.reply ≤ 64 }
+        ensures behind { drop result.reply out.new ≡ drop result.reply out.old }
+    {
+        let Some(own) = Piv::new(self.next) else {
+            return Decided {
+                decision: Decision::SequenceExhausted,
+                reply: 0,
+            };
+        };
+        let (echo, issued) = self.challenge(request.clock, request.fresh.echo);
+        let mid = request.fresh.mid;
+        let reply = write_challenge(
+            &self.context,
+            request.number,
+            own,
+            &request.asker,
+            mid,
+            &echo,
+            out,
+        );
+        Decided {
+            decision: Decision::Challenge { echo, issued },
+            reply,
+        }
+    }
+
+    /// Answers a request that was decrypted.
+    fn judge_opened(
+        &mut self,
+        request: Named,
+        datagram: &[u8],
+        decrypted: DecryptedRequest,
+        out: &mut [u8; 64],
+    ) -> Decided
+        requires placed { FitsRequest datagram.now decrypted }
+        requires passes { GatePasses self.old.gate (number_of request.number) }
+        ensures context { self.new.context ≡ self.old.context }
+        ensures decided { (l : Life) (d : List ℕ) → SlotAgrees self.old l
+            → DecryptsRequest (requests (as_server (context_of self.old.context))) d decrypted datagram.now
+            → IsNamed (as_server (context_of self.old.context)) (number_of request.number) d → IsAskerOf request.asker d
+            → JudgesTo l request d result datagram.now (take result.reply out.new) (Some self.new) }
+        ensures shown { (d : List ℕ) → DecryptsRequest (requests (as_server (context_of self.old.context))) d decrypted datagram.now
+            → CanShow result.decision datagram.now }
+        ensures leaves { (slots : List (Option Slot)) (i : ℕ) (d : List ℕ) → slice_get slots i ≡ Some (Some self.old)
+            → DecryptsRequest (requests (as_server (context_of self.old.context))) d decrypted datagram.now
+            → Leaves slots result.decision d datagram.now }
+        ensures within { result.reply ≤ 64 }
+        ensures behind { drop result.reply out.new ≡ drop result.reply out.old }
+    {
+        one_datagram();
+        one_reading();
+        let Ok(opened) = read_request(datagram, decrypted) else {
+            self.spoil(request.number);
+            return Decided {
+                decision: Decision::BadInner,
+                reply: 0,
+            };
+        };
+        if !self.admits(request.clock, &opened) {
+            return self.demand(&request, out);
+        }
+        self.deliver(request.number);
+        let ticket = Ticket {
+            context: request.index,
+            life: self.life,
+            number: request.number,
+            asker: request.asker,
+        };
+        Decided {
+            decision: Decision::Deliver(decrypted, ticket),
+            reply: 0,
+        }
+    }
+
+    /// Answers a request that names this context, in its datagram.
+    pub(crate) fn judge(
+        &mut self,
+        request: Named,
+        datagram: &mut [u8],
+        out: &mut [u8; 64],
+    ) -> Decided
+        requires named { IsNamed (as_server (context_of self.old.context)) (number_of request.number) datagram.old }
+        requires asker { IsAskerOf request.asker datagram.old }
+        requires sealed { IsSealedRequest (requests (as_server (context_of self.old.context))) datagram.old request.sealed }
+        ensures context { self.new.context ≡ self.old.context }
+        ensures decided { (l : Life) → SlotAgrees self.old l
+            → JudgesTo l request datagram.old result datagram.new (take result.reply out.new) (Some self.new) }
+        ensures shown { CanShow result.decision datagram.new }
+        ensures leaves { (slots : List (Option Slot)) (i : ℕ) → slice_get slots i ≡ Some (Some self.old)
+            → Leaves slots result.decision datagram.old datagram.new }
+        ensures within { result.reply ≤ 64 }
+        ensures behind { drop result.reply out.new ≡ drop result.reply out.old }
+    {
+        // The window is asked before the tag is checked.
+        if self.is_replay(request.number) {
+            let reply = write_error(&request.asker, request.fresh.mid, ErrorReply::Replay, out);
+            return Decided {
+                decision: Decision::Replay,
+                reply,
+            };
+        }
+        let Ok(decrypted) = decrypt_request(&self.context, datagram, request.sealed) else {
+            let reply = write_error(&request.asker, request.fresh.mid, ErrorReply::BadTag, out);
+            return Decided {
+                decision: Decision::BadTag,
+                reply,
+            };
+        };
+        self.judge_opened(request, datagram, decrypted, out)
+    }
+}

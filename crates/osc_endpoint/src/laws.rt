@@ -1,0 +1,51 @@
+//! What holds of every history of a server whose entries are all its answers. A call of such a function does nothing: its
+//! contract is there for the proof of its caller.
+
+ghost use Rattle.osc_endpoint.specs.Laws.{DeliveredOnce, OneServerAnswer, OwnNumbersOnce, ServerNoncesOnce, TicketOnce};
+
+use osc_coap::{one_datagram, one_text};
+use osc_context::{one_nonce, one_option_value};
+use osc_protect::{one_head, one_request, one_sealed, protections_show_heads};
+
+/// After each history an event has one answer at most: the rows of the table don't overlap, and each fixes its bytes
+/// (RFC 8613, 8.2 and 8.3).
+pub fn one_server_answer()
+    ensures { OneServerAnswer }
+{
+    one_datagram();
+    one_text();
+    one_head();
+    one_request();
+    one_sealed();
+}
+
+/// In one life of a context no number is delivered twice (RFC 8613, 7.4).
+pub fn delivered_once()
+    ensures { DeliveredOnce }
+{}
+
+/// The own numbers of a life are consecutive, and none is used twice (RFC 8613, 7.2.1).
+pub fn own_numbers_once()
+    ensures { OwnNumbersOnce }
+{
+    protections_show_heads();
+}
+
+/// A ticket gives one response at most: no two are to one number in one life of one context (RFC 8613, 8.3). Each accepted
+/// reply has to take a ticket that a delivery gave and that no earlier one took, as it does in a run.
+pub fn ticket_once()
+    ensures { TicketOnce }
+{
+    delivered_once();
+}
+
+/// No two texts that a server seals in one life under one context share a nonce (RFC 8613, 5.2), under the condition of
+/// [`ticket_once`].
+pub fn nonces_once()
+    ensures { ServerNoncesOnce }
+{
+    delivered_once();
+    one_nonce();
+    one_option_value();
+    protections_show_heads();
+}

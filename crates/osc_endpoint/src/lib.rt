@@ -1,0 +1,34 @@
+//! A server of OSCORE over all that happens to it (RFC 8613).
+#![tactic(auto)]
+
+mod asker;
+mod challenge_reply;
+mod decision;
+mod echo;
+mod error_reply;
+mod judging;
+mod laws;
+mod outcome;
+mod replying;
+mod server;
+mod server_error;
+mod server_event;
+mod server_reply;
+mod server_restart;
+mod server_run;
+mod server_take;
+mod slot;
+mod start;
+mod table;
+mod ticket;
+
+pub use decision::{Decided, Decision};
+pub use laws::{delivered_once, nonces_once, one_server_answer, own_numbers_once, ticket_once};
+pub use outcome::{Outcome, Taken};
+pub use server::Server;
+pub use server_error::{AddError, ReplyError, RestartError};
+pub use server_event::{Answering, Arrival, Seen, ServerEntry, ServerEvent};
+pub use server_run::{run_server, run_server_on};
+pub use server_take::read_decided;
+pub use start::{Fresh, Start};
+pub use ticket::Ticket;

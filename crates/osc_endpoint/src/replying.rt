@@ -1,0 +1,102 @@
+//! How a context seals a reply to a request that was delivered (RFC 8613, 8.3).
+
+ghost use Rattle.std.specs.Prelude.{◌≡◌, ◌≢◌, ◌≤◌, ◌<◌, ◌^◌, ℕ, List, Option, Result, Ok, IfSome, IfNone, IfOk, IfErr, OnOk, OnErr, IsOk, length, take, drop, true, false};
+ghost use Rattle.std.specs.Option.{option_map};
+ghost use Rattle.osc_coap.specs.Views.{parts_of};
+ghost use Rattle.osc_context.specs.Views.{number_of};
+ghost use Rattle.osc_endpoint.specs.Replying.{lifted};
+ghost use Rattle.osc_endpoint.specs.declared.server_error.ReplyError.TheVariants.{KeeperFailed};
+
+use crate::server_error::ReplyError;
+use crate::slot::Slot;
+use crate::ticket::Ticket;
+use osc_coap::Message;
+use osc_context::Piv;
+use osc_protect::{ProtectError, RequestRef, check_response};
+
+/// The refusal of a reply that a refusal to seal becomes.
+fn lift(error: ProtectError) -> ReplyError
+    ensures value { result ≡ lifted error }
+    ensures no_keeper_failed { result ≢ KeeperFailed }
+{
+    match error {
+        ProtectError::NotThatKind => ReplyError::NotThatKind,
+        ProtectError::Unsupported(number) => ReplyError::Unsupported(number),
+        ProtectError::TooLong => ReplyError::TooLong,
+        ProtectError::NoRoom => ReplyError::NoRoom,
+    }
+}
+
+impl Slot {
+    ghost use Rattle.osc_endpoint.specs.Agrees.{SlotAgrees};
+    ghost use Rattle.osc_endpoint.specs.Life.{Life, marked};
+    ghost use Rattle.osc_endpoint.specs.Replies.{as_reply};
+    ghost use Rattle.osc_endpoint.specs.Replying.{reply_entry, reply_mark};
+    ghost use Rattle.osc_endpoint.specs.ServerAnswer.{LifeReply, HasAsked, own_number};
+
+    /// The next own number where one is asked for, and None where one is asked for and none is left.
+    fn asked_number(&self, own: bool) -> Option<Option<Piv>>
+        ensures given { IfSome result (λ number. (l : Life) → SlotAgrees self.now l
+            → (option_map number_of number ≡ own_number own l) × HasAsked own l) }
+        ensures left { IfSome result (λ number. own ≡ true → self.now.next < 2 ^ 40) }
+        ensures none { IfNone result ((own ≡ true) × (2 ^ 40 ≤ self.now.next)) }
+    {
+        if !own {
+            return Some(None);
+        }
+        match Piv::new(self.next) {
+            Some(number) => Some(Some(number)),
+            None => None,
+        }
+    }
+
+    /// Counts an own number that was used.
+    fn count(&mut self, own: bool)
+        requires { own ≡ true → self.old.next < 2 ^ 40 }
+        ensures context { self.new.context ≡ self.old.context }
+        ensures kept { (l : Life) (n : ℕ) → SlotAgrees self.old l → SlotAgrees self.new (marked (reply_mark (Ok n) own) l) }
+    {
+        if own {
+            self.next += 1;
+        }
+    }
+
+    /// Seals a reply to the request of a ticket of the present life, and answers how many bytes at the front of `out` it takes.
+    pub(crate) fn reply(
+        &mut self,
+        ticket: &Ticket,
+        own: bool,
+        mid: u16,
+        plain: &Message<'_>,
+        out: &mut [u8],
+    ) -> Result<usize, ReplyError>
+        ensures context { self.new.context ≡ self.old.context }
+        ensures kept { (l : Life) → SlotAgrees self.old l
+            → LifeReply l (number_of ticket.now.number) own
+            (as_reply ticket.now.asker.kind ticket.now.asker.message_id ticket.now.asker.token.items mid (parts_of plain.now))
+            (length out.old) (reply_entry result out.new)
+            × SlotAgrees self.new (marked (reply_mark result own) l) }
+        ensures within { IfOk result (λ n. n ≤ length out.new) }
+        ensures behind { IfOk result (λ n. drop n out.new ≡ drop n out.old) }
+        ensures unchanged { OnErr result (out.new ≡ out.old) }
+        ensures same { OnErr result (self.new ≡ self.old) }
+        ensures no_keeper_failed { IfErr result (λ e. e ≢ KeeperFailed) }
+    {
+        let (kind, id) = (ticket.asker.reply_kind(), ticket.asker.reply_id(mid));
+        let message = plain.with_head(kind, id, ticket.asker.token());
+        if let Err(error) = check_response(&message) {
+            return Err(lift(error));
+        }
+        let Some(number) = self.asked_number(own) else {
+            return Err(ReplyError::SequenceExhausted);
+        };
+        let request = RequestRef::new(ticket.number);
+        match self.context.seal_response(&request, number, &message, out) {
+            Ok(len) => {
+                self.count(own);
+                Ok(len)
+            }
+            Err(error) => Err(lift(error)),
+        }
+    }
+}

@@ -1,0 +1,108 @@
+//! The server: its contexts, and its clock.
+
+ghost use Rattle.std.specs.Prelude.{◌≡◌, OnErr};
+ghost use Rattle.osc_context.specs.Views.{as_server};
+ghost use Rattle.osc_protect.specs.Views.{context_of};
+
+use crate::server_error::AddError;
+use crate::slot::Slot;
+use crate::start::Start;
+use crate::table::{find, is_open_at};
+use arrayvec::ArrayVec;
+use osc_context::Context;
+use osc_protect::KeyedContext;
+use osc_window::{Gate, Window, WindowSize};
+
+/// A server of up to eight contexts. It has no socket, no clock and no random source: datagrams, moments in milliseconds and
+/// fresh values are handed in.
+#[derive(Drop)]
+pub struct Server {
+    pub(crate) clock: u64,
+    pub(crate) slots: ArrayVec<Option<Slot>, 8>,
+}
+
+impl Slot {
+    ghost use Rattle.osc_endpoint.specs.Agrees.{SlotAgrees};
+    ghost use Rattle.osc_endpoint.specs.Life.{born};
+
+    /// A context that begins.
+    fn begin(context: Context, start: Start, size: WindowSize) -> Slot
+        ensures context { context_of result.context ≡ context }
+        ensures agrees { SlotAgrees result (born (as_server context) start size) }
+    {
+        let (gate, next) = match start {
+            Start::Fresh(next) => (Gate::Open(Window::fresh(size)), next),
+            Start::Restarted(next) => (Gate::Restarted { challenge: None }, next),
+        };
+        Slot {
+            context: KeyedContext::new(context),
+            size,
+            gate,
+            next: next.number(),
+            life: 0,
+        }
+    }
+}
+
+impl Server {
+    ghost use Rattle.osc_endpoint.specs.Agrees.{Agrees};
+    ghost use Rattle.osc_endpoint.specs.ServerAnswer.{ServerAnswer};
+    ghost use Rattle.osc_endpoint.specs.ServerHistory.{History, Begin, Then, Add, Advance, Advanced, life};
+    ghost use Rattle.osc_endpoint.specs.Life.{is_open_life};
+    ghost use Rattle.osc_endpoint.specs.Views.{added_entry};
+
+    /// A server with no context.
+    #[must_use]
+    pub fn new() -> Server
+        ensures { Agrees result Begin }
+    {
+        Server {
+            clock: 0,
+            slots: ArrayVec::new(),
+        }
+    }
+
+    /// Adds a context, and answers its index. The first refusal in the order of `AddError` is answered; it drops the context and
+    /// changes nothing.
+    pub fn add(
+        &mut self,
+        context: Context,
+        start: Start,
+        size: WindowSize,
+    ) -> Result<usize, AddError>
+        ensures answered { (h : History) → Agrees self.old h
+            → ServerAnswer h (Add (as_server context) start size) (added_entry result) }
+        ensures follows { (h : History) → Agrees self.old h
+            → Agrees self.new (Then h (Add (as_server context) start size) (added_entry result)) }
+        ensures unchanged { OnErr result (self.new ≡ self.old) }
+    {
+        let _sender = context.sender().bytes();
+        let recipient = context.recipient().bytes();
+        if self.slots.is_full() {
+            return Err(AddError::Full);
+        }
+        let id_context = context.id_context().map(|id_context| id_context.bytes());
+        if find(self.slots.as_slice(), recipient, id_context).is_some() {
+            return Err(AddError::SameLookup);
+        }
+        let index = self.slots.len();
+        self.slots.push(Some(Slot::begin(context, start, size)));
+        Ok(index)
+    }
+
+    /// Whether the context at an index judges requests by their number: it was added fresh and never restarted, or delivered a
+    /// request in its present life. False where no context has the index.
+    #[must_use]
+    pub fn is_open(&self, context: usize) -> bool
+        ensures { (h : History) → Agrees self.now h → result ≡ is_open_life (life h context) }
+    {
+        is_open_at(self.slots.as_slice(), context)
+    }
+
+    /// Moves the clock to a moment in milliseconds, where that is later.
+    pub fn advance(&mut self, now: u64)
+        ensures { (h : History) → Agrees self.old h → Agrees self.new (Then h (Advance now) Advanced) }
+    {
+        self.clock = self.clock.max(now);
+    }
+}

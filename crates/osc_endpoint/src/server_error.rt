@@ -1,0 +1,94 @@
+//! Why a server refuses a call.
+
+use std::error::Error;
+use std::fmt;
+
+/// Why a context isn't added, in the order in which it is judged.
+#[derive(Clone, Copy, Debug, PartialEq, Eq)]
+pub enum AddError {
+    /// The server has eight contexts; own rule.
+    Full,
+    /// One has the same recipient's identifier, and the same ID Context or none as well (RFC 8613, 3.3).
+    SameLookup,
+}
+
+impl fmt::Display for AddError {
+    ghost use Rattle.std.specs.Prelude.{Some};
+    ghost use Rattle.osc_endpoint.specs.Text.{add_error_text};
+
+    ghost output = { λ error. Some (add_error_text error) };
+
+    fn fmt<W: fmt::Write>(&self, f: &mut fmt::Formatter<W>) -> fmt::Result {
+        match self {
+            AddError::Full => f.write_str("Full"),
+            AddError::SameLookup => f.write_str("SameLookup"),
+        }
+    }
+}
+
+impl Error for AddError {}
+
+/// Why a context isn't restarted, in the order in which it is judged.
+#[derive(Clone, Copy, Debug, PartialEq, Eq)]
+pub enum RestartError {
+    /// No context has this index.
+    NoSuchContext,
+    /// It was restarted 2^64 - 1 times.
+    LivesExhausted,
+}
+
+impl fmt::Display for RestartError {
+    ghost use Rattle.std.specs.Prelude.{Some};
+    ghost use Rattle.osc_endpoint.specs.Text.{restart_error_text};
+
+    ghost output = { λ error. Some (restart_error_text error) };
+
+    fn fmt<W: fmt::Write>(&self, f: &mut fmt::Formatter<W>) -> fmt::Result {
+        match self {
+            RestartError::NoSuchContext => f.write_str("NoSuchContext"),
+            RestartError::LivesExhausted => f.write_str("LivesExhausted"),
+        }
+    }
+}
+
+impl Error for RestartError {}
+
+/// Why a reply isn't sealed, in the order in which it is judged.
+#[derive(Clone, Copy, Debug, PartialEq, Eq)]
+pub enum ReplyError {
+    /// The keeper of the own numbers failed: never the answer of a `Server`.
+    KeeperFailed,
+    /// The ticket's context isn't there, or began a new life.
+    StaleTicket,
+    /// The message has no response code.
+    NotThatKind,
+    /// It has an option that can't be sealed: the lowest such number; own rule.
+    Unsupported(u16),
+    /// An own number is asked for, and none is left.
+    SequenceExhausted,
+    /// The reply would have more than 65,535 bytes; own rule.
+    TooLong,
+    /// It would have more bytes than the buffer.
+    NoRoom,
+}
+
+impl fmt::Display for ReplyError {
+    ghost use Rattle.std.specs.Prelude.{Some};
+    ghost use Rattle.osc_endpoint.specs.Text.{reply_error_text};
+
+    ghost output = { λ error. Some (reply_error_text error) };
+
+    fn fmt<W: fmt::Write>(&self, f: &mut fmt::Formatter<W>) -> fmt::Result {
+        match self {
+            ReplyError::KeeperFailed => f.write_str("KeeperFailed"),
+            ReplyError::StaleTicket => f.write_str("StaleTicket"),
+            ReplyError::NotThatKind => f.write_str("NotThatKind"),
+            ReplyError::Unsupported(number) => write!(f, "Unsupported {number}"),
+            ReplyError::SequenceExhausted => f.write_str("SequenceExhausted"),
+            ReplyError::TooLong => f.write_str("TooLong"),
+            ReplyError::NoRoom => f.write_str("NoRoom"),
+        }
+    }
+}
+
+impl Error for ReplyError {}

@@ -1,0 +1,77 @@
+//! What happens to a server in a run, and what it makes of it.
+
+use crate::server_error::{ReplyError, RestartError};
+use crate::start::Fresh;
+use osc_coap::FormatError;
+use osc_context::Piv;
+use osc_protect::Opened;
+
+/// A datagram that comes at a moment in milliseconds, what is drawn anew for it, and room for the reply.
+#[derive(Drop)]
+pub struct Arrival {
+    pub now: u64,
+    pub fresh: Fresh,
+    pub bytes: Vec<u8>,
+    pub out: [u8; 64],
+}
+
+/// An answer to the request of the event at an index: with an own number or not, the message ID of a reply that is no ACK, the
+/// plain message, and room for the reply.
+#[derive(Drop)]
+pub struct Answering {
+    pub of: usize,
+    pub own: bool,
+    pub mid: u16,
+    pub plain: Vec<u8>,
+    pub out: Vec<u8>,
+}
+
+/// One event of a server's run.
+#[derive(Drop)]
+pub enum ServerEvent {
+    /// A datagram comes.
+    Datagram(Arrival),
+    /// The application answers a request.
+    Reply(Answering),
+    /// A context begins a new life.
+    Restart { context: usize, next: Piv },
+}
+
+/// What a server made of a datagram in a run: an `Outcome`, but a delivery without its ticket.
+#[derive(Debug, Drop)]
+pub enum Seen<'a> {
+    Malformed(FormatError),
+    NotRequest,
+    Plain,
+    Undecodable,
+    NoContext,
+    Replay,
+    BadTag,
+    BadInner,
+    Challenge {
+        echo: [u8; 8],
+        issued: u64,
+    },
+    SequenceExhausted,
+    KeeperFailed,
+    Deliver {
+        opened: Opened<'a>,
+        context: usize,
+        number: Piv,
+    },
+}
+
+/// What one event of a server's run came to.
+#[derive(Debug, Drop)]
+pub enum ServerEntry<'a> {
+    /// What was made of a datagram, and the reply; no bytes where there is none.
+    Took { seen: Seen<'a>, reply: &'a [u8] },
+    /// The reply that was sealed, or why not.
+    Replied(Result<&'a [u8], ReplyError>),
+    /// No event at that index has a ticket left.
+    NoTicket,
+    /// What the application answered is no CoAP message.
+    BadPlain(FormatError),
+    /// Whether the context was restarted.
+    Restarted(Result<(), RestartError>),
+}

@@ -1,0 +1,45 @@
+//! Replies to requests that were delivered.
+
+ghost use Rattle.std.specs.Prelude.{◌≡◌, ◌≢◌, ◌≤◌, IfOk, IfErr, OnErr, length, drop};
+ghost use Rattle.osc_coap.specs.Views.{parts_of};
+
+use crate::server::Server;
+use crate::server_error::ReplyError;
+use crate::table::reply_at;
+use crate::ticket::Ticket;
+use osc_coap::Message;
+
+impl Server {
+    ghost use Rattle.osc_endpoint.specs.Agrees.{Agrees};
+    ghost use Rattle.osc_endpoint.specs.ServerAnswer.{ServerAnswer};
+    ghost use Rattle.osc_endpoint.specs.ServerHistory.{History, Then, Reply};
+    ghost use Rattle.osc_endpoint.specs.Views.{server_entry, values_of};
+    ghost use Rattle.osc_endpoint.specs.declared.server_error.ReplyError.TheVariants.{KeeperFailed};
+
+    /// Seals a reply to the request of a ticket into `out`, and answers how many bytes at its front it takes (RFC 8613, 8.3).
+    /// Of the plain message the code, options and payload are used. The first refusal in the order of `ReplyError` is
+    /// answered: it changes nothing, leaves `out`, and hands the ticket back.
+    pub fn reply(
+        &mut self,
+        ticket: Ticket,
+        own: bool,
+        mid: u16,
+        plain: &Message<'_>,
+        out: &mut [u8],
+    ) -> Result<usize, (ReplyError, Ticket)>
+        ensures answered { (h : History) → Agrees self.old h
+            → ServerAnswer h (Reply (values_of ticket) own mid (parts_of plain.now) (length out.old)) (server_entry result out.new) }
+        ensures follows { (h : History) → Agrees self.old h → Agrees self.new
+            (Then h (Reply (values_of ticket) own mid (parts_of plain.now) (length out.old)) (server_entry result out.new)) }
+        ensures back { IfErr result (λ e. e.1 ≡ ticket) }
+        ensures within { IfOk result (λ n. n ≤ length out.new) }
+        ensures behind { IfOk result (λ n. drop n out.new ≡ drop n out.old) }
+        ensures unchanged { OnErr result ((out.new ≡ out.old) × (self.new ≡ self.old)) }
+        ensures no_keeper_failed { IfErr result (λ e. e.0 ≢ KeeperFailed) }
+    {
+        match reply_at(self.slots.as_mut_slice(), &ticket, own, mid, plain, out) {
+            Ok(len) => Ok(len),
+            Err(error) => Err((error, ticket)),
+        }
+    }
+}

@@ -1,0 +1,224 @@
+//! A server over a list of events.
+
+ghost use Rattle.std.specs.Prelude.{◌≡◌, ◌<◌, [], ℕ, List, Option, Some, None, length, take, drop, vec_len, slice_get, slice_set, OnOk, OnErr};
+ghost use Rattle.std.specs.Option.{option_map, option_and_then};
+ghost use Rattle.osc_endpoint.specs.Agrees.{Agrees};
+ghost use Rattle.osc_endpoint.specs.ServerHistory.{History, TicketValues, Answer};
+ghost use Rattle.osc_endpoint.specs.ServerRun.{Run, Logs, ReplyStep, ticket_of, values_in};
+ghost use Rattle.osc_endpoint.specs.Serving.{Serves};
+ghost use Rattle.osc_endpoint.specs.Views.{Shows, values_of};
+
+use crate::outcome::{Outcome, Taken};
+use crate::server::Server;
+use crate::server_event::{Answering, Arrival, Seen, ServerEntry, ServerEvent};
+use crate::ticket::Ticket;
+use osc_coap::parse;
+use osc_context::Piv;
+use std::alloc::{AllocError, Global};
+use std::mem;
+
+/// An outcome as the log shows it, and its ticket.
+fn part(outcome: Outcome<'_>) -> (Seen<'_>, Option<Ticket>)
+    ensures { (answer : Answer) → Shows outcome.entry answer
+        → Logs result.0 answer × (option_map values_of result.1 ≡ ticket_of answer) }
+{
+    match outcome {
+        Outcome::Malformed(error) => (Seen::Malformed(error), None),
+        Outcome::NotRequest => (Seen::NotRequest, None),
+        Outcome::Plain => (Seen::Plain, None),
+        Outcome::Undecodable => (Seen::Undecodable, None),
+        Outcome::NoContext => (Seen::NoContext, None),
+        Outcome::Replay => (Seen::Replay, None),
+        Outcome::BadTag => (Seen::BadTag, None),
+        Outcome::BadInner => (Seen::BadInner, None),
+        Outcome::Challenge { echo, issued } => (Seen::Challenge { echo, issued }, None),
+        Outcome::SequenceExhausted => (Seen::SequenceExhausted, None),
+        Outcome::KeeperFailed => (Seen::KeeperFailed, None),
+        Outcome::Deliver(opened, ticket) => {
+            let (context, number) = (ticket.context(), ticket.number());
+            let seen = Seen::Deliver {
+                opened,
+                context,
+                number,
+            };
+            (seen, Some(ticket))
+        }
+    }
+}
+
+/// A datagram, whose entry borrows from it.
+fn serve_datagram<'a>(
+    server: &mut Server,
+    arrival: &'a mut Arrival,
+) -> (ServerEntry<'a>, Option<Ticket>)
+    ensures { (h : History) (ts : List (Option TicketValues)) → Agrees server.old h
+        → (g : History) × Serves h ts (ServerEvent.Datagram arrival.old) result.0 (option_map values_of result.1) g ts
+        × Agrees server.new g }
+{
+    let Arrival {
+        now,
+        fresh,
+        bytes,
+        out,
+    } = arrival;
+    let Taken { outcome, reply } = server.take(*now, *fresh, bytes, out);
+    let (seen, ticket) = part(outcome);
+    let entry = ServerEntry::Took {
+        seen,
+        reply: &out[..reply],
+    };
+    (entry, ticket)
+}
+
+/// Puts a ticket back.
+fn put_back(tickets: &mut [Option<Ticket>], of: usize, ticket: Ticket)
+    ensures { tickets.new ≡ slice_set tickets.old of (Some ticket) }
+{
+    if of < tickets.len() {
+        tickets[of] = Some(ticket);
+    }
+}
+
+/// Takes out the ticket at an index, where one is left.
+fn take_out(tickets: &mut [Option<Ticket>], of: usize) -> Option<Ticket>
+    ensures ticket { result ≡ option_and_then (λ t. t) (slice_get tickets.old of) }
+    ensures rest { tickets.new ≡ slice_set tickets.old of None }
+{
+    if of < tickets.len() {
+        tickets[of].take()
+    } else {
+        None
+    }
+}
+
+/// A reply by the ticket at an index, whose entry borrows from the room for it.
+fn serve_reply<'a>(
+    server: &mut Server,
+    tickets: &mut [Option<Ticket>],
+    of: usize,
+    own: bool,
+    mid: u16,
+    plain: &[u8],
+    out: &'a mut [u8],
+) -> ServerEntry<'a>
+    ensures { (h : History) → Agrees server.old h
+        → (g : History) × ReplyStep h (values_in tickets.old) of own mid plain.now (length out.old) result g (values_in tickets.new)
+        × Agrees server.new g }
+{
+    let Some(ticket) = take_out(tickets, of) else {
+        return ServerEntry::NoTicket;
+    };
+    let message = match parse(plain) {
+        Ok(message) => message,
+        Err(error) => {
+            put_back(tickets, of, ticket);
+            return ServerEntry::BadPlain(error);
+        }
+    };
+    match server.reply(ticket, own, mid, &message, out) {
+        Ok(len) => ServerEntry::Replied(Ok(&out[..len])),
+        Err((error, ticket)) => {
+            put_back(tickets, of, ticket);
+            ServerEntry::Replied(Err(error))
+        }
+    }
+}
+
+/// A reply, whose entry borrows from the room for it.
+fn serve_answering<'a>(
+    server: &mut Server,
+    answering: &'a mut Answering,
+    tickets: &mut [Option<Ticket>],
+) -> ServerEntry<'a>
+    ensures { (h : History) → Agrees server.old h
+        → (g : History) × Serves h (values_in tickets.old) (ServerEvent.Reply answering.old) result None g (values_in tickets.new)
+        × Agrees server.new g }
+{
+    let Answering {
+        of,
+        own,
+        mid,
+        plain,
+        out,
+    } = answering;
+    serve_reply(server, tickets, *of, *own, *mid, plain, out)
+}
+
+/// A restart, whose entry borrows nothing.
+fn serve_restart<'a>(server: &mut Server, context: usize, next: Piv) -> ServerEntry<'a>
+    ensures { (h : History) (ts : List (Option TicketValues)) → Agrees server.old h
+        → (g : History) × Serves h ts (ServerEvent.Restart context next) result None g ts × Agrees server.new g }
+{
+    ServerEntry::Restarted(server.restart(context, next))
+}
+
+/// One event, whose entry borrows from it.
+fn serve<'a>(
+    server: &mut Server,
+    event: &'a mut ServerEvent,
+    tickets: &mut [Option<Ticket>],
+) -> (ServerEntry<'a>, Option<Ticket>)
+    ensures { (h : History) → Agrees server.old h
+        → (g : History) × Serves h (values_in tickets.old) event.old result.0 (option_map values_of result.1) g (values_in tickets.new)
+        × Agrees server.new g }
+{
+    match event {
+        ServerEvent::Datagram(arrival) => serve_datagram(server, arrival),
+        ServerEvent::Reply(answering) => (serve_answering(server, answering, tickets), None),
+        ServerEvent::Restart { context, next } => (serve_restart(server, *context, *next), None),
+    }
+}
+
+/// Runs a server over events: the log gets the entry of each, at the event's index. The entries borrow from the events. It stops
+/// early only where memory for an entry was refused: then the log has the entries of the events before, and `events` is what
+/// is left of them, as it came.
+pub fn run_server_on<'a>(
+    alloc: Global,
+    server: &mut Server,
+    events: &mut &'a mut [ServerEvent],
+    log: &mut Vec<ServerEntry<'a>>,
+) -> Result<(), AllocError>
+    requires { log.old.items ≡ [] }
+    ensures run { (h : History) → Agrees server.old h → (g : History) × (us : List (Option TicketValues))
+        × Run h [] (take (vec_len log.new) events.old.now) log.new.items g us × Agrees server.new g }
+    ensures rest { events.new.now ≡ drop (vec_len log.new) events.old.now }
+    ensures all { OnOk result (vec_len log.new ≡ length events.old.now) }
+    ensures fewer { OnErr result (vec_len log.new < length events.old.now) }
+{
+    let mut tickets = Vec::new(alloc);
+    let mut rest = mem::take(events);
+    while !rest.is_empty() {
+        if let Err(error) = log.reserve(1) {
+            *events = rest;
+            return Err(error);
+        }
+        if let Err(error) = tickets.reserve(1) {
+            *events = rest;
+            return Err(error);
+        }
+        let (front, tail) = rest.split_at_mut(1);
+        let (entry, ticket) = serve(server, &mut front[0], &mut tickets);
+        log.push_reserved(entry);
+        tickets.push_reserved(ticket);
+        rest = tail;
+    }
+    *events = rest;
+    Ok(())
+}
+
+/// Runs a server over events, as [`run_server_on`] does; what is left of them isn't handed back.
+pub fn run_server<'a>(
+    alloc: Global,
+    server: &mut Server,
+    events: &'a mut [ServerEvent],
+    log: &mut Vec<ServerEntry<'a>>,
+) -> Result<(), AllocError>
+    requires { log.old.items ≡ [] }
+    ensures run { (h : History) → Agrees server.old h → (g : History) × (us : List (Option TicketValues))
+        × Run h [] (take (vec_len log.new) events.old) log.new.items g us × Agrees server.new g }
+    ensures all { OnOk result (vec_len log.new ≡ length events.old) }
+    ensures fewer { OnErr result (vec_len log.new < length events.old) }
+{
+    let mut rest = events;
+    run_server_on(alloc, server, &mut rest, log)
+}

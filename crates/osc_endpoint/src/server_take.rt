@@ -1,0 +1,174 @@
+//! What a server makes of a datagram, in two halves. The first decides, and says what it leaves in the datagram; the second
+//! lends slices of it.
+
+ghost use Rattle.std.specs.Prelude.{◌≡◌, ◌≢◌, ◌≤◌, ℕ, List, Option, Some, take, drop};
+ghost use Rattle.osc_protect.specs.StageViews.{FitsRequest, OpensRequestAfter};
+ghost use Rattle.osc_endpoint.specs.Deciding.{CanShow, Decides, Leaves, WasDecrypted};
+ghost use Rattle.osc_endpoint.specs.Heads.{head_answer, HeadReply};
+ghost use Rattle.osc_endpoint.specs.Judging.{IsAskerOf};
+ghost use Rattle.osc_endpoint.specs.declared.slot.Slot.{Slot};
+ghost use Rattle.osc_endpoint.specs.Views.{Shows};
+ghost use Rattle.osc_endpoint.specs.ServerHistory.{Answer};
+ghost use Rattle.osc_endpoint.specs.declared.outcome.Outcome.TheVariants.{KeeperFailed};
+
+use crate::asker::Asker;
+use crate::decision::{Decided, Decision};
+use crate::error_reply::{ErrorReply, write_error};
+use crate::judging::Named;
+use crate::outcome::{Outcome, Taken};
+use crate::server::Server;
+use crate::start::Fresh;
+use crate::table::{find, judge_at};
+use osc_coap::{one_datagram, parse};
+use osc_protect::{
+    DecryptedRequest, NoHead, Opened, RequestHead, one_head, one_reading, one_request, read_request,
+};
+
+/// Answers a message that has no head of a request.
+fn refuse_head(none: NoHead, asker: &Asker, mid: u16, out: &mut [u8; 64]) -> Decided
+    ensures decides { (new : List ℕ) → Decides result.decision new (head_answer none) }
+    ensures shown { (new : List ℕ) → CanShow result.decision new }
+    ensures leaves { (slots : List (Option Slot)) (d : List ℕ) → Leaves slots result.decision d d }
+    ensures reply { (d : List ℕ) → IsAskerOf asker.now d → HeadReply none d mid (take result.reply out.new) }
+    ensures within { result.reply ≤ 64 }
+    ensures behind { drop result.reply out.new ≡ drop result.reply out.old }
+{
+    let decision = match none {
+        NoHead::NotThatKind => Decision::NotRequest,
+        NoHead::NoOscore => Decision::Plain,
+        NoHead::Undecodable => {
+            let reply = write_error(asker, mid, ErrorReply::Undecodable, out);
+            return Decided {
+                decision: Decision::Undecodable,
+                reply,
+            };
+        }
+    };
+    Decided { decision, reply: 0 }
+}
+
+/// Reads a request that was delivered.
+fn read_delivered(datagram: &[u8], decrypted: DecryptedRequest) -> Opened<'_>
+    requires placed { FitsRequest datagram.now decrypted }
+    requires decrypted { WasDecrypted decrypted datagram.now }
+    ensures { OpensRequestAfter datagram.now decrypted result }
+{
+    one_request();
+    match read_request(datagram, decrypted) {
+        Ok(opened) => opened,
+        Err(_) => unreachable!(),
+    }
+}
+
+/// What a server decided, as its outcome: the second half of `Server::take`. The datagram is as `Server::decide` left it, and
+/// the decision the one that it gave.
+#[must_use]
+pub fn read_decided(datagram: &[u8], decision: Decision) -> Outcome<'_>
+    requires { CanShow decision datagram.now }
+    ensures shows { (answer : Answer) → Decides decision datagram.now answer → Shows result answer }
+    ensures no_keeper_failed { result ≢ KeeperFailed }
+{
+    match decision {
+        Decision::Malformed(error) => Outcome::Malformed(error),
+        Decision::NotRequest => Outcome::NotRequest,
+        Decision::Plain => Outcome::Plain,
+        Decision::Undecodable => Outcome::Undecodable,
+        Decision::NoContext => Outcome::NoContext,
+        Decision::Replay => Outcome::Replay,
+        Decision::BadTag => Outcome::BadTag,
+        Decision::BadInner => Outcome::BadInner,
+        Decision::Challenge { echo, issued } => Outcome::Challenge { echo, issued },
+        Decision::SequenceExhausted => Outcome::SequenceExhausted,
+        Decision::Deliver(decrypted, ticket) => Outcome::Deliver(
+            read_delivered(datagram, decrypted),
+            ticket,
+        ),
+    }
+}
+
+impl Server {
+    ghost use Rattle.osc_endpoint.specs.Agrees.{Agrees};
+    ghost use Rattle.osc_endpoint.specs.ServerHistory.{History};
+    ghost use Rattle.osc_endpoint.specs.Deciding.{DecidesTo, LeavesBy, Takes};
+    ghost use Rattle.osc_endpoint.specs.ServerAnswer.{Delivers};
+    ghost use Rattle.osc_endpoint.specs.Views.{delivery_of};
+    ghost use Rattle.osc_coap.specs.Inner.{InnerParts};
+
+    /// Decides what a datagram is answered: the first half of `take`. All but the reading of a delivered message happens
+    /// here.
+    pub fn decide(
+        &mut self,
+        now: u64,
+        fresh: Fresh,
+        datagram: &mut [u8],
+        out: &mut [u8; 64],
+    ) -> Decided
+        ensures answered { (h : History) → Agrees self.old h
+            → DecidesTo h now fresh datagram.old result datagram.new (take result.reply out.new) self.new }
+        ensures shown { CanShow result.decision datagram.new }
+        ensures left { LeavesBy self.old result.decision datagram.old datagram.new }
+        ensures within { result.reply ≤ 64 }
+        ensures behind { drop result.reply out.new ≡ drop result.reply out.old }
+    {
+        self.clock = self.clock.max(now);
+        let message = match parse(datagram) {
+            Ok(message) => message,
+            Err(error) => {
+                return Decided {
+                    decision: Decision::Malformed(error),
+                    reply: 0,
+                };
+            }
+        };
+        let read = RequestHead::read(&message);
+        let asker = Asker::of(message);
+        let head = match read {
+            Ok(head) => head,
+            Err(none) => return refuse_head(none, &asker, fresh.mid, out),
+        };
+        let Some(index) = find(self.slots.as_slice(), head.kid, head.kid_context) else {
+            let reply = write_error(&asker, fresh.mid, ErrorReply::NoContext, out);
+            return Decided {
+                decision: Decision::NoContext,
+                reply,
+            };
+        };
+        let (number, sealed) = (head.number, head.sealed());
+        let request = Named {
+            index,
+            number,
+            clock: self.clock,
+            fresh,
+            asker,
+            sealed,
+        };
+        judge_at(self.slots.as_mut_slice(), request, datagram, out)
+    }
+
+    /// Answers a datagram, where it lies (RFC 8613, 8.2): `decide`, then `read_decided`. The first `reply` bytes of `out` are the
+    /// reply; the rest of `out` stays. Those two say what the datagram holds afterwards.
+    pub fn take<'b>(
+        &mut self,
+        now: u64,
+        fresh: Fresh,
+        datagram: &'b mut [u8],
+        out: &mut [u8; 64],
+    ) -> Taken<'b>
+        ensures answered { (h : History) → Agrees self.old h
+            → Takes h now fresh datagram.old result.outcome (take result.reply out.new) self.new }
+        ensures delivered { (h : History) (i n : ℕ) (m : InnerParts) → Agrees self.old h
+            → delivery_of result.outcome ≡ Some (i, n, m) → Delivers h now datagram.old i n m }
+        ensures delivers { (h : History) (i n : ℕ) (m : InnerParts) → Agrees self.old h
+            → Delivers h now datagram.old i n m → delivery_of result.outcome ≡ Some (i, n, m) }
+        ensures no_keeper_failed { result.outcome ≢ KeeperFailed }
+        ensures within { result.reply ≤ 64 }
+        ensures behind { drop result.reply out.new ≡ drop result.reply out.old }
+    {
+        one_datagram();
+        one_reading();
+        one_request();
+        let Decided { decision, reply } = self.decide(now, fresh, datagram, out);
+        let outcome = read_decided(datagram, decision);
+        Taken { outcome, reply }
+    }
+}

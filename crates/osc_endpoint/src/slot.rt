@@ -1,0 +1,111 @@
+//! One context of a server, in its present life.
+
+ghost use Rattle.std.specs.Prelude.{◌≡◌, ◌≢◌, ◌≤◌, ◌<◌, ◌+◌, ◌^◌, ℕ, List, Option, Some, None, IfSome, IfNone, MatchOption, IsTrue, length, take, drop, true, false};
+ghost use Rattle.std.specs.Option.{option_map};
+ghost use Rattle.osc_context.specs.Views.{number_of};
+ghost use Rattle.osc_window.specs.Views.{is_open as is_open_gate};
+ghost use Rattle.osc_protect.specs.Views.{message_of};
+
+use crate::echo::carries;
+use crate::start::Start;
+use osc_context::Piv;
+use osc_protect::{KeyedContext, Opened};
+use osc_window::{Gate, Window, WindowSize};
+
+/// The first own number that isn't there (RFC 8613, 7.2.1).
+pub(crate) const OWN_LIMIT: u64 = 1 << 40;
+
+/// One context of a server, in its present life.
+#[derive(Drop)]
+pub(crate) struct Slot {
+    pub(crate) context: KeyedContext,
+    pub(crate) size: WindowSize,
+    pub(crate) gate: Gate,
+    // The next own number, or the limit where none is left.
+    pub(crate) next: u64,
+    // How often the context was restarted.
+    pub(crate) life: u64,
+    pub ghost in_range: { next ≤ 2 ^ 40 },
+}
+
+impl Slot {
+    ghost use Rattle.osc_endpoint.specs.Agrees.{SlotAgrees};
+    ghost use Rattle.osc_endpoint.specs.Judging.{GatePasses, GateRefuses};
+    ghost use Rattle.osc_endpoint.specs.Life.{Life, Spoiled, Delivered, Challenged, Answered, Carries, is_open, in_force, marked, born, renewed, next_own};
+    ghost use Rattle.osc_endpoint.specs.ServerAnswer.{challenge_given};
+
+    /// Whether the gate is open and the number isn't new.
+    pub(crate) fn is_replay(&self, number: Piv) -> bool
+        ensures yes { result ≡ true → GateRefuses self.now.gate (number_of number) }
+        ensures no { result ≡ false → GatePasses self.now.gate (number_of number) }
+    {
+        match &self.gate {
+            Gate::Open(window) => !window.is_new(number),
+            Gate::Restarted { .. } => false,
+        }
+    }
+
+    /// Spends a number where the gate is open.
+    pub(crate) fn spoil(&mut self, number: Piv)
+        requires { GatePasses self.old.gate (number_of number) }
+        ensures context { self.new.context ≡ self.old.context }
+        ensures kept { (l : Life) → SlotAgrees self.old l → SlotAgrees self.new (marked (Some (Spoiled (number_of number))) l) }
+    {
+        match &mut self.gate {
+            Gate::Open(window) => window.mark(number),
+            Gate::Restarted { .. } => {}
+        }
+    }
+
+    /// Spends a number, or opens the gate with it.
+    pub(crate) fn deliver(&mut self, number: Piv)
+        requires { GatePasses self.old.gate (number_of number) }
+        ensures context { self.new.context ≡ self.old.context }
+        ensures life { self.new.life ≡ self.old.life }
+        ensures kept { (l : Life) → SlotAgrees self.old l → SlotAgrees self.new (marked (Some (Delivered (number_of number))) l) }
+    {
+        match &mut self.gate {
+            Gate::Open(window) => window.mark(number),
+            Gate::Restarted { .. } => self.gate.open_at(number, self.size),
+        }
+    }
+
+    /// Whether the gate is open, or the request carries the challenge in force.
+    pub(crate) fn admits(&self, clock: u64, opened: &Opened<'_>) -> bool
+        ensures yes { result ≡ true → (l : Life) → SlotAgrees self.now l → is_open l ≡ false
+            → Carries (in_force l clock) (message_of opened.now) }
+        ensures no { result ≡ false → (l : Life) → SlotAgrees self.now l → (is_open l ≡ false)
+            × (Carries (in_force l clock) (message_of opened.now) → ⊥) }
+        ensures closed { result ≡ false → is_open_gate self.now.gate ≡ false }
+    {
+        if self.gate.is_open() {
+            return true;
+        }
+        match self.gate.in_force(clock) {
+            Some(challenge) => {
+                let echo = challenge.0;
+                carries(&opened.inner(), &echo)
+            }
+            None => false,
+        }
+    }
+
+    /// The challenge in force once more, or else the fresh value, issued now.
+    pub(crate) fn challenge(&mut self, clock: u64, fresh: [u8; 8]) -> ([u8; 8], u64)
+        requires closed { is_open_gate self.old.gate ≡ false }
+        requires left { self.old.next < 2 ^ 40 }
+        ensures context { self.new.context ≡ self.old.context }
+        ensures given { (l : Life) → SlotAgrees self.old l → (result.0, result.1) ≡ challenge_given l clock fresh }
+        ensures kept { (l : Life) → SlotAgrees self.old l
+            → SlotAgrees self.new (marked (Some (Challenged result.0 result.1)) l) }
+    {
+        self.next += 1;
+        match self.gate.in_force(clock) {
+            Some(challenge) => challenge,
+            None => {
+                self.gate.issue(fresh, clock);
+                (fresh, clock)
+            }
+        }
+    }
+}

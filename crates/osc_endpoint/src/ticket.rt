@@ -1,0 +1,37 @@
+//! The right to answer one request.
+
+use crate::asker::Asker;
+use osc_context::Piv;
+
+/// The right to reply once to a request that was delivered. It can't be cloned: only a delivery makes one, and a reply that is
+/// sealed uses it up.
+#[derive(Debug, Drop)]
+pub struct Ticket {
+    pub(crate) context: usize,
+    // Which life of the context the request was delivered in.
+    pub(crate) life: u64,
+    pub(crate) number: Piv,
+    pub(crate) asker: Asker,
+}
+
+impl Ticket {
+    ghost use Rattle.std.specs.Prelude.{◌≡◌};
+    ghost use Rattle.osc_context.specs.Views.{number_of};
+    ghost use Rattle.osc_endpoint.specs.Views.{values_of};
+
+    /// The request's number.
+    #[must_use]
+    pub fn number(&self) -> Piv
+        ensures { number_of result ≡ (values_of self.now).number }
+    {
+        self.number
+    }
+
+    /// The index of the context.
+    #[must_use]
+    pub fn context(&self) -> usize
+        ensures { result ≡ (values_of self.now).context }
+    {
+        self.context
+    }
+}
