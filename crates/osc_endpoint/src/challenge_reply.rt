@@ -26,6 +26,7 @@ fn write_plain(asker: &Asker, mid: u16, echo: &[u8; 8], plain: &mut [u8; 22]) ->
     ensures within { result ≤ 22 }
 {
     let (kind, id) = (asker.reply_kind(), asker.reply_id(mid));
+    // A head has room: its length is told by its token's.
     let _ = head_len(&asker.token);
     let mut writer = Writer::begin(plain, kind, UNAUTHORIZED, id, &asker.token);
     let Ok(()) = writer.option(ECHO, echo.as_slice()) else {
@@ -53,6 +54,7 @@ pub(crate) fn write_challenge(
     one_datagram();
     one_option_value();
     let mut plain = [0; PLAIN_ROOM];
+    // The token has at most 8 bytes, so the whole has room.
     let _ = head_len(&asker.token);
     let len = write_plain(asker, mid, echo, &mut plain);
     let Ok(message) = parse(&plain[..len]) else {
