@@ -1,12 +1,13 @@
 //! New lives of a server's contexts (RFC 8613, B.1).
 
-ghost use Rattle.std.specs.Prelude.{◌≡◌, ◌<◌, ◌≤◌, ◌+◌, ◌^◌, ℕ, List, Option, Some, Result, Ok, OnErr, length};
+ghost use Rattle.std.specs.Prelude.{◌≡◌, ◌<◌, ◌≤◌, ◌+◌, ◌^◌, ℕ, List, Option, Some, Result, Ok, Err, OnErr, IfNone, length};
 ghost use Rattle.osc_context.specs.Views.{number_of};
 ghost use Rattle.osc_endpoint.specs.Agrees.{HoldsLife, TableAgrees};
 ghost use Rattle.osc_endpoint.specs.Life.{Life};
 ghost use Rattle.osc_endpoint.specs.Restarting.{life_after, lives_after};
 ghost use Rattle.osc_endpoint.specs.ServerAnswer.{LifeRestart};
 ghost use Rattle.osc_endpoint.specs.Views.{restarted_entry};
+ghost use Rattle.osc_endpoint.specs.declared.server_error.RestartError.TheVariants.{NoSuchContext};
 
 use crate::server::Server;
 use crate::server_error::RestartError;
@@ -35,6 +36,7 @@ fn restart_place(place: &mut Option<Slot>, next: Piv) -> Result<(), RestartError
     ensures answer { (l : Life) → HoldsLife place.old l → LifeRestart (Some l) (restarted_entry result) }
     ensures kept { (l : Life) → HoldsLife place.old l → HoldsLife place.new (life_after result (number_of next) l) }
     ensures same { OnErr result (place.new ≡ place.old) }
+    ensures none { IfNone place.old (result ≡ Err NoSuchContext) }
 {
     match place {
         Some(slot) => {

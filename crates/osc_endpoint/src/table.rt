@@ -1,6 +1,6 @@
 //! The contexts of a server, as a table.
 
-ghost use Rattle.std.specs.Prelude.{◌≡◌, ◌≢◌, ◌<◌, ◌≤◌, ℕ, List, Option, Some, None, IfSome, IfNone, IfOk, IfErr, OnErr, length, slice_get, take, drop, true, false};
+ghost use Rattle.std.specs.Prelude.{◌≡◌, ◌≢◌, ◌<◌, ◌≤◌, ℕ, List, Option, Some, None, IfSome, IfNone, IfOk, IfErr, OnErr, Err, length, slice_get, take, drop, true, false};
 ghost use Rattle.osc_context.specs.Views.{as_server};
 ghost use Rattle.osc_protect.specs.Views.{shown};
 ghost use Rattle.osc_endpoint.specs.Agrees.{HoldsLife, TableAgrees};
@@ -13,7 +13,7 @@ ghost use Rattle.osc_endpoint.specs.Replies.{as_reply};
 ghost use Rattle.osc_endpoint.specs.Replying.{PlaceReply, TableReply, reply_entry, reply_mark, marks_at};
 ghost use Rattle.osc_endpoint.specs.Views.{values_of};
 ghost use Rattle.osc_endpoint.specs.Table.{LooksUp, TableJudges};
-ghost use Rattle.osc_endpoint.specs.declared.server_error.ReplyError.TheVariants.{KeeperFailed};
+ghost use Rattle.osc_endpoint.specs.declared.server_error.ReplyError.TheVariants.{KeeperFailed, StaleTicket};
 ghost use Rattle.osc_endpoint.specs.declared.slot.Slot.{Slot};
 
 use crate::decision::Decided;
@@ -113,6 +113,7 @@ fn reply_place(
     ensures unchanged { OnErr result (out.new ≡ out.old) }
     ensures same { OnErr result (place.new ≡ place.old) }
     ensures no_keeper_failed { IfErr result (λ e. e ≢ KeeperFailed) }
+    ensures none { IfNone place.old (result ≡ Err StaleTicket) }
 {
     match place {
         Some(slot) => {
@@ -155,7 +156,8 @@ pub(crate) fn reply_at(
 
 /// Whether the context of a place is open.
 fn is_open_place(place: &Option<Slot>) -> bool
-    ensures { (l : Life) → HoldsLife place.now l → result ≡ is_open l }
+    ensures some { (l : Life) → HoldsLife place.now l → result ≡ is_open l }
+    ensures none { IfNone place.now (result ≡ false) }
 {
     match place {
         Some(slot) => slot.gate.is_open(),
