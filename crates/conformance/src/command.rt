@@ -1,4 +1,5 @@
-//! Calls of the command: the first text is its standard input, the others are its words.
+//! Calls of the command: the first text is its standard input, the others are its words. Where the standard output refuses
+//! writes, how many it takes stands before all.
 
 use crate::answer::Answer;
 use crate::texts::Texts;
@@ -76,19 +77,18 @@ impl Called {
     }
 }
 
-/// Makes the call and shows its answer. For `cut-off` the first text is how many writes the standard output takes.
+/// Makes the call and shows its answer. For `cut-off` the first text is how many writes the standard output takes, before its input.
 pub(crate) fn run(verb: &str, call: &str, answer: &mut Answer) {
     let alloc = answer.alloc;
     let texts = Texts::read(alloc, call);
-    let [first, words @ ..] = texts.done.as_slice() else {
+    let (writes, texts_left) = match texts.done.as_slice() {
+        [writes, rest @ ..] if verb == "cut-off" => (writes.parse::<u32>().unwrap_or(0), rest),
+        all => (u32::MAX, all),
+    };
+    let [input, words @ ..] = texts_left else {
         answer.is_whole = false;
         return;
     };
-    let writes = if verb == "cut-off" {
-        first.parse::<u32>().unwrap_or(0)
-    } else {
-        u32::MAX
-    };
-    Called::make(alloc, words, first, writes).show(verb, answer);
+    Called::make(alloc, words, input, writes).show(verb, answer);
     answer.is_whole = answer.is_whole && texts.is_whole;
 }

@@ -13,7 +13,7 @@ pub(crate) struct Texts {
 }
 
 impl Texts {
-    /// Reads the texts. Behind a backslash `n` stands for a newline, and every other character for itself.
+    /// Reads the texts. Behind a backslash `n` stands for a newline, `r` for a carriage return, and every other character for itself.
     pub(crate) fn read(alloc: Global, call: &str) -> Texts {
         let mut texts = Texts {
             done: Vec::new(alloc),
@@ -32,7 +32,11 @@ impl Texts {
     fn take(&mut self, alloc: Global, character: char) {
         if self.is_escaped {
             self.is_escaped = false;
-            self.push(if character == 'n' { '\n' } else { character });
+            self.push(match character {
+                'n' => '\n',
+                'r' => '\r',
+                other => other,
+            });
         } else if character == '\\' {
             self.is_escaped = true;
         } else if character == '"' {

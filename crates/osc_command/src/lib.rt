@@ -8,6 +8,7 @@
 
 mod context_words;
 mod fault_text;
+mod run_words;
 mod running;
 mod words;
 

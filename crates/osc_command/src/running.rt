@@ -5,12 +5,13 @@ ghost use Rattle.clap.specs.Matches.{has_subcommand};
 
 use crate::context_words::ContextWords;
 use crate::fault_text::{put_fault, put_help, usage_text};
+use crate::run_words::{read_input, read_serving};
 use crate::words::{input_fault, optional_number, read_words, required_bytes};
 use clap::error::ErrorKind;
 use clap::{ArgMatches, Error};
 use osc_protect::RequestRef;
 use osc_text::{
-    Fault, Opening, Sealing, Wrong, derive_text, explain_text, open_text, protect_text,
+    Fault, Opening, Sealing, Wrong, derive_text, explain_text, open_text, protect_text, serve_text,
 };
 use std::alloc::Global;
 use std::io::{Read, Write};
@@ -73,8 +74,28 @@ fn run_explain<W: Write>(alloc: Global, matches: &ArgMatches<'_>, out: &mut W) -
     explain_text(alloc, datagram.as_slice(), out)
 }
 
+/// Does what `run` asks for. The whole input is read first.
+fn run_server<R: Read, W: Write>(
+    alloc: Global,
+    matches: &ArgMatches<'_>,
+    input: &mut R,
+    out: &mut W,
+) -> Result<u8, Fault>
+    ensures { IfOk result (λ s. (s ≡ 0) ⊎ (s ≡ 2)) }
+{
+    let context = ContextWords::read(alloc, matches)?;
+    let serving = read_serving(matches)?;
+    let bytes = read_input(alloc, input)?;
+    serve_text(alloc, context.params(), serving, bytes.as_slice(), out)
+}
+
 /// Does what a call asks for, by its name.
-fn run_called<W: Write>(alloc: Global, matches: &ArgMatches<'_>, out: &mut W) -> Result<u8, Fault>
+fn run_called<R: Read, W: Write>(
+    alloc: Global,
+    matches: &ArgMatches<'_>,
+    input: &mut R,
+    out: &mut W,
+) -> Result<u8, Fault>
     requires { has_subcommand matches.now ≡ true }
     ensures { IfOk result (λ s. (s ≡ 0) ⊎ (s ≡ 2)) }
 {
@@ -83,6 +104,7 @@ fn run_called<W: Write>(alloc: Global, matches: &ArgMatches<'_>, out: &mut W) ->
         Some(("open", inner)) => run_open(alloc, inner, out),
         Some(("protect", inner)) => run_protect(alloc, inner, out),
         Some(("explain", inner)) => run_explain(alloc, inner, out),
+        Some(("run", inner)) => run_server(alloc, inner, input, out),
         // No other is there; clap answers `help` by itself.
         Some(_) => Err(input_fault("the call", Wrong::Unknown)),
         None => unreachable!(),
@@ -104,11 +126,16 @@ fn answer_no_call<W: Write>(alloc: Global, error: &Error, out: &mut W) -> Result
 }
 
 /// Does what the words ask for.
-fn run<W: Write>(alloc: Global, words: &[String], out: &mut W) -> Result<u8, Fault>
+fn run<R: Read, W: Write>(
+    alloc: Global,
+    words: &[String],
+    input: &mut R,
+    out: &mut W,
+) -> Result<u8, Fault>
     ensures { IfOk result (λ s. (s ≡ 0) ⊎ (s ≡ 2)) }
 {
     match read_words(alloc, words) {
-        Ok(matches) => run_called(alloc, &matches, out),
+        Ok(matches) => run_called(alloc, &matches, input, out),
         Err(error) => answer_no_call(alloc, &error, out),
     }
 }
@@ -126,14 +153,14 @@ pub fn report<E: Write>(fault: &Fault, err: &mut E) -> u8
 pub fn command<R: Read, W: Write, E: Write>(
     alloc: Global,
     words: &[String],
-    _input: &mut R,
+    input: &mut R,
     out: &mut W,
     err: &mut E,
 ) -> u8
     ensures status { (result ≡ 0) ⊎ ((result ≡ 1) ⊎ (result ≡ 2)) }
     ensures quiet { result ≢ 1 → err.new ≡ err.old }
 {
-    match run(alloc, words, out) {
+    match run(alloc, words, input, out) {
         Ok(status) => status,
         Err(fault) => report(&fault, err),
     }

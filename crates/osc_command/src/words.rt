@@ -4,13 +4,14 @@ ghost use Rattle.std.specs.Prelude.{◌≡◌, IfOk, false, true};
 ghost use Rattle.clap.specs.Matches.{has_subcommand};
 ghost use Rattle.osc_command.specs.Calls.{IsLocal, NeedsSubcommand};
 
+use crate::run_words::run_command;
 use clap::{Arg, ArgAction, ArgMatches, Command, Error};
 use osc_context::Piv;
 use osc_text::{Fault, HexError, Wrong, read_hex, read_number};
 use std::alloc::{AllocError, Global};
 
 const ABOUT: &str =
-    "Derives contexts of OSCORE (RFC 8613), protects CoAP requests and responses and opens protected ones, and explains datagrams.";
+    "Derives contexts of OSCORE (RFC 8613), protects CoAP requests and responses and opens protected ones, explains datagrams, and runs servers.";
 
 const EXAMPLE: &str = "Example:
   oscore open --secret 0102030405060708090a0b0c0d0e0f10 --salt 9e7ca92223786340 --sender 01 44025d1f00003974396c6f63616c686f7374620914ff612f1092f1776f1c1668b3825e";
@@ -50,7 +51,12 @@ fn hex_option<'a>(alloc: Global, name: &'a str, help: &'a str) -> Arg<'a>
 }
 
 /// An option with one value, a number.
-fn number_option<'a>(alloc: Global, name: &'a str, value: &'a str, help: &'a str) -> Arg<'a>
+pub(crate) fn number_option<'a>(
+    alloc: Global,
+    name: &'a str,
+    value: &'a str,
+    help: &'a str,
+) -> Arg<'a>
     ensures { result.global ≡ false }
 {
     Arg::new(alloc, name)
@@ -71,7 +77,10 @@ fn datagram_word<'a>(alloc: Global) -> Arg<'a>
 }
 
 /// A command with the options of a context. This end is the sender.
-fn with_context<'a>(command: Command<'a>, alloc: Global) -> Result<Command<'a>, AllocError>
+pub(crate) fn with_context<'a>(
+    command: Command<'a>,
+    alloc: Global,
+) -> Result<Command<'a>, AllocError>
     requires { IsLocal command }
     ensures { IfOk result IsLocal }
 {
@@ -154,7 +163,8 @@ fn program<'a>(alloc: Global) -> Result<Command<'a>, AllocError>
         .subcommand(derive_command(alloc)?)?
         .subcommand(open_command(alloc)?)?
         .subcommand(protect_command(alloc)?)?
-        .subcommand(explain_command(alloc)?)?;
+        .subcommand(explain_command(alloc)?)?
+        .subcommand(run_command(alloc)?)?;
     Ok(command.subcommand_required(true))
 }
 

@@ -5,7 +5,7 @@ use Rattle.std.proofs.KnownBytes.{Appends-nil, Appends-trans}
 use Rattle.std.proofs.lemmas.List.{append-nil, take-append-le, take_all}
 use Rattle.std.proofs.lemmas.Bool.{cases_lt}
 use Rattle.osc_text.specs.declared.fault.Fault.{Fault}
-use Rattle.osc_text.specs.declared.fault.Fault.TheVariants.{Usage, Words, Input, Memory, Write}
+use Rattle.osc_text.specs.declared.fault.Fault.TheVariants.{Usage, Words, Input, Line, Read, Memory, Write}
 use Rattle.osc_text.specs.Written.{text_of, Stops, Writes}
 
 -- of the whole lines all but the rest are written
@@ -49,6 +49,8 @@ so_far_error old now new whole more rest (Write e) s w = tt
 so_far_error old now new whole more rest (Usage text) s w = w
 so_far_error old now new whole more rest (Words e) s w = w
 so_far_error old now new whole more rest (Input word wrong) s w = w
+so_far_error old now new whole more rest (Line number) s w = w
+so_far_error old now new whole more rest (Read e) s w = w
 so_far_error old now new whole more rest Memory s w =
     let within = within_more (w.0) more in
     let cut : take (length s.done + within.0) whole ≡ s.done ++ take (w.0) more = ap (take (length s.done + within.0)) s.parts ∙ take-append-add s.done (more ++ rest) within.0 ∙ ap (λ (t : List (List ℕ)). s.done ++ t) (take-append-le within.0 more rest within.1 ∙ within.2) in

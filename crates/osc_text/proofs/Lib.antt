@@ -1,7 +1,14 @@
 pub mod Appending
 pub mod ContextTexts
+pub mod OneServerTexts
 pub mod OpenTexts
 pub mod ExplainTexts
 pub mod HexWords
+pub mod InputWords
+pub mod InputLines
+pub mod InputSpellings
 pub mod NumberWords
 pub mod ProtectTexts
+pub mod ServerLogs
+pub mod ServerSteps
+pub mod ServerTexts

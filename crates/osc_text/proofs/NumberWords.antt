@@ -23,29 +23,21 @@ pub plus_first : (word : List ℕ) → get_or word 0 0 ≡ 43 → IsDigitWord wo
 plus_first [] first h = absurd (let some = h.0 in omega (arith, some))
 plus_first (c ∷ cs) first h = let digits = h.1 in grind (arith, first, digits)
 
--- the number that was read is that of the word's digits
-ok_value : {E : Type 0} (word : List ℕ) (r : Result ℕ E) (n : ℕ) → r ≡ Ok n → ParsesUnsigned 64 10 word r → get_or word 0 0 ≢ 43 → IsDigitWord word × (n ≡ number_said word)
-ok_value {E = E} word r n is h first =
-    let q = subst (λ (x : Result ℕ E). OkIff x ((all_ascii_digits word ≡ true) × (0 < length word) × (digits_value 10 word < 2 ^ 64)) (digits_value 10 word)) is (parsed word r h first) in
-    ((q.0.1, q.0.0), q.1)
-
--- what wasn't read is no word of digits, or its number is larger
-pub not_read : {E : Type 0} (word : List ℕ) (r : Result ℕ E) (e : E) → r ≡ Err e → ParsesUnsigned 64 10 word r → get_or word 0 0 ≢ 43 → IsDigitWord word × (number_said word < 2 ^ 40) → ⊥
-not_read {E = E} word r e is h first d =
-    let q = subst (λ (x : Result ℕ E). OkIff x ((all_ascii_digits word ≡ true) × (0 < length word) × (digits_value 10 word < 2 ^ 64)) (digits_value 10 word)) is (parsed word r h first) in
-    let small = d.1 in
-    q (d.0.1, d.0.0, omega (arith, small))
-
 -- the number is one of a message where it is below 2 ^ 40
-in_range : (word : List ℕ) (n : ℕ) (o : Option Piv) → IsDigitWord word → n ≡ number_said word → IfSome o (λ piv. number_of piv ≡ n) → (IsSome o → n < 2 ^ 40) → IfNone o (2 ^ 40 ≤ n)
+pub in_range : (word : List ℕ) (n : ℕ) (o : Option Piv) → IsDigitWord word → n ≡ number_said word → IfSome o (λ piv. number_of piv ≡ n) → (IsSome o → n < 2 ^ 40) → IfNone o (2 ^ 40 ≤ n)
     → SomeIff (option_map number_of o) (IsDigitWord word × (number_said word < 2 ^ 40)) (number_said word)
 in_range word n (Some piv) digits same made small large = let lt = small refl in ((digits, omega (arith, lt, same)), made ∙ same)
 in_range word n None digits same made small large = λ d. let lt = d.1 in omega (arith, lt, large, same)
 
--- what was read
-pub number_read : {E : Type 0} (word : List ℕ) (r : Result ℕ E) (n : ℕ) (o : Option Piv) → r ≡ Ok n → ParsesUnsigned 64 10 word r → get_or word 0 0 ≢ 43
-    → IfSome o (λ piv. number_of piv ≡ n) → (IsSome o → n < 2 ^ 40) → IfNone o (2 ^ 40 ≤ n)
-    → SomeIff (option_map number_of o) (IsDigitWord word × (number_said word < 2 ^ 40)) (number_said word)
-number_read word r n o is h first made small large =
-    let v = ok_value word r n is h first in
-    in_range word n o v.0 v.1 made small large
+-- the number that was read is that of the word's digits
+pub decimal_read : {E : Type 0} (word : List ℕ) (r : Result ℕ E) (n : ℕ) → r ≡ Ok n → ParsesUnsigned 64 10 word r → get_or word 0 0 ≢ 43
+    → (IsDigitWord word × (number_said word < 2 ^ 64)) × (n ≡ number_said word)
+decimal_read {E = E} word r n is h first =
+    let q = subst (λ (x : Result ℕ E). OkIff x ((all_ascii_digits word ≡ true) × (0 < length word) × (digits_value 10 word < 2 ^ 64)) (digits_value 10 word)) is (parsed word r h first) in
+    (((q.0.1, q.0.0), q.0.2), q.1)
+
+-- what wasn't read is no word of digits, or its number is larger
+pub no_decimal : {E : Type 0} (word : List ℕ) (r : Result ℕ E) (e : E) → r ≡ Err e → ParsesUnsigned 64 10 word r → get_or word 0 0 ≢ 43 → IsDigitWord word × (number_said word < 2 ^ 64) → ⊥
+no_decimal {E = E} word r e is h first d =
+    let q = subst (λ (x : Result ℕ E). OkIff x ((all_ascii_digits word ≡ true) × (0 < length word) × (digits_value 10 word < 2 ^ 64)) (digits_value 10 word)) is (parsed word r h first) in
+    q (d.0.1, d.0.0, d.1)

@@ -7,6 +7,12 @@ pub mod Protecting
 pub mod Explanation
 pub mod Hex
 pub mod Numbers
+pub mod InputEvents
+pub mod ServerLines
+pub mod Serving
 pub mod Written
 -- for the proofs
+pub mod InputReading
 pub mod Outcomes
+pub mod ServerLog
+pub mod ServerOutcomes

@@ -4,7 +4,7 @@ use Rattle.std.specs.Prelude.{ℕ, List, take, Option, Result, Ok, Err}
 use Rattle.std.specs.List.{flat_map}
 use Rattle.std.specs.Io.KnownBytes.{Appends}
 use Rattle.osc_text.specs.declared.fault.Fault.{Fault}
-use Rattle.osc_text.specs.declared.fault.Fault.TheVariants.{Usage, Words, Input, Memory, Write}
+use Rattle.osc_text.specs.declared.fault.Fault.TheVariants.{Usage, Words, Input, Line, Read, Memory, Write}
 
 -- the text of some lines: one after the other (own rule)
 abbrev pub text_of : List (List ℕ) → List ℕ
@@ -21,6 +21,8 @@ Stops old new lines (Write e) = Unit {0}
 Stops old new lines (Usage text) = ⊥
 Stops old new lines (Words e) = ⊥
 Stops old new lines (Input word wrong) = ⊥
+Stops old new lines (Line number) = ⊥
+Stops old new lines (Read e) = ⊥
 
 -- the writer gained all of these lines, or at a fault what that leaves (own rule)
 abbrev pub Writes : {T : Type 0} → Option (List ℕ) → Option (List ℕ) → List (List ℕ) → Result T Fault → Type 0

@@ -36,6 +36,12 @@ pub enum Fault {
     /// One word, named by its place in the call, is wrong.
     #[error("{word}: {wrong}")]
     Input { word: &'static str, wrong: Wrong },
+    /// The line of this number, counted from 1, spells no event.
+    #[error("line {0}: not an event")]
+    Line(usize),
+    /// A read of standard input failed.
+    #[error("cannot read: {}", .0.kind())]
+    Read(io::Error),
     /// A growth was refused.
     #[error("out of memory")]
     Memory,

@@ -9,14 +9,18 @@
 #![tactic(auto)]
 
 mod derivation;
+mod entry_lines;
 mod explanation;
 mod fault;
 mod hex_word;
+mod input_events;
+mod input_words;
 mod lines;
 mod number_word;
 mod opening;
 mod oscore_lines;
 mod protection;
+mod serving;
 
 pub use derivation::derive_text;
 pub use explanation::explain_text;
@@ -25,3 +29,4 @@ pub use hex_word::{HexError, read_hex};
 pub use number_word::read_number;
 pub use opening::{Opening, open_text};
 pub use protection::{Sealing, protect_text};
+pub use serving::{Serving, serve_text};

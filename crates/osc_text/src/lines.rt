@@ -40,7 +40,7 @@ fn kind_text(kind: Kind) -> &'static str
 }
 
 /// A code as class, dot and two digits of detail.
-fn code_text(alloc: Global, code: u8) -> Result<String, AllocError>
+pub(crate) fn code_text(alloc: Global, code: u8) -> Result<String, AllocError>
     ensures { IfOk result (λ text. string_bytes text ≡ code_text code) }
 {
     let class = code / 32;

@@ -17,18 +17,28 @@ fn first_byte(bytes: &[u8]) -> u8
     bytes[0]
 }
 
-/// The number that a word of decimal digits says, where there is one or more, nothing else, and the number is below 2^40.
-/// Zeros may stand first; there is no sign.
-#[must_use]
-pub fn read_number(word: &str) -> Option<Piv>
-    ensures { SomeIff (option_map number_of result) (IsDigitWord word.now × (number_said word.now < 2 ^ 40)) (number_said word.now) }
+/// The number below 2^64 that a word of decimal digits says. Zeros may stand first; there is no sign.
+pub(crate) fn read_decimal(word: &str) -> Option<u64>
+    ensures { SomeIff result (IsDigitWord word.now × (number_said word.now < 2 ^ 64)) (number_said word.now) }
 {
     // The number parser of std takes a plus in front.
     if first_byte(word.as_bytes()) == b'+' {
         return None;
     }
     match word.parse::<u64>() {
-        Ok(number) => Piv::new(number),
+        Ok(number) => Some(number),
         Err(_) => None,
+    }
+}
+
+/// The number that a word of decimal digits says, where there is one or more, nothing else, and the number is below 2^40.
+/// Zeros may stand first; there is no sign.
+#[must_use]
+pub fn read_number(word: &str) -> Option<Piv>
+    ensures { SomeIff (option_map number_of result) (IsDigitWord word.now × (number_said word.now < 2 ^ 40)) (number_said word.now) }
+{
+    match read_decimal(word) {
+        Some(number) => Piv::new(number),
+        None => None,
     }
 }

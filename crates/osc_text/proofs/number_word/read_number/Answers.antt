@@ -1,18 +1,9 @@
-use Rattle.std.proofs.Common.{◌≡◌, ◌≢◌, get_or, rules}
-use Rattle.osc_text.proofs.NumberWords.{plus_first, not_read, number_read}
+use Rattle.std.proofs.Common.{arith}
+use Rattle.osc_text.proofs.NumberWords.{in_range}
 use Rattle.osc_text.proofs.number_word.read_number.Goals as goal
 
-pub returns-then-first_byte-eq43 : goal.returns-then-first_byte-eq43
-returns-then-first_byte-eq43 c =
-    let first : get_or c.args.word.now 0 0 ≡ 43 = search rules in
-    λ h. plus_first c.args.word.now first h.0
+pub returns-in-Some : goal.returns-in-Some
+returns-in-Some c = in_range c.args.word.now c.in-Some.number c.new.result c.in-Some.ensures.0.0 c.in-Some.ensures.1 c.new.ensures.made c.new.ensures.accepted c.new.ensures.refused
 
-pub returns-in-Ok : goal.returns-in-Ok
-returns-in-Ok c =
-    let first : get_or c.args.word.now 0 0 ≢ 43 = search rules in
-    number_read c.args.word.now c.parse.result c.in-Ok.number c.new.result c.in-Ok.is c.parse.ensures.value.0 first c.new.ensures.made c.new.ensures.accepted c.new.ensures.refused
-
-pub returns-in-Err : goal.returns-in-Err
-returns-in-Err c =
-    let first : get_or c.args.word.now 0 0 ≢ 43 = search rules in
-    not_read c.args.word.now c.parse.result _ c.in-Err.is c.parse.ensures.value.0 first
+pub returns-in-None : goal.returns-in-None
+returns-in-None c = λ h. let lt = h.1 in c.in-None.ensures (h.0, omega (arith, lt))

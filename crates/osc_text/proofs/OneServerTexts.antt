@@ -1,0 +1,138 @@
+-- A server prints one text of an input.
+use Rattle.std.proofs.Common.{◌≡◌, ℕ, zero, suc, List, [], ◌∷◌, ◌++◌, length, take, Bool, Option, Some, None, refl, sym, ap, ap₂, subst, ◌∙◌, slice_set}
+use Rattle.osc_coap.specs.Datagram.{Parts, IsDatagram}
+use Rattle.osc_coap.specs.Laws.{DatagramHasNoFault, DatagramHasOneFault, DatagramIsOneMessage}
+use Rattle.osc_endpoint.specs.Laws.{AllAnswers, OneServerAnswer}
+use Rattle.osc_endpoint.specs.ServerHistory.{Datagram, Entry, Event, History, NotReplied, NotRestarted, Replied, Reply, Restarted, Then, TicketValues, Took}
+use Rattle.osc_endpoint.specs.ServerRun.{GoesOn, ticket_at, ticket_of}
+use Rattle.osc_endpoint.specs.Text.{reply_error_text, restart_error_text}
+use Rattle.osc_text.specs.InputEvents.{InputEvent}
+use Rattle.osc_text.specs.InputEvents as input
+use Rattle.osc_text.specs.ServerLines.{bad_plain_line, not_done_line, replied_line, restarted_line, took_line}
+use Rattle.osc_text.specs.Serving.{EventLine, EventLines, ReplyLine, RestartLine, reply_room}
+use Rattle.osc_text.specs.Serving.ReplyLine.{bad_plain, no_ticket, refused, replied}
+use Rattle.osc_text.specs.Serving.RestartLine.{refused as not_restarted, restarted}
+
+-- the line of an entry
+abbrev line_of : Entry → List ℕ
+line_of (Took answer reply) = took_line answer reply
+line_of (Replied bytes) = replied_line bytes
+line_of (NotReplied e) = not_done_line (reply_error_text e)
+line_of Restarted = restarted_line
+line_of (NotRestarted e) = not_done_line (restart_error_text e)
+line_of entry = []
+
+-- the ticket that an entry gives
+abbrev given_by : Entry → Option TicketValues
+given_by (Took answer reply) = ticket_of answer
+given_by entry = None
+
+-- the tickets behind a reply
+abbrev used_by : List (Option TicketValues) → ℕ → Entry → List (Option TicketValues)
+used_by ts of (Replied bytes) = slice_set ts of None
+used_by ts of entry = ts
+
+module _ (law : OneServerAnswer) (one : DatagramIsOneMessage) (one_fault : DatagramHasOneFault) (no_fault : DatagramHasNoFault) where
+  -- an event has one entry
+  one_entry : (h k l : History) (event : Event) (x y : Entry) → AllAnswers h → GoesOn h event x k → GoesOn h event y l → x ≡ y
+  one_entry h k l event x y all a b = law h event x y all a.0 b.0
+
+  -- and leaves one history
+  one_history : (h k l : History) (event : Event) (x y : Entry) → AllAnswers h → GoesOn h event x k → GoesOn h event y l → k ≡ l
+  one_history h k l event x y all a b = a.1 ∙ ap (Then h event) (one_entry h k l event x y all a b) ∙ sym b.1
+
+  one_ticket : (ts : List (Option TicketValues)) (of : ℕ) (t u : TicketValues) → ticket_at ts of ≡ Some t → ticket_at ts of ≡ Some u → u ≡ t
+  one_ticket ts of t u a b = let e : Some u ≡ Some t = sym b ∙ a in cc e
+
+  -- two entries of one reply
+  one_sealing : (h k l : History) (ts us vs : List (Option TicketValues)) (of : ℕ) (own : Bool) (mid : ℕ) (plain m n : List ℕ) (t u : TicketValues) (p q : Parts) (x y : Entry) → AllAnswers h
+      → ticket_at ts of ≡ Some t → ticket_at ts of ≡ Some u → IsDatagram p plain → IsDatagram q plain
+      → GoesOn h (Reply t own mid p (reply_room plain)) x k → GoesOn h (Reply u own mid q (reply_room plain)) y l
+      → m ≡ line_of x → n ≡ line_of y → us ≡ used_by ts of x → vs ≡ used_by ts of y → (m ≡ n) × (k ≡ l) × (us ≡ vs)
+  one_sealing h k l ts us vs of own mid plain m n t u p q x y all at_t at_u is_p is_q a b text text_too used used_too =
+      let goes = subst (λ (r : TicketValues). GoesOn h (Reply r own mid q (reply_room plain)) y l) (one_ticket ts of t u at_t at_u) b in
+      let same = subst (λ (r : Parts). GoesOn h (Reply t own mid r (reply_room plain)) y l) (one q p plain is_q is_p) goes in
+      let entries = one_entry h k l _ x y all a same in
+      (text ∙ ap line_of entries ∙ sym text_too, one_history h k l _ x y all a same, used ∙ ap (used_by ts of) entries ∙ sym used_too)
+
+  one_reply_line : (h k l : History) (ts us vs : List (Option TicketValues)) (of : ℕ) (own : Bool) (mid : ℕ) (plain m n : List ℕ) → AllAnswers h
+      → ReplyLine h ts of own mid plain m k us → ReplyLine h ts of own mid plain n l vs → (m ≡ n) × (k ≡ l) × (us ≡ vs)
+  one_reply_line h k l ts us vs of own mid plain m n all (no_ticket none a b c) (no_ticket none_too d e f) = (a ∙ sym d, b ∙ sym e, c ∙ sym f)
+  one_reply_line h k l ts us vs of own mid plain m n all (no_ticket none a b c) (bad_plain t fault place at has d e f) = let bad : None ≡ Some t = sym none ∙ at in cc bad
+  one_reply_line h k l ts us vs of own mid plain m n all (no_ticket none a b c) (replied t p bytes at is goes d e) = let bad : None ≡ Some t = sym none ∙ at in cc bad
+  one_reply_line h k l ts us vs of own mid plain m n all (no_ticket none a b c) (refused t p x at is goes d e) = let bad : None ≡ Some t = sym none ∙ at in cc bad
+  one_reply_line h k l ts us vs of own mid plain m n all (bad_plain t fault place at has a b c) (no_ticket none d e f) = let bad : None ≡ Some t = sym none ∙ at in cc bad
+  one_reply_line h k l ts us vs of own mid plain m n all (bad_plain t fault place at has a b c) (bad_plain u other there at_too has_too d e f) =
+      let same = one_fault plain fault other place there has has_too in
+      (a ∙ ap₂ bad_plain_line same.0 same.1 ∙ sym d, b ∙ sym e, c ∙ sym f)
+  one_reply_line h k l ts us vs of own mid plain m n all (bad_plain t fault place at has a b c) (replied u p bytes at_too is goes d e) = absurd (no_fault p plain fault place is has)
+  one_reply_line h k l ts us vs of own mid plain m n all (bad_plain t fault place at has a b c) (refused u p x at_too is goes d e) = absurd (no_fault p plain fault place is has)
+  one_reply_line h k l ts us vs of own mid plain m n all (replied t p bytes at is goes a b) (no_ticket none d e f) = let bad : None ≡ Some t = sym none ∙ at in cc bad
+  one_reply_line h k l ts us vs of own mid plain m n all (replied t p bytes at is goes a b) (bad_plain u fault place at_too has d e f) = absurd (no_fault p plain fault place is has)
+  one_reply_line h k l ts us vs of own mid plain m n all (replied t p bytes at is goes a b) (replied u q others at_too is_too goes_too d e) =
+      one_sealing h k l ts us vs of own mid plain m n t u p q (Replied bytes) (Replied others) all at at_too is is_too goes goes_too a d b e
+  one_reply_line h k l ts us vs of own mid plain m n all (replied t p bytes at is goes a b) (refused u q x at_too is_too goes_too d e) =
+      one_sealing h k l ts us vs of own mid plain m n t u p q (Replied bytes) (NotReplied x) all at at_too is is_too goes goes_too a d b e
+  one_reply_line h k l ts us vs of own mid plain m n all (refused t p x at is goes a b) (no_ticket none d e f) = let bad : None ≡ Some t = sym none ∙ at in cc bad
+  one_reply_line h k l ts us vs of own mid plain m n all (refused t p x at is goes a b) (bad_plain u fault place at_too has d e f) = absurd (no_fault p plain fault place is has)
+  one_reply_line h k l ts us vs of own mid plain m n all (refused t p x at is goes a b) (replied u q others at_too is_too goes_too d e) =
+      one_sealing h k l ts us vs of own mid plain m n t u p q (NotReplied x) (Replied others) all at at_too is is_too goes goes_too a d b e
+  one_reply_line h k l ts us vs of own mid plain m n all (refused t p x at is goes a b) (refused u q y at_too is_too goes_too d e) =
+      one_sealing h k l ts us vs of own mid plain m n t u p q (NotReplied x) (NotReplied y) all at at_too is is_too goes goes_too a d b e
+
+  one_restart_line : (h k l : History) (next : ℕ) (m n : List ℕ) → AllAnswers h → RestartLine h next m k → RestartLine h next n l → (m ≡ n) × (k ≡ l)
+  one_restart_line h k l next m n all (restarted a b) (restarted c d) = (b ∙ ap line_of (one_entry h k l _ Restarted Restarted all a c) ∙ sym d, one_history h k l _ Restarted Restarted all a c)
+  one_restart_line h k l next m n all (restarted a b) (not_restarted e c d) = (b ∙ ap line_of (one_entry h k l _ Restarted (NotRestarted e) all a c) ∙ sym d, one_history h k l _ Restarted (NotRestarted e) all a c)
+  one_restart_line h k l next m n all (not_restarted e a b) (restarted c d) = (b ∙ ap line_of (one_entry h k l _ (NotRestarted e) Restarted all a c) ∙ sym d, one_history h k l _ (NotRestarted e) Restarted all a c)
+  one_restart_line h k l next m n all (not_restarted e a b) (not_restarted f c d) = (b ∙ ap line_of (one_entry h k l _ (NotRestarted e) (NotRestarted f) all a c) ∙ sym d, one_history h k l _ (NotRestarted e) (NotRestarted f) all a c)
+
+  -- an event has one line, one history and one list of tickets
+  one_event_line : (h k l : History) (ts us vs : List (Option TicketValues)) (e : InputEvent) (m n : List ℕ) → AllAnswers h
+      → EventLine h ts e m k us → EventLine h ts e n l vs → (m ≡ n) × (k ≡ l) × (us ≡ vs)
+  one_event_line h k l ts us vs (input.Take now echo mid d) m n all (x, r, goes, after, text) (y, s, goes_too, after_too, text_too) =
+      let same = one_entry h k l (Datagram now echo mid d) (Took x r) (Took y s) all goes goes_too in (
+        text ∙ ap line_of same ∙ sym text_too,
+        one_history h k l (Datagram now echo mid d) (Took x r) (Took y s) all goes goes_too,
+        after ∙ ap (λ (entry : Entry). ts ++ given_by entry ∷ []) same ∙ sym after_too,
+      )
+  one_event_line h k l ts us vs (input.Reply of own mid plain) m n all (xs, line, after) (ys, line_too, after_too) =
+      let same = one_reply_line h k l ts xs ys of own mid plain m n all line line_too in
+      (same.0, same.1, after ∙ ap (λ (zs : List (Option TicketValues)). zs ++ None ∷ []) same.2 ∙ sym after_too)
+  one_event_line h k l ts us vs (input.Restart next) m n all (line, after) (line_too, after_too) =
+      let same = one_restart_line h k l next m n all line line_too in
+      (same.0, same.1, after ∙ sym after_too)
+
+  all_on : (h k : History) (event : Event) (x : Entry) → AllAnswers h → GoesOn h event x k → AllAnswers k
+  all_on h k event x all goes = subst AllAnswers (sym goes.1) (all, goes.0)
+
+  reply_on : (h k : History) (ts us : List (Option TicketValues)) (of : ℕ) (own : Bool) (mid : ℕ) (plain m : List ℕ) → AllAnswers h → ReplyLine h ts of own mid plain m k us → AllAnswers k
+  reply_on h k ts us of own mid plain m all (no_ticket none a b c) = subst AllAnswers (sym b) all
+  reply_on h k ts us of own mid plain m all (bad_plain t fault place at has a b c) = subst AllAnswers (sym b) all
+  reply_on h k ts us of own mid plain m all (replied t p bytes at is goes a b) = all_on h k _ _ all goes
+  reply_on h k ts us of own mid plain m all (refused t p e at is goes a b) = all_on h k _ _ all goes
+
+  -- all entries are answers afterwards too
+  event_on : (h k : History) (ts us : List (Option TicketValues)) (e : InputEvent) (m : List ℕ) → AllAnswers h → EventLine h ts e m k us → AllAnswers k
+  event_on h k ts us (input.Take now echo mid d) m all (x, r, goes, after, text) = all_on h k _ _ all goes
+  event_on h k ts us (input.Reply of own mid plain) m all (xs, line, after) = reply_on h k ts xs of own mid plain m all line
+  event_on h k ts us (input.Restart next) m all (restarted goes text, after) = all_on h k _ _ all goes
+  event_on h k ts us (input.Restart next) m all (not_restarted e goes text, after) = all_on h k _ _ all goes
+
+  -- the lines of the first events are the first of all lines
+  pub front_lines : (h : History) (ts : List (Option TicketValues)) (all : List InputEvent) (n : ℕ) (xs ys : List (List ℕ)) → AllAnswers h
+      → EventLines h ts (take n all) xs → EventLines h ts all ys → xs ≡ take (length xs) ys
+  front_lines h ts all n [] ys is x y = refl
+  front_lines h ts [] zero (a ∷ xs) ys is x y = absurd x
+  front_lines h ts [] (suc n) (a ∷ xs) ys is x y = absurd x
+  front_lines h ts (e ∷ all) zero (a ∷ xs) ys is x y = absurd x
+  front_lines h ts (e ∷ all) (suc n) (a ∷ xs) [] is x y = absurd y
+  front_lines h ts (e ∷ all) (suc n) (a ∷ xs) (b ∷ ys) is (k, us, line, more) (l, vs, line_too, more_too) =
+      let same = one_event_line h k l ts us vs e a b is line line_too in
+      let there = subst (λ (ws : List (Option TicketValues)). EventLines k ws all ys) (sym same.2) (subst (λ (j : History). EventLines j vs all ys) (sym same.1) more_too) in
+      ap₂ (λ (z : List ℕ) (zs : List (List ℕ)). z ∷ zs) same.0 (front_lines k us all n xs ys (event_on h k ts us e a is line) more there)
+
+-- each event has a line
+pub as_many_lines : (h : History) (ts : List (Option TicketValues)) (all : List InputEvent) (xs : List (List ℕ)) → EventLines h ts all xs → length xs ≡ length all
+as_many_lines h ts [] [] x = refl
+as_many_lines h ts (e ∷ all) (a ∷ xs) (k, us, line, more) = ap suc (as_many_lines k us all xs more)
+as_many_lines h ts all xs x = absurd x

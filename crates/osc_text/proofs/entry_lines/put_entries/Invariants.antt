@@ -1,0 +1,7 @@
+use Rattle.std.proofs.Common.{drop, map}
+use Rattle.osc_text.specs.ServerLog.{log_line}
+use Rattle.osc_text.proofs.Appending.{SoFar}
+use Rattle.osc_text.proofs.entry_lines.put_entries.Given as goal
+
+abbrev pub invariant-loop-entry : goal.invariant-loop-entry
+invariant-loop-entry g l = SoFar (g.W.Write.contents l.initial.out) (g.W.Write.contents l.out) (map log_line l.log) (map log_line (drop l.entry-index l.log))

@@ -1,0 +1,94 @@
+-- To be believed: what `run` prints of a server and its input (RFC 8613, 7.4, 8.2 and 8.3; own rule: the lines). g is what the context is
+-- derived from, s that context, h and k are the histories before and after, ts and us the tickets before and after, one place an event.
+use Rattle.std.specs.Prelude.{◌≡◌, ◌+◌, ◌++◌, ◌∷◌, [], ℕ, List, Bool, Option, Some, None, Result, Ok, Err, length, slice_set, if◌then◌else◌}
+use Rattle.osc_coap.specs.Datagram.{Parts, IsDatagram}
+use Rattle.osc_coap.specs.Fault.{HasFault}
+use Rattle.osc_coap.specs.declared.format_error.Fault.{Fault as MessageFault}
+use Rattle.osc_context.specs.SecurityContext.{SecurityContext}
+use Rattle.osc_context.specs.Views.{server_context_of}
+use Rattle.osc_context.specs.ContextRefusal.{RefusesParams}
+use Rattle.osc_context.specs.declared.context_error.ContextError.{ContextError}
+use Rattle.osc_context.specs.declared.parameters.Params.{Params}
+use Rattle.osc_window.specs.declared.window_size.WindowSize.{WindowSize}
+use Rattle.osc_endpoint.specs.ServerAnswer.{ServerAnswer}
+use Rattle.osc_endpoint.specs.ServerHistory.{History, Begin, Then, Answer, TicketValues, Add, Datagram, Reply, Restart, Added, NotAdded, Took, Replied, NotReplied, Restarted, NotRestarted}
+use Rattle.osc_endpoint.specs.ServerRun.{GoesOn, ticket_at, ticket_of}
+use Rattle.osc_endpoint.specs.Text.{add_error_text, reply_error_text, restart_error_text}
+use Rattle.osc_endpoint.specs.declared.server_error.AddError.{AddError}
+use Rattle.osc_endpoint.specs.declared.server_error.ReplyError.{ReplyError}
+use Rattle.osc_endpoint.specs.declared.server_error.RestartError.{RestartError}
+use Rattle.osc_endpoint.specs.declared.start.Start.{Start}
+use Rattle.osc_endpoint.specs.declared.start.Start.TheVariants as starts
+use Rattle.osc_text.specs.Contexts.{InContext, Told}
+use Rattle.osc_text.specs.InputEvents.{InputEvent, IsFirstBadLine, SpellsInput}
+use Rattle.osc_text.specs.InputEvents as input
+use Rattle.osc_text.specs.Lines.{refused_line}
+use Rattle.osc_text.specs.ServerLines.{took_line, replied_line, not_done_line, bad_plain_line, no_ticket_line, restarted_line}
+use Rattle.osc_text.specs.declared.fault.Fault.{Fault}
+use Rattle.osc_text.specs.declared.fault.Fault.TheVariants as faults
+use Rattle.osc_text.specs.declared.serving.Serving.{Serving}
+
+-- the room that each reply has: that of its plain message and 128 bytes (own rule)
+abbrev pub reply_room : List ℕ → ℕ
+reply_room plain = length plain + 128
+
+-- a reply by the ticket that is left at a place, and the line of its entry; one that is sealed takes the ticket (RFC 8613, 8.3)
+pub data ReplyLine (h : History) (ts : List (Option TicketValues)) (of : ℕ) (own : Bool) (mid : ℕ) (plain line : List ℕ) (k : History)
+    (us : List (Option TicketValues)) : Type 0 where
+  no_ticket : ticket_at ts of ≡ None → line ≡ no_ticket_line → k ≡ h → us ≡ ts → ReplyLine h ts of own mid plain line k us
+  bad_plain : (t : TicketValues) (fault : MessageFault) (place : ℕ) → ticket_at ts of ≡ Some t → HasFault plain fault place
+      → line ≡ bad_plain_line fault place → k ≡ h → us ≡ ts → ReplyLine h ts of own mid plain line k us
+  replied : (t : TicketValues) (p : Parts) (bytes : List ℕ) → ticket_at ts of ≡ Some t → IsDatagram p plain
+      → GoesOn h (Reply t own mid p (reply_room plain)) (Replied bytes) k → line ≡ replied_line bytes → us ≡ slice_set ts of None → ReplyLine h ts of own mid plain line k us
+  refused : (t : TicketValues) (p : Parts) (e : ReplyError) → ticket_at ts of ≡ Some t → IsDatagram p plain
+      → GoesOn h (Reply t own mid p (reply_room plain)) (NotReplied e) k → line ≡ not_done_line (reply_error_text e) → us ≡ ts → ReplyLine h ts of own mid plain line k us
+
+-- a restart of the context, and the line of its entry (RFC 8613, B.1)
+pub data RestartLine (h : History) (next : ℕ) (line : List ℕ) (k : History) : Type 0 where
+  restarted : GoesOn h (Restart 0 next) Restarted k → line ≡ restarted_line → RestartLine h next line k
+  refused : (e : RestartError) → GoesOn h (Restart 0 next) (NotRestarted e) k → line ≡ not_done_line (restart_error_text e) → RestartLine h next line k
+
+-- an event and the line of its entry, which is the server's answer (RFC 8613, 7.4, 8.2 and 8.3)
+abbrev pub EventLine : History → List (Option TicketValues) → InputEvent → List ℕ → History → List (Option TicketValues) → Type 0
+EventLine h ts (input.Take now echo mid d) line k us =
+    (answer : Answer) × (reply : List ℕ) × GoesOn h (Datagram now echo mid d) (Took answer reply) k
+    × (us ≡ ts ++ ticket_of answer ∷ []) × (line ≡ took_line answer reply)
+EventLine h ts (input.Reply of own mid plain) line k us =
+    (left : List (Option TicketValues)) × ReplyLine h ts of own mid plain line k left × (us ≡ left ++ None ∷ [])
+EventLine h ts (input.Restart next) line k us = RestartLine h next line k × (us ≡ ts ++ None ∷ [])
+
+-- the lines of these events, one each, from this history on (RFC 8613, 7.4, 8.2 and 8.3)
+abbrev pub EventLines : History → List (Option TicketValues) → List InputEvent → List (List ℕ) → Type 0
+EventLines h ts [] [] = Unit {0}
+EventLines h ts [] (line ∷ lines) = ⊥
+EventLines h ts (event ∷ events) [] = ⊥
+EventLines h ts (event ∷ events) (line ∷ lines) =
+    (k : History) × (us : List (Option TicketValues)) × EventLine h ts event line k us × EventLines k us events lines
+
+-- how the context begins: restarted, or fresh (RFC 8613, B.1)
+abbrev pub start_of : Serving → Start
+start_of serving = if serving.is_restarted then starts.Restarted serving.next else starts.Fresh serving.next
+
+-- what a server prints under a context: the line of a refused start, or one line for each event of the input (RFC 8613, 7.4, 8.2 and 8.3)
+pub data ServerText (s : SecurityContext) (start : Start) (size : WindowSize) (bytes : List ℕ) (lines : List (List ℕ)) (status : ℕ) : Type 0 where
+  not_started : (e : AddError) → ServerAnswer Begin (Add s start size) (NotAdded e) → lines ≡ refused_line (add_error_text e) ∷ [] → status ≡ 2 → ServerText s start size bytes lines status
+  served : (index : ℕ) (events : List InputEvent) → ServerAnswer Begin (Add s start size) (Added index) → SpellsInput bytes events
+      → EventLines (Then Begin (Add s start size) (Added index)) [] events lines → status ≡ 0 → ServerText s start size bytes lines status
+
+-- what `run` prints of a server (RFC 8613, 7.4, 8.2 and 8.3)
+abbrev pub ServeText : Params → Serving → List ℕ → Told
+ServeText g serving bytes = InContext g (ServerText (server_context_of g) (start_of serving) serving.window bytes)
+
+-- the context is there and starts, and the line of this number, counted from 1, is the first that spells no event (own rule)
+pub record HasBadLine (g : Params) (serving : Serving) (bytes : List ℕ) (number : ℕ) : Type 0 where
+  pub in_context : (e : ContextError) → ¬ RefusesParams g e
+  pub index : ℕ
+  pub starts : ServerAnswer Begin (Add (server_context_of g) (start_of serving) serving.window) (Added index)
+  pub first_bad : IsFirstBadLine bytes number
+
+-- where a line is bad: its number, or want of memory (own rule)
+abbrev pub RefusesLine : {T : Type 0} → ℕ → Result T Fault → Type 0
+RefusesLine number (Ok x) = ⊥
+RefusesLine number (Err (faults.Line n)) = n ≡ number
+RefusesLine number (Err faults.Memory) = Unit {0}
+RefusesLine number (Err fault) = ⊥

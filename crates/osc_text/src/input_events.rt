@@ -1,0 +1,140 @@
+//! The events that an input spells, one a line.
+
+ghost use Rattle.std.specs.Prelude.{◌≡◌, ◌≢◌, ◌∷◌, ◌^◌, ◌<◌, [], All, IfOk, IfErr, IfSome, length, map, option_map};
+ghost use Rattle.osc_text.specs.InputEvents.{InputEvent, Restart};
+ghost use Rattle.osc_text.specs.InputReading.{event_read, event_seen, number_read, take_read, reply_read, verb_read, IsOfRun, lines_of, ReadsAll, Misreads};
+
+use crate::fault::Fault;
+use crate::input_words::{
+    four_words, read_bytes, read_fixed, read_message_id, read_moment, read_next, read_own,
+    split_once,
+};
+use osc_endpoint::{Answering, Arrival, Fresh, ServerEvent};
+use std::alloc::{AllocError, Global};
+
+/// How many bytes a protected message can be longer than the plain one.
+const MOST_ADDED: usize = 128;
+
+/// The event of a datagram that comes: `NOW ECHO MID DATAGRAM`.
+#[tactic(auto, unfolding(crate::specs::InputReading::take_read))]
+fn read_take(alloc: Global, fields: &[u8]) -> Result<Option<ServerEvent>, AllocError>
+    ensures seen { IfOk result (λ event. option_map event_seen event ≡ take_read fields.now) }
+    ensures room { IfOk result (λ event. IfSome event IsOfRun) }
+{
+    let Some((now, echo, mid, datagram)) = four_words(fields) else {
+        return Ok(None);
+    };
+    let (Some(now), Some(echo), Some(mid)) = (
+        read_moment(now),
+        read_fixed::<8>(echo),
+        read_message_id(mid),
+    ) else {
+        return Ok(None);
+    };
+    let Some(bytes) = read_bytes(alloc, datagram)? else {
+        return Ok(None);
+    };
+    Ok(Some(ServerEvent::Datagram(Arrival {
+        now,
+        fresh: Fresh { echo, mid },
+        bytes,
+        out: [0; 64],
+    })))
+}
+
+/// The event of a reply: `EVENT own|shared MID PLAIN`.
+#[tactic(auto, unfolding(crate::specs::InputReading::reply_read))]
+fn read_reply(alloc: Global, fields: &[u8]) -> Result<Option<ServerEvent>, AllocError>
+    ensures seen { IfOk result (λ event. option_map event_seen event ≡ reply_read fields.now) }
+    ensures room { IfOk result (λ event. IfSome event IsOfRun) }
+{
+    let Some((of, own, mid, plain)) = four_words(fields) else {
+        return Ok(None);
+    };
+    let (Some(of), Some(own), Some(mid)) = (read_moment(of), read_own(own), read_message_id(mid))
+    else {
+        return Ok(None);
+    };
+    let Some(plain) = read_bytes(alloc, plain)? else {
+        return Ok(None);
+    };
+    let out = vec![in alloc; 0u8; plain.len() + MOST_ADDED]?;
+    Ok(Some(ServerEvent::Reply(Answering {
+        of: of as usize,
+        own,
+        mid,
+        plain,
+        out,
+    })))
+}
+
+/// The event of a restart: `NEXT`.
+fn read_restart(fields: &[u8]) -> Option<ServerEvent>
+    ensures seen { option_map event_seen result ≡ option_map Restart (number_read (2 ^ 40) fields.now) }
+    ensures room { IfSome result IsOfRun }
+{
+    match read_next(fields) {
+        Some(next) => Some(ServerEvent::Restart { context: 0, next }),
+        None => None,
+    }
+}
+
+/// The event of a verb and its fields.
+#[tactic(auto, unfolding(crate::specs::InputReading::verb_read))]
+fn read_fields(alloc: Global, verb: &[u8], fields: &[u8]) -> Result<Option<ServerEvent>, AllocError>
+    ensures seen { IfOk result (λ event. option_map event_seen event ≡ verb_read verb.now fields.now) }
+    ensures room { IfOk result (λ event. IfSome event IsOfRun) }
+{
+    if verb == b"take".as_slice() {
+        return read_take(alloc, fields);
+    }
+    if verb == b"reply".as_slice() {
+        return read_reply(alloc, fields);
+    }
+    if verb == b"restart".as_slice() {
+        return Ok(read_restart(fields));
+    }
+    Ok(None)
+}
+
+/// The event of a line, where it spells one.
+#[tactic(auto, unfolding(crate::specs::InputReading::event_read))]
+fn read_event(alloc: Global, line: &[u8]) -> Result<Option<ServerEvent>, AllocError>
+    ensures seen { IfOk result (λ event. option_map event_seen event ≡ event_read line.now) }
+    ensures room { IfOk result (λ event. IfSome event IsOfRun) }
+{
+    match split_once(line, b' ') {
+        Some((verb, fields)) => read_fields(alloc, verb, fields),
+        None => Ok(None),
+    }
+}
+
+/// The first line, without its newline, and what is behind it.
+fn first_line(rest: &[u8]) -> (&[u8], &[u8])
+    requires { rest.now ≢ [] }
+    ensures lines { lines_of rest.now ≡ result.0.now ∷ lines_of result.1.now }
+    ensures shorter { length result.1.now < length rest.now }
+{
+    match split_once(rest, b'\n') {
+        Some(parts) => parts,
+        None => (rest, &[]),
+    }
+}
+
+/// The events that an input spells, one a line, or the number of the first line that spells none.
+pub(crate) fn read_events(alloc: Global, input: &[u8]) -> Result<Vec<ServerEvent>, Fault>
+    ensures read { IfOk result (λ events. ReadsAll input.now events.items) }
+    ensures refused { IfErr result (λ fault. Misreads input.now fault) }
+{
+    let mut events = Vec::new(alloc);
+    let mut rest = input;
+    while !rest.is_empty() {
+        let (line, behind) = first_line(rest);
+        match read_event(alloc, line)? {
+            Some(event) => events.push(event)?,
+            None => return Err(Fault::Line(events.len() + 1)),
+        }
+        rest = behind;
+    }
+    Ok(events)
+}

@@ -1,0 +1,110 @@
+//! The words of a line of input.
+
+ghost use Rattle.std.specs.Prelude.{◌≡◌, ◌^◌, ◌<◌, IfOk, IfSome, length, option_map};
+ghost use Rattle.std.specs.Int.{from_be_bytes, w16};
+ghost use Rattle.osc_text.specs.InputReading.{split_once, number_read, hex_decoded, bytes_read, fixed_read, message_id_read, own_read, four_read, parts, four_parts};
+ghost use Rattle.osc_context.specs.Views.{number_of};
+ghost use Rattle.hex.specs.Hex.{decode_of};
+
+use crate::number_word::{read_decimal, read_number};
+use hex::{FromHexError, decode, decode_to_slice};
+use osc_context::Piv;
+use std::alloc::{AllocError, Global};
+use std::str;
+
+/// Four words.
+pub(crate) type Four<'a> = (&'a [u8], &'a [u8], &'a [u8], &'a [u8]);
+
+/// The bytes before the first mark, and those behind it, where it is there.
+pub(crate) fn split_once(bytes: &[u8], mark: u8) -> Option<(&[u8], &[u8])>
+    ensures { option_map parts result ≡ split_once mark bytes.now }
+{
+    match bytes.iter().position(|&byte| byte == mark) {
+        Some(place) => Some((&bytes[..place], &bytes[place + 1..])),
+        None => None,
+    }
+}
+
+/// Four words that a space parts. The last has all that is behind the third space.
+#[tactic(auto, unfolding(crate::specs::InputReading::four_read))]
+pub(crate) fn four_words(fields: &[u8]) -> Option<Four<'_>>
+    ensures { option_map four_parts result ≡ four_read fields.now }
+{
+    let (first, rest) = split_once(fields, b' ')?;
+    let (second, rest) = split_once(rest, b' ')?;
+    let (third, fourth) = split_once(rest, b' ')?;
+    Some((first, second, third, fourth))
+}
+
+/// The number below 2^64 of a word of decimal digits. Zeros may stand first; there is no sign.
+pub(crate) fn read_moment(word: &[u8]) -> Option<u64>
+    ensures { result ≡ number_read (2 ^ 64) word.now }
+{
+    match str::from_utf8(word) {
+        Ok(word) => read_decimal(word),
+        Err(_) => None,
+    }
+}
+
+/// The number below 2^40 of a word of decimal digits. Zeros may stand first; there is no sign.
+pub(crate) fn read_next(word: &[u8]) -> Option<Piv>
+    ensures { option_map number_of result ≡ number_read (2 ^ 40) word.now }
+{
+    match str::from_utf8(word) {
+        Ok(word) => read_number(word),
+        Err(_) => None,
+    }
+}
+
+/// The n bytes of a word of hex.
+pub(crate) fn read_fixed<const N: usize>(word: &[u8]) -> Option<[u8; N]>
+    ensures { result ≡ fixed_read N word.now }
+{
+    let mut bytes = [0u8; N];
+    match decode_to_slice(word, &mut bytes) {
+        Ok(()) => Some(bytes),
+        Err(_) => None,
+    }
+}
+
+/// The message ID of a word of four hex digits.
+pub(crate) fn read_message_id(word: &[u8]) -> Option<u16>
+    ensures { result ≡ message_id_read word.now }
+{
+    match read_fixed::<2>(word) {
+        Some(bytes) => Some(u16::from_be_bytes(bytes)),
+        None => None,
+    }
+}
+
+/// Whether a word asks for an own number.
+#[tactic(auto, unfolding(crate::specs::InputReading::own_read))]
+pub(crate) fn read_own(word: &[u8]) -> Option<bool>
+    ensures { result ≡ own_read word.now }
+{
+    if word == b"own".as_slice() {
+        Some(true)
+    } else if word == b"shared".as_slice() {
+        Some(false)
+    } else {
+        None
+    }
+}
+
+/// The bytes of a word of hex, which isn't empty, or none of a dash.
+#[tactic(auto, unfolding(crate::specs::InputReading::bytes_read))]
+pub(crate) fn read_bytes(alloc: Global, word: &[u8]) -> Result<Option<Vec<u8>>, AllocError>
+    ensures { IfOk result (λ read. option_map (λ bytes. bytes.items) read ≡ bytes_read word.now) }
+{
+    if word.is_empty() {
+        return Ok(None);
+    }
+    if word == b"-".as_slice() {
+        return Ok(Some(Vec::new(alloc)));
+    }
+    match decode(alloc, word) {
+        Ok(bytes) => Ok(Some(bytes)),
+        Err(FromHexError::OutOfMemory) => Err(AllocError),
+        Err(_) => Ok(None),
+    }
+}

@@ -1,0 +1,140 @@
+//! What `run` prints of a server.
+
+ghost use Rattle.std.specs.Prelude.{◌≡◌, ◌⊎◌, ℕ, List, All, Err, IfOk, map};
+ghost use Rattle.osc_context.specs.Views.{as_server};
+ghost use Rattle.osc_endpoint.specs.Agrees.{Agrees};
+ghost use Rattle.osc_endpoint.specs.ServerHistory.{History};
+
+use crate::entry_lines::put_entries;
+use crate::fault::Fault;
+use crate::input_events::read_events;
+use crate::lines::put_refused;
+use osc_coap::one_datagram;
+use osc_context::{Context, Params, Piv, one_context_refusal};
+use osc_endpoint::{Server, ServerEvent, Start, one_server_answer, run_server};
+use osc_window::WindowSize;
+use std::alloc::Global;
+use std::io::Write;
+
+/// How a server begins.
+#[derive(Clone, Copy, Debug)]
+pub struct Serving {
+    /// The next own number.
+    pub next: Piv,
+    /// Whether the context may have received requests before.
+    pub is_restarted: bool,
+    /// The size of its window.
+    pub window: WindowSize,
+}
+
+ghost use Rattle.osc_text.specs.InputReading.{IsOfRun, event_seen};
+ghost use Rattle.osc_text.specs.Serving.{HasBadLine, RefusesLine, ServeText, start_of};
+ghost use Rattle.osc_text.specs.ServerOutcomes.{RunsEvents, ServesCall, ServesContext, ServesInput};
+ghost use Rattle.osc_text.specs.Written.{Writes};
+ghost use Rattle.osc_text.specs.declared.fault.Fault.TheVariants.{Line};
+
+impl Serving {
+    /// How its context begins.
+    fn start(self) -> Start
+        ensures { result ≡ start_of self }
+    {
+        if self.is_restarted {
+            Start::Restarted(self.next)
+        } else {
+            Start::Fresh(self.next)
+        }
+    }
+}
+
+/// Derives a context, runs a server of it alone over the events that an input spells, one a line, and writes the line of each
+/// event's entry, or the one line of a refusal, of the context or of its start, before a line of the input is looked at. All
+/// lines are read before the first event runs. This end is the sender of the context. Answers the status: 0 where the events
+/// ran, 2 where it is refused. The first line that spells no event is a fault, and then nothing is written. Each line is made
+/// whole before it is written.
+pub fn serve_text<W: Write>(
+    alloc: Global,
+    params: Params<'_>,
+    serving: Serving,
+    input: &[u8],
+    out: &mut W,
+) -> Result<u8, Fault>
+    // Where a status is answered there is a text. The next two clauses say that this is what is written.
+    ensures told { IfOk result (λ s. (lines : List (List ℕ)) × ServeText params.entry serving input.now lines s) }
+    ensures written { (lines : List (List ℕ)) (status : ℕ) → ServeText params.entry serving input.now lines status
+        → Writes (W.contents out.old) (W.contents out.new) lines result }
+    ensures status { (lines : List (List ℕ)) (status : ℕ) → ServeText params.entry serving input.now lines status
+        → IfOk result (λ s. s ≡ status) }
+    ensures two { IfOk result (λ s. (s ≡ 0) ⊎ (s ≡ 2)) }
+    ensures refused { (n : ℕ) → result ≡ Err (Line n) → HasBadLine params.entry serving input.now n }
+    ensures refuses { (n : ℕ) → HasBadLine params.entry serving input.now n → RefusesLine n result }
+    ensures quiet { (n : ℕ) → HasBadLine params.entry serving input.now n → out.new ≡ out.old }
+{
+    one_context_refusal();
+    one_server_answer();
+    one_datagram();
+    write_serving(alloc, params, serving, input, out)
+}
+
+/// Writes what a server prints, or the refusal of its context.
+fn write_serving<W: Write>(
+    alloc: Global,
+    params: Params<'_>,
+    serving: Serving,
+    input: &[u8],
+    out: &mut W,
+) -> Result<u8, Fault>
+    ensures { ServesCall W.contents params.entry serving input.now out.old out.new result }
+{
+    match Context::derive(params) {
+        Ok(context) => write_served(alloc, context, serving, input, out),
+        Err(refusal) => put_refused(alloc, refusal, out),
+    }
+}
+
+/// Writes what a server prints under a context, or the refusal of its start.
+fn write_served<W: Write>(
+    alloc: Global,
+    context: Context,
+    serving: Serving,
+    input: &[u8],
+    out: &mut W,
+) -> Result<u8, Fault>
+    ensures { ServesContext W.contents (as_server context) (start_of serving) serving.window input.now out.old out.new result }
+{
+    let mut server = Server::new();
+    match server.add(context, serving.start(), serving.window) {
+        Ok(_index) => write_input(alloc, &mut server, input, out),
+        Err(refusal) => put_refused(alloc, refusal, out),
+    }
+}
+
+/// Reads the events of an input, runs a server over them, and writes the lines of their entries.
+fn write_input<W: Write>(
+    alloc: Global,
+    server: &mut Server,
+    input: &[u8],
+    out: &mut W,
+) -> Result<u8, Fault>
+    ensures { (h : History) → Agrees server.old h → ServesInput W.contents h input.now out.old out.new result }
+{
+    let mut events = read_events(alloc, input)?;
+    write_events(alloc, server, events.as_mut_slice(), out)?;
+    Ok(0)
+}
+
+/// Runs a server over events, and writes the lines of their entries: of those before one for which no memory was left.
+fn write_events<W: Write>(
+    alloc: Global,
+    server: &mut Server,
+    events: &mut [ServerEvent],
+    out: &mut W,
+) -> Result<(), Fault>
+    ensures { (h : History) → Agrees server.old h → All IsOfRun events.old
+        → RunsEvents h (map event_seen events.old) (W.contents out.old) (W.contents out.new) result }
+{
+    let mut log = Vec::new(alloc);
+    let ran = run_server(alloc, server, events, &mut log);
+    put_entries(alloc, log.as_slice(), out)?;
+    ran?;
+    Ok(())
+}
