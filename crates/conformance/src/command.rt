@@ -2,11 +2,28 @@
 //! writes, how many it takes stands before all.
 
 use crate::answer::Answer;
+use crate::bytes::bytes_of;
 use crate::texts::Texts;
 use osc_command::command;
 use std::alloc::Global;
 use std::io;
-use std::io::{ErrorKind, Write};
+use std::io::{ErrorKind, Read, Write};
+
+/// A standard input that gives its bytes, and then ends or fails.
+#[derive(Drop)]
+struct Input<'i> {
+    rest: &'i [u8],
+    fails: bool,
+}
+
+impl Read for Input<'_> {
+    fn read(&mut self, buf: &mut [u8]) -> io::Result<usize> {
+        if self.fails && self.rest.is_empty() {
+            return Err(io::Error::from(ErrorKind::ConnectionReset));
+        }
+        self.rest.read(buf)
+    }
+}
 
 /// A standard output that takes some writes, and refuses the others.
 #[derive(Drop)]
@@ -46,19 +63,20 @@ struct Called {
 
 impl Called {
     /// Makes the call over a standard output that takes so many writes.
-    fn make(alloc: Global, words: &[String], input: &str, writes: u32) -> Called {
+    fn make(alloc: Global, words: &[String], input: &mut Input<'_>, writes: u32) -> Called {
         let mut out = Output {
             left: writes,
             refused: 0,
             written: Vec::new(alloc),
         };
-        let (mut input, mut err) = (input.as_bytes(), Vec::new(alloc));
-        let status = command(alloc, words, &mut input, &mut out, &mut err);
+        let mut err = Vec::new(alloc);
+        let status = command(alloc, words, input, &mut out, &mut err);
         Called { status, out, err }
     }
 
-    /// Status, standard output and standard error. `help` shows standard output as `text`, where there is some; `usage`
-    /// and `cut-off` show standard error as `line`, where it is one line. `cut-off` also shows how many writes were refused.
+    /// Status, standard output and standard error. `help` shows standard output as `text`, where there is some; `command`
+    /// and `help` show standard error, the others show `line`, where it is one line. `cut-off` also shows how many writes were
+    /// refused.
     fn show(&self, verb: &str, answer: &mut Answer) {
         answer.print(self.status);
         if verb == "help" && !self.out.written.is_empty() {
@@ -66,7 +84,7 @@ impl Called {
         } else {
             answer.quoted(self.out.written.as_slice());
         }
-        if matches!(verb, "usage" | "cut-off") && is_one_line(self.err.as_slice()) {
+        if !matches!(verb, "command" | "help") && is_one_line(self.err.as_slice()) {
             answer.word("line");
         } else {
             answer.quoted(self.err.as_slice());
@@ -75,6 +93,16 @@ impl Called {
             answer.print(self.out.refused);
         }
     }
+}
+
+/// The bytes of a standard input: for `input` and `failing-input` as the corpus spells bytes, else a text.
+fn input_bytes(alloc: Global, verb: &str, text: &str) -> Option<Vec<u8>> {
+    if matches!(verb, "input" | "failing-input") {
+        return bytes_of(alloc, text);
+    }
+    let mut bytes = Vec::new(alloc);
+    bytes.extend_from_slice(text.as_bytes()).ok()?;
+    Some(bytes)
 }
 
 /// Makes the call and shows its answer. For `cut-off` the first text is how many writes the standard output takes, before its input.
@@ -89,6 +117,11 @@ pub(crate) fn run(verb: &str, call: &str, answer: &mut Answer) {
         answer.is_whole = false;
         return;
     };
-    Called::make(alloc, words, input, writes).show(verb, answer);
+    let Some(bytes) = input_bytes(alloc, verb, input) else {
+        answer.is_whole = false;
+        return;
+    };
+    let (rest, fails) = (bytes.as_slice(), verb == "failing-input");
+    Called::make(alloc, words, &mut Input { rest, fails }, writes).show(verb, answer);
     answer.is_whole = answer.is_whole && texts.is_whole;
 }

@@ -98,7 +98,10 @@ impl<'t> Corpus<'t> {
     /// What the call of a row answers.
     fn answer(&self, row: Row<'t>) -> Answer {
         let mut answer = Answer::new(self.alloc);
-        if matches!(row.verb, "command" | "usage" | "help" | "cut-off") {
+        if matches!(
+            row.verb,
+            "command" | "usage" | "help" | "cut-off" | "input" | "failing-input"
+        ) {
             command::run(row.verb, row.fields, &mut answer);
         } else if row.verb == "server" {
             server::steps(row.fields, self.contexts.as_slice(), &mut answer);
