@@ -2,7 +2,7 @@
 
 use crate::answer::Answer;
 use crate::fields::{Fields, NamedContext};
-use crate::{command, server, verbs};
+use crate::{client, command, server, verbs};
 use std::alloc::Global;
 use std::io;
 
@@ -105,6 +105,8 @@ impl<'t> Corpus<'t> {
             command::run(row.verb, row.fields, &mut answer);
         } else if row.verb == "server" {
             server::steps(row.fields, self.contexts.as_slice(), &mut answer);
+        } else if row.verb == "client" {
+            client::steps(row.fields, self.contexts.as_slice(), &mut answer);
         } else {
             let fields = Fields::read(self.alloc, row.fields);
             verbs::make(row.verb, &fields, self.contexts.as_slice(), &mut answer);

@@ -6,6 +6,9 @@
 mod answer;
 mod bytes;
 mod ciphers;
+mod client;
+mod client_entry;
+mod client_steps;
 mod command;
 mod context;
 mod corpus;
@@ -15,6 +18,7 @@ mod reading;
 mod server;
 mod server_entry;
 mod server_steps;
+mod steps;
 mod texts;
 mod verbs;
 mod window;

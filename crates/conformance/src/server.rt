@@ -3,7 +3,8 @@
 use crate::answer::Answer;
 use crate::fields::{Fields, NamedContext};
 use crate::server_entry::show;
-use crate::server_steps::{FILLED_WITH, Step, events_of, index, is_event, number, steps_of};
+use crate::server_steps::{events_of, index, is_event};
+use crate::steps::{FILLED_WITH, Step, number, steps_of};
 use osc_coap::parse;
 use osc_endpoint::{
     Answering, Arrival, Decided, Outcome, Seen, Server, ServerEntry, ServerEvent, Start, Taken,

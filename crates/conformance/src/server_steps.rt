@@ -2,42 +2,8 @@
 
 use crate::answer::Answer;
 use crate::fields::Fields;
-use osc_context::Piv;
+use crate::steps::{FILLED_WITH, Step, number};
 use osc_endpoint::{Answering, Arrival, Fresh, ServerEvent};
-
-/// What the room for a reply is filled with.
-pub(crate) const FILLED_WITH: u8 = 0xaa;
-
-/// A step of a row: its verb, and its fields.
-#[derive(Drop)]
-pub(crate) struct Step<'t> {
-    pub(crate) verb: &'t str,
-    pub(crate) fields: Fields<'t>,
-}
-
-/// The steps of a row, which semicolons part.
-pub(crate) fn steps_of<'t>(text: &'t str, answer: &mut Answer) -> Vec<Step<'t>> {
-    let mut steps = Vec::new(answer.alloc);
-    for step in text.split(';') {
-        let (verb, rest) = step.trim().split_once(' ').unwrap_or(("", ""));
-        let fields = Fields::read(answer.alloc, rest);
-        if steps.push(Step { verb, fields }).is_err() {
-            answer.is_whole = false;
-        }
-    }
-    steps
-}
-
-/// The number of a field.
-pub(crate) fn number(fields: &Fields<'_>, place: usize) -> Piv {
-    match fields.partial_iv(place) {
-        Some(number) => number,
-        None => {
-            fields.refuse();
-            Piv::MAX
-        }
-    }
-}
 
 /// A small number, as an index is.
 pub(crate) fn index(fields: &Fields<'_>, place: usize) -> usize {

@@ -5,13 +5,14 @@ ghost use Rattle.clap.specs.Matches.{has_subcommand};
 
 use crate::context_words::ContextWords;
 use crate::fault_text::{put_fault, put_help, usage_text};
-use crate::run_words::{read_input, read_serving};
+use crate::run_words::{read_asking, read_input, read_serving};
 use crate::words::{input_fault, optional_number, read_words, required_bytes};
 use clap::error::ErrorKind;
 use clap::{ArgMatches, Error};
 use osc_protect::RequestRef;
 use osc_text::{
-    Fault, Opening, Sealing, Wrong, derive_text, explain_text, open_text, protect_text, serve_text,
+    Fault, Opening, Sealing, Wrong, ask_text, derive_text, explain_text, open_text, protect_text,
+    serve_text,
 };
 use std::alloc::Global;
 use std::io::{Read, Write};
@@ -74,8 +75,8 @@ fn run_explain<W: Write>(alloc: Global, matches: &ArgMatches<'_>, out: &mut W) -
     explain_text(alloc, datagram.as_slice(), out)
 }
 
-/// Does what `run` asks for. The whole input is read first.
-fn run_server<R: Read, W: Write>(
+/// Does what `run` asks for, by its role. The whole input is read first.
+fn run_role<R: Read, W: Write>(
     alloc: Global,
     matches: &ArgMatches<'_>,
     input: &mut R,
@@ -84,6 +85,11 @@ fn run_server<R: Read, W: Write>(
     ensures { IfOk result (λ s. (s ≡ 0) ⊎ (s ≡ 2)) }
 {
     let context = ContextWords::read(alloc, matches)?;
+    if matches.get_str("role") == Some("client") {
+        let asking = read_asking(matches)?;
+        let bytes = read_input(alloc, input)?;
+        return ask_text(alloc, context.params(), asking, bytes.as_slice(), out);
+    }
     let serving = read_serving(matches)?;
     let bytes = read_input(alloc, input)?;
     serve_text(alloc, context.params(), serving, bytes.as_slice(), out)
@@ -104,7 +110,7 @@ fn run_called<R: Read, W: Write>(
         Some(("open", inner)) => run_open(alloc, inner, out),
         Some(("protect", inner)) => run_protect(alloc, inner, out),
         Some(("explain", inner)) => run_explain(alloc, inner, out),
-        Some(("run", inner)) => run_server(alloc, inner, input, out),
+        Some(("run", inner)) => run_role(alloc, inner, input, out),
         // No other is there; clap answers `help` by itself.
         Some(_) => Err(input_fault("the call", Wrong::Unknown)),
         None => unreachable!(),

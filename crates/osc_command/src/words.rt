@@ -11,7 +11,7 @@ use osc_text::{Fault, HexError, Wrong, read_hex, read_number};
 use std::alloc::{AllocError, Global};
 
 const ABOUT: &str =
-    "Derives contexts of OSCORE (RFC 8613), protects CoAP requests and responses and opens protected ones, explains datagrams, and runs servers.";
+    "Derives contexts of OSCORE (RFC 8613), protects CoAP requests and responses and opens protected ones, explains datagrams, and runs servers and clients.";
 
 const EXAMPLE: &str = "Example:
   oscore open --secret 0102030405060708090a0b0c0d0e0f10 --salt 9e7ca92223786340 --sender 01 44025d1f00003974396c6f63616c686f7374620914ff612f1092f1776f1c1668b3825e";

@@ -13,6 +13,17 @@ pub mod Tickets
 pub mod ServerNonces
 pub mod DeliveredNumbers
 pub mod KeptContexts
+pub mod Asking
+pub mod ClientDecisions
+pub mod ClientDeliveries
+pub mod ClientRequests
+pub mod ClientRuns
+pub mod EventsLeft
 pub mod LifeAnswers
 pub mod LifeReplies
 pub mod OneAnswers
+pub mod OneReceived
+pub mod ClientRequestRows
+pub mod ClientTakeRows
+pub mod OneClientAnswers
+pub mod RequestNumbers

@@ -1,11 +1,8 @@
 -- That a life has one answer to a request that names it.
-use Rattle.std.proofs.Common.{◌≡◌, ℕ, ◌∙◌, sym, ap, subst, refl, false, Option, Some, List}
+use Rattle.std.proofs.Common.{◌≡◌, ℕ, ◌∙◌, sym, ap, subst, refl, false, Some, List}
 use Rattle.std.proofs.lemmas.Bool.{both_ways}
 use Rattle.osc_coap.specs.Datagram.{Parts, IsDatagram}
 use Rattle.osc_coap.specs.Inner.{InnerParts}
-use Rattle.osc_coap.specs.OptionNumbers.{uri_host as uri_host_number, uri_port as uri_port_number}
-use Rattle.osc_coap.specs.Search.{values_at, first_of}
-use Rattle.osc_context.specs.SecurityContext.{SecurityContext}
 use Rattle.osc_protect.specs.Protection.{ProtectsRequest, requests}
 use Rattle.osc_protect.specs.Refusals.{RefusesToOpen}
 use Rattle.osc_protect.specs.Sealed.{SealsResponse}
@@ -13,9 +10,10 @@ use Rattle.osc_protect.specs.declared.unprotect_error.UnprotectError.{UnprotectE
 use Rattle.osc_protect.specs.declared.unprotect_error.UnprotectError.TheVariants.{Tag, Inner}
 use Rattle.osc_endpoint.specs.AnswerLaws.{AnswerLaws}
 use Rattle.osc_endpoint.specs.Life.{Life, Passes, is_open, next_own}
-use Rattle.osc_endpoint.specs.Received.{Received, Receives}
+use Rattle.osc_endpoint.specs.Received.{Received}
 use Rattle.osc_endpoint.specs.Replies.{ErrorText, SaysError, as_reply, bad_tag, challenge_message, error_message, replay}
 use Rattle.osc_endpoint.specs.ServerAnswer.{Arrival, IsReplay, LifeAnswer, SaysChallenge}
+use Rattle.osc_endpoint.proofs.OneReceived.{one_received}
 use Rattle.osc_endpoint.specs.ServerHistory.{Answer, BadInner, BadTag, Challenge, Deliver, Replay, SequenceExhausted, TicketValues, Took}
 use Rattle.osc_endpoint.proofs.Deliveries.{no_want}
 
@@ -40,33 +38,6 @@ same_given : (z : List ℕ × ℕ) (echo other : List ℕ) (issued moment : ℕ)
 same_given z echo other issued moment x y = let same = x ∙ sym y in (ap (λ (k : List ℕ × ℕ). k.0) same, ap (λ (k : List ℕ × ℕ). k.1) same)
 
 -- ---- deliveries
-
--- what is received under a message
-abbrev received_by : Parts → Option ℕ → InnerParts → Received
-received_by p number message = record {
-  kind = p.kind;
-  message_id = p.message_id;
-  token = p.token;
-  uri_host = first_of (values_at uri_host_number p.options);
-  uri_port = first_of (values_at uri_port_number p.options);
-  number = number;
-  message = message;
-}
-
-received_is : (s : SecurityContext) (n : ℕ) (d : List ℕ) (r : Received) (x : Receives (requests s) n d r) → r ≡ received_by x.outer (Some n) r.message
-received_is s n d r x =
-    ap (λ k. record r { kind = k }) x.kind
-    ∙ ap (λ k. record r { kind = x.outer.kind; message_id = k }) x.message_id
-    ∙ ap (λ k. record r { kind = x.outer.kind; message_id = x.outer.message_id; token = k }) x.token
-    ∙ ap (λ k. record (received_by x.outer r.number r.message) { uri_host = k; uri_port = r.uri_port }) x.uri_host
-    ∙ ap (λ k. record (received_by x.outer r.number r.message) { uri_port = k }) x.uri_port
-    ∙ ap (λ k. received_by x.outer k r.message) x.number
-
-one_received : AnswerLaws → (s : SecurityContext) (n : ℕ) (d : List ℕ) (r q : Received) → Receives (requests s) n d r → Receives (requests s) n d q → r ≡ q
-one_received laws s n d r q x y =
-    let outer : x.outer ≡ y.outer = laws.one x.outer y.outer d x.datagram y.datagram in
-    let message : r.message ≡ q.message = (laws.request s).message d n n r.message q.message x.protects y.protects in
-    received_is s n d r x ∙ ap (λ p. received_by p (Some n) r.message) outer ∙ ap (received_by y.outer (Some n)) message ∙ sym (received_is s n d q y)
 
 -- the ticket of a delivery
 abbrev ticket_by : Life → ℕ → ℕ → Received → TicketValues
@@ -138,7 +109,7 @@ module _ (laws : AnswerLaws) (of : Life) (i n : ℕ) (a : Arrival) where
   one_life_answer (Deliver received ticket) (Challenge j k echo issued) r s x y = absurd (no_want of of n n a.clock a.bytes received.message laws.request refl y.0 x.0.protects x.1)
   one_life_answer (Deliver received ticket) SequenceExhausted r s x y = absurd (no_want of of n n a.clock a.bytes received.message laws.request refl y.0 x.0.protects x.1)
   one_life_answer (Deliver received ticket) (Deliver other given) r s x y =
-      let message : received ≡ other = one_received laws of.context n a.bytes received other x.0 y.0 in
+      let message : received ≡ other = one_received (requests of.context) laws.one (laws.request of.context) a.bytes n n received other x.0 y.0 in
       let tickets : ticket ≡ given = x.2 ∙ ap (ticket_by of i n) message ∙ sym y.2 in
       let bytes : r ≡ s = x.3 ∙ sym y.3 in
       cc

@@ -19,7 +19,7 @@ use Rattle.osc_endpoint.specs.ServerAnswer.{HasAsked, LifeReply, own_number}
 use Rattle.osc_endpoint.specs.ServerHistory.{Entry, NotReplied, Replied}
 
 -- where a number that can't be sealed is among the options, one is
-unsupported_among : (n : ℕ) (entries : List Spelled) → is_unsupported n ≡ true → has_number (λ k. k == n) entries ≡ true → has_number is_unsupported entries ≡ true
+pub unsupported_among : (n : ℕ) (entries : List Spelled) → is_unsupported n ≡ true → has_number (λ k. k == n) entries ≡ true → has_number is_unsupported entries ≡ true
 unsupported_among n [] unsupported among = among
 unsupported_among n (entry ∷ entries) unsupported among = elim (or_cases (entry.0 == n) (has_number (λ k. k == n) entries) among) [
   | inl here ↦ or_left (is_unsupported entry.0) (has_number is_unsupported entries) (ap is_unsupported (eqb-true entry.0 n here) ∙ unsupported)

@@ -1,15 +1,18 @@
--- How the code is seen: that a server is as its history says.
-use Rattle.std.specs.Prelude.{◌≡◌, ℕ, true, false, List, Option, Some, None, length, slice_get}
-use Rattle.osc_context.specs.Views.{as_server}
+-- How the code is seen: that a server, or a client, is as its history says.
+use Rattle.std.specs.Prelude.{◌≡◌, ◌≢◌, ℕ, true, false, List, AllPairs, Option, Some, None, length, map, slice_get}
+use Rattle.osc_context.specs.Views.{as_client, as_server}
 use Rattle.osc_window.specs.declared.gate.Gate.{Gate}
 use Rattle.osc_window.specs.declared.gate.Gate.TheVariants as gates
 use Rattle.osc_window.specs.Taken.{AgreesWith}
 use Rattle.osc_protect.specs.Views.{context_of}
+use Rattle.osc_endpoint.specs.declared.client.Client.{Client}
 use Rattle.osc_endpoint.specs.declared.slot.Slot.{Slot}
 use Rattle.osc_endpoint.specs.declared.server.Server.{Server}
 use Rattle.osc_endpoint.specs.Life.{Life, is_open, next_own, floor, spent, challenge}
 use Rattle.osc_endpoint.specs.ServerAnswer.{HaveSameLookup}
 use Rattle.osc_endpoint.specs.ServerHistory.{History, clock, added, life}
+use Rattle.osc_endpoint.specs.ClientHistory as client
+use Rattle.osc_endpoint.specs.Views.{asked_of}
 
 -- a closed gate has the life's last challenge; an open one takes exactly the numbers that are new in it (RFC 8613, 7.4)
 abbrev pub GateAgrees : Gate → Life → Type 0
@@ -50,3 +53,16 @@ pub record Agrees (s : Server) (h : History) : Type 0 where
   pub contexts : length s.slots.items ≡ added h
   pub places : TableAgrees s.slots.items (life h)
   pub one_each : OneEach h
+
+-- no two of these requests have one token (RFC 7252, 5.3.1)
+abbrev pub TokensDiffer : List client.Asked → Type 0
+TokensDiffer requests = AllPairs (λ r q. r.token ≢ q.token) requests
+
+-- the client is as its history says (RFC 8613, 3.1)
+pub record ClientAgrees {N : ℕ} (c : Client N) (h : client.History) : Type 0 where
+  pub context_is : as_client (context_of c.context) ≡ client.context h
+  pub life_is : c.life_ms ≡ client.life_ms h
+  pub clock_is : c.clock ≡ client.clock h
+  pub next_is : c.next ≡ client.next h
+  pub table : map asked_of c.pending.items ≡ client.pending h
+  pub differ : TokensDiffer (client.pending h)

@@ -5,18 +5,24 @@ pub mod Life
 pub mod ServerHistory
 pub mod ServerAnswer
 pub mod ServerRun
+pub mod ClientHistory
+pub mod ClientAnswer
+pub mod ClientRun
 pub mod Laws
+pub mod ClientLaws
 pub mod Text
 -- how the code is seen
 pub mod Views
 pub mod Agrees
 pub mod Deciding
+pub mod ClientDeciding
 -- for the proofs
 pub mod AnswerLaws
 pub mod ErrorReplies
 pub mod Heads
 pub mod Judging
 pub mod Replying
+pub mod Requesting
 pub mod Restarting
 pub mod Serving
 pub mod Table

@@ -7,6 +7,8 @@ use Rattle.osc_endpoint.specs.declared.server_error.RestartError.{RestartError}
 use Rattle.osc_endpoint.specs.declared.server_error.RestartError.TheVariants.{NoSuchContext, LivesExhausted}
 use Rattle.osc_endpoint.specs.declared.server_error.ReplyError.{ReplyError}
 use Rattle.osc_endpoint.specs.declared.server_error.ReplyError.TheVariants.{KeeperFailed, StaleTicket, NotThatKind, Unsupported, SequenceExhausted, TooLong, NoRoom}
+use Rattle.osc_endpoint.specs.declared.client_outcome.RequestError.{RequestError}
+use Rattle.osc_endpoint.specs.declared.client_outcome.RequestError.TheVariants as requests
 
 -- a refusal to add a context, as it prints (own rule)
 abbrev pub add_error_text : AddError → List ℕ
@@ -27,3 +29,14 @@ reply_error_text (Unsupported n) = codes "Unsupported " ++ decimal n
 reply_error_text SequenceExhausted = codes "SequenceExhausted"
 reply_error_text TooLong = codes "TooLong"
 reply_error_text NoRoom = codes "NoRoom"
+
+-- a refusal to seal a request, as it prints, with the number of an option (own rule)
+abbrev pub request_error_text : RequestError → List ℕ
+request_error_text requests.NotThatKind = codes "NotThatKind"
+request_error_text (requests.Unsupported n) = codes "Unsupported " ++ decimal n
+request_error_text requests.TokenInUse = codes "TokenInUse"
+request_error_text requests.PendingFull = codes "PendingFull"
+request_error_text requests.SequenceExhausted = codes "SequenceExhausted"
+request_error_text requests.TooLong = codes "TooLong"
+request_error_text requests.NoRoom = codes "NoRoom"
+request_error_text requests.KeeperFailed = codes "KeeperFailed"

@@ -1,9 +1,13 @@
--- How the code is seen: tickets, outcomes and answers as numbers and lists, without where the bytes lie.
+-- How the code is seen: tickets, pending requests, outcomes and answers as numbers and lists, without where the bytes lie.
 use Rattle.std.specs.Prelude.{◌≡◌, ℕ, List, take, Option, Some, None, Result, Ok, Err}
 use Rattle.osc_coap.specs.Inner.{InnerParts}
 use Rattle.osc_context.specs.Views.{number_of}
 use Rattle.osc_protect.specs.Views.{shown, message_of, opened_number}
 use Rattle.osc_protect.specs.declared.opened.Opened.{Opened}
+use Rattle.osc_endpoint.specs.declared.client_outcome.ClientOutcome.{ClientOutcome}
+use Rattle.osc_endpoint.specs.declared.client_outcome.ClientOutcome.TheVariants as client_outcomes
+use Rattle.osc_endpoint.specs.declared.client_outcome.RequestError.{RequestError}
+use Rattle.osc_endpoint.specs.declared.pending.Pending.{Pending}
 use Rattle.osc_endpoint.specs.declared.ticket.Ticket.{Ticket}
 use Rattle.osc_endpoint.specs.declared.outcome.Outcome.{Outcome}
 use Rattle.osc_endpoint.specs.declared.outcome.Outcome.TheVariants as outcomes
@@ -12,6 +16,7 @@ use Rattle.osc_endpoint.specs.declared.server_error.ReplyError.{ReplyError}
 use Rattle.osc_endpoint.specs.declared.server_error.RestartError.{RestartError}
 use Rattle.osc_endpoint.specs.Received.{Received}
 use Rattle.osc_endpoint.specs.ServerHistory as server
+use Rattle.osc_endpoint.specs.ClientHistory as client
 
 -- what a ticket holds (how the code is seen)
 abbrev pub values_of : Ticket → server.TicketValues
@@ -55,3 +60,29 @@ restarted_entry (Err e) = server.NotRestarted e
 abbrev pub server_entry : Result ℕ (ReplyError × Ticket) → List ℕ → server.Entry
 server_entry (Ok n) out = server.Replied (take n out)
 server_entry (Err e) out = server.NotReplied e.0
+
+-- a pending request, as the table keeps it (how the code is seen)
+abbrev pub asked_of : Pending → client.Asked
+asked_of p = record { token = p.token.items; number = number_of p.number; moment = p.moment }
+
+-- the outcome of a client shows this answer (how the code is seen)
+abbrev pub ClientShows : ClientOutcome → client.Answer → Type 0
+ClientShows (client_outcomes.Malformed e) (client.Malformed fault place) = (e.fault ≡ fault) × (e.place ≡ place)
+ClientShows client_outcomes.NotResponse client.NotResponse = Unit {0}
+ClientShows client_outcomes.UnknownToken client.UnknownToken = Unit {0}
+ClientShows client_outcomes.Unprotected client.Unprotected = Unit {0}
+ClientShows client_outcomes.Undecodable client.Undecodable = Unit {0}
+ClientShows client_outcomes.BadTag client.BadTag = Unit {0}
+ClientShows client_outcomes.BadInner client.BadInner = Unit {0}
+ClientShows (client_outcomes.Deliver o piv) (client.Deliver received number) = (received_of o ≡ received) × (number_of piv ≡ number)
+ClientShows outcome answer = ⊥
+
+-- the request's number, the response's own number or none, and the message of a delivery, if it is one (how the code is seen)
+abbrev pub client_delivery_of : ClientOutcome → Option (ℕ × Option ℕ × InnerParts)
+client_delivery_of (client_outcomes.Deliver o piv) = Some (number_of piv, opened_number o, message_of o)
+client_delivery_of outcome = None
+
+-- the entry of a Request, whose text stands at the front of the buffer (how the code is seen)
+abbrev pub request_entry : Result ℕ RequestError → List ℕ → client.Entry
+request_entry (Ok n) out = client.Sent (take n out)
+request_entry (Err e) out = client.NotSent e

@@ -1,6 +1,17 @@
 //! Whom a reply goes to.
 
+ghost use Rattle.std.specs.Prelude.{◌≡◌};
+
 use osc_coap::{Kind, Message, Token};
+
+/// The same token once more.
+pub(crate) fn copy_of(token: &Token) -> Token
+    ensures { result.items ≡ token.now.items }
+{
+    let mut copy = Token::new();
+    copy.try_extend_from_slice(token.as_slice()).unwrap();
+    copy
+}
 
 /// What a reply takes from the head of its request (RFC 7252, 5.2 and 5.3.2).
 #[derive(Debug, Drop)]
@@ -11,7 +22,6 @@ pub(crate) struct Asker {
 }
 
 impl Asker {
-    ghost use Rattle.std.specs.Prelude.{◌≡◌};
     ghost use Rattle.osc_coap.specs.Views.{parts_of};
     ghost use Rattle.osc_endpoint.specs.Replies.{reply_kind, reply_id};
 
@@ -32,9 +42,7 @@ impl Asker {
     pub(crate) fn token(&self) -> Token
         ensures { result.items ≡ self.now.token.items }
     {
-        let mut token = Token::new();
-        token.try_extend_from_slice(self.token.as_slice()).unwrap();
-        token
+        copy_of(&self.token)
     }
 
     /// A reply to a CON is an ACK, one to a NON a NON (RFC 7252, 5.2).

@@ -1,8 +1,9 @@
-//! What a server decided of a datagram, before it lends slices of it.
+//! What a server, or a client, decided of a datagram, before it lends slices of it.
 
 use crate::ticket::Ticket;
 use osc_coap::FormatError;
-use osc_protect::DecryptedRequest;
+use osc_context::Piv;
+use osc_protect::{DecryptedRequest, DecryptedResponse};
 
 /// What a server decided of a datagram: an outcome, but of a delivery where its plaintext lies.
 #[derive(Debug, Drop)]
@@ -25,4 +26,17 @@ pub enum Decision {
 pub struct Decided {
     pub decision: Decision,
     pub reply: usize,
+}
+
+/// What a client decided of a datagram: an outcome, but of a delivery where its plaintext lies.
+#[derive(Debug, Drop)]
+pub enum ClientDecision {
+    Malformed(FormatError),
+    NotResponse,
+    UnknownToken,
+    Unprotected,
+    Undecodable,
+    BadTag,
+    BadInner,
+    Deliver(DecryptedResponse, Piv),
 }

@@ -1,11 +1,12 @@
-//! What holds of every history of a server whose entries are all its answers. A call of such a function does nothing: its
-//! contract is there for the proof of its caller.
+//! What holds of every history of a server, or of a client, whose entries are all its answers. A call of such a function does
+//! nothing: its contract is there for the proof of its caller.
 
+ghost use Rattle.osc_endpoint.specs.ClientLaws.{ClientNoncesOnce, OneClientAnswer, RequestNumbersOnce};
 ghost use Rattle.osc_endpoint.specs.Laws.{DeliveredOnce, OneServerAnswer, OwnNumbersOnce, ServerNoncesOnce, TicketOnce};
 
 use osc_coap::{one_datagram, one_text};
 use osc_context::{one_nonce, one_option_value};
-use osc_protect::{one_head, one_request, one_sealed, protections_show_heads};
+use osc_protect::{one_head, one_request, one_response, one_sealed, protections_show_heads};
 
 /// After each history an event has one answer at most: the rows of the table don't overlap, and each fixes its bytes
 /// (RFC 8613, 8.2 and 8.3).
@@ -19,14 +20,26 @@ pub fn one_server_answer()
     one_sealed();
 }
 
+/// The same of a client: the rows of its table don't overlap, and each fixes its bytes (RFC 8613, 8.1 and 8.4).
+pub fn one_client_answer()
+    ensures { OneClientAnswer }
+{
+    one_datagram();
+    one_head();
+    one_response();
+    one_sealed();
+}
+
 /// In one life of a context no number is delivered twice (RFC 8613, 7.4).
 pub fn delivered_once()
     ensures { DeliveredOnce }
 {}
 
-/// The own numbers of a life are consecutive, and none is used twice (RFC 8613, 7.2.1).
+/// The own numbers of a life are consecutive, and none is used twice. So are the numbers of a client's requests between two
+/// restarts (RFC 8613, 7.2.1).
 pub fn own_numbers_once()
-    ensures { OwnNumbersOnce }
+    ensures server { OwnNumbersOnce }
+    ensures client { RequestNumbersOnce }
 {
     protections_show_heads();
 }
@@ -40,9 +53,10 @@ pub fn ticket_once()
 }
 
 /// No two texts that a server seals in one life under one context share a nonce (RFC 8613, 5.2), under the condition of
-/// [`ticket_once`].
+/// [`ticket_once`]; nor do two requests that a client seals between two restarts.
 pub fn nonces_once()
-    ensures { ServerNoncesOnce }
+    ensures server { ServerNoncesOnce }
+    ensures client { ClientNoncesOnce }
 {
     delivered_once();
     one_nonce();

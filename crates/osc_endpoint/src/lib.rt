@@ -1,14 +1,21 @@
-//! A server of OSCORE over all that happens to it (RFC 8613).
+//! Both ends of OSCORE, a server and a client, over all that happens to them (RFC 8613).
 #![tactic(auto)]
 
 mod asker;
 mod challenge_reply;
+mod client;
+mod client_event;
+mod client_outcome;
+mod client_request;
+mod client_run;
+mod client_take;
 mod decision;
 mod echo;
 mod error_reply;
 mod judging;
 mod laws;
 mod outcome;
+mod pending;
 mod replying;
 mod server;
 mod server_error;
@@ -22,8 +29,16 @@ mod start;
 mod table;
 mod ticket;
 
-pub use decision::{Decided, Decision};
-pub use laws::{delivered_once, nonces_once, one_server_answer, own_numbers_once, ticket_once};
+pub use client::Client;
+pub use client_event::{ClientEntry, ClientEvent};
+pub use client_outcome::{ClientOutcome, RequestError};
+pub use client_run::{run_client, run_client_on};
+pub use client_take::read_client_decided;
+pub use decision::{ClientDecision, Decided, Decision};
+pub use laws::{
+    delivered_once, nonces_once, one_client_answer, one_server_answer, own_numbers_once,
+    ticket_once,
+};
 pub use outcome::{Outcome, Taken};
 pub use server::Server;
 pub use server_error::{AddError, ReplyError, RestartError};

@@ -1,15 +1,10 @@
 -- An input is read line by line.
-use Rattle.std.proofs.Common.{◌≡◌, ◌≢◌, ℕ, suc, ◌+◌, ◌<◌, List, [], ◌∷◌, ◌++◌, All, map, length, Option, Some, None, refl, sym, ap, subst, ◌∙◌, arith, inl, inr, append_assoc, drop, ◌==◌, ap₂, length-append}
+use Rattle.std.proofs.Common.{◌≡◌, ◌≢◌, ℕ, suc, ◌+◌, ◌<◌, List, [], ◌∷◌, ◌++◌, All, map, length, Some, None, refl, sym, ap, subst, ◌∙◌, arith, inl, inr, append_assoc, drop, ◌==◌, ap₂, length-append, append-nil}
 use Rattle.std.proofs.lemmas.Bool.{cases_Bool, cond-true, cond-false, eqb-false, eqb-true, ne_eqb}
-use Rattle.std.proofs.lemmas.List.{append-nil, length-map, map-append}
-use Rattle.std.proofs.lemmas.Simd.{map-map}
-use Rattle.std.proofs.lemmas.List.Elements.{All-cons, All-head, All-nil, All-tail, All-append}
-use Rattle.osc_endpoint.specs.declared.server_event.ServerEvent.{ServerEvent}
-use Rattle.osc_text.specs.InputEvents.{AreLines, InputEvent, IsFirstBadLine, SpellEvents, SpellsEvent, SpellsInput}
-use Rattle.osc_text.specs.InputReading.{IsOfRun, ReadsAll, StopsReading, event_read, event_seen, lines_of, longer_line, split_once}
+use Rattle.std.proofs.lemmas.List.Elements.{All-cons, All-head, All-nil, All-tail}
+use Rattle.osc_text.specs.InputReading.{SpellsNone, SpellsSeen, StopsReading, lines_of, longer_line, split_once}
+use Rattle.osc_text.specs.Inputs.{AreLines, IsFirstBadLine, SpellEvents, SpellsInput}
 use Rattle.osc_text.proofs.InputWords.{IsNot, split_nowhere, split_parts}
-use Rattle.osc_text.proofs.InputSpellings.{event_says, says_event}
-use Rattle.std.specs.Prelude.{unwrap_or}
 
 -- ---- lines
 
@@ -43,41 +38,52 @@ only_line (b ∷ input) some h = line_last b input (split_nowhere 10 (b ∷ inpu
 
 -- ---- so far
 
+-- one line more
+pub spelled_more : {E : Type 0} (spells : List ℕ → E → Type 0) (lines : List (List ℕ)) (all : List E) (line : List ℕ) (e : E) → SpellEvents spells lines all → spells line e
+    → SpellEvents spells (lines ++ line ∷ []) (all ++ e ∷ [])
+spelled_more spells [] [] line e s h = (h, tt)
+spelled_more spells (first ∷ lines) (x ∷ all) line e s h = (s.0, spelled_more spells lines all line e s.1 h)
+spelled_more spells lines all line e s h = absurd s
+
+-- as many lines as events
+pub as_many : {E : Type 0} (spells : List ℕ → E → Type 0) (lines : List (List ℕ)) (all : List E) → SpellEvents spells lines all → length lines ≡ length all
+as_many spells [] [] s = refl
+as_many spells (line ∷ lines) (e ∷ all) s = ap suc (as_many spells lines all s.1)
+as_many spells lines all s = absurd s
+
 -- the lines that are read spell these events; rest is left
-pub record ReadSoFar (input rest : List ℕ) (all : List ServerEvent) : Type 0 where
+pub record ReadSoFar {V : Type 0} (spells : List ℕ → V → Type 0) (input rest : List ℕ) (all : List V) : Type 0 where
   pub done : List (List ℕ)
   pub lines : lines_of input ≡ done ++ lines_of rest
-  pub read : map event_read done ≡ map (λ e. Some (event_seen e)) all
-  pub of_run : All IsOfRun all
+  pub read : SpellEvents spells done all
 
 -- one line more
-pub read_more : (input line rest behind : List ℕ) (all after : List ServerEvent) (e : ServerEvent) → ReadSoFar input rest all
-    → lines_of rest ≡ line ∷ lines_of behind → Some (event_seen e) ≡ event_read line → IsOfRun e → after ≡ all ++ e ∷ [] → ReadSoFar input behind after
-read_more input line rest behind all after e s first is of_run are = rw are (record {
+pub read_more : {V : Type 0} (spells : List ℕ → V → Type 0) (input line rest behind : List ℕ) (all after : List V) (e : V) → ReadSoFar spells input rest all
+    → lines_of rest ≡ line ∷ lines_of behind → spells line e → after ≡ all ++ e ∷ [] → ReadSoFar spells input behind after
+read_more spells input line rest behind all after e s first is are = rw are (record {
   done = s.done ++ line ∷ [];
   lines = s.lines ∙ ap (λ (ls : List (List ℕ)). s.done ++ ls) first ∙ sym (append_assoc s.done (line ∷ []) (lines_of behind));
-  read = map-append event_read s.done (line ∷ []) ∙ ap₂ (λ (xs ys : List (Option InputEvent)). xs ++ ys) s.read (ap (λ (o : Option InputEvent). o ∷ []) (sym is)) ∙ sym (map-append (λ (x : ServerEvent). Some (event_seen x)) all (e ∷ []));
-  of_run = All-append IsOfRun all (e ∷ []) s.of_run (All-cons IsOfRun e [] of_run (All-nil IsOfRun));
+  read = spelled_more spells s.done all line e s.read is;
 })
 
 -- no line is left
-pub all_read : (input rest : List ℕ) (all : List ServerEvent) → ReadSoFar input rest all → length rest ≡ 0 → ReadsAll input all
+pub all_read : {V : Type 0} (spells : List ℕ → V → Type 0) (input rest : List ℕ) (all : List V) → ReadSoFar spells input rest all → length rest ≡ 0 → SpellEvents spells (lines_of input) all
 unfolding lines_of
-all_read input [] all s none = (ap (map event_read) (s.lines ∙ append-nil s.done) ∙ s.read, s.of_run)
-all_read input (b ∷ rest) all s none = absurd (omega (arith, none))
+all_read {V} spells input [] all s none = subst (λ (ls : List (List ℕ)). SpellEvents spells ls all) (sym (s.lines ∙ append-nil s.done)) s.read
+all_read spells input (b ∷ rest) all s none = absurd (omega (arith, none))
 
--- a line that spells none
-pub none_more : (input line rest behind : List ℕ) (all : List ServerEvent) (n : ℕ) → ReadSoFar input rest all → lines_of rest ≡ line ∷ lines_of behind
-    → None ≡ event_read line → n ≡ length all + 1 → StopsReading input n
-none_more input line rest behind all n s first is counted = record {
+-- a bad line
+pub none_more : {V : Type 0} (spells : List ℕ → V → Type 0) (IsBad : List ℕ → Type 0) (input line rest behind : List ℕ) (all : List V) (n : ℕ) → ReadSoFar spells input rest all
+    → lines_of rest ≡ line ∷ lines_of behind → IsBad line → n ≡ length all + 1 → StopsReading spells IsBad input n
+none_more spells IsBad input line rest behind all n s first is counted = record {
   good = s.done;
-  all = map event_seen all;
+  all = all;
   bad = line;
   rest = lines_of behind;
   lines = s.lines ∙ ap (λ (ls : List (List ℕ)). s.done ++ ls) first;
-  spelled = s.read ∙ sym (map-map Some event_seen all);
-  none = sym is;
-  counted = counted ∙ ap (λ (k : ℕ). k + 1) (sym (length-map all (λ (x : ServerEvent). Some (event_seen x))) ∙ ap (λ (xs : List (Option InputEvent)). length xs) (sym s.read) ∙ length-map s.done event_read);
+  read = s.read;
+  is_bad = is;
+  counted = counted ∙ ap (λ (k : ℕ). k + 1) (sym (as_many spells s.done all s.read));
 }
 
 -- ---- the lines of an input
@@ -126,72 +132,81 @@ are_lines (line ∷ lines) input are = elim are.1 [
 
 -- ---- the events of the lines
 
-pub spelled_read : (lines : List (List ℕ)) (all : List InputEvent) → SpellEvents lines all → map event_read lines ≡ map Some all
-spelled_read [] [] s = refl
-spelled_read (line ∷ lines) (e ∷ all) s = ap₂ (λ (x : Option InputEvent) (xs : List (Option InputEvent)). x ∷ xs) (says_event line e s.0) (spelled_read lines all s.1)
-spelled_read lines all s = absurd s
-
-pub read_spelled : (lines : List (List ℕ)) (all : List InputEvent) → map event_read lines ≡ map Some all → SpellEvents lines all
-read_spelled [] [] h = tt
-read_spelled [] (e ∷ all) h = cc h
-read_spelled (line ∷ lines) [] h = cc h
-read_spelled (line ∷ lines) (e ∷ all) h = (event_says line e (first_same h), read_spelled lines all (rest_same h))
-
-same_events : (xs ys : List InputEvent) → map Some xs ≡ map Some ys → xs ≡ ys
-same_events [] [] h = refl
-same_events [] (y ∷ ys) h = cc h
-same_events (x ∷ xs) [] h = cc h
-same_events (x ∷ xs) (y ∷ ys) h = ap₂ (λ (z : InputEvent) (zs : List InputEvent). z ∷ zs) (ap (λ (o : Option InputEvent). unwrap_or o x) (first_same h)) (same_events xs ys (rest_same h))
-
--- an input spells one list of events at most
-pub one_input : (input : List ℕ) (xs ys : List InputEvent) → SpellsInput input xs → SpellsInput input ys → xs ≡ ys
-one_input input xs ys (lines, are, s) (others, are_too, s_too) =
-    same_events xs ys (sym (spelled_read lines xs s) ∙ ap (map event_read) (sym (are_lines lines input are) ∙ are_lines others input are_too) ∙ spelled_read others ys s_too)
+-- what the code reads of each line is spelled there, and right
+pub seen_spelled : {E V : Type 0} (spells : List ℕ → E → Type 0) (seen : V → E) (IsRight : V → Type 0) (lines : List (List ℕ)) (all : List V)
+    → SpellEvents (SpellsSeen spells seen IsRight) lines all → SpellEvents spells lines (map seen all) × All IsRight all
+seen_spelled spells seen IsRight [] [] s = (tt, All-nil IsRight)
+seen_spelled spells seen IsRight (line ∷ lines) (e ∷ all) s =
+    let more = seen_spelled spells seen IsRight lines all s.1 in
+    ((s.0.0, more.0), All-cons IsRight e all s.0.1 more.1)
+seen_spelled spells seen IsRight lines all s = absurd s
 
 -- what was read whole is spelled
-pub input_spelled : (input : List ℕ) (all : List ServerEvent) → ReadsAll input all → SpellsInput input (map event_seen all)
-input_spelled input all r = (lines_of input, lines_are input, read_spelled (lines_of input) (map event_seen all) (r.0 ∙ sym (map-map Some event_seen all)))
+pub input_spelled : {E V : Type 0} (spells : List ℕ → E → Type 0) (seen : V → E) (IsRight : V → Type 0) (input : List ℕ) (all : List V)
+    → SpellEvents (SpellsSeen spells seen IsRight) (lines_of input) all → SpellsInput spells input (map seen all) × All IsRight all
+input_spelled spells seen IsRight input all s =
+    let both = seen_spelled spells seen IsRight (lines_of input) all s in
+    ((lines_of input, lines_are input, both.0), both.1)
 
--- ---- a bad line
-
--- the first line that spells none stops the reading
-pub first_bad : (input : List ℕ) (n : ℕ) → StopsReading input n → IsFirstBadLine input n
-first_bad input n s = record {
+-- the first bad line stops the reading
+pub first_bad : {E V : Type 0} (spells : List ℕ → E → Type 0) (seen : V → E) (IsRight : V → Type 0) (input : List ℕ) (n : ℕ)
+    → StopsReading (SpellsSeen spells seen IsRight) (SpellsNone spells) input n → IsFirstBadLine spells input n
+first_bad spells seen IsRight input n s = record {
   good = s.good;
-  events = s.all;
+  events = map seen s.all;
   bad = s.bad;
   rest = s.rest;
   lines = subst (λ (ls : List (List ℕ)). AreLines ls input) s.lines (lines_are input);
-  spelled = read_spelled s.good s.all s.spelled;
-  spells_none = λ e spells. let some : None ≡ Some e = sym s.none ∙ says_event s.bad e spells in cc some;
+  spelled = (seen_spelled spells seen IsRight s.good s.all s.read).0;
+  spells_none = s.is_bad;
   counted = s.counted;
 }
 
-no_bad_line : (good rest : List (List ℕ)) (bad : List ℕ) (all : List InputEvent) → map event_read (good ++ bad ∷ rest) ≡ map Some all → ((e : InputEvent) → SpellsEvent bad e → ⊥) → ⊥
-no_bad_line [] rest bad [] h none = cc h
-no_bad_line [] rest bad (e ∷ all) h none = none e (event_says bad e (first_same h))
-no_bad_line (line ∷ good) rest bad [] h none = cc h
-no_bad_line (line ∷ good) rest bad (e ∷ all) h none = no_bad_line good rest bad all (rest_same h) none
+-- each line spells one event at most
+abbrev pub OneSpelling : {E : Type 0} → (List ℕ → E → Type 0) → Type 0
+OneSpelling {E} spells = (line : List ℕ) (x y : E) → spells line x → spells line y → x ≡ y
+
+same_events : {E : Type 0} (spells : List ℕ → E → Type 0) → OneSpelling spells → (lines : List (List ℕ)) (xs ys : List E) → SpellEvents spells lines xs → SpellEvents spells lines ys → xs ≡ ys
+same_events spells one [] [] [] s t = refl
+same_events {E} spells one (line ∷ lines) (x ∷ xs) (y ∷ ys) s t = ap₂ (λ (z : E) (zs : List E). z ∷ zs) (one line x y s.0 t.0) (same_events spells one lines xs ys s.1 t.1)
+same_events spells one [] (x ∷ xs) ys s t = absurd s
+same_events spells one [] [] (y ∷ ys) s t = absurd t
+same_events spells one (line ∷ lines) [] ys s t = absurd s
+same_events spells one (line ∷ lines) (x ∷ xs) [] s t = absurd t
+
+-- an input spells one list of events at most
+pub one_input : {E : Type 0} (spells : List ℕ → E → Type 0) → OneSpelling spells → (input : List ℕ) (xs ys : List E) → SpellsInput spells input xs → SpellsInput spells input ys → xs ≡ ys
+one_input spells one input xs ys (lines, are, s) (others, are_too, s_too) =
+    let same : others ≡ lines = sym (are_lines others input are_too) ∙ are_lines lines input are in
+    same_events spells one lines xs ys s (subst (λ (ls : List (List ℕ)). SpellEvents spells ls ys) same s_too)
+
+-- ---- a bad line
+
+no_bad_line : {E : Type 0} (spells : List ℕ → E → Type 0) (good rest : List (List ℕ)) (bad : List ℕ) (all : List E) → SpellEvents spells (good ++ bad ∷ rest) all → SpellsNone spells bad → ⊥
+no_bad_line spells [] rest bad [] s none = s
+no_bad_line spells [] rest bad (e ∷ all) s none = none e s.0
+no_bad_line spells (line ∷ good) rest bad [] s none = s
+no_bad_line spells (line ∷ good) rest bad (e ∷ all) s none = no_bad_line spells good rest bad all s.1 none
 
 -- an input with a bad line spells no events
-pub bad_spells_none : (input : List ℕ) (n : ℕ) (all : List InputEvent) → IsFirstBadLine input n → SpellsInput input all → ⊥
-bad_spells_none input n all b (lines, are, s) =
+pub bad_spells_none : {E : Type 0} (spells : List ℕ → E → Type 0) (input : List ℕ) (n : ℕ) (all : List E) → IsFirstBadLine spells input n → SpellsInput spells input all → ⊥
+bad_spells_none spells input n all b (lines, are, s) =
     let same : lines ≡ b.good ++ b.bad ∷ b.rest = sym (are_lines lines input are) ∙ are_lines (b.good ++ b.bad ∷ b.rest) input b.lines in
-    no_bad_line b.good b.rest b.bad all (ap (map event_read) (sym same) ∙ spelled_read lines all s) b.spells_none
+    no_bad_line spells b.good b.rest b.bad all (subst (λ (ls : List (List ℕ)). SpellEvents spells ls all) same s) b.spells_none
 
-first_counts : (good others rest more : List (List ℕ)) (bad worse : List ℕ) (xs ys : List InputEvent) → SpellEvents good xs → SpellEvents others ys
-    → ((e : InputEvent) → SpellsEvent bad e → ⊥) → ((e : InputEvent) → SpellsEvent worse e → ⊥) → good ++ bad ∷ rest ≡ others ++ worse ∷ more → length good ≡ length others
-first_counts [] [] rest more bad worse xs ys s t none none_too h = refl
-first_counts [] (other ∷ others) rest more bad worse xs (y ∷ ys) s t none none_too h = absurd (none y (subst (λ (l : List ℕ). SpellsEvent l y) (sym (first_same h)) t.0))
-first_counts (line ∷ good) [] rest more bad worse (x ∷ xs) ys s t none none_too h = absurd (none_too x (subst (λ (l : List ℕ). SpellsEvent l x) (first_same h) s.0))
-first_counts (line ∷ good) (other ∷ others) rest more bad worse (x ∷ xs) (y ∷ ys) s t none none_too h = ap suc (first_counts good others rest more bad worse xs ys s.1 t.1 none none_too (rest_same h))
-first_counts [] (other ∷ others) rest more bad worse xs [] s t none none_too h = absurd t
-first_counts (line ∷ good) [] rest more bad worse [] ys s t none none_too h = absurd s
-first_counts (line ∷ good) (other ∷ others) rest more bad worse [] ys s t none none_too h = absurd s
-first_counts (line ∷ good) (other ∷ others) rest more bad worse (x ∷ xs) [] s t none none_too h = absurd t
+first_counts : {E : Type 0} (spells : List ℕ → E → Type 0) (good others rest more : List (List ℕ)) (bad worse : List ℕ) (xs ys : List E) → SpellEvents spells good xs → SpellEvents spells others ys
+    → SpellsNone spells bad → SpellsNone spells worse → good ++ bad ∷ rest ≡ others ++ worse ∷ more → length good ≡ length others
+first_counts spells [] [] rest more bad worse xs ys s t none none_too h = refl
+first_counts spells [] (other ∷ others) rest more bad worse xs (y ∷ ys) s t none none_too h = absurd (none y (subst (λ (l : List ℕ). spells l y) (sym (first_same h)) t.0))
+first_counts spells (line ∷ good) [] rest more bad worse (x ∷ xs) ys s t none none_too h = absurd (none_too x (subst (λ (l : List ℕ). spells l x) (first_same h) s.0))
+first_counts spells (line ∷ good) (other ∷ others) rest more bad worse (x ∷ xs) (y ∷ ys) s t none none_too h = ap suc (first_counts spells good others rest more bad worse xs ys s.1 t.1 none none_too (rest_same h))
+first_counts spells [] (other ∷ others) rest more bad worse xs [] s t none none_too h = absurd t
+first_counts spells (line ∷ good) [] rest more bad worse [] ys s t none none_too h = absurd s
+first_counts spells (line ∷ good) (other ∷ others) rest more bad worse [] ys s t none none_too h = absurd s
+first_counts spells (line ∷ good) (other ∷ others) rest more bad worse (x ∷ xs) [] s t none none_too h = absurd t
 
 -- and it has one number
-pub one_bad_line : (input : List ℕ) (n m : ℕ) → IsFirstBadLine input n → IsFirstBadLine input m → n ≡ m
-one_bad_line input n m a b =
+pub one_bad_line : {E : Type 0} (spells : List ℕ → E → Type 0) (input : List ℕ) (n m : ℕ) → IsFirstBadLine spells input n → IsFirstBadLine spells input m → n ≡ m
+one_bad_line spells input n m a b =
     let same : a.good ++ a.bad ∷ a.rest ≡ b.good ++ b.bad ∷ b.rest = sym (are_lines (a.good ++ a.bad ∷ a.rest) input a.lines) ∙ are_lines (b.good ++ b.bad ∷ b.rest) input b.lines in
-    a.counted ∙ ap (λ (k : ℕ). k + 1) (first_counts a.good b.good a.rest b.rest a.bad b.bad a.events b.events a.spelled b.spelled a.spells_none b.spells_none same) ∙ sym b.counted
+    a.counted ∙ ap (λ (k : ℕ). k + 1) (first_counts spells a.good b.good a.rest b.rest a.bad b.bad a.events b.events a.spelled b.spelled a.spells_none b.spells_none same) ∙ sym b.counted

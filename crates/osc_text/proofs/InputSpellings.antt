@@ -1,8 +1,8 @@
 -- What a line spells is what is read of it.
-use Rattle.std.proofs.Common.{◌≡◌, ◌≢◌, ℕ, ◌*◌, ◌<◌, ◌^◌, ◌==◌, ◌&&◌, Bool, true, false, List, [], ◌∷◌, ◌++◌, All, length, codes, Option, Some, None, option_map, Result, Ok, Err, refl, sym, ap, subst, ◌∙◌, arith, inl, inr}
+use Rattle.std.proofs.Common.{◌≡◌, ◌≢◌, ℕ, ◌*◌, ◌<◌, ◌^◌, ◌==◌, ◌&&◌, Bool, true, false, List, [], ◌∷◌, ◌++◌, All, length, codes, Option, Some, None, IfSome, option_map, Result, Ok, Err, IfOk, refl, sym, ap, subst, ◌∙◌, arith, inl, inr}
 use Rattle.std.specs.Prelude.{not, nat_lt, if◌then◌else◌, unwrap_or, bytes_eq}
 use Rattle.std.specs.Int.{from_be_bytes, to_be_bytes, w16}
-use Rattle.std.specs.Option.{option_and_then}
+use Rattle.std.specs.Option.{IfNone, option_and_then}
 use Rattle.std.specs.List.{AllPass}
 use Rattle.std.proofs.lemmas.List.{length-map}
 use Rattle.std.specs.Str.{all_ascii_digits}
@@ -15,8 +15,10 @@ use Rattle.hex.specs.Hex.{IsBytes, decode_of, decode_pairs, decode_sized, encode
 use Rattle.hex.specs.declared.error.FromHexError.{FromHexError}
 use Rattle.hex.proofs.HexLemmas.{decode_of-encode_lower, decode_of-ok, decode_of-same, decode_sized-ok, decode_sized-twice, length-encode_with}
 use Rattle.osc_text.specs.Hex.{SpellsBytes, small}
-use Rattle.osc_text.specs.InputEvents.{InputEvent, Reply, Restart, SaysBelow, SaysBytes, SaysMessageId, SpellsEvent, Take, own_word, parted}
-use Rattle.osc_text.specs.InputReading.{bytes_read, event_read, fixed_read, four_read, hex_decoded, message_id_read, number_read, own_read, reply_of, reply_read, split_once, take_of, take_read, verb_read}
+use Rattle.osc_text.specs.InputEvents.{InputEvent, Reply, Restart, SaysMessageId, SpellsEvent, Take, own_word}
+use Rattle.osc_text.specs.InputReading.{SpellsNone, SpellsSeen, bytes_read, fixed_read, hex_decoded, number_read, split_once}
+use Rattle.osc_text.specs.Inputs.{SaysBelow, SaysBytes, parted}
+use Rattle.osc_text.specs.ServedReading.{event_read, four_read, message_id_read, own_read, reply_of, reply_read, take_of, take_read, verb_read}
 use Rattle.osc_text.specs.Numbers.{number_said}
 use Rattle.osc_text.proofs.HexWords.{decodes_spells, spells_decodes}
 use Rattle.osc_text.proofs.InputWords.{IsNot, number_is, split_at, split_parts}
@@ -179,7 +181,7 @@ has_no_space (c ∷ w) = not (c == 32) && has_no_space w
 not_eq : (c : ℕ) → not (c == 32) ≡ true → c ≢ 32
 not_eq c h is = let bad : not (32 == 32) ≡ true = subst (λ (d : ℕ). not (d == 32) ≡ true) is h in cc bad
 
-no_space_test : (w : List ℕ) → has_no_space w ≡ true → All (IsNot 32) w
+pub no_space_test : (w : List ℕ) → has_no_space w ≡ true → All (IsNot 32) w
 no_space_test [] h = All-nil (IsNot 32)
 no_space_test (c ∷ w) h = let both = and_parts (not (c == 32)) (has_no_space w) h in All-cons (IsNot 32) c w (not_eq c both.0) (no_space_test w both.1)
 
@@ -195,11 +197,11 @@ unfolding four_read
 four_split a b c d no_a no_b no_c = rw (split_at 32 a (parted (b ∷ c ∷ d ∷ [])) no_a, split_at 32 b (parted (c ∷ d ∷ [])) no_b, split_at 32 c d no_c) refl
 
 -- what a chain that gave a value went through
-then_some : {A B : Type 0} (f : A → Option B) (o : Option A) (y : B) → option_and_then f o ≡ Some y → (x : A) × (o ≡ Some x) × (f x ≡ Some y)
+pub then_some : {A B : Type 0} (f : A → Option B) (o : Option A) (y : B) → option_and_then f o ≡ Some y → (x : A) × (o ≡ Some x) × (f x ≡ Some y)
 then_some f None y h = cc h
 then_some f (Some x) y h = (x, refl, h)
 
-map_some : {A B : Type 0} (f : A → B) (o : Option A) (y : B) → option_map f o ≡ Some y → (x : A) × (o ≡ Some x) × (f x ≡ y)
+pub map_some : {A B : Type 0} (f : A → B) (o : Option A) (y : B) → option_map f o ≡ Some y → (x : A) × (o ≡ Some x) × (f x ≡ y)
 map_some f None y h = cc h
 map_some f (Some x) y h = (x, refl, ap (λ o. unwrap_or o (f x)) h)
 
@@ -302,3 +304,32 @@ says_event line (Reply of own mid text) (n, m, d, is, says_n, says_m, says_d) =
     ) refl
 says_event line (Restart next) (n, is, says_n) =
     rw (is, split_at 32 (codes "restart") n (no_space_test (codes "restart") refl), says_number (2 ^ 40) n next says_n) refl
+
+-- ---- a reader that is the inverse
+
+-- what is read is spelled, and what is spelled is read
+pub record IsInverse {E : Type 0} (spells : List ℕ → E → Type 0) (read : List ℕ → Option E) : Type 0 where
+  pub says : (line : List ℕ) (e : E) → read line ≡ Some e → spells line e
+  pub said : (line : List ℕ) (e : E) → spells line e → read line ≡ Some e
+
+pub server_inverse : IsInverse SpellsEvent event_read
+server_inverse = record { says = event_says; said = says_event }
+
+module _ {E : Type 0} (spells : List ℕ → E → Type 0) (read : List ℕ → Option E) (law : IsInverse spells read) where
+  -- so a line spells one event at most
+  pub one_spelling : (line : List ℕ) (x y : E) → spells line x → spells line y → x ≡ y
+  one_spelling line x y a b =
+      let same : Some x ≡ Some y = sym (law.said line x a) ∙ law.said line y b in
+      ap (λ (o : Option E). unwrap_or o x) same
+
+  -- what the code read, and is right
+  pub read_spells : {V F : Type 0} (seen : V → E) (IsRight : V → Type 0) (line : List ℕ) (r : Result (Option V) F) → IfOk r (λ o. option_map seen o ≡ read line) → IfOk r (λ o. IfSome o IsRight)
+      → IfOk r (λ o. IfSome o (SpellsSeen spells seen IsRight line))
+  read_spells seen IsRight line (Ok (Some v)) is right = (law.says line (seen v) (sym is), right)
+  read_spells seen IsRight line (Ok None) is right = tt
+  read_spells seen IsRight line (Err e) is right = tt
+
+  pub none_spells : {V F : Type 0} (seen : V → E) (line : List ℕ) (r : Result (Option V) F) → IfOk r (λ o. option_map seen o ≡ read line) → IfOk r (λ o. IfNone o (SpellsNone spells line))
+  none_spells seen line (Ok (Some v)) is = tt
+  none_spells seen line (Ok None) is = λ e s. let bad : None ≡ Some e = is ∙ law.said line e s in cc bad
+  none_spells seen line (Err e) is = tt

@@ -7,8 +7,12 @@ pub mod HexWords
 pub mod InputWords
 pub mod InputLines
 pub mod InputSpellings
+pub mod InputTexts
+pub mod LogLines
 pub mod NumberWords
 pub mod ProtectTexts
-pub mod ServerLogs
 pub mod ServerSteps
 pub mod ServerTexts
+pub mod AskedSpellings
+pub mod ClientSteps
+pub mod ClientTexts

@@ -1,5 +1,5 @@
 -- A server prints one text of an input.
-use Rattle.std.proofs.Common.{◌≡◌, ℕ, zero, suc, List, [], ◌∷◌, ◌++◌, length, take, Bool, Option, Some, None, refl, sym, ap, ap₂, subst, ◌∙◌, slice_set}
+use Rattle.std.proofs.Common.{◌≡◌, ℕ, List, [], ◌∷◌, ◌++◌, Bool, Option, Some, None, sym, ap, ap₂, subst, ◌∙◌, slice_set}
 use Rattle.osc_coap.specs.Datagram.{Parts, IsDatagram}
 use Rattle.osc_coap.specs.Laws.{DatagramHasNoFault, DatagramHasOneFault, DatagramIsOneMessage}
 use Rattle.osc_endpoint.specs.Laws.{AllAnswers, OneServerAnswer}
@@ -8,10 +8,12 @@ use Rattle.osc_endpoint.specs.ServerRun.{GoesOn, ticket_at, ticket_of}
 use Rattle.osc_endpoint.specs.Text.{reply_error_text, restart_error_text}
 use Rattle.osc_text.specs.InputEvents.{InputEvent}
 use Rattle.osc_text.specs.InputEvents as input
-use Rattle.osc_text.specs.ServerLines.{bad_plain_line, not_done_line, replied_line, restarted_line, took_line}
-use Rattle.osc_text.specs.Serving.{EventLine, EventLines, ReplyLine, RestartLine, reply_room}
+use Rattle.osc_text.specs.EntryLines.{bad_plain_line, not_done_line, restarted_line}
+use Rattle.osc_text.specs.ServerLines.{replied_line, took_line}
+use Rattle.osc_text.specs.Serving.{EventLine, ReplyLine, RestartLine, ServerLine, reply_room}
 use Rattle.osc_text.specs.Serving.ReplyLine.{bad_plain, no_ticket, refused, replied}
 use Rattle.osc_text.specs.Serving.RestartLine.{refused as not_restarted, restarted}
+use Rattle.osc_text.proofs.InputTexts.{OneLine}
 
 -- the line of an entry
 abbrev line_of : Entry → List ℕ
@@ -118,21 +120,8 @@ module _ (law : OneServerAnswer) (one : DatagramIsOneMessage) (one_fault : Datag
   event_on h k ts us (input.Restart next) m all (restarted goes text, after) = all_on h k _ _ all goes
   event_on h k ts us (input.Restart next) m all (not_restarted e goes text, after) = all_on h k _ _ all goes
 
-  -- the lines of the first events are the first of all lines
-  pub front_lines : (h : History) (ts : List (Option TicketValues)) (all : List InputEvent) (n : ℕ) (xs ys : List (List ℕ)) → AllAnswers h
-      → EventLines h ts (take n all) xs → EventLines h ts all ys → xs ≡ take (length xs) ys
-  front_lines h ts all n [] ys is x y = refl
-  front_lines h ts [] zero (a ∷ xs) ys is x y = absurd x
-  front_lines h ts [] (suc n) (a ∷ xs) ys is x y = absurd x
-  front_lines h ts (e ∷ all) zero (a ∷ xs) ys is x y = absurd x
-  front_lines h ts (e ∷ all) (suc n) (a ∷ xs) [] is x y = absurd y
-  front_lines h ts (e ∷ all) (suc n) (a ∷ xs) (b ∷ ys) is (k, us, line, more) (l, vs, line_too, more_too) =
-      let same = one_event_line h k l ts us vs e a b is line line_too in
-      let there = subst (λ (ws : List (Option TicketValues)). EventLines k ws all ys) (sym same.2) (subst (λ (j : History). EventLines j vs all ys) (sym same.1) more_too) in
-      ap₂ (λ (z : List ℕ) (zs : List (List ℕ)). z ∷ zs) same.0 (front_lines k us all n xs ys (event_on h k ts us e a is line) more there)
-
--- each event has a line
-pub as_many_lines : (h : History) (ts : List (Option TicketValues)) (all : List InputEvent) (xs : List (List ℕ)) → EventLines h ts all xs → length xs ≡ length all
-as_many_lines h ts [] [] x = refl
-as_many_lines h ts (e ∷ all) (a ∷ xs) (k, us, line, more) = ap suc (as_many_lines k us all xs more)
-as_many_lines h ts all xs x = absurd x
+  -- the same, of the history and the tickets as one state
+  pub one_server_line : OneLine ServerLine (λ s. AllAnswers s.0)
+  one_server_line s t u e m n is a b =
+      let same = one_event_line s.0 t.0 u.0 s.1 t.1 u.1 e m n is a b in
+      (same.0, ap₂ (λ (k : History) (us : List (Option TicketValues)). (k, us)) same.1 same.2, event_on s.0 t.0 s.1 t.1 e m is a)

@@ -1,18 +1,13 @@
--- For the proofs: how the input of a server is read, one function a reader of the code.
-use Rattle.std.specs.Prelude.{◌≡◌, ℕ, ◌+◌, ◌^◌, ◌==◌, ◌&&◌, nat_lt, Bool, true, false, List, [], ◌∷◌, ◌++◌, All, map, length, codes, bytes_eq, Option, Some, None, Result, Ok, Err, if◌then◌else◌}
+-- For the proofs: how an input is read, one function a reader of the code.
+use Rattle.std.specs.Prelude.{◌≡◌, ℕ, ◌+◌, ◌==◌, ◌&&◌, nat_lt, List, [], ◌∷◌, ◌++◌, length, codes, bytes_eq, Option, Some, None, Result, Ok, Err, if◌then◌else◌}
 use Rattle.std.specs.Borrow.{Bor}
-use Rattle.std.specs.Option.{option_map, option_and_then}
-use Rattle.std.specs.Int.{from_be_bytes, w16}
 use Rattle.std.specs.Str.{all_ascii_digits}
 use Rattle.hex.specs.Hex.{decode_of, decode_sized}
 use Rattle.hex.specs.declared.error.FromHexError.{FromHexError}
-use Rattle.osc_context.specs.Views.{number_of}
-use Rattle.osc_endpoint.specs.declared.server_event.ServerEvent.{ServerEvent}
-use Rattle.osc_endpoint.specs.declared.server_event.ServerEvent.TheVariants as events
+use Rattle.osc_text.specs.Inputs.{SpellEvents}
+use Rattle.osc_text.specs.Numbers.{number_said}
 use Rattle.osc_text.specs.declared.fault.Fault.{Fault}
 use Rattle.osc_text.specs.declared.fault.Fault.TheVariants.{Line, Memory}
-use Rattle.osc_text.specs.InputEvents.{InputEvent, Take, Reply, Restart}
-use Rattle.osc_text.specs.Numbers.{number_said}
 
 -- one more byte in front of what was split (how the code is seen)
 abbrev pub longer_front : ℕ → Option (List ℕ × List ℕ) → Option (List ℕ × List ℕ)
@@ -43,48 +38,6 @@ bytes_read word =
 unfoldable pub fixed_read : ℕ → List ℕ → Option (List ℕ)
 fixed_read n word = hex_decoded (decode_sized word n)
 
--- the message ID of a word of hex (how the code is seen)
-abbrev pub message_id_read : List ℕ → Option ℕ
-message_id_read word = option_map (from_be_bytes w16) (fixed_read 2 word)
-
--- whether a word asks for an own number (how the code is seen)
-unfoldable pub own_read : List ℕ → Option Bool
-own_read word = if bytes_eq word (codes "own") then Some true else if bytes_eq word (codes "shared") then Some false else None
-
--- four words that a space parts, of which the last may have more (how the code is seen)
-unfoldable pub four_read : List ℕ → Option (List ℕ × List ℕ × List ℕ × List ℕ)
-four_read fields = option_and_then (λ p. option_and_then (λ q. option_map (λ r. (p.0, q.0, r.0, r.1)) (split_once 32 q.1)) (split_once 32 p.1)) (split_once 32 fields)
-
--- a datagram that comes, by what its words say (how the code is seen)
-abbrev pub take_of : Option ℕ → Option (List ℕ) → Option ℕ → Option (List ℕ) → Option InputEvent
-take_of (Some now) (Some echo) (Some mid) (Some datagram) = Some (Take now echo mid datagram)
-take_of now echo mid datagram = None
-
--- a reply, by what its words say (how the code is seen)
-abbrev pub reply_of : Option ℕ → Option Bool → Option ℕ → Option (List ℕ) → Option InputEvent
-reply_of (Some of) (Some own) (Some mid) (Some plain) = Some (Reply of own mid plain)
-reply_of of own mid plain = None
-
--- the fields of a datagram that comes (how the code is seen)
-unfoldable pub take_read : List ℕ → Option InputEvent
-take_read fields = option_and_then (λ w. take_of (number_read (2 ^ 64) w.0) (fixed_read 8 w.1) (message_id_read w.2) (bytes_read w.3)) (four_read fields)
-
--- the fields of a reply (how the code is seen)
-unfoldable pub reply_read : List ℕ → Option InputEvent
-reply_read fields = option_and_then (λ w. reply_of (number_read (2 ^ 64) w.0) (own_read w.1) (message_id_read w.2) (bytes_read w.3)) (four_read fields)
-
--- the event of a verb and its fields (how the code is seen)
-unfoldable pub verb_read : List ℕ → List ℕ → Option InputEvent
-verb_read verb fields =
-    if bytes_eq verb (codes "take") then take_read fields
-    else if bytes_eq verb (codes "reply") then reply_read fields
-    else if bytes_eq verb (codes "restart") then option_map Restart (number_read (2 ^ 40) fields)
-    else None
-
--- the event of a line (how the code is seen)
-unfoldable pub event_read : List ℕ → Option InputEvent
-event_read line = option_and_then (λ p. verb_read p.0 p.1) (split_once 32 line)
-
 -- one more byte in front of the first line (how the code is seen)
 abbrev pub longer_line : ℕ → List (List ℕ) → List (List ℕ)
 longer_line b [] = (b ∷ []) ∷ []
@@ -99,39 +52,27 @@ lines_of (b ∷ bytes) = if b == 10 then [] ∷ lines_of bytes else longer_line 
 abbrev pub parts : Bor (List ℕ) × Bor (List ℕ) → List ℕ × List ℕ
 parts p = (p.0.now, p.1.now)
 
--- four slices, as lists (how the code is seen)
-abbrev pub four_parts : Bor (List ℕ) × Bor (List ℕ) × Bor (List ℕ) × Bor (List ℕ) → List ℕ × List ℕ × List ℕ × List ℕ
-four_parts w = (w.0.now, w.1.now, w.2.now, w.3.now)
+-- the line spells no event (how the code is seen)
+abbrev pub SpellsNone : {E : Type 0} → (List ℕ → E → Type 0) → List ℕ → Type 0
+SpellsNone {E} spells line = (event : E) → spells line event → ⊥
 
--- an event of the code, as its line says it (how the code is seen)
-abbrev pub event_seen : ServerEvent → InputEvent
-event_seen (events.Datagram a) = Take a.now a.fresh.echo a.fresh.mid a.bytes.items
-event_seen (events.Reply r) = Reply r.of r.own r.mid r.plain.items
-event_seen (events.Restart context next) = Restart (number_of next)
+-- the line spells an event of the code, by what is seen of it, and the rest of it is right (how the code is seen)
+abbrev pub SpellsSeen : {E V : Type 0} → (List ℕ → E → Type 0) → (V → E) → (V → Type 0) → List ℕ → V → Type 0
+SpellsSeen spells seen IsRight line event = spells line (seen event) × IsRight event
 
--- there is room for the reply, and the context is the first (how the code is seen)
-abbrev pub IsOfRun : ServerEvent → Type 0
-IsOfRun (events.Datagram a) = Unit {0}
-IsOfRun (events.Reply r) = length r.out.items ≡ length r.plain.items + 128
-IsOfRun (events.Restart context next) = context ≡ 0
-
--- the events are those that the lines of the input spell, one each (how the code is seen)
-abbrev pub ReadsAll : List ℕ → List ServerEvent → Type 0
-ReadsAll input all = (map event_read (lines_of input) ≡ map (λ e. Some (event_seen e)) all) × All IsOfRun all
-
--- the first lines of the input spell these events, and the one behind them none (how the code is seen)
-pub record StopsReading (input : List ℕ) (number : ℕ) : Type 0 where
+-- the first lines of the input read to these events, and the one behind them is bad (how the code is seen)
+pub record StopsReading {V : Type 0} (reads : List ℕ → V → Type 0) (IsBad : List ℕ → Type 0) (input : List ℕ) (number : ℕ) : Type 0 where
   pub good : List (List ℕ)
-  pub all : List InputEvent
+  pub all : List V
   pub bad : List ℕ
   pub rest : List (List ℕ)
   pub lines : lines_of input ≡ good ++ bad ∷ rest
-  pub spelled : map event_read good ≡ map Some all
-  pub none : event_read bad ≡ None
+  pub read : SpellEvents reads good all
+  pub is_bad : IsBad bad
   pub counted : number ≡ length good + 1
 
--- why no events are read: a line that spells none, or want of memory (how the code is seen)
-abbrev pub Misreads : List ℕ → Fault → Type 0
-Misreads input (Line number) = StopsReading input number
-Misreads input Memory = Unit {0}
-Misreads input fault = ⊥
+-- why no events are read: a bad line, or want of memory (how the code is seen)
+abbrev pub Misreads : {V : Type 0} → (List ℕ → V → Type 0) → (List ℕ → Type 0) → List ℕ → Fault → Type 0
+Misreads reads IsBad input (Line number) = StopsReading reads IsBad input number
+Misreads reads IsBad input Memory = Unit {0}
+Misreads reads IsBad input fault = ⊥

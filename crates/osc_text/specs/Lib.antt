@@ -7,12 +7,22 @@ pub mod Protecting
 pub mod Explanation
 pub mod Hex
 pub mod Numbers
+pub mod Inputs
+pub mod InputText
+pub mod EntryLines
 pub mod InputEvents
 pub mod ServerLines
 pub mod Serving
+pub mod AskedEvents
+pub mod ClientLines
+pub mod Asking
 pub mod Written
 -- for the proofs
+pub mod AskedReading
+pub mod ClientLog
 pub mod InputReading
 pub mod Outcomes
+pub mod Printing
+pub mod ServedReading
 pub mod ServerLog
-pub mod ServerOutcomes
+pub mod Starting

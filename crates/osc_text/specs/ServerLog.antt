@@ -7,8 +7,9 @@ use Rattle.osc_endpoint.specs.declared.server_event.Seen.{Seen}
 use Rattle.osc_endpoint.specs.declared.server_event.Seen.TheVariants as seen
 use Rattle.osc_endpoint.specs.declared.server_event.ServerEntry.{ServerEntry}
 use Rattle.osc_endpoint.specs.declared.server_event.ServerEntry.TheVariants as entries
+use Rattle.osc_text.specs.EntryLines.{entry_line, fault_text}
 use Rattle.osc_text.specs.Lines.{bytes_text}
-use Rattle.osc_text.specs.ServerLines.{delivery_text, entry_line, fault_text, reply_text}
+use Rattle.osc_text.specs.ServerLines.{delivery_text, reply_text}
 
 -- what was made of a datagram, as it prints (how the code is seen)
 abbrev pub seen_text : Seen → List ℕ

@@ -1,6 +1,6 @@
 -- To be believed: what `run` prints of a server and its input (RFC 8613, 7.4, 8.2 and 8.3; own rule: the lines). g is what the context is
 -- derived from, s that context, h and k are the histories before and after, ts and us the tickets before and after, one place an event.
-use Rattle.std.specs.Prelude.{◌≡◌, ◌+◌, ◌++◌, ◌∷◌, [], ℕ, List, Bool, Option, Some, None, Result, Ok, Err, length, slice_set, if◌then◌else◌}
+use Rattle.std.specs.Prelude.{◌≡◌, ◌+◌, ◌++◌, ◌∷◌, [], ℕ, List, Bool, Option, Some, None, length, slice_set, if◌then◌else◌}
 use Rattle.osc_coap.specs.Datagram.{Parts, IsDatagram}
 use Rattle.osc_coap.specs.Fault.{HasFault}
 use Rattle.osc_coap.specs.declared.format_error.Fault.{Fault as MessageFault}
@@ -20,12 +20,13 @@ use Rattle.osc_endpoint.specs.declared.server_error.RestartError.{RestartError}
 use Rattle.osc_endpoint.specs.declared.start.Start.{Start}
 use Rattle.osc_endpoint.specs.declared.start.Start.TheVariants as starts
 use Rattle.osc_text.specs.Contexts.{InContext, Told}
-use Rattle.osc_text.specs.InputEvents.{InputEvent, IsFirstBadLine, SpellsInput}
+use Rattle.osc_text.specs.EntryLines.{bad_plain_line, not_done_line, restarted_line}
+use Rattle.osc_text.specs.InputEvents.{InputEvent, SpellsEvent}
 use Rattle.osc_text.specs.InputEvents as input
+use Rattle.osc_text.specs.InputText.{InputText}
+use Rattle.osc_text.specs.Inputs.{IsFirstBadLine}
 use Rattle.osc_text.specs.Lines.{refused_line}
-use Rattle.osc_text.specs.ServerLines.{took_line, replied_line, not_done_line, bad_plain_line, no_ticket_line, restarted_line}
-use Rattle.osc_text.specs.declared.fault.Fault.{Fault}
-use Rattle.osc_text.specs.declared.fault.Fault.TheVariants as faults
+use Rattle.osc_text.specs.ServerLines.{took_line, replied_line, no_ticket_line}
 use Rattle.osc_text.specs.declared.serving.Serving.{Serving}
 
 -- the room that each reply has: that of its plain message and 128 bytes (own rule)
@@ -57,13 +58,9 @@ EventLine h ts (input.Reply of own mid plain) line k us =
     (left : List (Option TicketValues)) × ReplyLine h ts of own mid plain line k left × (us ≡ left ++ None ∷ [])
 EventLine h ts (input.Restart next) line k us = RestartLine h next line k × (us ≡ ts ++ None ∷ [])
 
--- the lines of these events, one each, from this history on (RFC 8613, 7.4, 8.2 and 8.3)
-abbrev pub EventLines : History → List (Option TicketValues) → List InputEvent → List (List ℕ) → Type 0
-EventLines h ts [] [] = Unit {0}
-EventLines h ts [] (line ∷ lines) = ⊥
-EventLines h ts (event ∷ events) [] = ⊥
-EventLines h ts (event ∷ events) (line ∷ lines) =
-    (k : History) × (us : List (Option TicketValues)) × EventLine h ts event line k us × EventLines k us events lines
+-- the same, of the history and the tickets as one state (RFC 8613, 7.4, 8.2 and 8.3)
+abbrev pub ServerLine : History × List (Option TicketValues) → InputEvent → List ℕ → History × List (Option TicketValues) → Type 0
+ServerLine before event line after = EventLine before.0 before.1 event line after.0 after.1
 
 -- how the context begins: restarted, or fresh (RFC 8613, B.1)
 abbrev pub start_of : Serving → Start
@@ -72,8 +69,8 @@ start_of serving = if serving.is_restarted then starts.Restarted serving.next el
 -- what a server prints under a context: the line of a refused start, or one line for each event of the input (RFC 8613, 7.4, 8.2 and 8.3)
 pub data ServerText (s : SecurityContext) (start : Start) (size : WindowSize) (bytes : List ℕ) (lines : List (List ℕ)) (status : ℕ) : Type 0 where
   not_started : (e : AddError) → ServerAnswer Begin (Add s start size) (NotAdded e) → lines ≡ refused_line (add_error_text e) ∷ [] → status ≡ 2 → ServerText s start size bytes lines status
-  served : (index : ℕ) (events : List InputEvent) → ServerAnswer Begin (Add s start size) (Added index) → SpellsInput bytes events
-      → EventLines (Then Begin (Add s start size) (Added index)) [] events lines → status ≡ 0 → ServerText s start size bytes lines status
+  served : (index : ℕ) → ServerAnswer Begin (Add s start size) (Added index)
+      → InputText SpellsEvent ServerLine (Then Begin (Add s start size) (Added index), []) bytes lines status → ServerText s start size bytes lines status
 
 -- what `run` prints of a server (RFC 8613, 7.4, 8.2 and 8.3)
 abbrev pub ServeText : Params → Serving → List ℕ → Told
@@ -84,11 +81,4 @@ pub record HasBadLine (g : Params) (serving : Serving) (bytes : List ℕ) (numbe
   pub in_context : (e : ContextError) → ¬ RefusesParams g e
   pub index : ℕ
   pub starts : ServerAnswer Begin (Add (server_context_of g) (start_of serving) serving.window) (Added index)
-  pub first_bad : IsFirstBadLine bytes number
-
--- where a line is bad: its number, or want of memory (own rule)
-abbrev pub RefusesLine : {T : Type 0} → ℕ → Result T Fault → Type 0
-RefusesLine number (Ok x) = ⊥
-RefusesLine number (Err (faults.Line n)) = n ≡ number
-RefusesLine number (Err faults.Memory) = Unit {0}
-RefusesLine number (Err fault) = ⊥
+  pub first_bad : IsFirstBadLine SpellsEvent bytes number

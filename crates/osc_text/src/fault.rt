@@ -19,6 +19,12 @@ pub enum Wrong {
     /// The word is no number, or one from 2^40 up, which no message can have.
     #[error("not a number below 2^40")]
     Number,
+    /// The word is no number, or one from 2^64 up.
+    #[error("not a number below 2^64")]
+    Moment,
+    /// The role has no such option.
+    #[error("not for this role")]
+    Role,
     /// No call has that name.
     #[error("unknown")]
     Unknown,

@@ -1,22 +1,20 @@
-//! The events that an input spells, one a line.
+//! The events that the lines of an input ask of a server.
 
-ghost use Rattle.std.specs.Prelude.{◌≡◌, ◌≢◌, ◌∷◌, ◌^◌, ◌<◌, [], All, IfOk, IfErr, IfSome, length, map, option_map};
-ghost use Rattle.osc_text.specs.InputEvents.{InputEvent, Restart};
-ghost use Rattle.osc_text.specs.InputReading.{event_read, event_seen, number_read, take_read, reply_read, verb_read, IsOfRun, lines_of, ReadsAll, Misreads};
+ghost use Rattle.std.specs.Prelude.{◌≡◌, ◌^◌, IfOk, IfSome, option_map};
+ghost use Rattle.osc_text.specs.InputEvents.{Restart, SpellsEvent};
+ghost use Rattle.osc_text.specs.InputReading.{SpellsNone, number_read};
+ghost use Rattle.osc_text.specs.ServedReading.{IsOfRun, SpellsServed, event_read, event_seen, reply_read, take_read, verb_read};
 
-use crate::fault::Fault;
+use crate::input_lines::LineEvent;
 use crate::input_words::{
-    four_words, read_bytes, read_fixed, read_message_id, read_moment, read_next, read_own,
-    split_once,
+    MOST_ADDED, four_words, read_bytes, read_fixed, read_message_id, read_moment, read_next,
+    read_own, split_once,
 };
 use osc_endpoint::{Answering, Arrival, Fresh, ServerEvent};
 use std::alloc::{AllocError, Global};
 
-/// How many bytes a protected message can be longer than the plain one.
-const MOST_ADDED: usize = 128;
-
 /// The event of a datagram that comes: `NOW ECHO MID DATAGRAM`.
-#[tactic(auto, unfolding(crate::specs::InputReading::take_read))]
+#[tactic(auto, unfolding(crate::specs::ServedReading::take_read))]
 fn read_take(alloc: Global, fields: &[u8]) -> Result<Option<ServerEvent>, AllocError>
     ensures seen { IfOk result (λ event. option_map event_seen event ≡ take_read fields.now) }
     ensures room { IfOk result (λ event. IfSome event IsOfRun) }
@@ -43,7 +41,7 @@ fn read_take(alloc: Global, fields: &[u8]) -> Result<Option<ServerEvent>, AllocE
 }
 
 /// The event of a reply: `EVENT own|shared MID PLAIN`.
-#[tactic(auto, unfolding(crate::specs::InputReading::reply_read))]
+#[tactic(auto, unfolding(crate::specs::ServedReading::reply_read))]
 fn read_reply(alloc: Global, fields: &[u8]) -> Result<Option<ServerEvent>, AllocError>
     ensures seen { IfOk result (λ event. option_map event_seen event ≡ reply_read fields.now) }
     ensures room { IfOk result (λ event. IfSome event IsOfRun) }
@@ -80,7 +78,7 @@ fn read_restart(fields: &[u8]) -> Option<ServerEvent>
 }
 
 /// The event of a verb and its fields.
-#[tactic(auto, unfolding(crate::specs::InputReading::verb_read))]
+#[tactic(auto, unfolding(crate::specs::ServedReading::verb_read))]
 fn read_fields(alloc: Global, verb: &[u8], fields: &[u8]) -> Result<Option<ServerEvent>, AllocError>
     ensures seen { IfOk result (λ event. option_map event_seen event ≡ verb_read verb.now fields.now) }
     ensures room { IfOk result (λ event. IfSome event IsOfRun) }
@@ -98,7 +96,7 @@ fn read_fields(alloc: Global, verb: &[u8], fields: &[u8]) -> Result<Option<Serve
 }
 
 /// The event of a line, where it spells one.
-#[tactic(auto, unfolding(crate::specs::InputReading::event_read))]
+#[tactic(auto, unfolding(crate::specs::ServedReading::event_read))]
 fn read_event(alloc: Global, line: &[u8]) -> Result<Option<ServerEvent>, AllocError>
     ensures seen { IfOk result (λ event. option_map event_seen event ≡ event_read line.now) }
     ensures room { IfOk result (λ event. IfSome event IsOfRun) }
@@ -109,32 +107,12 @@ fn read_event(alloc: Global, line: &[u8]) -> Result<Option<ServerEvent>, AllocEr
     }
 }
 
-/// The first line, without its newline, and what is behind it.
-fn first_line(rest: &[u8]) -> (&[u8], &[u8])
-    requires { rest.now ≢ [] }
-    ensures lines { lines_of rest.now ≡ result.0.now ∷ lines_of result.1.now }
-    ensures shorter { length result.1.now < length rest.now }
-{
-    match split_once(rest, b'\n') {
-        Some(parts) => parts,
-        None => (rest, &[]),
-    }
-}
+impl LineEvent for ServerEvent {
+    ghost spells = { SpellsServed };
 
-/// The events that an input spells, one a line, or the number of the first line that spells none.
-pub(crate) fn read_events(alloc: Global, input: &[u8]) -> Result<Vec<ServerEvent>, Fault>
-    ensures read { IfOk result (λ events. ReadsAll input.now events.items) }
-    ensures refused { IfErr result (λ fault. Misreads input.now fault) }
-{
-    let mut events = Vec::new(alloc);
-    let mut rest = input;
-    while !rest.is_empty() {
-        let (line, behind) = first_line(rest);
-        match read_event(alloc, line)? {
-            Some(event) => events.push(event)?,
-            None => return Err(Fault::Line(events.len() + 1)),
-        }
-        rest = behind;
+    ghost is_bad = { SpellsNone SpellsEvent };
+
+    fn from_line(alloc: Global, line: &[u8]) -> Result<Option<ServerEvent>, AllocError> {
+        read_event(alloc, line)
     }
-    Ok(events)
 }

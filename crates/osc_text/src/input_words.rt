@@ -2,7 +2,8 @@
 
 ghost use Rattle.std.specs.Prelude.{◌≡◌, ◌^◌, ◌<◌, IfOk, IfSome, length, option_map};
 ghost use Rattle.std.specs.Int.{from_be_bytes, w16};
-ghost use Rattle.osc_text.specs.InputReading.{split_once, number_read, hex_decoded, bytes_read, fixed_read, message_id_read, own_read, four_read, parts, four_parts};
+ghost use Rattle.osc_text.specs.InputReading.{split_once, number_read, hex_decoded, bytes_read, fixed_read, parts};
+ghost use Rattle.osc_text.specs.ServedReading.{message_id_read, own_read, four_read, four_parts};
 ghost use Rattle.osc_context.specs.Views.{number_of};
 ghost use Rattle.hex.specs.Hex.{decode_of};
 
@@ -11,6 +12,9 @@ use hex::{FromHexError, decode, decode_to_slice};
 use osc_context::Piv;
 use std::alloc::{AllocError, Global};
 use std::str;
+
+/// How many bytes a protected message can be longer than the plain one.
+pub(crate) const MOST_ADDED: usize = 128;
 
 /// Four words.
 pub(crate) type Four<'a> = (&'a [u8], &'a [u8], &'a [u8], &'a [u8]);
@@ -26,7 +30,7 @@ pub(crate) fn split_once(bytes: &[u8], mark: u8) -> Option<(&[u8], &[u8])>
 }
 
 /// Four words that a space parts. The last has all that is behind the third space.
-#[tactic(auto, unfolding(crate::specs::InputReading::four_read))]
+#[tactic(auto, unfolding(crate::specs::ServedReading::four_read))]
 pub(crate) fn four_words(fields: &[u8]) -> Option<Four<'_>>
     ensures { option_map four_parts result ≡ four_read fields.now }
 {
@@ -78,7 +82,7 @@ pub(crate) fn read_message_id(word: &[u8]) -> Option<u16>
 }
 
 /// Whether a word asks for an own number.
-#[tactic(auto, unfolding(crate::specs::InputReading::own_read))]
+#[tactic(auto, unfolding(crate::specs::ServedReading::own_read))]
 pub(crate) fn read_own(word: &[u8]) -> Option<bool>
     ensures { result ≡ own_read word.now }
 {

@@ -8,25 +8,31 @@
 //! ```
 #![tactic(auto)]
 
+mod asked_entries;
+mod asked_events;
+mod asking;
 mod derivation;
 mod entry_lines;
 mod explanation;
 mod fault;
 mod hex_word;
 mod input_events;
+mod input_lines;
 mod input_words;
 mod lines;
 mod number_word;
 mod opening;
 mod oscore_lines;
 mod protection;
+mod served_entries;
 mod serving;
 
+pub use asking::{Asking, ask_text};
 pub use derivation::derive_text;
 pub use explanation::explain_text;
 pub use fault::{Fault, Wrong};
 pub use hex_word::{HexError, read_hex};
-pub use number_word::read_number;
+pub use number_word::{read_decimal, read_number};
 pub use opening::{Opening, open_text};
 pub use protection::{Sealing, protect_text};
 pub use serving::{Serving, serve_text};

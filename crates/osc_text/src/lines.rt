@@ -50,7 +50,7 @@ pub(crate) fn code_text(alloc: Global, code: u8) -> Result<String, AllocError>
 }
 
 /// A number in decimal, or a dash for none.
-fn number_text(alloc: Global, number: Option<Piv>) -> Result<String, AllocError>
+pub(crate) fn number_text(alloc: Global, number: Option<Piv>) -> Result<String, AllocError>
     ensures { IfOk result (λ text. string_bytes text ≡ number_text (option_map number_of number)) }
 {
     match number {

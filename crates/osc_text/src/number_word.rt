@@ -18,7 +18,8 @@ fn first_byte(bytes: &[u8]) -> u8
 }
 
 /// The number below 2^64 that a word of decimal digits says. Zeros may stand first; there is no sign.
-pub(crate) fn read_decimal(word: &str) -> Option<u64>
+#[must_use]
+pub fn read_decimal(word: &str) -> Option<u64>
     ensures { SomeIff result (IsDigitWord word.now × (number_said word.now < 2 ^ 64)) (number_said word.now) }
 {
     // The number parser of std takes a plus in front.

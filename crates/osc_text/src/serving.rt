@@ -1,13 +1,14 @@
 //! What `run` prints of a server.
 
-ghost use Rattle.std.specs.Prelude.{◌≡◌, ◌⊎◌, ℕ, List, All, Err, IfOk, map};
+ghost use Rattle.std.specs.Prelude.{◌≡◌, ◌⊎◌, ℕ, [], List, All, Err, IfOk, map};
 ghost use Rattle.osc_context.specs.Views.{as_server};
 ghost use Rattle.osc_endpoint.specs.Agrees.{Agrees};
+ghost use Rattle.osc_endpoint.specs.Laws.{AllAnswers};
 ghost use Rattle.osc_endpoint.specs.ServerHistory.{History};
 
-use crate::entry_lines::put_entries;
+use crate::entry_lines::write_log;
 use crate::fault::Fault;
-use crate::input_events::read_events;
+use crate::input_lines::read_events;
 use crate::lines::put_refused;
 use osc_coap::one_datagram;
 use osc_context::{Context, Params, Piv, one_context_refusal};
@@ -27,9 +28,13 @@ pub struct Serving {
     pub window: WindowSize,
 }
 
-ghost use Rattle.osc_text.specs.InputReading.{IsOfRun, event_seen};
-ghost use Rattle.osc_text.specs.Serving.{HasBadLine, RefusesLine, ServeText, start_of};
-ghost use Rattle.osc_text.specs.ServerOutcomes.{RunsEvents, ServesCall, ServesContext, ServesInput};
+ghost use Rattle.osc_text.specs.InputEvents.{SpellsEvent};
+ghost use Rattle.osc_text.specs.InputText.{InputText, RefusesLine};
+ghost use Rattle.osc_text.specs.Inputs.{IsFirstBadLine};
+ghost use Rattle.osc_text.specs.Printing.{Prints, RunsEvents};
+ghost use Rattle.osc_text.specs.ServedReading.{IsOfRun, event_seen};
+ghost use Rattle.osc_text.specs.Serving.{HasBadLine, ServeText, ServerLine, ServerText, start_of};
+ghost use Rattle.osc_text.specs.Starting.{StartsBadly};
 ghost use Rattle.osc_text.specs.Written.{Writes};
 ghost use Rattle.osc_text.specs.declared.fault.Fault.TheVariants.{Line};
 
@@ -69,9 +74,6 @@ pub fn serve_text<W: Write>(
     ensures refuses { (n : ℕ) → HasBadLine params.entry serving input.now n → RefusesLine n result }
     ensures quiet { (n : ℕ) → HasBadLine params.entry serving input.now n → out.new ≡ out.old }
 {
-    one_context_refusal();
-    one_server_answer();
-    one_datagram();
     write_serving(alloc, params, serving, input, out)
 }
 
@@ -83,8 +85,10 @@ fn write_serving<W: Write>(
     input: &[u8],
     out: &mut W,
 ) -> Result<u8, Fault>
-    ensures { ServesCall W.contents params.entry serving input.now out.old out.new result }
+    ensures { Prints W.contents (ServeText params.entry serving input.now) (HasBadLine params.entry serving input.now)
+        out.old out.new result }
 {
+    one_context_refusal();
     match Context::derive(params) {
         Ok(context) => write_served(alloc, context, serving, input, out),
         Err(refusal) => put_refused(alloc, refusal, out),
@@ -99,8 +103,10 @@ fn write_served<W: Write>(
     input: &[u8],
     out: &mut W,
 ) -> Result<u8, Fault>
-    ensures { ServesContext W.contents (as_server context) (start_of serving) serving.window input.now out.old out.new result }
+    ensures { Prints W.contents (ServerText (as_server context) (start_of serving) serving.window input.now)
+        (StartsBadly (as_server context) (start_of serving) serving.window input.now) out.old out.new result }
 {
+    one_server_answer();
     let mut server = Server::new();
     match server.add(context, serving.start(), serving.window) {
         Ok(_index) => write_input(alloc, &mut server, input, out),
@@ -115,11 +121,14 @@ fn write_input<W: Write>(
     input: &[u8],
     out: &mut W,
 ) -> Result<u8, Fault>
-    ensures { (h : History) → Agrees server.old h → ServesInput W.contents h input.now out.old out.new result }
+    ensures { (h : History) → Agrees server.old h → AllAnswers h
+        → Prints W.contents (InputText SpellsEvent ServerLine (h, []) input.now) (IsFirstBadLine SpellsEvent input.now)
+        out.old out.new result }
 {
+    one_server_answer();
+    one_datagram();
     let mut events = read_events(alloc, input)?;
-    write_events(alloc, server, events.as_mut_slice(), out)?;
-    Ok(0)
+    write_events(alloc, server, events.as_mut_slice(), out)
 }
 
 /// Runs a server over events, and writes the lines of their entries: of those before one for which no memory was left.
@@ -128,13 +137,11 @@ fn write_events<W: Write>(
     server: &mut Server,
     events: &mut [ServerEvent],
     out: &mut W,
-) -> Result<(), Fault>
+) -> Result<u8, Fault>
     ensures { (h : History) → Agrees server.old h → All IsOfRun events.old
-        → RunsEvents h (map event_seen events.old) (W.contents out.old) (W.contents out.new) result }
+        → RunsEvents ServerLine (h, []) (map event_seen events.old) (W.contents out.old) (W.contents out.new) result }
 {
     let mut log = Vec::new(alloc);
     let ran = run_server(alloc, server, events, &mut log);
-    put_entries(alloc, log.as_slice(), out)?;
-    ran?;
-    Ok(())
+    write_log(alloc, log.as_slice(), ran, out)
 }

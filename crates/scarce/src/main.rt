@@ -1,11 +1,14 @@
-//! A run of a server over a fixed input, with no word to read: small enough to have each of its growths refused in turn. Then
-//! the status is 1, standard error has one line, and standard output whole lines from the front of what `stdout` has.
+//! A run of a server and one of a client over fixed inputs, with no word to read: small enough to have each of their growths
+//! refused in turn. Then the status is 1, standard error has one line, and standard output whole lines from the front of what
+//! `stdout` has.
 #![tactic(auto)]
 
 use osc_context::{Params, Piv};
-use osc_text::{Serving, serve_text};
+use osc_text::{Asking, Fault, Serving, ask_text, serve_text};
 use osc_window::WindowSize;
+use std::alloc::Global;
 use std::io;
+use std::io::Write;
 use std::process::ExitCode;
 
 /// The Master Secret of RFC 8613, C.1.
@@ -15,31 +18,47 @@ const SECRET: [u8; 16] = [1, 2, 3, 4, 5, 6, 7, 8, 9, 10, 11, 12, 13, 14, 15, 16]
 const SALT: [u8; 8] = [0x9e, 0x7c, 0xa9, 0x22, 0x23, 0x78, 0x63, 0x40];
 
 /// The request of RFC 8613, C.4, the same come again, and the response of C.7 to the first.
-const INPUT: &[u8] =
+const REQUESTS: &[u8] =
     b"take 1000 0102030405060708 0001 44025d1f00003974396c6f63616c686f7374620914ff612f1092f1776f1c1668b3825e
 take 1001 0102030405060708 0001 44025d1f00003974396c6f63616c686f7374620914ff612f1092f1776f1c1668b3825e
 reply 0 shared 0001 64455d1f00003974ff48656c6c6f20576f726c6421
 ";
 
+/// The plain request of RFC 8613, C.4, its response under the last number, the same come again, and its token.
+const RESPONSES: &[u8] = b"request 0 44015d1f00003974396c6f63616c686f737483747631
+take 1 64445d1f0000397490ff40a006fe1a53a6b1ded204996ac88a1095ba803aa4c7
+take 2 64445d1f0000397490ff40a006fe1a53a6b1ded204996ac88a1095ba803aa4c7
+forget 00003974
+";
+
+/// The context of one end.
+fn params<'a>(sender: &'a [u8], recipient: &'a [u8]) -> Params<'a> {
+    Params {
+        secret: &SECRET,
+        salt: &SALT,
+        id_context: None,
+        sender,
+        recipient,
+    }
+}
+
+/// Runs the server, and then the client, and answers the status of the last.
+fn run<W: Write>(alloc: Global, out: &mut W) -> Result<u8, Fault> {
+    let serving = Serving {
+        next: Piv::MAX,
+        is_restarted: false,
+        window: WindowSize::default(),
+    };
+    serve_text(alloc, params(&[1], &[]), serving, REQUESTS, out)?;
+    let asking = Asking {
+        next: Piv::MAX,
+        life_ms: 60_000,
+    };
+    ask_text(alloc, params(&[], &[1]), asking, RESPONSES, out)
+}
+
 fn main(rt: HostRuntime) -> io::Result<ExitCode> {
-    let outcome = serve_text(
-        rt.alloc(),
-        Params {
-            secret: &SECRET,
-            salt: &SALT,
-            id_context: None,
-            sender: &[1],
-            recipient: &[],
-        },
-        Serving {
-            next: Piv::MAX,
-            is_restarted: false,
-            window: WindowSize::default(),
-        },
-        INPUT,
-        &mut rt.stdout(),
-    );
-    match outcome {
+    match run(rt.alloc(), &mut rt.stdout()) {
         Ok(status) => Ok(ExitCode::from(status)),
         Err(fault) => {
             eprintln!(rt; "{fault}")?;

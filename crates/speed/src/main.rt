@@ -1,6 +1,7 @@
 //! What calls of the layers cost: nanoseconds a call, the least of some runs. README.md tells how to run it.
 #![tactic(auto)]
 
+mod asking;
 mod ciphers;
 mod messages;
 mod serving;
@@ -12,7 +13,7 @@ use std::process::ExitCode;
 use std::rt::{Clock, Env};
 use std::{env, io};
 
-const USAGE: &str = "usage: speed all | schedule | block | ccm | message | parse | server
+const USAGE: &str = "usage: speed all | schedule | block | ccm | message | parse | server | client
 Measures calls, and prints a line each: its name, and nanoseconds a call.";
 
 /// Measures what the word names, and answers the status.
@@ -26,6 +27,7 @@ fn run<R: Clock + Print + Eprint + Alloc<A = Global>>(rt: &R, word: &str) -> io:
             messages::message(&mut watch)?;
             messages::parsing(&mut watch)?;
             serving::serving(&mut watch, rt.alloc())?;
+            asking::asking(&mut watch, rt.alloc())?;
         }
         "schedule" => ciphers::schedule(&mut watch)?,
         "block" => ciphers::block(&mut watch)?,
@@ -33,6 +35,7 @@ fn run<R: Clock + Print + Eprint + Alloc<A = Global>>(rt: &R, word: &str) -> io:
         "message" => messages::message(&mut watch)?,
         "parse" => messages::parsing(&mut watch)?,
         "server" => serving::serving(&mut watch, rt.alloc())?,
+        "client" => asking::asking(&mut watch, rt.alloc())?,
         _ => {
             eprintln!(rt; "{USAGE}")?;
             return Ok(2);

@@ -1,6 +1,9 @@
+use Rattle.osc_endpoint.proofs.RequestNumbers.{request_nonces}
 use Rattle.osc_endpoint.proofs.ServerNonces.{no_shared_nonce}
 use Rattle.osc_endpoint.proofs.laws.nonces_once.Goals as goal
 
 pub returns : goal.returns
-returns c =
-    no_shared_nonce c.one_nonce.ensures c.one_option_value.ensures.in_range c.protections_show_heads.ensures.response c.delivered_once.ensures
+returns c = record {
+  server = no_shared_nonce c.one_nonce.ensures c.one_option_value.ensures.in_range c.protections_show_heads.ensures.response c.delivered_once.ensures;
+  client = request_nonces c.one_nonce.ensures c.protections_show_heads.ensures.request;
+}

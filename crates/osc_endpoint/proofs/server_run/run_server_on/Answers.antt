@@ -1,22 +1,14 @@
-use Rattle.std.proofs.Common.{◌≡◌, ◌∙◌, ◌+◌, ◌<◌, ap, ℕ, List, Option, subst, sym, arith, [], ◌∷◌, ◌++◌, length, take, drop, get_or, vec_len}
+use Rattle.std.proofs.Common.{◌≡◌, ◌∙◌, ◌+◌, ◌<◌, ap, List, Option, subst, arith, [], ◌∷◌, ◌++◌, length, take, drop, vec_len}
 use Rattle.std.proofs.lemmas.Grind.{common_steps}
-use Rattle.std.proofs.lemmas.List.{take_more, take_at, drop-drop}
+use Rattle.std.proofs.lemmas.List.{take_at}
 use Rattle.std.specs.Option.{option_map}
-use Rattle.osc_endpoint.specs.declared.server_event.ServerEvent.{ServerEvent}
 use Rattle.osc_endpoint.specs.declared.ticket.Ticket.{Ticket}
 use Rattle.osc_endpoint.specs.ServerRun.{values_in}
 use Rattle.osc_endpoint.specs.Serving.{Serves}
 use Rattle.osc_endpoint.specs.Views.{values_of}
+use Rattle.osc_endpoint.proofs.EventsLeft.{after_is, one_more}
 use Rattle.osc_endpoint.proofs.Runs.{run_on}
 use Rattle.osc_endpoint.proofs.server_run.run_server_on.Goals as goal
-
--- the first of what is left is the next of all
-next_is : (xs front : List ServerEvent) (n : ℕ) (x : ServerEvent) → front ≡ take 1 (drop n xs) → n < length xs → x ≡ get_or front 0 x → x ≡ get_or xs n x
-next_is xs front n x e h is = grind (arith, common_steps)
-
--- what is left behind it
-after_is : (xs ys zs : List ServerEvent) (n k : ℕ) → ys ≡ drop n xs → zs ≡ drop 1 ys → k ≡ n + 1 → zs ≡ drop k xs
-after_is xs ys zs n k e f h = f ∙ ap (drop 1) e ∙ drop-drop 1 n xs ∙ ap (λ m. drop m xs) (sym h)
 
 pub loop-log-preserved : goal.loop-log-preserved
 loop-log-preserved c =
@@ -31,8 +23,7 @@ loop-log-preserved c =
           let (mid, run, agrees) = c.loop-log.invariant.run h a in
           let (g, serves, next) = c.serve-entry.ensures mid agrees in
           let event = c.index-front-0.result in
-          let is_next : event ≡ get_or xs i event = next_is xs c.split_at_mut-front.result.0.now i event (c.split_at_mut-front.ensures.front ∙ ap (take 1) c.loop-log.invariant.rest_is) nonempty c.index-front-0.is in
-          let events_are : take i xs ++ event ∷ [] ≡ take (vec_len c.push_reserved.new.self) xs = ap (λ z. take i xs ++ z ∷ []) is_next ∙ sym (take_more xs i event nonempty) ∙ ap (λ k. take k xs) (sym len) in
+          let events_are = one_more xs c.loop-log.rest.now c.split_at_mut-front.result.0.now i (vec_len c.push_reserved.new.self) event c.loop-log.invariant.rest_is c.split_at_mut-front.ensures.front nonempty c.index-front-0.is len in
           let entries_are = c.push_reserved.ensures.items ∙ ap (λ z. z ++ c.serve-entry.result.0 ∷ []) c.reserve.ensures.items in
           let before = c.reserve-in-loop-log.new.self in
           let shown : c.deref_mut.result.now ≡ c.loop-log.tickets.items = c.deref_mut.ensures.value ∙ c.reserve-in-loop-log.ensures.items in

@@ -1,5 +1,5 @@
 use Rattle.std.proofs.Common.{rules, string_bytes}
-use Rattle.osc_text.proofs.ServerLogs.{more_written}
+use Rattle.osc_text.proofs.LogLines.{more_written}
 use Rattle.osc_text.proofs.entry_lines.with_more_options.Goals as goal
 
 pub loop-number-preserved : goal.loop-number-preserved

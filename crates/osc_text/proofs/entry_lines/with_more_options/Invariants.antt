@@ -1,6 +1,6 @@
 use Rattle.std.proofs.Common.{◌≡◌, ◌++◌, string_bytes}
 use Rattle.osc_coap.specs.Views.{options_left}
-use Rattle.osc_text.specs.ServerLines.{more_options_text}
+use Rattle.osc_text.specs.EntryLines.{more_options_text}
 use Rattle.osc_text.proofs.entry_lines.with_more_options.Given as goal
 
 abbrev pub invariant-loop-number : goal.invariant-loop-number

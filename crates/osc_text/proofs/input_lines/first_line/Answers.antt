@@ -1,5 +1,5 @@
 use Rattle.osc_text.proofs.InputLines.{line_behind, only_line}
-use Rattle.osc_text.proofs.input_events.first_line.Goals as goal
+use Rattle.osc_text.proofs.input_lines.first_line.Goals as goal
 
 pub returns-in-Some-clause-lines : goal.returns-in-Some-clause-lines
 returns-in-Some-clause-lines c = (line_behind c.args.rest.now c.in-Some.parts.0.now c.in-Some.parts.1.now c.in-Some.ensures).0

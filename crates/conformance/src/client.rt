@@ -1,0 +1,231 @@
+//! Calls of osc_endpoint: a client, step by step.
+
+use crate::answer::Answer;
+use crate::client_entry::show;
+use crate::client_steps::{events_of, is_event};
+use crate::fields::{Fields, NamedContext};
+use crate::steps::{FILLED_WITH, Step, number, steps_of};
+use osc_coap::parse;
+use osc_context::Piv;
+use osc_endpoint::{
+    Client, ClientEntry, ClientEvent, read_client_decided, run_client, run_client_on,
+};
+use osc_protect::head_of_request;
+use std::alloc::Global;
+
+/// How a row's steps are made.
+#[derive(Clone, Copy, PartialEq, Eq)]
+enum Way {
+    ByTake,
+    ByHalves,
+    ByRun,
+    ByRunOn,
+}
+
+/// `CONTEXT ROOM NEXT LIFE`: a client with room for N pending requests, ROOM being N.
+fn new<const N: usize>(fields: &Fields<'_>, contexts: &[NamedContext<'_>]) -> Option<Client<N>> {
+    fields.count(4);
+    let context = fields.context(contexts)?;
+    Some(Client::new(context, number(fields, 2), fields.number(3)))
+}
+
+/// A request, by one call, which answers a length alone: the number is read from the request.
+fn request<'a, const N: usize>(
+    client: &mut Client<N>,
+    now: u64,
+    plain: &[u8],
+    out: &'a mut [u8],
+    answer: &mut Answer,
+) -> ClientEntry<'a> {
+    let message = match parse(plain) {
+        Ok(message) => message,
+        Err(fault) => {
+            client.advance(now);
+            return ClientEntry::BadPlain(fault);
+        }
+    };
+    let len = match client.request(now, &message, out) {
+        Ok(len) => len,
+        Err(refusal) => return ClientEntry::NotSent(refusal),
+    };
+    let datagram = &out[..len];
+    let number = match head_of_request(datagram) {
+        Ok(head) => head.number,
+        Err(_) => {
+            answer.is_whole = false;
+            Piv::MAX
+        }
+    };
+    ClientEntry::Sent { number, datagram }
+}
+
+/// A datagram, by one call or by its two halves.
+fn take<'a, const N: usize>(
+    client: &mut Client<N>,
+    now: u64,
+    bytes: &'a mut [u8],
+    in_halves: bool,
+) -> ClientEntry<'a> {
+    if in_halves {
+        let decision = client.decide(now, bytes);
+        ClientEntry::Took(read_client_decided(bytes, decision))
+    } else {
+        ClientEntry::Took(client.take(now, bytes))
+    }
+}
+
+/// An event, by calls.
+fn call<'a, const N: usize>(
+    client: &mut Client<N>,
+    event: &'a mut ClientEvent,
+    in_halves: bool,
+    answer: &mut Answer,
+) -> ClientEntry<'a> {
+    match event {
+        ClientEvent::Request { now, plain, out } => request(client, *now, plain, out, answer),
+        ClientEvent::Datagram { now, bytes } => take(client, *now, bytes, in_halves),
+        ClientEvent::Forget { token } => ClientEntry::Forgot(client.forget(token)),
+        ClientEvent::Restart { next } => {
+            client.restart(*next);
+            ClientEntry::Restarted
+        }
+    }
+}
+
+/// What is left of each event: of a datagram its bytes, of a request whether nothing was written into its room.
+fn left(steps: &[Step<'_>], events: &[ClientEvent], answer: &mut Answer) {
+    answer.word("left");
+    let mut rest = events;
+    for step in steps {
+        if !is_event(step) {
+            continue;
+        }
+        let Some((event, tail)) = rest.split_first() else {
+            return;
+        };
+        match event {
+            ClientEvent::Request { out, .. } => answer.rest(out, FILLED_WITH),
+            ClientEvent::Datagram { bytes, .. } => answer.left(step.fields.bytes(1), bytes),
+            ClientEvent::Forget { .. } | ClientEvent::Restart { .. } => {}
+        }
+        rest = tail;
+    }
+}
+
+/// The steps behind the first, one call each.
+fn by_calls<const N: usize>(
+    mut client: Client<N>,
+    steps: &[Step<'_>],
+    in_halves: bool,
+    answer: &mut Answer,
+) {
+    let mut events = events_of(steps, answer);
+    let mut rest = events.as_mut_slice();
+    for step in steps {
+        if step.verb == "advance" {
+            client.advance(step.fields.number(0));
+            answer.word("advanced ;");
+            continue;
+        }
+        let Some((event, tail)) = rest.split_first_mut() else {
+            return step.fields.refuse();
+        };
+        let entry = call(&mut client, event, in_halves, answer);
+        show(&entry, answer);
+        rest = tail;
+    }
+    left(steps, &events, answer);
+}
+
+/// The steps behind the first, as the events of a run.
+fn by_a_run<const N: usize>(
+    mut client: Client<N>,
+    steps: &[Step<'_>],
+    keeps_rest: bool,
+    answer: &mut Answer,
+) {
+    let alloc = answer.alloc;
+    let mut events = events_of(steps, answer);
+    run(alloc, &mut client, &mut events, keeps_rest, answer);
+    left(steps, &events, answer);
+}
+
+/// The events run, and their log is shown.
+fn run<const N: usize>(
+    alloc: Global,
+    client: &mut Client<N>,
+    events: &mut [ClientEvent],
+    keeps_rest: bool,
+    answer: &mut Answer,
+) {
+    let mut log = Vec::new(alloc);
+    let outcome = if keeps_rest {
+        let mut rest = events;
+        run_client_on(alloc, client, &mut rest, &mut log)
+    } else {
+        run_client(alloc, client, events, &mut log)
+    };
+    if outcome.is_err() {
+        answer.is_whole = false;
+    }
+    for entry in &log {
+        show(entry, answer);
+    }
+}
+
+/// The steps of a client, in one way.
+fn make<const N: usize>(
+    client: Option<Client<N>>,
+    steps: &[Step<'_>],
+    way: Way,
+    answer: &mut Answer,
+) {
+    let Some(client) = client else {
+        answer.is_whole = false;
+        return;
+    };
+    match way {
+        Way::ByTake => by_calls(client, steps, false, answer),
+        Way::ByHalves => by_calls(client, steps, true, answer),
+        Way::ByRun => by_a_run(client, steps, false, answer),
+        Way::ByRunOn => by_a_run(client, steps, true, answer),
+    }
+}
+
+/// The steps in one way, by the room.
+fn in_a_way(
+    fields: &Fields<'_>,
+    steps: &[Step<'_>],
+    contexts: &[NamedContext<'_>],
+    way: Way,
+    answer: &mut Answer,
+) {
+    match fields.word(1) {
+        "0" => make(new::<0>(fields, contexts), steps, way, answer),
+        "1" => make(new::<1>(fields, contexts), steps, way, answer),
+        "2" => make(new::<2>(fields, contexts), steps, way, answer),
+        "16" => make(new::<16>(fields, contexts), steps, way, answer),
+        _ => fields.refuse(),
+    }
+}
+
+/// Makes the calls of a row's steps behind the first, `new`: by `take`, by its halves, and, where they are events alone, by
+/// both runs.
+pub(crate) fn steps(text: &str, contexts: &[NamedContext<'_>], answer: &mut Answer) {
+    let (first, rest) = text.split_once(" ; ").unwrap_or((text, ""));
+    let (verb, fields) = first.split_once(' ').unwrap_or((first, ""));
+    let fields = Fields::read(answer.alloc, fields);
+    let steps = steps_of(rest, answer);
+    in_a_way(&fields, &steps, contexts, Way::ByTake, answer);
+    answer.again();
+    in_a_way(&fields, &steps, contexts, Way::ByHalves, answer);
+    if steps.iter().all(is_event) {
+        answer.again();
+        in_a_way(&fields, &steps, contexts, Way::ByRun, answer);
+        answer.again();
+        in_a_way(&fields, &steps, contexts, Way::ByRunOn, answer);
+    }
+    if verb != "new" || fields.is_bad() || steps.iter().any(|step| step.fields.is_bad()) {
+        answer.is_whole = false;
+    }
+}

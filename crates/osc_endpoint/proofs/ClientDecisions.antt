@@ -1,0 +1,115 @@
+-- What a client decides of a datagram, after a history.
+use Rattle.std.proofs.Common.{◌≡◌, ℕ, ◌∙◌, sym, ap, subst, refl, bytes_eq, not, true, Option, List}
+use Rattle.std.specs.Prelude.{Contains, map, max}
+use Rattle.std.specs.Option.{option_map}
+use Rattle.osc_coap.specs.Code.{is_response}
+use Rattle.osc_coap.specs.Datagram.{Parts, IsDatagram}
+use Rattle.osc_coap.specs.Laws.{DatagramIsOneMessage}
+use Rattle.osc_context.specs.SecurityContext.{SecurityContext}
+use Rattle.osc_context.specs.Views.{as_client, number_of}
+use Rattle.osc_context.specs.declared.partial_iv.Piv.{Piv}
+use Rattle.osc_protect.specs.Laws.{OneResponseReading}
+use Rattle.osc_protect.specs.Opening.{Opens}
+use Rattle.osc_protect.specs.Protection.{Protection, responses}
+use Rattle.osc_protect.specs.StageViews.{DecryptsResponse, OpensResponseAfter}
+use Rattle.osc_protect.specs.Views.{context_of}
+use Rattle.osc_protect.specs.declared.opened.Opened.{Opened}
+use Rattle.osc_protect.specs.declared.stages.DecryptedResponse.{DecryptedResponse}
+use Rattle.osc_endpoint.specs.declared.client.Client.{Client}
+use Rattle.osc_endpoint.specs.declared.decision.ClientDecision.TheVariants as decisions
+use Rattle.osc_endpoint.specs.declared.pending.Pending.{Pending}
+use Rattle.osc_endpoint.specs.Agrees.{ClientAgrees, TokensDiffer}
+use Rattle.osc_endpoint.specs.ClientAnswer.{IsAmong, IsAnswerTo}
+use Rattle.osc_endpoint.specs.ClientDeciding.{ClientDecidesTo, IsOpenedBy}
+use Rattle.osc_endpoint.specs.ClientHistory.{Advance, Advanced, Asked, Deliver, History, Then, alive, asked, clock, context, life_ms, pending_at, without}
+use Rattle.osc_endpoint.specs.Received.{Receives}
+use Rattle.osc_endpoint.specs.Views.{asked_of, received_of}
+use Rattle.osc_endpoint.proofs.Asking.{contains_filter, differ_filter, ended}
+
+-- a fact of the client's context and a request's number, in the words of the history
+pub in_history : (P : Protection (Option ℕ) → Type 0) (s t : SecurityContext) (k n m : ℕ) → s ≡ t → k ≡ n → m ≡ n → P (responses s k) → P (responses t m)
+in_history P s t k n m e f g h = subst (λ x. P (responses t x)) (f ∙ sym g) (subst (λ x. P (responses x k)) e h)
+
+-- what was found in the table, or not, is found among the pending requests, or not
+pub there : (xs ys : List Pending) (t token : List ℕ) (n : ℕ) → xs ≡ ys → t ≡ token → (r : Asked) × Contains (map asked_of xs) r × (r.token ≡ t) × (r.number ≡ n)
+    → (r : Asked) × Contains (map asked_of ys) r × (r.token ≡ token) × (r.number ≡ n)
+there xs ys t token n same is (r, has, token_is, number_is) = (r, subst (λ zs. Contains (map asked_of zs) r) same has, token_is ∙ is, number_is)
+
+pub not_there : {N : ℕ} (c : Client N) (h : History) (now : ℕ) (xs : List Pending) (t token : List ℕ) → ClientAgrees c (Then h (Advance now) Advanced)
+    → xs ≡ c.pending.items → t ≡ token → (IsAmong t (map asked_of xs) → ⊥) → IsAmong token (pending_at h (max (clock h) now)) → ⊥
+not_there c h now xs t token a same is none (r, has, token_is) =
+    none (r, subst (λ ys. Contains ys r) (sym a.table ∙ ap (map asked_of) (sym same)) has, token_is ∙ sym is)
+
+-- the pending request that the token names
+pub answers : {N : ℕ} (c : Client N) (h : History) (now : ℕ) (d : List ℕ) (p : Parts) (r : Asked) → ClientAgrees c (Then h (Advance now) Advanced)
+    → IsDatagram p d → is_response p.kind p.code ≡ true → r.token ≡ p.token → Contains (map asked_of c.pending.items) r → IsAnswerTo h (max (clock h) now) d r
+answers c h now d p r a datagram response token has = ((p, datagram, response, sym token), subst (λ xs. Contains xs r) a.table has)
+
+-- what is opened of one datagram is one thing
+opens_alike : (s : SecurityContext) (n : ℕ) (d : List ℕ) (o x : Opened) → OneResponseReading → Opens (responses s n) d o → Opens (responses s n) d x → received_of x ≡ received_of o
+opens_alike s n d o x laws a b =
+    let one = laws.opened s n in
+    let kind = one.kind d x o b a in
+    let message_id = one.message_id d x o b a in
+    let token = one.token d x o b a in
+    let uri_host = one.uri_host d x o b a in
+    let uri_port = one.uri_port d x o b a in
+    let number = one.number d x o b a in
+    let message = one.message d x o b a in
+    cc
+
+-- what was opened is received
+receives : (s : SecurityContext) (n : ℕ) (d : List ℕ) (o : Opened) (a : Opens (responses s n) d o) → Receives (responses s n) a.number d (received_of o)
+receives s n d o a = record {
+  number = a.number_is;
+  protects = a.protects;
+  outer = a.outer;
+  datagram = a.datagram;
+  kind = a.shows.kind;
+  message_id = a.shows.message_id;
+  token = a.shows.token;
+  uri_host = a.shows.uri_host;
+  uri_port = a.shows.uri_port;
+}
+
+-- a delivery ends the request that it answers
+pub delivered : {N : ℕ} (c after : Client N) (h : History) (now k : ℕ) (d new : List ℕ) (p : Parts) (r : Asked) (piv : Piv) (x : DecryptedResponse) (o : Opened)
+    → DatagramIsOneMessage → OneResponseReading → ClientAgrees c (Then h (Advance now) Advanced)
+    → IsDatagram p d → is_response p.kind p.code ≡ true → r.token ≡ p.token → r.number ≡ number_of piv → k ≡ number_of piv → Contains (map asked_of c.pending.items) r
+    → DecryptsResponse (responses (as_client (context_of c.context)) k) d x new → OpensResponseAfter new x o
+    → after.context ≡ c.context → after.life_ms ≡ c.life_ms → after.clock ≡ c.clock → after.next ≡ c.next
+    → map asked_of after.pending.items ≡ without p.token (map asked_of c.pending.items)
+    → ClientDecidesTo h now d (decisions.Deliver x piv) new after
+delivered c after h now k d new p r piv x o one laws a datagram response token number request has decrypts opens same_context same_life same_clock same_next table =
+    let s = context h in
+    let by : DecryptsResponse (responses s r.number) d x new = in_history (λ f. DecryptsResponse f d x new) (as_client (context_of c.context)) s k (number_of piv) r.number a.context_is request number decrypts in
+    let got = opens s r.number d by in
+    let said = receives s r.number d o got in
+    let head : p.token ≡ (received_of o).token = sym (said.token ∙ ap (λ (q : Parts). q.token) (one said.outer p d said.datagram datagram)) in
+    let left = ended h (max (clock h) now) p.token ∙ ap (λ t. alive (max (clock h) now) (life_ms h) (without t (asked h))) head in
+    record {
+      answer = Deliver (received_of o) (number_of piv);
+      row = (r, answers c h now d p r a datagram response token has, (sym number, got.number, said));
+      decides = ((λ y q. opens_alike s r.number d o y laws got (q s r.number d by)), refl);
+      agrees = record {
+        context_is = ap (λ y. as_client (context_of y)) same_context ∙ a.context_is;
+        life_is = same_life ∙ a.life_is;
+        clock_is = same_clock ∙ a.clock_is;
+        next_is = same_next ∙ a.next_is;
+        table = table ∙ ap (without p.token) a.table ∙ left;
+        differ = subst TokensDiffer left (differ_filter (λ q. not (bytes_eq q.token p.token)) (pending_at h (max (clock h) now)) a.differ);
+      };
+    }
+
+-- what decryption leaves; old is the client before those were dropped whose time has passed
+pub opened_by : {N : ℕ} (old : Client N) (clock k : ℕ) (piv : Piv) (xs : List Asked) (d new : List ℕ) (r : Asked) (x : DecryptedResponse)
+    → xs ≡ alive clock old.life_ms (map asked_of old.pending.items) → Contains xs r → r.number ≡ number_of piv → k ≡ number_of piv
+    → DecryptsResponse (responses (as_client (context_of old.context)) k) d x new → IsOpenedBy old d new
+opened_by old clock k piv xs d new r x left has number request decrypts =
+    let s = as_client (context_of old.context) in (
+      r,
+      contains_filter _ (map asked_of old.pending.items) r (subst (λ ys. Contains ys r) left has),
+      option_map number_of x.number,
+      x.len,
+      in_history (λ f. DecryptsResponse f d x new) s s k (number_of piv) r.number refl request number decrypts,
+    )

@@ -1,0 +1,118 @@
+-- That a client has one answer to a request.
+use Rattle.std.proofs.Common.{◌≡◌, ℕ, ◌<◌, ◌≤◌, ◌^◌, ◌⊎◌, ◌∙◌, sym, ap, refl, arith, List, length, inl, inr}
+use Rattle.std.proofs.lemmas.Bool.{both_ways}
+use Rattle.osc_coap.specs.Datagram.{Parts}
+use Rattle.osc_protect.specs.Protection.{requests}
+use Rattle.osc_protect.specs.SealRefusals.{IsPlainRequest, RefusesToSeal}
+use Rattle.osc_protect.specs.Sealed.{SealsRequest}
+use Rattle.osc_protect.specs.declared.protect_error.ProtectError.{ProtectError}
+use Rattle.osc_protect.specs.declared.protect_error.ProtectError.TheVariants as seals
+use Rattle.osc_endpoint.specs.declared.client_outcome.RequestError.TheVariants.{NotThatKind, Unsupported, TokenInUse, PendingFull, SequenceExhausted, TooLong, NoRoom}
+use Rattle.osc_endpoint.specs.AnswerLaws.{ClientAnswerLaws}
+use Rattle.osc_endpoint.specs.ClientAnswer.{CanAsk, IsAmong, IsNewRequest, RequestAnswer}
+use Rattle.osc_endpoint.specs.ClientHistory.{Entry, History, NotSent, Sent, context, next, pending_at}
+use Rattle.osc_endpoint.specs.Requesting.{lifted}
+use Rattle.osc_endpoint.proofs.LifeReplies.{unsupported_among}
+
+-- the request isn't sealed, and not for its token, nor for want of room among those pending, nor of a number
+record IsRefused (n : ℕ) (h : History) (moment : ℕ) (p : Parts) (room : ℕ) (entry : Entry) : Type 0 where
+  pub refusal : ProtectError
+  pub refuses : RefusesToSeal (requests (context h)) (next h) p room refusal
+  pub can : IsPlainRequest p → CanAsk n h moment p
+  pub entry_is : entry ≡ NotSent (lifted refusal)
+
+-- it is for one of these
+abbrev IsHindered : ℕ → History → ℕ → Parts → Entry → Type 0
+IsHindered n h moment p (NotSent TokenInUse) = IsPlainRequest p × IsAmong p.token (pending_at h moment)
+IsHindered n h moment p (NotSent PendingFull) = IsNewRequest h moment p × (n ≤ length (pending_at h moment))
+IsHindered n h moment p (NotSent SequenceExhausted) = IsNewRequest h moment p × (length (pending_at h moment) < n) × (2 ^ 40 ≤ next h)
+IsHindered n h moment p entry = ⊥
+
+-- it is sealed
+record IsSent (n : ℕ) (h : History) (moment : ℕ) (p : Parts) (room : ℕ) (entry : Entry) : Type 0 where
+  pub bytes : List ℕ
+  pub can : CanAsk n h moment p
+  pub seals : SealsRequest (context h) (next h) p bytes
+  pub fits : length bytes ≤ room
+  pub entry_is : entry ≡ Sent bytes
+
+module _ (laws : ClientAnswerLaws) (n : ℕ) (h : History) (moment : ℕ) (p : Parts) (room : ℕ) where
+  -- each row is one of these three
+  sort_of : (x : Entry) → RequestAnswer n h moment p room x → IsRefused n h moment p room x ⊎ (IsHindered n h moment p x ⊎ IsSent n h moment p room x)
+  sort_of (NotSent NotThatKind) row = inl (record { refusal = seals.NotThatKind; refuses = row; can = λ plain. absurd (both_ways _ row plain.0); entry_is = refl })
+  sort_of (NotSent (Unsupported k)) row =
+      inl (record {
+        refusal = seals.Unsupported k;
+        refuses = row;
+        can = λ plain. absurd (both_ways _ plain.1 (unsupported_among k p.options row.1.unsupported row.1.among));
+        entry_is = refl;
+      })
+  sort_of (NotSent TokenInUse) row = inr (inl row)
+  sort_of (NotSent PendingFull) row = inr (inl row)
+  sort_of (NotSent SequenceExhausted) row = inr (inl row)
+  sort_of (NotSent TooLong) row = inl (record { refusal = seals.TooLong; refuses = row.1; can = λ plain. row.0; entry_is = refl })
+  sort_of (NotSent NoRoom) row = inl (record { refusal = seals.NoRoom; refuses = row.1; can = λ plain. row.0; entry_is = refl })
+  sort_of (Sent bytes) row = inr (inr (record { bytes = bytes; can = row.0; seals = row.1; fits = row.2; entry_is = refl }))
+  sort_of x row = absurd row
+
+  plain_of : (x : Entry) → IsHindered n h moment p x → IsPlainRequest p
+  plain_of (NotSent TokenInUse) row = row.0
+  plain_of (NotSent PendingFull) row = row.0.0
+  plain_of (NotSent SequenceExhausted) row = row.0.0
+  plain_of x row = absurd row
+
+  no_way : (x : Entry) → IsHindered n h moment p x → CanAsk n h moment p → ⊥
+  no_way (NotSent TokenInUse) row can = can.0.1 row.1
+  no_way (NotSent PendingFull) row can = let full = row.1 in let room = can.1 in omega (arith, full, room)
+  no_way (NotSent SequenceExhausted) row can = let none = row.2 in let left = can.2 in omega (arith, none, left)
+  no_way x row can = absurd row
+
+  one_hindered : (x y : Entry) → IsHindered n h moment p x → IsHindered n h moment p y → x ≡ y
+  one_hindered (NotSent TokenInUse) (NotSent TokenInUse) a b = refl
+  one_hindered (NotSent TokenInUse) (NotSent PendingFull) a b = absurd (b.0.1 a.1)
+  one_hindered (NotSent TokenInUse) (NotSent SequenceExhausted) a b = absurd (b.0.1 a.1)
+  one_hindered (NotSent PendingFull) (NotSent TokenInUse) a b = absurd (a.0.1 b.1)
+  one_hindered (NotSent PendingFull) (NotSent PendingFull) a b = refl
+  one_hindered (NotSent PendingFull) (NotSent SequenceExhausted) a b = let full = a.1 in let room = b.1 in absurd (omega (arith, full, room))
+  one_hindered (NotSent SequenceExhausted) (NotSent TokenInUse) a b = absurd (a.0.1 b.1)
+  one_hindered (NotSent SequenceExhausted) (NotSent PendingFull) a b = let full = b.1 in let room = a.1 in absurd (omega (arith, full, room))
+  one_hindered (NotSent SequenceExhausted) (NotSent SequenceExhausted) a b = refl
+  one_hindered (NotSent TokenInUse) y a b = absurd b
+  one_hindered (NotSent PendingFull) y a b = absurd b
+  one_hindered (NotSent SequenceExhausted) y a b = absurd b
+  one_hindered x y a b = absurd a
+
+  no_refused : (x y : Entry) → IsRefused n h moment p room x → IsSent n h moment p room y → ⊥
+  no_refused x y a b = (laws.sealed.request (context h)).never_both (next h) p room b.bytes a.refusal b.seals b.fits a.refuses
+
+  -- the three don't overlap, and each fixes its entry
+  pub one_request_answer : (x y : Entry) → RequestAnswer n h moment p room x → RequestAnswer n h moment p room y → x ≡ y
+  one_request_answer x y row other = elim (sort_of x row) [
+    | inl a ↦ elim (sort_of y other) [
+      | inl b ↦
+          let same : a.refusal ≡ b.refusal = (laws.sealed.request (context h)).refusal (next h) p room a.refusal b.refusal a.refuses b.refuses in
+          a.entry_is ∙ ap (λ e. NotSent (lifted e)) same ∙ sym b.entry_is
+      | inr c ↦ elim c [
+        | inl b ↦ absurd (no_way y b (a.can (plain_of y b)))
+        | inr b ↦ absurd (no_refused x y a b)
+      ]
+    ]
+    | inr d ↦ elim d [
+      | inl a ↦ elim (sort_of y other) [
+        | inl b ↦ absurd (no_way x a (b.can (plain_of x a)))
+        | inr c ↦ elim c [
+          | inl b ↦ one_hindered x y a b
+          | inr b ↦ absurd (no_way x a b.can)
+        ]
+      ]
+      | inr a ↦ elim (sort_of y other) [
+        | inl b ↦ absurd (no_refused y x b a)
+        | inr c ↦ elim c [
+          | inl b ↦ absurd (no_way y b a.can)
+          | inr b ↦
+              let same : a.bytes ≡ b.bytes = (laws.sealed.request (context h)).bytes (next h) p a.bytes b.bytes a.seals b.seals in
+              a.entry_is ∙ ap Sent same ∙ sym b.entry_is
+        ]
+      ]
+    ]
+  ]

@@ -1,0 +1,97 @@
+-- Requests of a client: their rows, and the table with one request more.
+use Rattle.std.proofs.Common.{◌≡◌, ◌≢◌, ℕ, ◌+◌, ◌-◌, ◌∙◌, sym, ap, subst, refl, arith, true, List, [], ◌∷◌, ◌++◌, length, get_or, take}
+use Rattle.std.specs.Prelude.{cond, map, max, nat_le}
+use Rattle.std.proofs.lemmas.Bool.Decides.{nat_tests}
+use Rattle.std.proofs.lemmas.List.{get_or_default, map-append}
+use Rattle.std.proofs.lemmas.List.Elements.{filter-append}
+use Rattle.std.proofs.lemmas.List.Quantifiers.{all_pairs_push}
+use Rattle.osc_coap.specs.Datagram.{Parts}
+use Rattle.osc_context.specs.Views.{as_client, number_of}
+use Rattle.osc_protect.specs.Protection.{requests}
+use Rattle.osc_protect.specs.Sealed.{SealsRequest}
+use Rattle.osc_protect.specs.SealRefusals.{RefusesPlainRequest, RefusesToSeal}
+use Rattle.osc_protect.specs.Views.{context_of}
+use Rattle.osc_protect.specs.declared.protect_error.ProtectError.{ProtectError}
+use Rattle.osc_protect.specs.declared.protect_error.ProtectError.TheVariants as protects
+use Rattle.osc_endpoint.specs.declared.client.Client.{Client}
+use Rattle.osc_endpoint.specs.declared.client_outcome.RequestError.{RequestError}
+use Rattle.osc_endpoint.specs.declared.client_outcome.RequestError.TheVariants.{NotThatKind, Unsupported, TokenInUse, PendingFull, SequenceExhausted, TooLong, NoRoom, KeeperFailed}
+use Rattle.osc_endpoint.specs.declared.pending.Pending.{Pending}
+use Rattle.osc_endpoint.specs.Agrees.{ClientAgrees, TokensDiffer}
+use Rattle.osc_endpoint.specs.ClientAnswer.{CanAsk, IsAmong, RequestAnswer}
+use Rattle.osc_endpoint.specs.ClientHistory.{Asked, History, Then, Request, Advance, Advanced, Sent, NotSent, alive, asked, clock, context, life_ms, next, pending_at}
+use Rattle.osc_endpoint.specs.Requesting.{lifted}
+use Rattle.osc_endpoint.specs.Views.{asked_of}
+use Rattle.osc_endpoint.proofs.SealedReplies.{front_fits}
+
+-- ---- refusals
+
+-- what is refused once the clock has moved is refused by a request that moves it
+pub refused_now : (n : ℕ) (h : History) (now room : ℕ) (p : Parts) (e : RequestError)
+    → RequestAnswer n (Then h (Advance now) Advanced) (max (clock h) now) p room (NotSent e) → RequestAnswer n h (max (clock h) now) p room (NotSent e)
+refused_now n h now room p NotThatKind r = r
+refused_now n h now room p (Unsupported k) r = r
+refused_now n h now room p TokenInUse r = r
+refused_now n h now room p PendingFull r = r
+refused_now n h now room p SequenceExhausted r = r
+refused_now n h now room p TooLong r = r
+refused_now n h now room p NoRoom r = r
+refused_now n h now room p KeeperFailed r = r
+
+pub plain_refused : (n : ℕ) (h : History) (moment room : ℕ) (p : Parts) (e : ProtectError)
+    → RefusesPlainRequest p e → RequestAnswer n h moment p room (NotSent (lifted e))
+plain_refused n h moment room p protects.NotThatKind r = r
+plain_refused n h moment room p (protects.Unsupported k) r = r
+plain_refused n h moment room p protects.TooLong r = absurd r
+plain_refused n h moment room p protects.NoRoom r = absurd r
+
+pub seal_refused : (n : ℕ) (h : History) (moment room : ℕ) (p : Parts) (e : ProtectError) → CanAsk n h moment p
+    → RefusesToSeal (requests (context h)) (next h) p room e → RequestAnswer n h moment p room (NotSent (lifted e))
+seal_refused n h moment room p protects.NotThatKind can r = r
+seal_refused n h moment room p (protects.Unsupported k) can r = r
+seal_refused n h moment room p protects.TooLong can r = (can, r)
+seal_refused n h moment room p protects.NoRoom can r = (can, r)
+
+-- ---- the table with one request more
+
+-- the newest is alive
+pub alive_more : (moment ms : ℕ) (xs : List Asked) (a : Asked) → a.moment ≡ moment → alive moment ms (xs ++ a ∷ []) ≡ alive moment ms xs ++ a ∷ []
+alive_more moment ms xs a e =
+    let young : nat_le (moment - a.moment) ms ≡ true = grind (arith, nat_tests) in
+    filter-append (λ (r : Asked). nat_le (moment - r.moment) ms) xs (a ∷ []) ∙ ap (λ b. alive moment ms xs ++ cond b (a ∷ []) []) young
+
+-- a new token is none of those before
+pub differ_more : (xs : List Asked) (a : Asked) → TokensDiffer xs → (IsAmong a.token xs → ⊥) → TokensDiffer (xs ++ a ∷ [])
+differ_more xs a h new =
+    all_pairs_push (λ (r q : Asked). r.token ≢ q.token) xs a h (λ k d within same. new (get_or xs k d, (k, within, get_or_default xs k (get_or xs k d) d within), same))
+
+-- ---- a request that is sealed
+
+-- a row of the sealed request, by the clock's move before it
+pub sealed_now : {N : ℕ} (c : Client N) (h : History) (now number len : ℕ) (p : Parts) (new old : List ℕ)
+    → ClientAgrees c (Then h (Advance now) Advanced) → CanAsk N (Then h (Advance now) Advanced) (max (clock h) now) p → number ≡ next h → length new ≡ length old
+    → SealsRequest (as_client (context_of c.context)) number p (take len new) → RequestAnswer N h (max (clock h) now) p (length old) (Sent (take len new))
+sealed_now c h now number len p new old a can is room sealed =
+    let by_context = subst (λ s. SealsRequest s number p (take len new)) a.context_is sealed in
+    (can, subst (λ n. SealsRequest (context h) n p (take len new)) is by_context, front_fits len new old room)
+
+-- the table holds it
+pub agrees_sent : {N : ℕ} (c new : Client N) (h : History) (now room : ℕ) (p : Parts) (bytes : List ℕ) (r : Pending)
+    → ClientAgrees c (Then h (Advance now) Advanced) → CanAsk N (Then h (Advance now) Advanced) (max (clock h) now) p
+    → new.context ≡ c.context → new.life_ms ≡ c.life_ms → new.clock ≡ c.clock → new.next ≡ c.next + 1 → new.pending.items ≡ c.pending.items ++ r ∷ []
+    → r.token.items ≡ p.token → number_of r.number ≡ next h → r.moment ≡ c.clock
+    → ClientAgrees new (Then h (Request now p room) (Sent bytes))
+agrees_sent c new h now room p bytes r a can same_context same_life same_clock counted more token number moment =
+    let asked_now : Asked = record { token = p.token; number = next h; moment = max (clock h) now } in
+    let is : asked_of r ≡ asked_now = λ i. record { token = token i; number = number i; moment = (moment ∙ a.clock_is) i } in
+    let grows = alive_more (max (clock h) now) (life_ms h) (asked h) asked_now refl in
+    record {
+      context_is = ap (λ k. as_client (context_of k)) same_context ∙ a.context_is;
+      life_is = same_life ∙ a.life_is;
+      clock_is = same_clock ∙ a.clock_is;
+      next_is = counted ∙ ap (λ n. n + 1) a.next_is;
+      table =
+          ap (map asked_of) more ∙ map-append asked_of c.pending.items (r ∷ []) ∙ ap (λ xs. xs ++ asked_of r ∷ []) a.table
+          ∙ ap (λ q. pending_at h (max (clock h) now) ++ q ∷ []) is ∙ sym grows;
+      differ = subst TokensDiffer (sym grows) (differ_more (pending_at h (max (clock h) now)) asked_now a.differ can.0.1);
+    }

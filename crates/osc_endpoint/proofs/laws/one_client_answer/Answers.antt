@@ -1,0 +1,11 @@
+use Rattle.osc_endpoint.proofs.OneClientAnswers.{client_answers_once}
+use Rattle.osc_endpoint.proofs.laws.one_client_answer.Goals as goal
+
+pub returns : goal.returns
+returns c = client_answers_once (record {
+  one = c.one_datagram.ensures.one;
+  no_fault = c.one_datagram.ensures.never_both;
+  head = c.one_head.ensures.response;
+  response = c.one_response.ensures;
+  sealed = c.one_sealed.ensures;
+})

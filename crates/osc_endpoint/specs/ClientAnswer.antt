@@ -1,0 +1,89 @@
+-- To be believed: what a client answers to each event, after a history (RFC 8613, 8.1 and 8.4). The rows stand in the order in which they
+-- are judged; each has its own condition, and that no earlier one holds. h is a history, s its context, d a datagram, r a
+-- pending request, n for how many there is room, clock the moment with the event's own in it, m a message, own a
+-- response's own number or none.
+use Rattle.std.specs.Prelude.{◌≡◌, ℕ, ◌<◌, ◌≤◌, ◌^◌, ◌↔◌, List, Contains, length, max, true, Option}
+use Rattle.osc_coap.specs.Code.{is_response}
+use Rattle.osc_coap.specs.Datagram.{Parts, IsDatagram}
+use Rattle.osc_coap.specs.Fault.{HasFault}
+use Rattle.osc_coap.specs.Inner.{InnerParts}
+use Rattle.osc_context.specs.SecurityContext.{SecurityContext}
+use Rattle.osc_protect.specs.Head.{HasNoResponseHead}
+use Rattle.osc_protect.specs.Protection.{ProtectsResponse, requests, responses}
+use Rattle.osc_protect.specs.Refusals.{RefusesPlaintext, RefusesTag}
+use Rattle.osc_protect.specs.Sealed.{SealsRequest}
+use Rattle.osc_protect.specs.SealRefusals.{IsPlainRequest, RefusesPlainRequest, RefusesToSeal}
+use Rattle.osc_protect.specs.declared.head_error.HeadError.TheVariants as heads
+use Rattle.osc_protect.specs.declared.protect_error.ProtectError.TheVariants as seals
+use Rattle.osc_endpoint.specs.declared.client_outcome.RequestError.TheVariants.{NotThatKind, Unsupported, TokenInUse, PendingFull, SequenceExhausted, TooLong, NoRoom}
+use Rattle.osc_endpoint.specs.Received.{Receives}
+use Rattle.osc_endpoint.specs.ClientHistory.{History, Event, Entry, Answer, Asked, Request, Datagram, Forget, Restart, Advance, Malformed, NotResponse, UnknownToken, Unprotected, Undecodable, BadTag, BadInner, Deliver, Sent, NotSent, Took, Forgot, Restarted, Advanced, context, next, clock, pending, pending_at}
+
+-- a request with this token is among these (RFC 7252, 5.3.2)
+abbrev pub IsAmong : List ℕ → List Asked → Type 0
+IsAmong token asked = (r : Asked) × Contains asked r × (r.token ≡ token)
+
+-- the datagram is a message with a response's kind and code, and this token (RFC 7252, 4.2 and 5.3.2)
+abbrev pub IsResponseWith : List ℕ → List ℕ → Type 0
+IsResponseWith d token = (p : Parts) × IsDatagram p d × (is_response p.kind p.code ≡ true) × (p.token ≡ token)
+
+-- the datagram is such a message, with the token of this request, which is pending (RFC 7252, 5.3.2)
+abbrev pub IsAnswerTo : History → ℕ → List ℕ → Asked → Type 0
+IsAnswerTo h clock d r = IsResponseWith d r.token × Contains (pending_at h clock) r
+
+-- the answer to a response to this request, row by row from the OSCORE option on (RFC 8613, 8.4)
+abbrev pub AskedAnswer : SecurityContext → Asked → List ℕ → Answer → Type 0
+AskedAnswer s r d Unprotected = HasNoResponseHead d heads.NoOscore
+AskedAnswer s r d Undecodable = HasNoResponseHead d heads.Undecodable
+AskedAnswer s r d BadTag = RefusesTag (responses s r.number) d
+AskedAnswer s r d BadInner = RefusesPlaintext (responses s r.number) d
+AskedAnswer s r d (Deliver received number) = (number ≡ r.number) × (own : Option ℕ) × Receives (responses s r.number) own d received
+AskedAnswer s r d answer = ⊥
+
+-- a row of a pending request whose token the datagram has (RFC 7252, 5.3.2)
+abbrev pub PendingAnswer : History → ℕ → List ℕ → Answer → Type 0
+PendingAnswer h clock d answer = (r : Asked) × IsAnswerTo h clock d r × AskedAnswer (context h) r d answer
+
+-- the answer to a datagram, row by row (RFC 8613, 8.4; own rule: the order)
+abbrev pub TakeAnswer : History → ℕ → List ℕ → Answer → Type 0
+TakeAnswer h clock d (Malformed fault place) = HasFault d fault place
+TakeAnswer h clock d NotResponse = HasNoResponseHead d heads.NotThatKind
+TakeAnswer h clock d UnknownToken = (token : List ℕ) × IsResponseWith d token × (IsAmong token (pending_at h clock) → ⊥)
+TakeAnswer h clock d answer = PendingAnswer h clock d answer
+
+-- a request that can be sealed, and whose token isn't pending (RFC 7252, 5.3.1)
+abbrev pub IsNewRequest : History → ℕ → Parts → Type 0
+IsNewRequest h clock p = IsPlainRequest p × (IsAmong p.token (pending_at h clock) → ⊥)
+
+-- such a one, and there is room for it among n pending ones, and a number (RFC 8613, 7.2.1; own rule: the room)
+abbrev pub CanAsk : ℕ → History → ℕ → Parts → Type 0
+CanAsk n h clock p = IsNewRequest h clock p × (length (pending_at h clock) < n) × (next h < 2 ^ 40)
+
+-- the answer to Request, row by row (RFC 8613, 8.1; own rule: the order)
+abbrev pub RequestAnswer : ℕ → History → ℕ → Parts → ℕ → Entry → Type 0
+RequestAnswer n h clock p room (NotSent NotThatKind) = RefusesPlainRequest p seals.NotThatKind
+RequestAnswer n h clock p room (NotSent (Unsupported k)) = RefusesPlainRequest p (seals.Unsupported k)
+RequestAnswer n h clock p room (NotSent TokenInUse) = IsPlainRequest p × IsAmong p.token (pending_at h clock)
+RequestAnswer n h clock p room (NotSent PendingFull) = IsNewRequest h clock p × (n ≤ length (pending_at h clock))
+RequestAnswer n h clock p room (NotSent SequenceExhausted) = IsNewRequest h clock p × (length (pending_at h clock) < n) × (2 ^ 40 ≤ next h)
+RequestAnswer n h clock p room (NotSent TooLong) = CanAsk n h clock p × RefusesToSeal (requests (context h)) (next h) p room seals.TooLong
+RequestAnswer n h clock p room (NotSent NoRoom) = CanAsk n h clock p × RefusesToSeal (requests (context h)) (next h) p room seals.NoRoom
+RequestAnswer n h clock p room (Sent bytes) = CanAsk n h clock p × SealsRequest (context h) (next h) p bytes × (length bytes ≤ room)
+RequestAnswer n h clock p room entry = ⊥
+
+-- the entry is the answer to the event, of a client with room for n pending requests (RFC 8613, 8.1 and 8.4)
+abbrev pub ClientAnswer : ℕ → History → Event → Entry → Type 0
+ClientAnswer n h (Request now p room) entry = RequestAnswer n h (max (clock h) now) p room entry
+ClientAnswer n h (Datagram now d) (Took answer) = TakeAnswer h (max (clock h) now) d answer
+ClientAnswer n h (Forget token) (Forgot was_pending) = (was_pending ≡ true) ↔ IsAmong token (pending h)
+ClientAnswer n h (Restart first) Restarted = Unit {0}
+ClientAnswer n h (Advance now) Advanced = Unit {0}
+ClientAnswer n h event entry = ⊥
+
+-- the datagram has the token of a pending request, and protects this message, by this own number or none, as a response to the number
+-- of that request (RFC 8613, 8.4)
+pub record Delivers (h : History) (now : ℕ) (d : List ℕ) (number : ℕ) (own : Option ℕ) (m : InnerParts) : Type 0 where
+  pub to : Asked
+  pub number_is : to.number ≡ number
+  pub answers : IsAnswerTo h (max (clock h) now) d to
+  pub protects : ProtectsResponse (context h) number own m d

@@ -1,0 +1,72 @@
+-- How the code is seen: what a client decides of a datagram before it lends slices of it. h is a history, c the client, d the
+-- datagram as it came, new what was left of it.
+use Rattle.std.specs.Prelude.{◌≡◌, ℕ, List, Contains, Option, map}
+use Rattle.osc_coap.specs.Inner.{InnerParts}
+use Rattle.osc_context.specs.SecurityContext.{SecurityContext}
+use Rattle.osc_context.specs.Views.{as_client, number_of}
+use Rattle.osc_protect.specs.Protection.{ProtectsResponse, responses}
+use Rattle.osc_protect.specs.Stages.{Decrypts}
+use Rattle.osc_protect.specs.StageViews.{DecryptsResponse, FitsResponse, OpensResponseAfter}
+use Rattle.osc_protect.specs.Views.{context_of}
+use Rattle.osc_protect.specs.declared.opened.Opened.{Opened}
+use Rattle.osc_protect.specs.declared.stages.DecryptedResponse.{DecryptedResponse}
+use Rattle.osc_endpoint.specs.declared.client.Client.{Client}
+use Rattle.osc_endpoint.specs.declared.client_outcome.ClientOutcome.{ClientOutcome}
+use Rattle.osc_endpoint.specs.declared.decision.ClientDecision.{ClientDecision}
+use Rattle.osc_endpoint.specs.declared.decision.ClientDecision.TheVariants as decisions
+use Rattle.osc_endpoint.specs.Agrees.{ClientAgrees}
+use Rattle.osc_endpoint.specs.ClientAnswer.{ClientAnswer}
+use Rattle.osc_endpoint.specs.ClientHistory as client
+use Rattle.osc_endpoint.specs.Received.{Received}
+use Rattle.osc_endpoint.specs.Views.{ClientShows, asked_of, received_of}
+
+-- the datagram was decrypted to the new one, and protects some message (RFC 8613, 8.4)
+abbrev pub WasDecrypted : DecryptedResponse → List ℕ → Type 0
+WasDecrypted x new = (s : SecurityContext) × (n : ℕ) × (d : List ℕ) × (own : Option ℕ) × (m : InnerParts)
+    × DecryptsResponse (responses s n) d x new × ProtectsResponse s n own m d
+
+-- what is read says this (RFC 8613, 8.4)
+abbrev pub ReadsAs : DecryptedResponse → List ℕ → Received → Type 0
+ReadsAs x new r = (o : Opened) → OpensResponseAfter new x o → received_of o ≡ r
+
+-- what was decided can be shown from the datagram that was left (how the code is seen)
+abbrev pub CanShow : ClientDecision → List ℕ → Type 0
+CanShow (decisions.Deliver x number) new = FitsResponse new x × WasDecrypted x new
+CanShow decision new = Unit {0}
+
+-- what was decided is this answer, the delivered message as it can be read from the datagram that was left (how the code is seen)
+abbrev pub Decides : ClientDecision → List ℕ → client.Answer → Type 0
+Decides (decisions.Malformed e) new (client.Malformed fault place) = (e.fault ≡ fault) × (e.place ≡ place)
+Decides decisions.NotResponse new client.NotResponse = Unit {0}
+Decides decisions.UnknownToken new client.UnknownToken = Unit {0}
+Decides decisions.Unprotected new client.Unprotected = Unit {0}
+Decides decisions.Undecodable new client.Undecodable = Unit {0}
+Decides decisions.BadTag new client.BadTag = Unit {0}
+Decides decisions.BadInner new client.BadInner = Unit {0}
+Decides (decisions.Deliver x piv) new (client.Deliver received number) = ReadsAs x new received × (number_of piv ≡ number)
+Decides decision new answer = ⊥
+
+-- as a response to a request of the table the payload became the plaintext, and behind it the old tag; all else stayed (RFC 8613, 8.4)
+abbrev pub IsOpenedBy : {N : ℕ} → Client N → List ℕ → List ℕ → Type 0
+IsOpenedBy c d new = (r : client.Asked) × Contains (map asked_of c.pending.items) r × (own : Option ℕ) × (len : ℕ)
+    × Decrypts (responses (as_client (context_of c.context)) r.number) d own len new
+
+-- what is left of the datagram: it as it came, or opened from a bad plaintext on (RFC 8613, 8.4)
+abbrev pub LeavesBy : {N : ℕ} → Client N → ClientDecision → List ℕ → List ℕ → Type 0
+LeavesBy c decisions.BadInner d new = IsOpenedBy c d new
+LeavesBy c (decisions.Deliver x number) d new = IsOpenedBy c d new
+LeavesBy c decision d new = new ≡ d
+
+-- what was decided of a datagram is the answer after the history, and the client agrees with both (how the code is seen)
+pub record ClientDecidesTo {N : ℕ} (h : client.History) (now : ℕ) (d : List ℕ) (result : ClientDecision) (new : List ℕ) (c : Client N) : Type 0 where
+  pub answer : client.Answer
+  pub row : ClientAnswer N h (client.Datagram now d) (client.Took answer)
+  pub decides : Decides result new answer
+  pub agrees : ClientAgrees c (client.Then h (client.Datagram now d) (client.Took answer))
+
+-- the outcome shows the answer after the history, and the client agrees with both (how the code is seen)
+pub record ClientTakes {N : ℕ} (h : client.History) (now : ℕ) (d : List ℕ) (outcome : ClientOutcome) (c : Client N) : Type 0 where
+  pub answer : client.Answer
+  pub row : ClientAnswer N h (client.Datagram now d) (client.Took answer)
+  pub shows : ClientShows outcome answer
+  pub agrees : ClientAgrees c (client.Then h (client.Datagram now d) (client.Took answer))

@@ -1,0 +1,41 @@
+-- To be believed: a run of a client: the log of its events, and the history that they add to. h and g are the histories before and after, n
+-- for how many pending requests there is room.
+use Rattle.std.specs.Prelude.{◌≡◌, ◌∷◌, [], ℕ, List, length}
+use Rattle.osc_coap.specs.Datagram.{Parts, IsDatagram}
+use Rattle.osc_coap.specs.Fault.{HasFault}
+use Rattle.osc_context.specs.Views.{number_of}
+use Rattle.osc_endpoint.specs.declared.client_event.ClientEvent.{ClientEvent}
+use Rattle.osc_endpoint.specs.declared.client_event.ClientEvent.TheVariants as events
+use Rattle.osc_endpoint.specs.declared.client_event.ClientEntry.{ClientEntry}
+use Rattle.osc_endpoint.specs.declared.client_event.ClientEntry.TheVariants as entries
+use Rattle.osc_endpoint.specs.ClientHistory.{History, Then, Event, Entry, Answer, Request, Datagram, Forget, Restart, Advance, Sent, NotSent, Took, Forgot, Restarted, Advanced, next}
+use Rattle.osc_endpoint.specs.ClientAnswer.{ClientAnswer}
+use Rattle.osc_endpoint.specs.Views.{ClientShows}
+
+-- the client answers the event so, and the history goes on by both (own rule)
+abbrev pub GoesOn : ℕ → History → Event → Entry → History → Type 0
+GoesOn n h event entry g = ClientAnswer n h event entry × (g ≡ Then h event entry)
+
+-- a request of this plain text: what is sent has the next number; a text that is no message moves the clock alone (own rule)
+abbrev pub RequestStep : ℕ → History → ℕ → List ℕ → ℕ → ClientEntry → History → Type 0
+RequestStep n h now plain room (entries.Sent number datagram) g =
+    (number_of number ≡ next h) × (p : Parts) × IsDatagram p plain × GoesOn n h (Request now p room) (Sent datagram.now) g
+RequestStep n h now plain room (entries.NotSent e) g = (p : Parts) × IsDatagram p plain × GoesOn n h (Request now p room) (NotSent e) g
+RequestStep n h now plain room (entries.BadPlain e) g = HasFault plain e.fault e.place × GoesOn n h (Advance now) Advanced g
+RequestStep n h now plain room entry g = ⊥
+
+-- one event, its entry, and the history behind it (own rule)
+abbrev pub RunStep : ℕ → History → ClientEvent → ClientEntry → History → Type 0
+RunStep n h (events.Request now plain out) entry g = RequestStep n h now plain.items (length out.items) entry g
+RunStep n h (events.Datagram now bytes) (entries.Took outcome) g =
+    (answer : Answer) × ClientShows outcome answer × GoesOn n h (Datagram now bytes.items) (Took answer) g
+RunStep n h (events.Forget token) (entries.Forgot was_pending) g = GoesOn n h (Forget token.items) (Forgot was_pending) g
+RunStep n h (events.Restart first) entries.Restarted g = GoesOn n h (Restart (number_of first)) Restarted g
+RunStep n h event entry g = ⊥
+
+-- the log of these events, one entry each, from this history on (own rule)
+abbrev pub Run : ℕ → History → List ClientEvent → List ClientEntry → History → Type 0
+Run n h [] [] g = g ≡ h
+Run n h [] (entry ∷ log) g = ⊥
+Run n h (event ∷ events) [] g = ⊥
+Run n h (event ∷ events) (entry ∷ log) g = (mid : History) × RunStep n h event entry mid × Run n mid events log g

@@ -1,0 +1,68 @@
+//! The client: one context, and the requests that wait for their responses.
+
+ghost use Rattle.std.specs.Prelude.{◌≡◌, ◌≤◌, ◌^◌};
+ghost use Rattle.osc_context.specs.Views.{as_client, number_of};
+
+use crate::pending::{Pending, drop_expired, drop_token, find_number};
+use arrayvec::ArrayVec;
+use osc_context::{Context, Piv};
+use osc_protect::KeyedContext;
+
+/// A client of one context, with room for N pending requests. It has no socket and no clock: datagrams and moments in
+/// milliseconds are handed in.
+#[derive(Drop)]
+pub struct Client<const N: usize> {
+    pub(crate) context: KeyedContext,
+    pub(crate) life_ms: u64,
+    pub(crate) clock: u64,
+    // The next number, or the limit where none is left.
+    pub(crate) next: u64,
+    pub(crate) pending: ArrayVec<Pending, N>,
+    pub ghost in_range: { next ≤ 2 ^ 40 },
+}
+
+impl<const N: usize> Client<N> {
+    ghost use Rattle.osc_endpoint.specs.Agrees.{ClientAgrees};
+    ghost use Rattle.osc_endpoint.specs.ClientAnswer.{ClientAnswer};
+    ghost use Rattle.osc_endpoint.specs.ClientHistory.{History, New, Then, Advance, Advanced, Forget, Forgot, Restart, Restarted};
+
+    /// A client with nothing pending, whose requests are pending for so many milliseconds and no longer.
+    #[must_use]
+    pub fn new(context: Context, next: Piv, life_ms: u64) -> Client<N>
+        ensures { ClientAgrees result (New (as_client context) (number_of next) life_ms) }
+    {
+        Client {
+            context: KeyedContext::new(context),
+            life_ms,
+            clock: 0,
+            next: next.number(),
+            pending: ArrayVec::new(),
+        }
+    }
+
+    /// Drops every pending request, and goes on at a number. The clock stays.
+    pub fn restart(&mut self, next: Piv)
+        ensures { (h : History) → ClientAgrees self.old h → ClientAgrees self.new (Then h (Restart (number_of next)) Restarted) }
+    {
+        self.next = next.number();
+        self.pending.clear();
+    }
+
+    /// Moves the clock to a moment in milliseconds, where that is later, and drops the requests whose time has passed.
+    pub fn advance(&mut self, now: u64)
+        ensures { (h : History) → ClientAgrees self.old h → ClientAgrees self.new (Then h (Advance now) Advanced) }
+    {
+        self.clock = self.clock.max(now);
+        drop_expired(&mut self.pending, self.clock, self.life_ms);
+    }
+
+    /// Waits no more for the response to the request of a token, and answers whether it was pending.
+    pub fn forget(&mut self, token: &[u8]) -> bool
+        ensures answered { (h : History) → ClientAgrees self.old h → ClientAnswer N h (Forget token.now) (Forgot result) }
+        ensures follows { (h : History) → ClientAgrees self.old h → ClientAgrees self.new (Then h (Forget token.now) (Forgot result)) }
+    {
+        let was_pending = find_number(self.pending.as_slice(), token).is_some();
+        drop_token(&mut self.pending, token);
+        was_pending
+    }
+}

@@ -1,0 +1,123 @@
+//! Requests of a client.
+
+ghost use Rattle.std.specs.Prelude.{◌≡◌, ◌≢◌, ◌≤◌, ◌<◌, ◌^◌, ℕ, IfOk, IfErr, OnOk, OnErr, length, drop};
+ghost use Rattle.arrayvec.specs.ArrayVec.{array_vec_len};
+ghost use Rattle.osc_coap.specs.Views.{parts_of};
+ghost use Rattle.osc_context.specs.Views.{number_of};
+ghost use Rattle.osc_endpoint.specs.Requesting.{lifted};
+ghost use Rattle.osc_endpoint.specs.declared.client_outcome.RequestError.TheVariants.{KeeperFailed};
+
+use crate::asker::copy_of;
+use crate::client::Client;
+use crate::client_outcome::RequestError;
+use crate::pending::{Pending, find_number};
+use osc_coap::Message;
+use osc_context::Piv;
+use osc_protect::{ProtectError, check_request};
+
+/// The refusal of a request that a refusal to seal becomes.
+fn lift(error: ProtectError) -> RequestError
+    ensures value { result ≡ lifted error }
+    ensures no_keeper_failed { result ≢ KeeperFailed }
+{
+    match error {
+        ProtectError::NotThatKind => RequestError::NotThatKind,
+        ProtectError::Unsupported(number) => RequestError::Unsupported(number),
+        ProtectError::TooLong => RequestError::TooLong,
+        ProtectError::NoRoom => RequestError::NoRoom,
+    }
+}
+
+impl<const N: usize> Client<N> {
+    ghost use Rattle.osc_endpoint.specs.Agrees.{ClientAgrees};
+    ghost use Rattle.osc_endpoint.specs.ClientAnswer.{CanAsk, ClientAnswer, RequestAnswer};
+    ghost use Rattle.osc_endpoint.specs.ClientHistory.{History, Then, Request, NotSent, Advance, Advanced, clock, next};
+    ghost use Rattle.osc_endpoint.specs.Requesting.{sent_entry};
+    ghost use Rattle.osc_endpoint.specs.Views.{request_entry};
+
+    /// The number of a request that is sealed now, or why there is none, whatever the room for it.
+    fn number_for(&self, plain: &Message<'_>) -> Result<Piv, RequestError>
+        ensures accepted { IfOk result (λ number. (h : History) → ClientAgrees self.now h
+            → CanAsk N h (clock h) (parts_of plain.now) × (number_of number ≡ next h)) }
+        ensures refused { IfErr result (λ e. (h : History) (room : ℕ) → ClientAgrees self.now h
+            → RequestAnswer N h (clock h) (parts_of plain.now) room (NotSent e)) }
+        ensures fits { OnOk result ((array_vec_len self.now.pending < N) × (self.now.next < 2 ^ 40)) }
+        ensures no_keeper_failed { IfErr result (λ e. e ≢ KeeperFailed) }
+    {
+        if let Err(error) = check_request(plain) {
+            return Err(lift(error));
+        }
+        if find_number(self.pending.as_slice(), plain.token.as_slice()).is_some() {
+            return Err(RequestError::TokenInUse);
+        }
+        if self.pending.is_full() {
+            return Err(RequestError::PendingFull);
+        }
+        match Piv::new(self.next) {
+            Some(number) => Ok(number),
+            None => Err(RequestError::SequenceExhausted),
+        }
+    }
+
+    /// As `request`, but answers the number of the request too.
+    pub(crate) fn send(
+        &mut self,
+        now: u64,
+        plain: &Message<'_>,
+        out: &mut [u8],
+    ) -> Result<(Piv, usize), RequestError>
+        ensures answered { (h : History) → ClientAgrees self.old h
+            → ClientAnswer N h (Request now (parts_of plain.now) (length out.old)) (sent_entry result out.new) }
+        ensures follows { (h : History) → ClientAgrees self.old h
+            → ClientAgrees self.new (Then h (Request now (parts_of plain.now) (length out.old)) (sent_entry result out.new)) }
+        ensures number { IfOk result (λ r. (h : History) → ClientAgrees self.old h → number_of r.0 ≡ next h) }
+        ensures within { IfOk result (λ r. r.1 ≤ length out.new) }
+        ensures behind { IfOk result (λ r. drop r.1 out.new ≡ drop r.1 out.old) }
+        ensures unchanged { OnErr result ((out.new ≡ out.old)
+            × ((h : History) → ClientAgrees self.old h → ClientAgrees self.new (Then h (Advance now) Advanced))) }
+        ensures no_keeper_failed { IfErr result (λ e. e ≢ KeeperFailed) }
+    {
+        self.advance(now);
+        let number = match self.number_for(plain) {
+            Ok(number) => number,
+            Err(error) => return Err(error),
+        };
+        match self.context.seal_request(number, plain, out) {
+            Ok(len) => {
+                self.next += 1;
+                self.pending.push(Pending {
+                    token: copy_of(&plain.token),
+                    number,
+                    moment: self.clock,
+                });
+                Ok((number, len))
+            }
+            Err(error) => Err(lift(error)),
+        }
+    }
+
+    /// Seals a request with the next number into `out`, and answers how many bytes at its front it takes (RFC 8613, 8.1). Its
+    /// token is pending from then on. The first refusal in the order of `RequestError` is answered: it leaves `out`, and of
+    /// the client it changes what `advance` does.
+    pub fn request(
+        &mut self,
+        now: u64,
+        plain: &Message<'_>,
+        out: &mut [u8],
+    ) -> Result<usize, RequestError>
+        ensures answered { (h : History) → ClientAgrees self.old h
+            → ClientAnswer N h (Request now (parts_of plain.now) (length out.old)) (request_entry result out.new) }
+        ensures follows { (h : History) → ClientAgrees self.old h
+            → ClientAgrees self.new (Then h (Request now (parts_of plain.now) (length out.old)) (request_entry result out.new)) }
+        ensures within { IfOk result (λ n. n ≤ length out.new) }
+        ensures behind { IfOk result (λ n. drop n out.new ≡ drop n out.old) }
+        ensures unchanged { OnErr result ((out.new ≡ out.old)
+            × ((h : History) → ClientAgrees self.old h → ClientAgrees self.new (Then h (Advance now) Advanced))) }
+        ensures no_keeper_failed { IfErr result (λ e. e ≢ KeeperFailed) }
+    {
+        match self.send(now, plain, out) {
+            Ok((_, len)) => Ok(len),
+            Err(error) => Err(error),
+        }
+    }
+}

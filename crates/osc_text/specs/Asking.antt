@@ -1,0 +1,55 @@
+-- To be believed: what `run` prints of a client and its input (RFC 8613, 8.1 and 8.4; own rule: the lines). g is what the
+-- context is derived from, h and k are the histories before and after.
+use Rattle.std.specs.Prelude.{◌≡◌, ◌+◌, ℕ, List, Bool, length}
+use Rattle.osc_coap.specs.Datagram.{Parts, IsDatagram}
+use Rattle.osc_coap.specs.Fault.{HasFault}
+use Rattle.osc_coap.specs.declared.format_error.Fault.{Fault as MessageFault}
+use Rattle.osc_context.specs.ContextRefusal.{RefusesParams}
+use Rattle.osc_context.specs.Views.{client_context_of, number_of}
+use Rattle.osc_context.specs.declared.context_error.ContextError.{ContextError}
+use Rattle.osc_context.specs.declared.parameters.Params.{Params}
+use Rattle.osc_endpoint.specs.ClientHistory.{History, New, Answer, Request, Datagram, Forget, Restart, Advance, Sent, NotSent, Took, Forgot, Restarted, Advanced, next}
+use Rattle.osc_endpoint.specs.ClientRun.{GoesOn}
+use Rattle.osc_endpoint.specs.Text.{request_error_text}
+use Rattle.osc_endpoint.specs.declared.client_outcome.RequestError.{RequestError}
+use Rattle.osc_text.specs.AskedEvents.{AskedEvent, SpellsAsked}
+use Rattle.osc_text.specs.AskedEvents as asked
+use Rattle.osc_text.specs.ClientLines.{answer_line, forgot_line, sent_line}
+use Rattle.osc_text.specs.Contexts.{InContext, Told}
+use Rattle.osc_text.specs.EntryLines.{bad_plain_line, not_done_line, restarted_line}
+use Rattle.osc_text.specs.InputText.{InputText}
+use Rattle.osc_text.specs.Inputs.{IsFirstBadLine}
+use Rattle.osc_text.specs.declared.asking.Asking.{Asking}
+
+-- for how many pending requests there is room (own rule)
+abbrev pub places : ℕ
+places = 16
+
+-- the room that each request has: that of its plain message and 128 bytes (own rule)
+abbrev pub request_room : List ℕ → ℕ
+request_room plain = length plain + 128
+
+-- a request by a plain message, and the line of its entry; one that is sealed has the next number (RFC 8613, 7.2.1 and 8.1)
+pub data RequestLine (h : History) (now : ℕ) (plain line : List ℕ) (k : History) : Type 0 where
+  bad_plain : (fault : MessageFault) (place : ℕ) → HasFault plain fault place → GoesOn places h (Advance now) Advanced k
+      → line ≡ bad_plain_line fault place → RequestLine h now plain line k
+  sent : (p : Parts) (bytes : List ℕ) → IsDatagram p plain → GoesOn places h (Request now p (request_room plain)) (Sent bytes) k
+      → line ≡ sent_line (next h) bytes → RequestLine h now plain line k
+  refused : (p : Parts) (e : RequestError) → IsDatagram p plain → GoesOn places h (Request now p (request_room plain)) (NotSent e) k
+      → line ≡ not_done_line (request_error_text e) → RequestLine h now plain line k
+
+-- an event and the line of its entry, which is the client's answer (RFC 8613, 8.1 and 8.4)
+abbrev pub ClientLine : History → AskedEvent → List ℕ → History → Type 0
+ClientLine h (asked.Request now plain) line k = RequestLine h now plain line k
+ClientLine h (asked.Take now d) line k = (answer : Answer) × GoesOn places h (Datagram now d) (Took answer) k × (line ≡ answer_line answer)
+ClientLine h (asked.Forget token) line k = (was_pending : Bool) × GoesOn places h (Forget token) (Forgot was_pending) k × (line ≡ forgot_line was_pending)
+ClientLine h (asked.Restart first) line k = GoesOn places h (Restart first) Restarted k × (line ≡ restarted_line)
+
+-- what `run` prints of a client: one line for each event of the input (RFC 8613, 8.1 and 8.4)
+abbrev pub AskText : Params → Asking → List ℕ → Told
+AskText g asking bytes = InContext g (InputText SpellsAsked ClientLine (New (client_context_of g) (number_of asking.next) asking.life_ms) bytes)
+
+-- the context is there, and the line of this number, counted from 1, is the first that spells no event (own rule)
+pub record HasBadAskedLine (g : Params) (bytes : List ℕ) (number : ℕ) : Type 0 where
+  pub in_context : (e : ContextError) → ¬ RefusesParams g e
+  pub first_bad : IsFirstBadLine SpellsAsked bytes number

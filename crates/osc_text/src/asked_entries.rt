@@ -1,0 +1,79 @@
+//! How the entries of a client's log print, one a line.
+
+ghost use Rattle.std.specs.Prelude.{◌≡◌, IfOk, string_bytes};
+ghost use Rattle.osc_context.specs.Views.{number_of};
+ghost use Rattle.osc_protect.specs.Views.{message_of, opened_number};
+ghost use Rattle.osc_text.specs.ClientLines.{response_text, sent_text};
+ghost use Rattle.osc_text.specs.ClientLog.{asked_text, outcome_text};
+
+use crate::entry_lines::{LogEntry, fault_text, message_text};
+use crate::lines::{bytes_text, number_text};
+use osc_context::Piv;
+use osc_endpoint::{ClientEntry, ClientOutcome};
+use osc_protect::Opened;
+use std::alloc::{AllocError, Global};
+
+/// A delivery: the request's number, the response's own number, or a dash for none, code, options and payload.
+fn response_text(alloc: Global, opened: &Opened<'_>, number: Piv) -> Result<String, AllocError>
+    ensures { IfOk result (λ text. string_bytes text
+        ≡ response_text (number_of number) (opened_number opened.now) (message_of opened.now)) }
+{
+    let number = number.number();
+    let own = number_text(alloc, opened.piv)?;
+    let message = message_text(alloc, opened)?;
+    format!(in alloc; "deliver {number} {own} {message}")
+}
+
+/// What was made of a datagram.
+fn outcome_text(alloc: Global, outcome: &ClientOutcome<'_>) -> Result<String, AllocError>
+    ensures { IfOk result (λ text. string_bytes text ≡ outcome_text outcome.now) }
+{
+    match outcome {
+        ClientOutcome::Malformed(error) => {
+            let fault = fault_text(alloc, *error)?;
+            format!(in alloc; "malformed {fault}")
+        }
+        ClientOutcome::NotResponse => String::from_str(alloc, "not-response"),
+        ClientOutcome::UnknownToken => String::from_str(alloc, "unknown-token"),
+        ClientOutcome::Unprotected => String::from_str(alloc, "unprotected"),
+        ClientOutcome::Undecodable => String::from_str(alloc, "undecodable"),
+        ClientOutcome::BadTag => String::from_str(alloc, "bad-tag"),
+        ClientOutcome::BadInner => String::from_str(alloc, "bad-inner"),
+        ClientOutcome::Deliver(opened, number) => response_text(alloc, opened, *number),
+    }
+}
+
+/// A request that was sealed: its number and its bytes.
+fn sent_text(alloc: Global, number: Piv, datagram: &[u8]) -> Result<String, AllocError>
+    ensures { IfOk result (λ text. string_bytes text ≡ sent_text (number_of number) datagram.now) }
+{
+    let number = number.number();
+    let bytes = bytes_text(alloc, datagram)?;
+    format!(in alloc; "sent {number} {bytes}")
+}
+
+/// An entry, as it prints.
+fn entry_text(alloc: Global, entry: &ClientEntry<'_>) -> Result<String, AllocError>
+    ensures { IfOk result (λ text. string_bytes text ≡ asked_text entry.now) }
+{
+    match entry {
+        ClientEntry::Sent { number, datagram } => sent_text(alloc, *number, datagram),
+        ClientEntry::NotSent(refusal) => format!(in alloc; "refused: {refusal}"),
+        ClientEntry::BadPlain(error) => {
+            let fault = fault_text(alloc, *error)?;
+            format!(in alloc; "bad-plain {fault}")
+        }
+        ClientEntry::Took(outcome) => outcome_text(alloc, outcome),
+        ClientEntry::Forgot(true) => String::from_str(alloc, "forgotten"),
+        ClientEntry::Forgot(false) => String::from_str(alloc, "not-pending"),
+        ClientEntry::Restarted => String::from_str(alloc, "restarted"),
+    }
+}
+
+impl LogEntry for ClientEntry<'_> {
+    ghost text_of = { asked_text };
+
+    fn text(&self, alloc: Global) -> Result<String, AllocError> {
+        entry_text(alloc, self)
+    }
+}

@@ -1,0 +1,118 @@
+//! The events that the lines of an input ask of a client.
+
+ghost use Rattle.std.specs.Prelude.{◌≡◌, ◌^◌, IfOk, IfSome, option_map};
+ghost use Rattle.osc_text.specs.AskedEvents.{Forget, Request, Restart, SpellsAsked, Take};
+ghost use Rattle.osc_text.specs.AskedReading.{HasRoom, SpellsClient, asked_read, asked_seen, asked_verb_read, timed_read};
+ghost use Rattle.osc_text.specs.InputReading.{SpellsNone, bytes_read, number_read};
+
+use crate::input_lines::LineEvent;
+use crate::input_words::{MOST_ADDED, read_bytes, read_moment, read_next, split_once};
+use osc_endpoint::ClientEvent;
+use std::alloc::{AllocError, Global};
+
+/// A moment and bytes: `NOW HEX`.
+#[tactic(auto, unfolding(crate::specs::AskedReading::timed_read))]
+fn read_timed(alloc: Global, fields: &[u8]) -> Result<Option<(u64, Vec<u8>)>, AllocError>
+    ensures { IfOk result (λ timed. option_map (λ t. (t.0, t.1.items)) timed ≡ timed_read fields.now) }
+{
+    let Some((now, bytes)) = split_once(fields, b' ') else {
+        return Ok(None);
+    };
+    let Some(now) = read_moment(now) else {
+        return Ok(None);
+    };
+    let Some(bytes) = read_bytes(alloc, bytes)? else {
+        return Ok(None);
+    };
+    Ok(Some((now, bytes)))
+}
+
+/// The event of a request: `NOW PLAIN`.
+fn read_request(alloc: Global, fields: &[u8]) -> Result<Option<ClientEvent>, AllocError>
+    ensures seen { IfOk result (λ event. option_map asked_seen event
+        ≡ option_map (λ t. Request t.0 t.1) (timed_read fields.now)) }
+    ensures room { IfOk result (λ event. IfSome event HasRoom) }
+{
+    let Some((now, plain)) = read_timed(alloc, fields)? else {
+        return Ok(None);
+    };
+    let out = vec![in alloc; 0u8; plain.len() + MOST_ADDED]?;
+    Ok(Some(ClientEvent::Request { now, plain, out }))
+}
+
+/// The event of a datagram that comes: `NOW DATAGRAM`.
+fn read_take(alloc: Global, fields: &[u8]) -> Result<Option<ClientEvent>, AllocError>
+    ensures seen { IfOk result (λ event. option_map asked_seen event
+        ≡ option_map (λ t. Take t.0 t.1) (timed_read fields.now)) }
+    ensures room { IfOk result (λ event. IfSome event HasRoom) }
+{
+    let Some((now, bytes)) = read_timed(alloc, fields)? else {
+        return Ok(None);
+    };
+    Ok(Some(ClientEvent::Datagram { now, bytes }))
+}
+
+/// The event of a token that is waited for no more: `TOKEN`.
+fn read_forget(alloc: Global, fields: &[u8]) -> Result<Option<ClientEvent>, AllocError>
+    ensures seen { IfOk result (λ event. option_map asked_seen event ≡ option_map Forget (bytes_read fields.now)) }
+    ensures room { IfOk result (λ event. IfSome event HasRoom) }
+{
+    let Some(token) = read_bytes(alloc, fields)? else {
+        return Ok(None);
+    };
+    Ok(Some(ClientEvent::Forget { token }))
+}
+
+/// The event of a restart: `NEXT`.
+fn read_restart(fields: &[u8]) -> Option<ClientEvent>
+    ensures seen { option_map asked_seen result ≡ option_map Restart (number_read (2 ^ 40) fields.now) }
+    ensures room { IfSome result HasRoom }
+{
+    match read_next(fields) {
+        Some(next) => Some(ClientEvent::Restart { next }),
+        None => None,
+    }
+}
+
+/// The event of a verb and its fields.
+#[tactic(auto, unfolding(crate::specs::AskedReading::asked_verb_read))]
+fn read_fields(alloc: Global, verb: &[u8], fields: &[u8]) -> Result<Option<ClientEvent>, AllocError>
+    ensures seen { IfOk result (λ event. option_map asked_seen event ≡ asked_verb_read verb.now fields.now) }
+    ensures room { IfOk result (λ event. IfSome event HasRoom) }
+{
+    if verb == b"request".as_slice() {
+        return read_request(alloc, fields);
+    }
+    if verb == b"take".as_slice() {
+        return read_take(alloc, fields);
+    }
+    if verb == b"forget".as_slice() {
+        return read_forget(alloc, fields);
+    }
+    if verb == b"restart".as_slice() {
+        return Ok(read_restart(fields));
+    }
+    Ok(None)
+}
+
+/// The event of a line, where it spells one.
+#[tactic(auto, unfolding(crate::specs::AskedReading::asked_read))]
+fn read_event(alloc: Global, line: &[u8]) -> Result<Option<ClientEvent>, AllocError>
+    ensures seen { IfOk result (λ event. option_map asked_seen event ≡ asked_read line.now) }
+    ensures room { IfOk result (λ event. IfSome event HasRoom) }
+{
+    match split_once(line, b' ') {
+        Some((verb, fields)) => read_fields(alloc, verb, fields),
+        None => Ok(None),
+    }
+}
+
+impl LineEvent for ClientEvent {
+    ghost spells = { SpellsClient };
+
+    ghost is_bad = { SpellsNone SpellsAsked };
+
+    fn from_line(alloc: Global, line: &[u8]) -> Result<Option<ClientEvent>, AllocError> {
+        read_event(alloc, line)
+    }
+}

@@ -1,0 +1,114 @@
+//! What `run` prints of a client.
+
+ghost use Rattle.std.specs.Prelude.{◌≡◌, ◌⊎◌, ℕ, List, All, Err, IfOk, map};
+ghost use Rattle.osc_context.specs.Views.{as_client, number_of};
+ghost use Rattle.osc_endpoint.specs.Agrees.{ClientAgrees};
+ghost use Rattle.osc_endpoint.specs.ClientHistory.{History};
+ghost use Rattle.osc_endpoint.specs.ClientLaws.{AllClientAnswers};
+
+use crate::entry_lines::write_log;
+use crate::fault::Fault;
+use crate::input_lines::read_events;
+use crate::lines::put_refused;
+use osc_coap::one_datagram;
+use osc_context::{Context, Params, Piv, one_context_refusal};
+use osc_endpoint::{Client, ClientEvent, one_client_answer, run_client};
+use std::alloc::Global;
+use std::io::Write;
+
+/// How a client begins.
+#[derive(Clone, Copy, Debug)]
+pub struct Asking {
+    /// The next own number.
+    pub next: Piv,
+    /// For how long a request is pending, in milliseconds.
+    pub life_ms: u64,
+}
+
+ghost use Rattle.osc_text.specs.AskedEvents.{SpellsAsked};
+ghost use Rattle.osc_text.specs.AskedReading.{HasRoom, asked_seen};
+ghost use Rattle.osc_text.specs.Asking.{AskText, ClientLine, HasBadAskedLine, places};
+ghost use Rattle.osc_text.specs.InputText.{InputText, RefusesLine};
+ghost use Rattle.osc_text.specs.Inputs.{IsFirstBadLine};
+ghost use Rattle.osc_text.specs.Printing.{Prints, RunsEvents};
+ghost use Rattle.osc_text.specs.Written.{Writes};
+ghost use Rattle.osc_text.specs.declared.fault.Fault.TheVariants.{Line};
+
+/// Derives a context, runs a client of it over the events that an input spells, one a line, and writes the line of each event's
+/// entry, or the one line of a refusal of the context before a line of the input is looked at. All lines are read before the
+/// first event runs. This end is the sender of the context, and up to 16 of its requests are pending at once. Answers the
+/// status: 0 where the events ran, 2 where the context is refused. The first line that spells no event is a fault, and then
+/// nothing is written. Each line is made whole before it is written.
+pub fn ask_text<W: Write>(
+    alloc: Global,
+    params: Params<'_>,
+    asking: Asking,
+    input: &[u8],
+    out: &mut W,
+) -> Result<u8, Fault>
+    // Where a status is answered there is a text. The next two clauses say that this is what is written.
+    ensures told { IfOk result (λ s. (lines : List (List ℕ)) × AskText params.entry asking input.now lines s) }
+    ensures written { (lines : List (List ℕ)) (status : ℕ) → AskText params.entry asking input.now lines status
+        → Writes (W.contents out.old) (W.contents out.new) lines result }
+    ensures status { (lines : List (List ℕ)) (status : ℕ) → AskText params.entry asking input.now lines status
+        → IfOk result (λ s. s ≡ status) }
+    ensures two { IfOk result (λ s. (s ≡ 0) ⊎ (s ≡ 2)) }
+    ensures refused { (n : ℕ) → result ≡ Err (Line n) → HasBadAskedLine params.entry input.now n }
+    ensures refuses { (n : ℕ) → HasBadAskedLine params.entry input.now n → RefusesLine n result }
+    ensures quiet { (n : ℕ) → HasBadAskedLine params.entry input.now n → out.new ≡ out.old }
+{
+    write_asking(alloc, params, asking, input, out)
+}
+
+/// Writes what a client prints, or the refusal of its context.
+fn write_asking<W: Write>(
+    alloc: Global,
+    params: Params<'_>,
+    asking: Asking,
+    input: &[u8],
+    out: &mut W,
+) -> Result<u8, Fault>
+    ensures { Prints W.contents (AskText params.entry asking input.now) (HasBadAskedLine params.entry input.now)
+        out.old out.new result }
+{
+    one_context_refusal();
+    match Context::derive(params) {
+        Ok(context) => {
+            let mut client = Client::new(context, asking.next, asking.life_ms);
+            write_input(alloc, &mut client, input, out)
+        }
+        Err(refusal) => put_refused(alloc, refusal, out),
+    }
+}
+
+/// Reads the events of an input, runs a client over them, and writes the lines of their entries.
+fn write_input<W: Write>(
+    alloc: Global,
+    client: &mut Client<16>,
+    input: &[u8],
+    out: &mut W,
+) -> Result<u8, Fault>
+    ensures { (h : History) → ClientAgrees client.old h → AllClientAnswers places h
+        → Prints W.contents (InputText SpellsAsked ClientLine h input.now) (IsFirstBadLine SpellsAsked input.now)
+        out.old out.new result }
+{
+    one_client_answer();
+    one_datagram();
+    let mut events = read_events(alloc, input)?;
+    write_events(alloc, client, events.as_mut_slice(), out)
+}
+
+/// Runs a client over events, and writes the lines of their entries: of those before one for which no memory was left.
+fn write_events<W: Write>(
+    alloc: Global,
+    client: &mut Client<16>,
+    events: &mut [ClientEvent],
+    out: &mut W,
+) -> Result<u8, Fault>
+    ensures { (h : History) → ClientAgrees client.old h → All HasRoom events.old
+        → RunsEvents ClientLine h (map asked_seen events.old) (W.contents out.old) (W.contents out.new) result }
+{
+    let mut log = Vec::new(alloc);
+    let ran = run_client(alloc, client, events, &mut log);
+    write_log(alloc, log.as_slice(), ran, out)
+}

@@ -1,0 +1,107 @@
+//! How the entries of a server's log print, one a line.
+
+ghost use Rattle.std.specs.Prelude.{◌≡◌, ◌++◌, IfOk, string_bytes};
+ghost use Rattle.osc_context.specs.Views.{number_of};
+ghost use Rattle.osc_protect.specs.Views.{message_of};
+ghost use Rattle.osc_text.specs.ServerLines.{delivery_text, reply_text};
+ghost use Rattle.osc_text.specs.ServerLog.{entry_text, seen_text};
+
+use crate::entry_lines::{LogEntry, fault_text, message_text};
+use crate::lines::bytes_text;
+use osc_context::Piv;
+use osc_endpoint::{Seen, ServerEntry};
+use osc_protect::Opened;
+use std::alloc::{AllocError, Global};
+
+/// A reply behind its entry, after one space, where there is one.
+fn reply_text(alloc: Global, reply: &[u8]) -> Result<String, AllocError>
+    ensures { IfOk result (λ text. string_bytes text ≡ reply_text reply.now) }
+{
+    if reply.is_empty() {
+        return Ok(String::new(alloc));
+    }
+    let text = bytes_text(alloc, reply)?;
+    format!(in alloc; " {text}")
+}
+
+/// A delivery: context, number, code, options and payload.
+fn delivery_text(
+    alloc: Global,
+    opened: &Opened<'_>,
+    context: usize,
+    number: Piv,
+) -> Result<String, AllocError>
+    ensures { IfOk result (λ text. string_bytes text ≡ delivery_text context (number_of number) (message_of opened.now)) }
+{
+    let number = number.number();
+    let message = message_text(alloc, opened)?;
+    format!(in alloc; "deliver {context} {number} {message}")
+}
+
+/// What was made of a datagram.
+fn seen_text(alloc: Global, seen: &Seen<'_>) -> Result<String, AllocError>
+    ensures { IfOk result (λ text. string_bytes text ≡ seen_text seen.now) }
+{
+    match seen {
+        Seen::Malformed(error) => {
+            let fault = fault_text(alloc, *error)?;
+            format!(in alloc; "malformed {fault}")
+        }
+        Seen::NotRequest => String::from_str(alloc, "not-request"),
+        Seen::Plain => String::from_str(alloc, "plain"),
+        Seen::Undecodable => String::from_str(alloc, "undecodable"),
+        Seen::NoContext => String::from_str(alloc, "no-context"),
+        Seen::Replay => String::from_str(alloc, "replay"),
+        Seen::BadTag => String::from_str(alloc, "bad-tag"),
+        Seen::BadInner => String::from_str(alloc, "bad-inner"),
+        Seen::Challenge { echo, .. } => {
+            let echo = bytes_text(alloc, echo)?;
+            format!(in alloc; "challenge {echo}")
+        }
+        Seen::SequenceExhausted => String::from_str(alloc, "exhausted"),
+        Seen::KeeperFailed => String::from_str(alloc, "keeper-failed"),
+        Seen::Deliver {
+            opened,
+            context,
+            number,
+        } => delivery_text(alloc, opened, *context, *number),
+    }
+}
+
+/// What was made of a datagram, and the reply.
+fn took_text(alloc: Global, seen: &Seen<'_>, reply: &[u8]) -> Result<String, AllocError>
+    ensures { IfOk result (λ text. string_bytes text ≡ seen_text seen.now ++ reply_text reply.now) }
+{
+    let seen = seen_text(alloc, seen)?;
+    let reply = reply_text(alloc, reply)?;
+    format!(in alloc; "{seen}{reply}")
+}
+
+/// An entry, as it prints.
+fn entry_text(alloc: Global, entry: &ServerEntry<'_>) -> Result<String, AllocError>
+    ensures { IfOk result (λ text. string_bytes text ≡ entry_text entry.now) }
+{
+    match entry {
+        ServerEntry::Took { seen, reply } => took_text(alloc, seen, reply),
+        ServerEntry::Replied(Ok(bytes)) => {
+            let text = bytes_text(alloc, bytes)?;
+            format!(in alloc; "replied {text}")
+        }
+        ServerEntry::Replied(Err(refusal)) => format!(in alloc; "refused: {refusal}"),
+        ServerEntry::NoTicket => String::from_str(alloc, "no-ticket"),
+        ServerEntry::BadPlain(error) => {
+            let fault = fault_text(alloc, *error)?;
+            format!(in alloc; "bad-plain {fault}")
+        }
+        ServerEntry::Restarted(Ok(())) => String::from_str(alloc, "restarted"),
+        ServerEntry::Restarted(Err(refusal)) => format!(in alloc; "refused: {refusal}"),
+    }
+}
+
+impl LogEntry for ServerEntry<'_> {
+    ghost text_of = { entry_text };
+
+    fn text(&self, alloc: Global) -> Result<String, AllocError> {
+        entry_text(alloc, self)
+    }
+}
