@@ -1,9 +1,11 @@
 -- The table of a client's pending requests, and the requests that it stands for.
-use Rattle.std.proofs.Common.{◌≡◌, ◌≢◌, ℕ, zero, suc, ◌<◌, ◌≤◌, ◌-◌, ◌∙◌, sym, ap, subst, refl, arith, Bool, true, false, Some, None, List, [], ◌∷◌, length, inl, inr}
-use Rattle.std.specs.Prelude.{Contains, bytes_eq, cond, filter, map, max, nat_le, not, slice_get, slice_index_or}
-use Rattle.std.proofs.lemmas.Bool.{cases_order}
+use Rattle.std.proofs.Common.{◌≡◌, ◌≢◌, ℕ, zero, suc, ◌≤◌, ◌-◌, ◌∙◌, sym, ap, subst, refl, arith, Bool, true, false, Some, None, List, [], ◌∷◌, inl, inr}
+use Rattle.std.specs.Prelude.{All, Contains, bytes_eq, cond, filter, map, max, nat_le, not, remove, slice_get, slice_index_or}
+use Rattle.std.proofs.lemmas.Bool.{cases_order, false_from_ne_true, not_from_false, not_from_true}
 use Rattle.std.proofs.lemmas.Bool.Decides.{nat_tests}
 use Rattle.std.proofs.lemmas.List.{get_or_default}
+use Rattle.std.proofs.lemmas.Option.{get_or_from_slice_get, slice_get_within}
+use Rattle.std.proofs.lemmas.Slice.Eq.{bytes_eq-Decides}
 use Rattle.std.proofs.lemmas.List.Elements.{All-contains, All-contains_itself, All-filter}
 use Rattle.std.proofs.lemmas.List.Kept.{AllPairs-filter}
 use Rattle.osc_context.specs.Views.{as_client}
@@ -11,6 +13,7 @@ use Rattle.osc_protect.specs.Views.{context_of}
 use Rattle.osc_endpoint.specs.declared.client.Client.{Client}
 use Rattle.osc_endpoint.specs.declared.pending.Pending.{Pending}
 use Rattle.osc_endpoint.specs.Agrees.{ClientAgrees, TokensDiffer}
+use Rattle.osc_endpoint.specs.ClientAnswer.{IsAmong}
 use Rattle.osc_endpoint.specs.ClientHistory.{Advance, Advanced, Asked, Entry, Event, History, Then, alive, asked, clock, life_ms, next, pending, pending_at, without}
 use Rattle.osc_endpoint.specs.Views.{asked_of}
 
@@ -23,11 +26,16 @@ pub map_filter : (p : Asked → Bool) (xs : List Pending) → map asked_of (filt
 map_filter p [] = refl
 map_filter p (x ∷ xs) = step (p (asked_of x)) x _ _ (map_filter p xs)
 
-passes : (p : Asked → Bool) (x : Asked) (xs : List Asked) → p x ≡ true → filter p (x ∷ xs) ≡ x ∷ filter p xs
+passes : {X : Type 0} (p : X → Bool) (x : X) (xs : List X) → p x ≡ true → filter p (x ∷ xs) ≡ x ∷ filter p xs
 passes p x xs e = ap (λ b. cond b (x ∷ filter p xs) (filter p xs)) e
 
 fails : (p : Asked → Bool) (x : Asked) (xs : List Asked) → p x ≡ false → filter p (x ∷ xs) ≡ filter p xs
 fails p x xs e = ap (λ b. cond b (x ∷ filter p xs) (filter p xs)) e
+
+-- where all pass, all are kept
+pub kept : {X : Type 0} (p : X → Bool) (xs : List X) → All (λ r. p r ≡ true) xs → filter p xs ≡ xs
+kept p [] h = refl
+kept p (x ∷ xs) h = passes p x xs (h 0 x (omega arith)) ∙ ap (λ zs. x ∷ zs) (kept p xs (λ k d less. h (suc k) d (omega (arith, less))))
 
 swap_by : (b c : Bool) (p q : Asked → Bool) (x : Asked) (xs : List Asked) → p x ≡ b → q x ≡ c → filter p (filter q xs) ≡ filter q (filter p xs)
     → filter p (filter q (x ∷ xs)) ≡ filter q (filter p (x ∷ xs))
@@ -64,17 +72,38 @@ alive_again a b ms (x ∷ xs) h = alive_by (nat_le (a - x.moment) ms) (nat_le (b
 
 -- ---- tokens
 
--- a place of the table holds a request, and each request has a place
-pub contains_at : (xs : List Pending) (i : ℕ) (p : Pending) → slice_get xs i ≡ Some p → Contains (map asked_of xs) (asked_of p)
-contains_at [] i p e = absurd (let f : None ≡ Some p = e in cc)
-contains_at (x ∷ xs) zero p e = let f : Some x ≡ Some p = e in let g : x ≡ p = cc in (0, omega arith, ap asked_of g)
-contains_at (x ∷ xs) (suc i) p e = let h = contains_at xs i p e in let less = h.1 in (suc h.0, omega (arith, less), h.2)
+-- what stands at a place is there
+pub contains_at : (xs : List Asked) (i : ℕ) (r : Asked) → slice_get xs i ≡ Some r → Contains xs r
+contains_at xs i r is = (i, slice_get_within xs i r is, get_or_from_slice_get xs i r r is)
 
-pub place_of : (xs : List Pending) (r : Asked) (k : ℕ) → k < length (map asked_of xs) → slice_index_or (map asked_of xs) k r ≡ r
-    → (i : ℕ) × (p : Pending) × (slice_get xs i ≡ Some p) × (asked_of p ≡ r)
-place_of [] r k less is = absurd (omega (arith, less))
-place_of (x ∷ xs) r zero less is = (0, x, refl, is)
-place_of (x ∷ xs) r (suc k) less is = let h = place_of xs r k (omega (arith, less)) is in (suc h.0, h.1, h.2, h.3)
+is_other : (token : List ℕ) (r : Asked) → r.token ≢ token → not (bytes_eq r.token token) ≡ true
+is_other token r other = not_from_false _ (false_from_ne_true _ (λ is. other ((bytes_eq-Decides r.token token).0 is)))
+
+is_that : (token : List ℕ) (r : Asked) → r.token ≡ token → not (bytes_eq r.token token) ≡ false
+is_that token r same = not_from_true _ ((bytes_eq-Decides r.token token).1 same)
+
+-- where none has the token, none is taken out
+pub untouched : (xs : List Asked) (token : List ℕ) → (IsAmong token xs → ⊥) → without token xs ≡ xs
+untouched xs token none =
+    kept (λ q. not (bytes_eq q.token token)) xs (λ k d less. is_other token (slice_index_or xs k d) (λ e. none (slice_index_or xs k d, (k, less, get_or_default xs k (slice_index_or xs k d) d less), e)))
+
+-- where no two have one token, the requests but that of a token are those but that at its place
+pub removed : (xs : List Pending) (i : ℕ) (r : Asked) (token : List ℕ) → TokensDiffer (map asked_of xs) → slice_get (map asked_of xs) i ≡ Some r → r.token ≡ token
+    → map asked_of (remove xs i) ≡ without token (map asked_of xs)
+removed [] i r token differ is same = absurd (let f : None ≡ Some r = is in cc)
+removed (x ∷ xs) zero r token differ is same =
+    let ys = map asked_of xs in
+    let here : asked_of x ≡ r = let f : Some (asked_of x) ≡ Some r = is in cc in
+    let that : (asked_of x).token ≡ token = ap (λ (q : Asked). q.token) here ∙ same in
+    let rest = kept (λ q. not (bytes_eq q.token token)) ys (λ k d less. is_other token (slice_index_or ys k d) (λ e. differ 0 (suc k) d (omega arith) (omega (arith, less)) (that ∙ sym e))) in
+    sym (fails (λ q. not (bytes_eq q.token token)) (asked_of x) ys (is_that token (asked_of x) that) ∙ rest)
+removed (x ∷ xs) (suc i) r token differ is same =
+    let ys = map asked_of xs in
+    let less = slice_get_within ys i r is in
+    let apart : (asked_of x).token ≢ (slice_index_or ys i r).token = differ 0 (suc i) r (omega arith) (omega (arith, less)) in
+    let other : (asked_of x).token ≢ token = λ e. apart (e ∙ sym same ∙ ap (λ (q : Asked). q.token) (sym (get_or_from_slice_get ys i r r is))) in
+    ap (λ zs. asked_of x ∷ zs) (removed xs i r token (λ j k d below within. differ (suc j) (suc k) d (omega (arith, below)) (omega (arith, within))) is same)
+    ∙ sym (passes (λ q. not (bytes_eq q.token token)) (asked_of x) ys (is_other token (asked_of x) other))
 
 -- what is left of the requests is some of them
 pub contains_filter : (p : Asked → Bool) (xs : List Asked) (r : Asked) → Contains (filter p xs) r → Contains xs r

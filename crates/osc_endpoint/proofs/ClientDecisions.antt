@@ -1,6 +1,6 @@
 -- What a client decides of a datagram, after a history.
-use Rattle.std.proofs.Common.{◌≡◌, ℕ, ◌∙◌, sym, ap, subst, refl, bytes_eq, not, true, Option, List}
-use Rattle.std.specs.Prelude.{Contains, map, max}
+use Rattle.std.proofs.Common.{◌≡◌, ℕ, ◌∙◌, sym, ap, subst, refl, bytes_eq, not, true, Option, Some, List}
+use Rattle.std.specs.Prelude.{Contains, map, max, remove, slice_get}
 use Rattle.std.specs.Option.{option_map}
 use Rattle.osc_coap.specs.Code.{is_response}
 use Rattle.osc_coap.specs.Datagram.{Parts, IsDatagram}
@@ -16,24 +16,26 @@ use Rattle.osc_protect.specs.Views.{context_of}
 use Rattle.osc_protect.specs.declared.opened.Opened.{Opened}
 use Rattle.osc_protect.specs.declared.stages.DecryptedResponse.{DecryptedResponse}
 use Rattle.osc_endpoint.specs.declared.client.Client.{Client}
+use Rattle.osc_endpoint.specs.declared.client_outcome.ClientOutcome.TheVariants as outcomes
 use Rattle.osc_endpoint.specs.declared.decision.ClientDecision.TheVariants as decisions
 use Rattle.osc_endpoint.specs.declared.pending.Pending.{Pending}
 use Rattle.osc_endpoint.specs.Agrees.{ClientAgrees, TokensDiffer}
 use Rattle.osc_endpoint.specs.ClientAnswer.{IsAmong, IsAnswerTo}
-use Rattle.osc_endpoint.specs.ClientDeciding.{ClientDecidesTo, IsOpenedBy}
-use Rattle.osc_endpoint.specs.ClientHistory.{Advance, Advanced, Asked, Deliver, History, Then, alive, asked, clock, context, life_ms, pending_at, without}
+use Rattle.osc_endpoint.specs.ClientDeciding.{ClientDecidesTo, ClientTakes, IsDecryptedFor, IsOpenedBy}
+use Rattle.osc_endpoint.specs.ClientHistory.{Advance, Advanced, Asked, Datagram, Deliver, History, Then, Took, alive, asked, clock, context, life_ms, pending_at, without}
 use Rattle.osc_endpoint.specs.Received.{Receives}
 use Rattle.osc_endpoint.specs.Views.{asked_of, received_of}
-use Rattle.osc_endpoint.proofs.Asking.{contains_filter, differ_filter, ended}
+use Rattle.osc_endpoint.proofs.Asking.{contains_at, contains_filter, differ_filter, ended, removed}
 
 -- a fact of the client's context and a request's number, in the words of the history
 pub in_history : (P : Protection (Option ℕ) → Type 0) (s t : SecurityContext) (k n m : ℕ) → s ≡ t → k ≡ n → m ≡ n → P (responses s k) → P (responses t m)
 in_history P s t k n m e f g h = subst (λ x. P (responses t x)) (f ∙ sym g) (subst (λ x. P (responses x k)) e h)
 
 -- what was found in the table, or not, is found among the pending requests, or not
-pub there : (xs ys : List Pending) (t token : List ℕ) (n : ℕ) → xs ≡ ys → t ≡ token → (r : Asked) × Contains (map asked_of xs) r × (r.token ≡ t) × (r.number ≡ n)
+pub there : (xs ys : List Pending) (k n : ℕ) (t token : List ℕ) → xs ≡ ys → t ≡ token → (r : Asked) × (slice_get (map asked_of xs) k ≡ Some r) × (r.token ≡ t) × (r.number ≡ n)
     → (r : Asked) × Contains (map asked_of ys) r × (r.token ≡ token) × (r.number ≡ n)
-there xs ys t token n same is (r, has, token_is, number_is) = (r, subst (λ zs. Contains (map asked_of zs) r) same has, token_is ∙ is, number_is)
+there xs ys k n t token same is (r, at, token_is, number_is) =
+    (r, subst (λ zs. Contains (map asked_of zs) r) same (contains_at (map asked_of xs) k r at), token_is ∙ is, number_is)
 
 pub not_there : {N : ℕ} (c : Client N) (h : History) (now : ℕ) (xs : List Pending) (t token : List ℕ) → ClientAgrees c (Then h (Advance now) Advanced)
     → xs ≡ c.pending.items → t ≡ token → (IsAmong t (map asked_of xs) → ⊥) → IsAmong token (pending_at h (max (clock h) now)) → ⊥
@@ -72,34 +74,60 @@ receives s n d o a = record {
   uri_port = a.shows.uri_port;
 }
 
--- a delivery ends the request that it answers
-pub delivered : {N : ℕ} (c after : Client N) (h : History) (now k : ℕ) (d new : List ℕ) (p : Parts) (r : Asked) (piv : Piv) (x : DecryptedResponse) (o : Opened)
-    → DatagramIsOneMessage → OneResponseReading → ClientAgrees c (Then h (Advance now) Advanced)
-    → IsDatagram p d → is_response p.kind p.code ≡ true → r.token ≡ p.token → r.number ≡ number_of piv → k ≡ number_of piv → Contains (map asked_of c.pending.items) r
-    → DecryptsResponse (responses (as_client (context_of c.context)) k) d x new → OpensResponseAfter new x o
-    → after.context ≡ c.context → after.life_ms ≡ c.life_ms → after.clock ≡ c.clock → after.next ≡ c.next
-    → map asked_of after.pending.items ≡ without p.token (map asked_of c.pending.items)
-    → ClientDecidesTo h now d (decisions.Deliver x piv) new after
-delivered c after h now k d new p r piv x o one laws a datagram response token number request has decrypts opens same_context same_life same_clock same_next table =
-    let s = context h in
-    let by : DecryptsResponse (responses s r.number) d x new = in_history (λ f. DecryptsResponse f d x new) (as_client (context_of c.context)) s k (number_of piv) r.number a.context_is request number decrypts in
-    let got = opens s r.number d by in
-    let said = receives s r.number d o got in
-    let head : p.token ≡ (received_of o).token = sym (said.token ∙ ap (λ (q : Parts). q.token) (one said.outer p d said.datagram datagram)) in
-    let left = ended h (max (clock h) now) p.token ∙ ap (λ t. alive (max (clock h) now) (life_ms h) (without t (asked h))) head in
-    record {
-      answer = Deliver (received_of o) (number_of piv);
-      row = (r, answers c h now d p r a datagram response token has, (sym number, got.number, said));
-      decides = ((λ y q. opens_alike s r.number d o y laws got (q s r.number d by)), refl);
-      agrees = record {
+module _ {N : ℕ} (c after : Client N) (h : History) (now place : ℕ) (d new : List ℕ) (x : DecryptedResponse) (o : Opened) (piv : Piv) where
+  -- a delivery ends the request that it answers
+  ends : DatagramIsOneMessage → IsDecryptedFor h now d x place (number_of piv) new c → OpensResponseAfter new x o
+      → after.context ≡ c.context → after.life_ms ≡ c.life_ms → after.clock ≡ c.clock → after.next ≡ c.next
+      → after.pending.items ≡ remove c.pending.items place
+      → ClientAgrees after (Then h (Datagram now d) (Took (Deliver (received_of o) (number_of piv))))
+  ends one was opens same_context same_life same_clock same_next items =
+      let a = was.agrees in
+      let r = was.to in
+      let (p, datagram, response, named) = was.answers.0 in
+      let said = receives (context h) r.number d o (opens (context h) r.number d was.decrypts) in
+      let head : r.token ≡ (received_of o).token = sym named ∙ sym (said.token ∙ ap (λ (q : Parts). q.token) (one said.outer p d said.datagram datagram)) in
+      let table = removed c.pending.items place r r.token (subst TokensDiffer (sym a.table) a.differ) was.at_place refl in
+      let left = ended h (max (clock h) now) r.token ∙ ap (λ t. alive (max (clock h) now) (life_ms h) (without t (asked h))) head in
+      record {
         context_is = ap (λ y. as_client (context_of y)) same_context ∙ a.context_is;
         life_is = same_life ∙ a.life_is;
         clock_is = same_clock ∙ a.clock_is;
         next_is = same_next ∙ a.next_is;
-        table = table ∙ ap (without p.token) a.table ∙ left;
-        differ = subst TokensDiffer left (differ_filter (λ q. not (bytes_eq q.token p.token)) (pending_at h (max (clock h) now)) a.differ);
-      };
-    }
+        table = ap (map asked_of) items ∙ table ∙ ap (without r.token) a.table ∙ left;
+        differ = subst TokensDiffer left (differ_filter (λ q. not (bytes_eq q.token r.token)) (pending_at h (max (clock h) now)) a.differ);
+      }
+
+  -- what was decrypted and can be read is delivered
+  pub delivered : DatagramIsOneMessage → OneResponseReading → IsDecryptedFor h now d x place (number_of piv) new c → OpensResponseAfter new x o
+      → after.context ≡ c.context → after.life_ms ≡ c.life_ms → after.clock ≡ c.clock → after.next ≡ c.next
+      → after.pending.items ≡ remove c.pending.items place
+      → ClientDecidesTo h now d (decisions.Deliver x piv) new after
+  delivered one laws was opens same_context same_life same_clock same_next items =
+      let s = context h in
+      let n = was.to.number in
+      let got = opens s n d was.decrypts in
+      record {
+        answer = Deliver (received_of o) (number_of piv);
+        row = (was.to, was.answers, (sym was.number_is, got.number, receives s n d o got));
+        decides = ((λ y q. opens_alike s n d o y laws got (q s n d was.decrypts)), refl);
+        agrees = ends one was opens same_context same_life same_clock same_next items;
+      }
+
+  -- the same, read at once
+  pub delivered_at_once : DatagramIsOneMessage → IsDecryptedFor h now d x place (number_of piv) new c → OpensResponseAfter new x o
+      → after.context ≡ c.context → after.life_ms ≡ c.life_ms → after.clock ≡ c.clock → after.next ≡ c.next
+      → after.pending.items ≡ remove c.pending.items place
+      → ClientTakes h now d (outcomes.Deliver o piv) after
+  delivered_at_once one was opens same_context same_life same_clock same_next items =
+      let s = context h in
+      let n = was.to.number in
+      let got = opens s n d was.decrypts in
+      record {
+        answer = Deliver (received_of o) (number_of piv);
+        row = (was.to, was.answers, (sym was.number_is, got.number, receives s n d o got));
+        shows = (refl, refl);
+        agrees = ends one was opens same_context same_life same_clock same_next items;
+      }
 
 -- what decryption leaves; old is the client before those were dropped whose time has passed
 pub opened_by : {N : ℕ} (old : Client N) (clock k : ℕ) (piv : Piv) (xs : List Asked) (d new : List ℕ) (r : Asked) (x : DecryptedResponse)

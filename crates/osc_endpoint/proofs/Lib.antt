@@ -6,6 +6,7 @@ pub mod Decisions
 pub mod Deliveries
 pub mod SealedReplies
 pub mod Additions
+pub mod RunTickets
 pub mod Runs
 pub mod LifeCounts
 pub mod OwnNumbers

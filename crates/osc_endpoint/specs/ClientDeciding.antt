@@ -1,6 +1,6 @@
 -- How the code is seen: what a client decides of a datagram before it lends slices of it. h is a history, c the client, d the
 -- datagram as it came, new what was left of it.
-use Rattle.std.specs.Prelude.{◌≡◌, ℕ, List, Contains, Option, map}
+use Rattle.std.specs.Prelude.{◌≡◌, ℕ, List, Contains, Option, Some, map, max, slice_get}
 use Rattle.osc_coap.specs.Inner.{InnerParts}
 use Rattle.osc_context.specs.SecurityContext.{SecurityContext}
 use Rattle.osc_context.specs.Views.{as_client, number_of}
@@ -15,7 +15,7 @@ use Rattle.osc_endpoint.specs.declared.client_outcome.ClientOutcome.{ClientOutco
 use Rattle.osc_endpoint.specs.declared.decision.ClientDecision.{ClientDecision}
 use Rattle.osc_endpoint.specs.declared.decision.ClientDecision.TheVariants as decisions
 use Rattle.osc_endpoint.specs.Agrees.{ClientAgrees}
-use Rattle.osc_endpoint.specs.ClientAnswer.{ClientAnswer}
+use Rattle.osc_endpoint.specs.ClientAnswer.{ClientAnswer, IsAnswerTo}
 use Rattle.osc_endpoint.specs.ClientHistory as client
 use Rattle.osc_endpoint.specs.Received.{Received}
 use Rattle.osc_endpoint.specs.Views.{ClientShows, asked_of, received_of}
@@ -70,3 +70,12 @@ pub record ClientTakes {N : ℕ} (h : client.History) (now : ℕ) (d : List ℕ)
   pub row : ClientAnswer N h (client.Datagram now d) (client.Took answer)
   pub shows : ClientShows outcome answer
   pub agrees : ClientAgrees c (client.Then h (client.Datagram now d) (client.Took answer))
+
+-- the datagram answers this pending request, which stands at a place of the table, and was decrypted as a response to it (RFC 8613, 8.4)
+pub record IsDecryptedFor {N : ℕ} (h : client.History) (now : ℕ) (d : List ℕ) (x : DecryptedResponse) (place number : ℕ) (new : List ℕ) (c : Client N) : Type 0 where
+  pub agrees : ClientAgrees c (client.Then h (client.Advance now) client.Advanced)
+  pub to : client.Asked
+  pub at_place : slice_get (map asked_of c.pending.items) place ≡ Some to
+  pub number_is : to.number ≡ number
+  pub answers : IsAnswerTo h (max (client.clock h) now) d to
+  pub decrypts : DecryptsResponse (responses (client.context h) to.number) d x new

@@ -3,7 +3,7 @@
 ghost use Rattle.std.specs.Prelude.{◌≡◌, ◌≤◌, ◌^◌};
 ghost use Rattle.osc_context.specs.Views.{as_client, number_of};
 
-use crate::pending::{Pending, drop_expired, drop_token, find_number};
+use crate::pending::{Pending, drop_expired, find_request};
 use arrayvec::ArrayVec;
 use osc_context::{Context, Piv};
 use osc_protect::KeyedContext;
@@ -61,8 +61,12 @@ impl<const N: usize> Client<N> {
         ensures answered { (h : History) → ClientAgrees self.old h → ClientAnswer N h (Forget token.now) (Forgot result) }
         ensures follows { (h : History) → ClientAgrees self.old h → ClientAgrees self.new (Then h (Forget token.now) (Forgot result)) }
     {
-        let was_pending = find_number(self.pending.as_slice(), token).is_some();
-        drop_token(&mut self.pending, token);
-        was_pending
+        match find_request(self.pending.as_slice(), token) {
+            Some(found) => {
+                let _forgotten = self.pending.remove(found.place);
+                true
+            }
+            None => false,
+        }
     }
 }

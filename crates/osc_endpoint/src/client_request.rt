@@ -10,7 +10,7 @@ ghost use Rattle.osc_endpoint.specs.declared.client_outcome.RequestError.TheVari
 use crate::asker::copy_of;
 use crate::client::Client;
 use crate::client_outcome::RequestError;
-use crate::pending::{Pending, find_number};
+use crate::pending::{Pending, find_request};
 use osc_coap::Message;
 use osc_context::Piv;
 use osc_protect::{ProtectError, check_request};
@@ -47,7 +47,7 @@ impl<const N: usize> Client<N> {
         if let Err(error) = check_request(plain) {
             return Err(lift(error));
         }
-        if find_number(self.pending.as_slice(), plain.token.as_slice()).is_some() {
+        if find_request(self.pending.as_slice(), plain.token.as_slice()).is_some() {
             return Err(RequestError::TokenInUse);
         }
         if self.pending.is_full() {

@@ -1,7 +1,9 @@
-//! What a client makes of a datagram, in two halves. The first decides, and says what it leaves in the datagram; the second
-//! lends slices of it.
+//! What a client makes of a datagram: at once, or in two halves, of which the first decides, and says what it leaves in the
+//! datagram, and the second lends slices of it.
 
-ghost use Rattle.std.specs.Prelude.{◌≡◌, ℕ, Option, Some};
+ghost use Rattle.std.specs.Prelude.{◌≡◌, ◌<◌, ℕ, Option, Some, IfOk, IfErr, OnOk};
+ghost use Rattle.arrayvec.specs.ArrayVec.{array_vec_len};
+ghost use Rattle.osc_context.specs.Views.{number_of};
 ghost use Rattle.osc_endpoint.specs.ClientDeciding.{CanShow, Decides, LeavesBy};
 ghost use Rattle.osc_endpoint.specs.ClientHistory.{Answer};
 ghost use Rattle.osc_endpoint.specs.Views.{ClientShows};
@@ -9,13 +11,14 @@ ghost use Rattle.osc_endpoint.specs.Views.{ClientShows};
 use crate::client::Client;
 use crate::client_outcome::ClientOutcome;
 use crate::decision::ClientDecision;
-use crate::pending::{drop_expired, drop_token, find_number};
+use crate::pending::{Found, drop_expired, find_request};
 use osc_coap::{one_datagram, parse};
 use osc_protect::{
-    NoHead, RequestRef, ResponseHead, decrypt_response, one_reading, one_response, read_response,
+    DecryptedResponse, NoHead, RequestRef, ResponseHead, decrypt_response, one_reading,
+    one_response, read_response,
 };
 
-/// What a client decided, as its outcome: the second half of `Client::take`. The datagram is as `Client::decide` left it, and
+/// What a client decided, as its outcome. The datagram is as `Client::decide` left it, and
 /// the decision the one that it gave.
 #[must_use]
 pub fn read_client_decided(datagram: &[u8], decision: ClientDecision) -> ClientOutcome<'_>
@@ -40,14 +43,60 @@ pub fn read_client_decided(datagram: &[u8], decision: ClientDecision) -> ClientO
 
 impl<const N: usize> Client<N> {
     ghost use Rattle.osc_coap.specs.Inner.{InnerParts};
+    ghost use Rattle.osc_context.specs.SecurityContext.{SecurityContext};
+    ghost use Rattle.osc_protect.specs.Protection.{responses};
+    ghost use Rattle.osc_protect.specs.StageViews.{DecryptsResponse, FitsResponse};
     ghost use Rattle.osc_endpoint.specs.Agrees.{ClientAgrees};
     ghost use Rattle.osc_endpoint.specs.ClientAnswer.{Delivers};
-    ghost use Rattle.osc_endpoint.specs.ClientDeciding.{ClientDecidesTo, ClientTakes};
+    ghost use Rattle.osc_endpoint.specs.ClientDeciding.{ClientDecidesTo, ClientTakes, IsDecryptedFor, IsOpenedBy};
     ghost use Rattle.osc_endpoint.specs.ClientHistory.{History};
     ghost use Rattle.osc_endpoint.specs.Views.{client_delivery_of};
 
-    /// Decides what a datagram is answered: the first half of `take`. All but the reading of a delivered message happens here.
-    /// Kind, token and OSCORE option are asked in this order.
+    /// Decrypts a response to a pending request where it lies, and says which request that is: all of `decide` that comes before
+    /// the plaintext is read. Kind, token and OSCORE option are asked in this order.
+    fn decrypt(
+        &mut self,
+        now: u64,
+        datagram: &mut [u8],
+    ) -> Result<(DecryptedResponse, Found), ClientDecision>
+        ensures refused { IfErr result (λ x. (h : History) → ClientAgrees self.old h → ClientDecidesTo h now datagram.old x datagram.new self.new) }
+        ensures shown { IfErr result (λ x. CanShow x datagram.new) }
+        ensures left { IfErr result (λ x. LeavesBy self.old x datagram.old datagram.new) }
+        ensures answers { IfOk result (λ p. (h : History) → ClientAgrees self.old h
+            → IsDecryptedFor h now datagram.old p.0 p.1.place (number_of p.1.number) datagram.new self.new) }
+        ensures decrypted { IfOk result (λ p. (s : SecurityContext) × (n : ℕ) × DecryptsResponse (responses s n) datagram.old p.0 datagram.new) }
+        ensures opened { OnOk result (IsOpenedBy self.old datagram.old datagram.new) }
+        ensures fits { IfOk result (λ p. FitsResponse datagram.new p.0) }
+        ensures within { IfOk result (λ p. p.1.place < array_vec_len self.new.pending) }
+    {
+        one_datagram();
+        self.clock = self.clock.max(now);
+        drop_expired(&mut self.pending, self.clock, self.life_ms);
+        let message = match parse(datagram) {
+            Ok(message) => message,
+            Err(error) => return Err(ClientDecision::Malformed(error)),
+        };
+        if !message.is_response() {
+            return Err(ClientDecision::NotResponse);
+        }
+        let found = find_request(self.pending.as_slice(), message.token.as_slice());
+        let Some(found) = found else {
+            return Err(ClientDecision::UnknownToken);
+        };
+        let head = match ResponseHead::read(&message) {
+            Ok(head) => head,
+            Err(NoHead::NotThatKind) => return Err(ClientDecision::NotResponse),
+            Err(NoHead::NoOscore) => return Err(ClientDecision::Unprotected),
+            Err(NoHead::Undecodable) => return Err(ClientDecision::Undecodable),
+        };
+        let (sealed, request) = (head.sealed(), RequestRef::new(found.number));
+        let Ok(decrypted) = decrypt_response(&self.context, &request, datagram, sealed) else {
+            return Err(ClientDecision::BadTag);
+        };
+        Ok((decrypted, found))
+    }
+
+    /// Decides what a datagram is answered, as `take` does. All but the reading of a delivered message happens here.
     pub fn decide(&mut self, now: u64, datagram: &mut [u8]) -> ClientDecision
         ensures answered { (h : History) → ClientAgrees self.old h → ClientDecidesTo h now datagram.old result datagram.new self.new }
         ensures shown { CanShow result datagram.new }
@@ -55,38 +104,36 @@ impl<const N: usize> Client<N> {
     {
         one_datagram();
         one_reading();
-        self.clock = self.clock.max(now);
-        drop_expired(&mut self.pending, self.clock, self.life_ms);
-        let message = match parse(datagram) {
-            Ok(message) => message,
-            Err(error) => return ClientDecision::Malformed(error),
-        };
-        if !message.is_response() {
-            return ClientDecision::NotResponse;
-        }
-        let Some(number) = find_number(self.pending.as_slice(), message.token.as_slice()) else {
-            return ClientDecision::UnknownToken;
-        };
-        let head = match ResponseHead::read(&message) {
-            Ok(head) => head,
-            Err(NoHead::NotThatKind) => return ClientDecision::NotResponse,
-            Err(NoHead::NoOscore) => return ClientDecision::Unprotected,
-            Err(NoHead::Undecodable) => return ClientDecision::Undecodable,
-        };
-        let (sealed, token) = (head.sealed(), head.token);
-        let request = RequestRef::new(number);
-        let Ok(decrypted) = decrypt_response(&self.context, &request, datagram, sealed) else {
-            return ClientDecision::BadTag;
+        let (decrypted, found) = match self.decrypt(now, datagram) {
+            Ok(decrypted) => decrypted,
+            Err(decision) => return decision,
         };
         let Ok(_) = read_response(datagram, decrypted) else {
             return ClientDecision::BadInner;
         };
-        drop_token(&mut self.pending, token.as_slice());
-        ClientDecision::Deliver(decrypted, number)
+        let _answered = self.pending.remove(found.place);
+        ClientDecision::Deliver(decrypted, found.number)
     }
 
-    /// Answers a datagram, where it lies (RFC 8613, 8.4): `decide`, then `read_client_decided`. Those two say what the datagram
-    /// holds afterwards. Apart from time, only a delivery ends a pending request; the message ID isn't compared.
+    /// As `take`, one stage after the other.
+    fn take_forward<'b>(&mut self, now: u64, datagram: &'b mut [u8]) -> ClientOutcome<'b>
+        ensures { (h : History) → ClientAgrees self.old h → ClientTakes h now datagram.old result self.new }
+    {
+        one_datagram();
+        let (decrypted, found) = match self.decrypt(now, datagram) {
+            Ok(decrypted) => decrypted,
+            Err(decision) => return read_client_decided(datagram, decision),
+        };
+        let Ok(opened) = read_response(datagram, decrypted) else {
+            return ClientOutcome::BadInner;
+        };
+        let _delivered = self.pending.remove(found.place);
+        ClientOutcome::Deliver(opened, found.number)
+    }
+
+    /// Answers a datagram, where it lies (RFC 8613, 8.4), as `decide` and then `read_client_decided` do, but reads the plaintext
+    /// once. Those two say what the datagram holds afterwards. Apart from time, only a delivery ends a pending request; the
+    /// message ID isn't compared.
     pub fn take<'b>(&mut self, now: u64, datagram: &'b mut [u8]) -> ClientOutcome<'b>
         ensures answered { (h : History) → ClientAgrees self.old h → ClientTakes h now datagram.old result self.new }
         ensures delivered { (h : History) (n : ℕ) (own : Option ℕ) (m : InnerParts) → ClientAgrees self.old h
@@ -96,7 +143,6 @@ impl<const N: usize> Client<N> {
     {
         one_datagram();
         one_response();
-        let decision = self.decide(now, datagram);
-        read_client_decided(datagram, decision)
+        self.take_forward(now, datagram)
     }
 }

@@ -1,9 +1,9 @@
 //! The requests of a client that wait for their responses, as a table.
 
-ghost use Rattle.std.specs.Prelude.{◌≡◌, Contains, IfSome, IfNone, map};
+ghost use Rattle.std.specs.Prelude.{◌≡◌, ◌<◌, Some, IfSome, IfNone, length, map, slice_get};
 ghost use Rattle.osc_context.specs.Views.{number_of};
 ghost use Rattle.osc_endpoint.specs.ClientAnswer.{IsAmong};
-ghost use Rattle.osc_endpoint.specs.ClientHistory.{Asked, alive, without};
+ghost use Rattle.osc_endpoint.specs.ClientHistory.{Asked, alive};
 ghost use Rattle.osc_endpoint.specs.Views.{asked_of};
 
 use arrayvec::ArrayVec;
@@ -33,22 +33,31 @@ impl Default for Pending {
     }
 }
 
-/// The number of the request with this token.
-pub(crate) fn find_number(pending: &[Pending], token: &[u8]) -> Option<Piv>
-    ensures found { IfSome result (λ number. (r : Asked) × Contains (map asked_of pending.now) r
-        × (r.token ≡ token.now) × (r.number ≡ number_of number)) }
+/// A pending request that was found: its place in the table, and its number.
+#[derive(Clone, Copy)]
+pub(crate) struct Found {
+    pub(crate) place: usize,
+    pub(crate) number: Piv,
+}
+
+/// The request with this token.
+pub(crate) fn find_request(pending: &[Pending], token: &[u8]) -> Option<Found>
+    ensures found { IfSome result (λ f. (r : Asked) × (slice_get (map asked_of pending.now) f.place ≡ Some r)
+        × (r.token ≡ token.now) × (r.number ≡ number_of f.number)) }
+    ensures within { IfSome result (λ f. f.place < length pending.now) }
     ensures none { IfNone result (IsAmong token.now (map asked_of pending.now) → ⊥) }
 {
-    for index in 0..pending.len() {
-        let request = &pending[index];
+    for place in 0..pending.len() {
+        let request = &pending[place];
         if request.token.as_slice() == token {
-            return Some(request.number);
+            let number = request.number;
+            return Some(Found { place, number });
         }
     }
     None
 }
 
-/// Drops the requests that are older than so many milliseconds.
+/// Drops the requests that are older than so many milliseconds. Where there is none, nothing is moved.
 pub(crate) fn drop_expired<const N: usize>(
     pending: &mut ArrayVec<Pending, N>,
     clock: u64,
@@ -56,12 +65,8 @@ pub(crate) fn drop_expired<const N: usize>(
 )
     ensures { map asked_of pending.new.items ≡ alive clock life_ms (map asked_of pending.old.items) }
 {
-    pending.retain(|request| clock.saturating_sub(request.moment) <= life_ms);
-}
-
-/// Drops the request of a token.
-pub(crate) fn drop_token<const N: usize>(pending: &mut ArrayVec<Pending, N>, token: &[u8])
-    ensures { map asked_of pending.new.items ≡ without token.now (map asked_of pending.old.items) }
-{
-    pending.retain(|request| request.token.as_slice() != token);
+    let mut requests = pending.iter();
+    if requests.any(|request| clock.saturating_sub(request.moment) > life_ms) {
+        pending.retain(|request| clock.saturating_sub(request.moment) <= life_ms);
+    }
 }

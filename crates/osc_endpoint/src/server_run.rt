@@ -3,6 +3,7 @@
 ghost use Rattle.std.specs.Prelude.{◌≡◌, ◌<◌, [], ℕ, List, Option, Some, None, length, take, drop, vec_len, slice_get, slice_set, OnOk, OnErr};
 ghost use Rattle.std.specs.Option.{option_map, option_and_then};
 ghost use Rattle.osc_endpoint.specs.Agrees.{Agrees};
+ghost use Rattle.osc_endpoint.specs.Laws.{TakesTickets};
 ghost use Rattle.osc_endpoint.specs.ServerHistory.{History, TicketValues, Answer};
 ghost use Rattle.osc_endpoint.specs.ServerRun.{Run, Logs, ReplyStep, ticket_of, values_in};
 ghost use Rattle.osc_endpoint.specs.Serving.{Serves};
@@ -181,6 +182,8 @@ pub fn run_server_on<'a>(
     requires { log.old.items ≡ [] }
     ensures run { (h : History) → Agrees server.old h → (g : History) × (us : List (Option TicketValues))
         × Run h [] (take (vec_len log.new) events.old.now) log.new.items g us × Agrees server.new g }
+    ensures tickets { (h g : History) (us : List (Option TicketValues))
+        → Run h [] (take (vec_len log.new) events.old.now) log.new.items g us → TakesTickets h → TakesTickets g }
     ensures rest { events.new.now ≡ drop (vec_len log.new) events.old.now }
     ensures all { OnOk result (vec_len log.new ≡ length events.old.now) }
     ensures fewer { OnErr result (vec_len log.new < length events.old.now) }
@@ -216,6 +219,8 @@ pub fn run_server<'a>(
     requires { log.old.items ≡ [] }
     ensures run { (h : History) → Agrees server.old h → (g : History) × (us : List (Option TicketValues))
         × Run h [] (take (vec_len log.new) events.old) log.new.items g us × Agrees server.new g }
+    ensures tickets { (h g : History) (us : List (Option TicketValues))
+        → Run h [] (take (vec_len log.new) events.old) log.new.items g us → TakesTickets h → TakesTickets g }
     ensures all { OnOk result (vec_len log.new ≡ length events.old) }
     ensures fewer { OnErr result (vec_len log.new < length events.old) }
 {

@@ -3,6 +3,8 @@
 //! `stdout` has.
 #![tactic(auto)]
 
+mod runs;
+
 use osc_context::{Params, Piv};
 use osc_text::{Asking, Fault, Serving, ask_text, serve_text};
 use osc_window::WindowSize;
@@ -31,8 +33,8 @@ take 2 64445d1f0000397490ff40a006fe1a53a6b1ded204996ac88a1095ba803aa4c7
 forget 00003974
 ";
 
-/// The context of one end.
-fn params<'a>(sender: &'a [u8], recipient: &'a [u8]) -> Params<'a> {
+/// The context of one end, of RFC 8613, C.1.
+pub(crate) fn params<'a>(sender: &'a [u8], recipient: &'a [u8]) -> Params<'a> {
     Params {
         secret: &SECRET,
         salt: &SALT,
@@ -42,8 +44,8 @@ fn params<'a>(sender: &'a [u8], recipient: &'a [u8]) -> Params<'a> {
     }
 }
 
-/// Runs the server, and then the client, and answers the status of the last.
-fn run<W: Write>(alloc: Global, out: &mut W) -> Result<u8, Fault> {
+/// Prints the runs of the server and the client that the command prints.
+fn print<W: Write>(alloc: Global, out: &mut W) -> Result<u8, Fault> {
     let serving = Serving {
         next: Piv::MAX,
         is_restarted: false,
@@ -57,8 +59,16 @@ fn run<W: Write>(alloc: Global, out: &mut W) -> Result<u8, Fault> {
     ask_text(alloc, params(&[], &[1]), asking, RESPONSES, out)
 }
 
+/// Prints those runs, and then two that go on where a growth of theirs is refused, and answers the status.
+fn run(rt: &HostRuntime) -> Result<u8, Fault> {
+    let _status = print(rt.alloc(), &mut rt.stdout())?;
+    let all_left = runs::serve(rt)?;
+    runs::ask(rt)?;
+    Ok(if all_left { 0 } else { 2 })
+}
+
 fn main(rt: HostRuntime) -> io::Result<ExitCode> {
-    match run(rt.alloc(), &mut rt.stdout()) {
+    match run(&rt) {
         Ok(status) => Ok(ExitCode::from(status)),
         Err(fault) => {
             eprintln!(rt; "{fault}")?;

@@ -3,18 +3,27 @@
 
 mod asking;
 mod ciphers;
+mod large;
 mod messages;
 mod serving;
 mod stopwatch;
 
 use crate::stopwatch::Stopwatch;
+use osc_endpoint::{Client, Server};
 use std::alloc::Global;
 use std::process::ExitCode;
 use std::rt::{Clock, Env};
-use std::{env, io};
+use std::{env, io, mem};
 
-const USAGE: &str = "usage: speed all | schedule | block | ccm | message | parse | server | client
-Measures calls, and prints a line each: its name, and nanoseconds a call.";
+const USAGE: &str =
+    "usage: speed all | schedule | block | ccm | message | parse | server | client | large | sizes
+Measures calls, and prints a line each: its name, and nanoseconds a call; of sizes the bytes.";
+
+/// Prints how many bytes an endpoint has.
+fn sizes(rt: &impl Print) -> io::Result<()> {
+    println!(rt; "size-of-server {}", mem::size_of::<Server>())?;
+    println!(rt; "size-of-client-16 {}", mem::size_of::<Client<16>>())
+}
 
 /// Measures what the word names, and answers the status.
 fn run<R: Clock + Print + Eprint + Alloc<A = Global>>(rt: &R, word: &str) -> io::Result<u8> {
@@ -28,6 +37,8 @@ fn run<R: Clock + Print + Eprint + Alloc<A = Global>>(rt: &R, word: &str) -> io:
             messages::parsing(&mut watch)?;
             serving::serving(&mut watch, rt.alloc())?;
             asking::asking(&mut watch, rt.alloc())?;
+            large::large(&mut watch, rt.alloc())?;
+            sizes(rt)?;
         }
         "schedule" => ciphers::schedule(&mut watch)?,
         "block" => ciphers::block(&mut watch)?,
@@ -36,6 +47,8 @@ fn run<R: Clock + Print + Eprint + Alloc<A = Global>>(rt: &R, word: &str) -> io:
         "parse" => messages::parsing(&mut watch)?,
         "server" => serving::serving(&mut watch, rt.alloc())?,
         "client" => asking::asking(&mut watch, rt.alloc())?,
+        "large" => large::large(&mut watch, rt.alloc())?,
+        "sizes" => sizes(rt)?,
         _ => {
             eprintln!(rt; "{USAGE}")?;
             return Ok(2);

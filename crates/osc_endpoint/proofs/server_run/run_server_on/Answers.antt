@@ -7,6 +7,7 @@ use Rattle.osc_endpoint.specs.ServerRun.{values_in}
 use Rattle.osc_endpoint.specs.Serving.{Serves}
 use Rattle.osc_endpoint.specs.Views.{values_of}
 use Rattle.osc_endpoint.proofs.EventsLeft.{after_is, one_more}
+use Rattle.osc_endpoint.proofs.RunTickets.{run_takes}
 use Rattle.osc_endpoint.proofs.Runs.{run_on}
 use Rattle.osc_endpoint.proofs.server_run.run_server_on.Goals as goal
 
@@ -36,3 +37,12 @@ loop-log-preserved c =
             next,
           );
     }
+
+pub returns-in-Err-clause-tickets : goal.returns-in-Err-clause-tickets
+returns-in-Err-clause-tickets c = λ h g us run takes. run_takes h g us _ _ run takes
+
+pub returns-in-Err-reserve-clause-tickets : goal.returns-in-Err-reserve-clause-tickets
+returns-in-Err-reserve-clause-tickets c = λ h g us run takes. run_takes h g us _ _ run takes
+
+pub returns-clause-tickets : goal.returns-clause-tickets
+returns-clause-tickets c = λ h g us run takes. run_takes h g us _ _ run takes
