@@ -2,7 +2,7 @@
 
 use crate::answer::Answer;
 use crate::fields::{Fields, NamedContext};
-use crate::{client, command, server, verbs};
+use crate::{client, command, kept_client, kept_server, server, verbs};
 use std::alloc::Global;
 use std::io;
 
@@ -97,20 +97,20 @@ impl<'t> Corpus<'t> {
 
     /// What the call of a row answers.
     fn answer(&self, row: Row<'t>) -> Answer {
-        let mut answer = Answer::new(self.alloc);
-        if matches!(
-            row.verb,
-            "command" | "usage" | "help" | "cut-off" | "input" | "failing-input"
-        ) {
-            command::run(row.verb, row.fields, &mut answer);
-        } else if row.verb == "server" {
-            server::steps(row.fields, self.contexts.as_slice(), &mut answer);
-        } else if row.verb == "client" {
-            client::steps(row.fields, self.contexts.as_slice(), &mut answer);
-        } else {
-            let fields = Fields::read(self.alloc, row.fields);
-            verbs::make(row.verb, &fields, self.contexts.as_slice(), &mut answer);
-            answer.is_whole = answer.is_whole && !fields.is_bad();
+        let (mut answer, contexts) = (Answer::new(self.alloc), self.contexts.as_slice());
+        match row.verb {
+            "command" | "usage" | "help" | "cut-off" | "input" | "failing-input" => {
+                command::run(row.verb, row.fields, &mut answer);
+            }
+            "server" => server::steps(row.fields, contexts, &mut answer),
+            "client" => client::steps(row.fields, contexts, &mut answer),
+            "kept-server" => kept_server::steps(row.fields, contexts, &mut answer),
+            "kept-client" => kept_client::steps(row.fields, contexts, &mut answer),
+            verb => {
+                let fields = Fields::read(self.alloc, row.fields);
+                verbs::make(verb, &fields, contexts, &mut answer);
+                answer.is_whole = answer.is_whole && !fields.is_bad();
+            }
         }
         answer
     }

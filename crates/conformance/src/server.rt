@@ -46,7 +46,7 @@ fn add(
 }
 
 /// An outcome as an entry shows it, and its ticket.
-fn part(outcome: Outcome<'_>) -> (Seen<'_>, Option<Ticket>) {
+pub(crate) fn part(outcome: Outcome<'_>) -> (Seen<'_>, Option<Ticket>) {
     let seen = match outcome {
         Outcome::Deliver(opened, ticket) => {
             let seen = Seen::Deliver {

@@ -16,7 +16,7 @@ fn message_id(fields: &Fields<'_>, place: usize) -> u16 {
 }
 
 /// `take NOW ECHO MID DATAGRAM`.
-fn arrival(fields: &Fields<'_>) -> Arrival {
+pub(crate) fn arrival(fields: &Fields<'_>) -> Arrival {
     fields.count(4);
     let fresh = Fresh {
         echo: fields.array::<8>(1),
@@ -31,7 +31,7 @@ fn arrival(fields: &Fields<'_>) -> Arrival {
 }
 
 /// `reply STEP own|shared MID PLAIN ROOM`.
-fn answering(fields: &Fields<'_>) -> Answering {
+pub(crate) fn answering(fields: &Fields<'_>) -> Answering {
     fields.count(5);
     Answering {
         of: index(fields, 0),

@@ -18,7 +18,8 @@ pub(crate) struct Step<'t> {
 pub(crate) fn steps_of<'t>(text: &'t str, answer: &mut Answer) -> Vec<Step<'t>> {
     let mut steps = Vec::new(answer.alloc);
     for step in text.split(';') {
-        let (verb, rest) = step.trim().split_once(' ').unwrap_or(("", ""));
+        let step = step.trim();
+        let (verb, rest) = step.split_once(' ').unwrap_or((step, ""));
         let fields = Fields::read(answer.alloc, rest);
         if steps.push(Step { verb, fields }).is_err() {
             answer.is_whole = false;

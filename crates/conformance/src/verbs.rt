@@ -2,7 +2,7 @@
 
 use crate::answer::Answer;
 use crate::fields::{Fields, NamedContext};
-use crate::{ciphers, context, protection, reading, window, writing};
+use crate::{ciphers, context, numbers, protection, reading, window, writing};
 use osc_protect::KeyedContext;
 
 /// Makes a call of osc_aes, osc_ccm or osc_hkdf, or of a layer above.
@@ -72,6 +72,7 @@ fn of_contexts(
         "aad" => context::aad_of(fields, answer),
         "read-option" => context::read_option(fields, answer),
         "write-option" => context::write_option(fields, answer),
+        "numbers" => numbers::numbers(fields, answer),
         _ => of_windows(verb, fields, contexts, answer),
     }
 }

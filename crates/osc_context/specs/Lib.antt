@@ -9,6 +9,7 @@ pub mod Derivation
 pub mod ContextRefusal
 pub mod OscoreValue
 pub mod OptionRefusal
+pub mod Reserving
 pub mod Laws
 -- how the code is seen
 pub mod Views

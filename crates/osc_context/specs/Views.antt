@@ -1,6 +1,7 @@
 -- How the code is seen: a Partial IV, an option and a context as numbers and lists, without where the bytes lie.
 use Rattle.std.specs.Prelude.{◌≡◌, ℕ, Result, Ok, Err}
 use Rattle.std.specs.Option.{option_copied, option_map}
+use Rattle.osc_context.specs.declared.numbers.Numbers.{Numbers}
 use Rattle.osc_context.specs.declared.partial_iv.Piv.{Piv}
 use Rattle.osc_context.specs.declared.oscore_option.OscoreOption.{OscoreOption}
 use Rattle.osc_context.specs.declared.option_error.OptionError.{OptionError}
@@ -13,6 +14,14 @@ use Rattle.osc_context.specs.Derivation.{context_of}
 -- the number that a Partial IV holds, below 2 ^ 40 (how the code is seen)
 abbrev pub number_of : Piv → ℕ
 number_of piv = piv.number
+
+-- the number that comes next (how the code is seen)
+abbrev pub next_of : Numbers → ℕ
+next_of n = n.next
+
+-- the first number that isn't reserved (how the code is seen)
+abbrev pub limit_of : Numbers → ℕ
+limit_of n = n.limit
 
 -- the parts that an option says, as a number and lists (how the code is seen)
 abbrev pub oscore_parts_of : OscoreOption → OscoreParts

@@ -27,10 +27,13 @@ mod additional_data;
 mod cbor;
 mod context;
 mod context_error;
+mod count;
 mod derivation;
 mod identifier;
+mod keeper;
 mod laws;
 mod nonces;
+mod numbers;
 mod option_error;
 mod option_parts;
 mod oscore_option;
@@ -40,12 +43,15 @@ mod partial_iv;
 pub use additional_data::aad;
 pub use context::Context;
 pub use context_error::ContextError;
+pub use count::Count;
 pub use identifier::{IdContext, Kid};
+pub use keeper::{Keeper, KeeperError};
 pub use laws::{
     known_lengths, one_additional_data, one_context_refusal, one_nonce, one_option_value,
     usable_contexts, value_or_refusal,
 };
 pub use nonces::nonce;
+pub use numbers::{Numbers, NumbersError};
 pub use option_error::OptionError;
 pub use oscore_option::OscoreOption;
 pub use parameters::Params;

@@ -7,7 +7,7 @@ ghost use Rattle.osc_context.specs.PartialIv.{last_bytes, partial_iv_of, spelled
 use arrayvec::ArrayVec;
 
 /// The first number that no Partial IV holds.
-const NUMBER_LIMIT: u64 = 1 << 40;
+pub(crate) const NUMBER_LIMIT: u64 = 1 << 40;
 
 /// The number of a Partial IV, below 2^40. Whoever seals under one keeps it fresh. `<` compares the
 /// numbers.

@@ -1,0 +1,109 @@
+//! A keeper in memory, whose calls end as a row says.
+
+ghost use Rattle.std.specs.Prelude.{◌≡◌, ◌≤◌};
+
+use crate::answer::Answer;
+use osc_context::{Count, Keeper, KeeperError};
+use std::alloc::Global;
+
+/// How a call of a keeper ends.
+#[derive(Clone, Copy, PartialEq, Eq)]
+enum End {
+    Works,
+    /// It fails, and what was kept stays.
+    Fails,
+    /// It is stopped; a save has kept its number by then.
+    Stops,
+}
+
+/// A keeper in memory, how its calls end, and the numbers that it was asked to save.
+#[derive(Drop)]
+pub(crate) struct Memory<'t> {
+    kept: u64,
+    // The last number whose save was answered with Ok.
+    pub(crate) saved: u64,
+    // A letter for each call: `f` fails, `s` stops, any other works, as all do behind the last letter.
+    plan: &'t [u8],
+    saves: Vec<u64>,
+    failures: Count,
+    ghost least: { saved ≤ kept },
+}
+
+impl<'t> Memory<'t> {
+    pub(crate) fn new(alloc: Global, kept: u64, plan: &'t str) -> Memory<'t> {
+        Memory {
+            kept,
+            saved: 0,
+            plan: plan.as_bytes(),
+            saves: Vec::new(alloc),
+            failures: Count::none(),
+        }
+    }
+
+    /// How the next call ends.
+    fn next_end(&mut self) -> End
+        ensures saved { self.new.saved ≡ self.old.saved }
+        ensures kept { self.new.kept ≡ self.old.kept }
+        ensures failures { self.new.failures ≡ self.old.failures }
+    {
+        let Some((letter, rest)) = self.plan.split_first() else {
+            return End::Works;
+        };
+        self.plan = rest;
+        match *letter {
+            b'f' => End::Fails,
+            b's' => End::Stops,
+            _ => End::Works,
+        }
+    }
+
+    /// Notes what is asked to be saved, and answers how that ends.
+    fn note(&mut self, next: u64) -> End
+        ensures saved { self.new.saved ≡ self.old.saved }
+        ensures kept { self.new.kept ≡ self.old.kept }
+        ensures failures { self.new.failures ≡ self.old.failures }
+    {
+        let end = self.next_end();
+        if self.saves.push(next).is_err() {
+            return End::Fails;
+        }
+        end
+    }
+
+    /// Shows what was asked to be saved, in order.
+    pub(crate) fn show(&self, answer: &mut Answer) {
+        answer.word("saves");
+        for number in &self.saves {
+            answer.print(*number);
+        }
+    }
+}
+
+impl<'t> Keeper for Memory<'t> {
+    ghost floor = { λ k. k.saved };
+
+    ghost failures = { λ k. k.failures.value };
+
+    ghost loads = { λ old n new. n ≡ old.kept };
+
+    fn load(&mut self) -> Result<u64, KeeperError> {
+        if self.next_end() == End::Works {
+            return Ok(self.kept);
+        }
+        self.failures = Count::one_more(&self.failures);
+        Err(KeeperError)
+    }
+
+    fn save(&mut self, next: u64) -> Result<(), KeeperError> {
+        let end = self.note(next);
+        if end != End::Fails {
+            self.kept = next;
+        }
+        if end == End::Works {
+            self.saved = next;
+            return Ok(());
+        }
+        self.failures = Count::one_more(&self.failures);
+        Err(KeeperError)
+    }
+}

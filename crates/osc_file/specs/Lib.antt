@@ -1,0 +1,2 @@
+pub mod NumberText
+pub mod Views

@@ -1,0 +1,3 @@
+pub mod Drawing
+pub mod ServerSteps
+pub mod ClientSteps

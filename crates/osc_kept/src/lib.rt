@@ -1,0 +1,12 @@
+//! Both ends of OSCORE with numbers that outlive them (RFC 8613, 7.2.1 and B.1.1).
+#![tactic(auto)]
+
+mod drawn;
+mod kept_client;
+mod kept_error;
+mod kept_server;
+mod source;
+
+pub use kept_client::KeptClient;
+pub use kept_error::KeptError;
+pub use kept_server::KeptServer;
