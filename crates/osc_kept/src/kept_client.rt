@@ -21,8 +21,8 @@ use osc_coap::Message;
 use osc_context::{Context, Keeper, Piv};
 use osc_endpoint::{Client, ClientDecision, ClientOutcome, RequestError};
 
-/// A client, and the keeper of its numbers: it seals with numbers that the keeper reserved before, and with each of them once,
-/// over all its lives.
+/// A client, and the keeper of its numbers: it seals with drawn numbers alone, each of which the keeper reserved before; a
+/// later life begins at none that lies below what was saved.
 #[derive(Drop)]
 pub struct KeptClient<K: Keeper, const N: usize> {
     pub(crate) client: Client<N>,
@@ -42,6 +42,7 @@ impl<K: Keeper, const N: usize> KeptClient<K, N> {
             × Goes (Load loaded) (nothing_drawn (K.floor keeper)) (own_in s.source)
             × IsKept s.client (upcoming (own_in s.source)) (New (as_client context) loaded life_ms)) }
         ensures refused { IfErr result (λ e. RefusesAt K.loads K.failures keeper e.0 e.1) }
+        ensures floor_stays { IfErr result (λ e. K.floor e.1 ≡ K.floor keeper) }
         ensures no_lives_exhausted { IfErr result (λ e. e.0 ≢ LivesExhausted) }
     {
         match Source::start(keeper) {

@@ -29,8 +29,8 @@ use osc_endpoint::{
 };
 use osc_window::WindowSize;
 
-/// A server of one context, and the keeper of its own numbers: it seals with numbers that the keeper reserved before, and
-/// with each of them once, over all its lives.
+/// A server of one context, and the keeper of its own numbers: it seals with drawn numbers alone, each of which the keeper
+/// reserved before; a later life begins at none that lies below what was saved.
 #[derive(Drop)]
 pub struct KeptServer<K: Keeper> {
     pub(crate) server: Server,
@@ -52,6 +52,7 @@ impl<K: Keeper> KeptServer<K> {
             × (own_in s.source ≡ started start loaded (nothing_drawn (K.floor keeper))) × (K.failures s.source.keeper ≡ K.failures keeper)
             × IsKept s.server (upcoming (own_in s.source)) (Then Begin (Add (as_server context) start size) (Added 0))) }
         ensures refused { IfErr result (λ e. RefusesAt K.loads K.failures keeper e.0 e.1) }
+        ensures floor_stays { IfErr result (λ e. K.floor e.1 ≡ K.floor keeper) }
         ensures no_lives_exhausted { IfErr result (λ e. e.0 ≢ LivesExhausted) }
     {
         let (mut source, first) = match Source::start(keeper) {
