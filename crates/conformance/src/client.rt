@@ -29,7 +29,19 @@ fn new<const N: usize>(fields: &Fields<'_>, contexts: &[NamedContext<'_>]) -> Op
     Some(Client::new(context, number(fields, 2), fields.number(3)))
 }
 
-/// A request, by one call, which answers a length alone: the number is read from the request.
+/// A request that was sent: the call answers a length alone, so the number is read from the bytes.
+pub(crate) fn sent<'a>(datagram: &'a [u8], answer: &mut Answer) -> ClientEntry<'a> {
+    let number = match head_of_request(datagram) {
+        Ok(head) => head.number,
+        Err(_) => {
+            answer.is_whole = false;
+            Piv::MAX
+        }
+    };
+    ClientEntry::Sent { number, datagram }
+}
+
+/// A request, by one call.
 fn request<'a, const N: usize>(
     client: &mut Client<N>,
     now: u64,
@@ -44,19 +56,10 @@ fn request<'a, const N: usize>(
             return ClientEntry::BadPlain(fault);
         }
     };
-    let len = match client.request(now, &message, out) {
-        Ok(len) => len,
-        Err(refusal) => return ClientEntry::NotSent(refusal),
-    };
-    let datagram = &out[..len];
-    let number = match head_of_request(datagram) {
-        Ok(head) => head.number,
-        Err(_) => {
-            answer.is_whole = false;
-            Piv::MAX
-        }
-    };
-    ClientEntry::Sent { number, datagram }
+    match client.request(now, &message, out) {
+        Ok(len) => sent(&out[..len], answer),
+        Err(refusal) => ClientEntry::NotSent(refusal),
+    }
 }
 
 /// A datagram, by one call or by its two halves.

@@ -1,8 +1,9 @@
 //! Calls of the command: the first text is its standard input, the others are its words. Where the standard output refuses
-//! writes, how many it takes stands before all.
+//! writes, how many it takes stands before all; where a keeper is asked for, what it keeps and how its calls end.
 
 use crate::answer::Answer;
 use crate::bytes::bytes_of;
+use crate::keeper::{Lent, Memory};
 use crate::texts::Texts;
 use osc_command::command;
 use std::alloc::Global;
@@ -28,7 +29,7 @@ impl Read for Input<'_> {
 /// A standard output that takes some writes, and refuses the others.
 #[derive(Drop)]
 struct Output {
-    left: u32,
+    left: u64,
     refused: u32,
     written: Vec<u8>,
 }
@@ -63,19 +64,27 @@ struct Called {
 
 impl Called {
     /// Makes the call over a standard output that takes so many writes.
-    fn make(alloc: Global, words: &[String], input: &mut Input<'_>, writes: u32) -> Called {
+    fn make(
+        alloc: Global,
+        words: &[String],
+        input: &mut Input<'_>,
+        writes: u64,
+        keeper: &mut Memory<'_>,
+    ) -> Called {
         let mut out = Output {
             left: writes,
             refused: 0,
             written: Vec::new(alloc),
         };
         let mut err = Vec::new(alloc);
-        let status = command(alloc, words, input, &mut out, &mut err);
+        let lent = Lent::new(keeper);
+        let make = |name: &str| lent.of_file(alloc, name);
+        let status = command(alloc, words, input, &mut out, &mut err, make);
         Called { status, out, err }
     }
 
     /// Status, standard output and standard error. `help` shows standard output as `text`, where there is some; `command`
-    /// and `help` show standard error, the others show `line`, where it is one line. `cut-off` also shows how many writes were
+    /// and `help` show standard error, as `kept-command` does; the others show `line`, where it is one line. `cut-off` also shows how many writes were
     /// refused.
     fn show(&self, verb: &str, answer: &mut Answer) {
         answer.print(self.status);
@@ -84,7 +93,9 @@ impl Called {
         } else {
             answer.quoted(self.out.written.as_slice());
         }
-        if !matches!(verb, "command" | "help") && is_one_line(self.err.as_slice()) {
+        if !matches!(verb, "command" | "help" | "kept-command")
+            && is_one_line(self.err.as_slice())
+        {
             answer.word("line");
         } else {
             answer.quoted(self.err.as_slice());
@@ -93,6 +104,11 @@ impl Called {
             answer.print(self.out.refused);
         }
     }
+}
+
+/// The number that a text spells, 0 where it spells none.
+fn number_of(text: &str) -> u64 {
+    text.parse().unwrap_or(0)
 }
 
 /// The bytes of a standard input: for `input` and `failing-input` as the corpus spells bytes, else a text.
@@ -105,13 +121,21 @@ fn input_bytes(alloc: Global, verb: &str, text: &str) -> Option<Vec<u8>> {
     Some(bytes)
 }
 
-/// Makes the call and shows its answer. For `cut-off` the first text is how many writes the standard output takes, before its input.
+/// Makes the call and shows its answer. For `cut-off` the first text is how many writes the standard output takes, before its input;
+/// for `kept-command` and `kept-usage` the first two are what a keeper keeps and how its calls end, and what it was asked to save is shown last.
 pub(crate) fn run(verb: &str, call: &str, answer: &mut Answer) {
     let alloc = answer.alloc;
     let texts = Texts::read(alloc, call);
-    let (writes, texts_left) = match texts.done.as_slice() {
-        [writes, rest @ ..] if verb == "cut-off" => (writes.parse::<u32>().unwrap_or(0), rest),
-        all => (u32::MAX, all),
+    let (writes, kept, texts_left) = match texts.done.as_slice() {
+        [writes, rest @ ..] if verb == "cut-off" => (number_of(writes), None, rest),
+        [kept, plan, rest @ ..] if matches!(verb, "kept-command" | "kept-usage") => {
+            (u64::MAX, Some((kept, plan)), rest)
+        }
+        all => (u64::MAX, None, all),
+    };
+    let mut keeper = match kept {
+        Some((kept, plan)) => Memory::new(alloc, number_of(kept), plan),
+        None => Memory::new(alloc, 0, ""),
     };
     let [input, words @ ..] = texts_left else {
         answer.is_whole = false;
@@ -122,6 +146,11 @@ pub(crate) fn run(verb: &str, call: &str, answer: &mut Answer) {
         return;
     };
     let (rest, fails) = (bytes.as_slice(), verb == "failing-input");
-    Called::make(alloc, words, &mut Input { rest, fails }, writes).show(verb, answer);
+    let mut input = Input { rest, fails };
+    Called::make(alloc, words, &mut input, writes, &mut keeper).show(verb, answer);
+    if kept.is_some() {
+        keeper.show_file(answer);
+        keeper.show(answer);
+    }
     answer.is_whole = answer.is_whole && texts.is_whole;
 }

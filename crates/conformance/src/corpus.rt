@@ -2,7 +2,9 @@
 
 use crate::answer::Answer;
 use crate::fields::{Fields, NamedContext};
-use crate::{client, command, kept_client, kept_server, server, verbs};
+use crate::keeper::Memory;
+use crate::{client, command, kept, server, verbs};
+use osc_kept::{KeptClient, KeptServer};
 use std::alloc::Global;
 use std::io;
 
@@ -99,13 +101,28 @@ impl<'t> Corpus<'t> {
     fn answer(&self, row: Row<'t>) -> Answer {
         let (mut answer, contexts) = (Answer::new(self.alloc), self.contexts.as_slice());
         match row.verb {
-            "command" | "usage" | "help" | "cut-off" | "input" | "failing-input" => {
+            "command"
+            | "usage"
+            | "help"
+            | "cut-off"
+            | "input"
+            | "failing-input"
+            | "kept-command"
+            | "kept-usage" => {
                 command::run(row.verb, row.fields, &mut answer);
             }
             "server" => server::steps(row.fields, contexts, &mut answer),
             "client" => client::steps(row.fields, contexts, &mut answer),
-            "kept-server" => kept_server::steps(row.fields, contexts, &mut answer),
-            "kept-client" => kept_client::steps(row.fields, contexts, &mut answer),
+            "kept-server" => kept::steps::<KeptServer<Memory<'_>>>(
+                row.fields,
+                contexts,
+                &mut answer,
+            ),
+            "kept-client" => kept::steps::<KeptClient<Memory<'_>, 2>>(
+                row.fields,
+                contexts,
+                &mut answer,
+            ),
             verb => {
                 let fields = Fields::read(self.alloc, row.fields);
                 verbs::make(verb, &fields, contexts, &mut answer);

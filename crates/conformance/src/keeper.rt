@@ -25,6 +25,8 @@ pub(crate) struct Memory<'t> {
     // A letter for each call: `f` fails, `s` stops, any other works, as all do behind the last letter.
     plan: &'t [u8],
     saves: Vec<u64>,
+    /// The name of the file that the command asked a keeper for.
+    file: Option<String>,
     failures: Count,
     ghost least: { saved ≤ kept },
 }
@@ -36,6 +38,7 @@ impl<'t> Memory<'t> {
             saved: 0,
             plan: plan.as_bytes(),
             saves: Vec::new(alloc),
+            file: None,
             failures: Count::none(),
         }
     }
@@ -68,6 +71,12 @@ impl<'t> Memory<'t> {
             return End::Fails;
         }
         end
+    }
+
+    /// Shows the name of the file, `none` where no keeper was asked for.
+    pub(crate) fn show_file(&self, answer: &mut Answer) {
+        answer.word("file");
+        answer.word(self.file.as_deref().unwrap_or("none"));
     }
 
     /// Shows what was asked to be saved, in order.
@@ -105,5 +114,39 @@ impl<'t> Keeper for Memory<'t> {
         }
         self.failures = Count::one_more(&self.failures);
         Err(KeeperError)
+    }
+}
+
+/// The keeper of a row, lent to a call of the command, which drops what it gets.
+#[derive(Drop)]
+pub(crate) struct Lent<'m, 't> {
+    keeper: &'m mut Memory<'t>,
+}
+
+impl<'m, 't> Lent<'m, 't> {
+    pub(crate) fn new(keeper: &'m mut Memory<'t>) -> Lent<'m, 't> {
+        Lent { keeper }
+    }
+
+    /// As the keeper of a file.
+    pub(crate) fn of_file(self, alloc: Global, name: &str) -> Lent<'m, 't> {
+        self.keeper.file = String::from_str(alloc, name).ok();
+        self
+    }
+}
+
+impl<'m, 't> Keeper for Lent<'m, 't> {
+    ghost floor = { λ k. k.keeper.now.saved };
+
+    ghost failures = { λ k. k.keeper.now.failures.value };
+
+    ghost loads = { λ old n new. n ≡ old.keeper.now.kept };
+
+    fn load(&mut self) -> Result<u64, KeeperError> {
+        self.keeper.load()
+    }
+
+    fn save(&mut self, next: u64) -> Result<(), KeeperError> {
+        self.keeper.save(next)
     }
 }

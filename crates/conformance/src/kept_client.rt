@@ -1,153 +1,179 @@
-//! Calls of osc_kept: a kept client, step by step.
+//! Calls of osc_kept: a kept client, step by step and by runs.
 
 use crate::answer::Answer;
+use crate::client::sent;
 use crate::client_entry::show;
-use crate::fields::{Fields, NamedContext};
+use crate::fields::Fields;
 use crate::keeper::Memory;
-use crate::steps::{FILLED_WITH, Step, steps_of};
+use crate::kept::{KeptEnd, Way, show_restart};
+use crate::steps::{FILLED_WITH, Step};
 use osc_coap::parse;
-use osc_context::Piv;
+use osc_context::Context;
 use osc_endpoint::{ClientEntry, read_client_decided};
-use osc_kept::KeptClient;
-use osc_protect::head_of_request;
+use osc_kept::{
+    KeptClient, KeptClientEntry, KeptClientEvent, KeptError, run_kept_client, run_kept_client_on,
+};
 
 /// A client with room for two pending requests.
 type Client<'t> = KeptClient<Memory<'t>, 2>;
 
-/// A keeper, with a client that is started over it or without.
-#[derive(Drop)]
-enum End<'t> {
-    Stopped(Memory<'t>),
-    Started(Client<'t>),
-}
-
-impl<'t> End<'t> {
-    fn into_keeper(self) -> Memory<'t> {
-        match self {
-            End::Stopped(keeper) => keeper,
-            End::Started(client) => client.into_keeper(),
-        }
-    }
-
-    /// `start CONTEXT LIFE`: stops the client, if one is started, and starts one.
-    fn start(
-        self,
-        fields: &Fields<'_>,
-        contexts: &[NamedContext<'_>],
-        answer: &mut Answer,
-    ) -> End<'t> {
-        fields.count(2);
-        let Some(context) = fields.context(contexts) else {
-            fields.refuse();
-            return self;
-        };
-        match Client::start(context, self.into_keeper(), fields.number(1)) {
-            Ok(client) => {
-                answer.word("started ;");
-                End::Started(client)
-            }
-            Err((refusal, keeper)) => {
-                answer.refused(refusal);
-                answer.word(";");
-                End::Stopped(keeper)
-            }
-        }
-    }
-}
-
-/// `request NOW PLAIN ROOM`; the number is read from what was sent.
-fn request(client: &mut Client<'_>, fields: &Fields<'_>, answer: &mut Answer) {
-    fields.count(3);
-    let Ok(message) = parse(fields.bytes(1)) else {
-        return fields.refuse();
-    };
-    let mut room = fields.room(2, FILLED_WITH);
-    let out = room.as_mut_slice();
-    let len = match client.request(fields.number(0), &message, out) {
-        Ok(len) => len,
-        Err(refusal) => return show(&ClientEntry::NotSent(refusal), answer),
-    };
-    let datagram = &out[..len];
-    let number = match head_of_request(datagram) {
-        Ok(head) => head.number,
-        Err(_) => {
-            answer.is_whole = false;
-            Piv::MAX
-        }
-    };
-    show(&ClientEntry::Sent { number, datagram }, answer);
-}
-
-/// `take NOW DATAGRAM`, by one call or by its two halves.
-fn take(client: &mut Client<'_>, fields: &Fields<'_>, in_halves: bool, answer: &mut Answer) {
-    fields.count(2);
-    let (now, mut bytes) = (fields.number(0), fields.copy(1));
-    if in_halves {
-        let decision = client.decide(now, &mut bytes);
-        show(
-            &ClientEntry::Took(read_client_decided(&bytes, decision)),
-            answer,
-        );
-    } else {
-        show(&ClientEntry::Took(client.take(now, &mut bytes)), answer);
-    }
-}
-
-/// A step of a client that is started.
-fn step(client: &mut Client<'_>, step: &Step<'_>, in_halves: bool, answer: &mut Answer) {
+/// The event of a step, where it is one.
+fn event_of(step: &Step<'_>) -> Option<KeptClientEvent> {
+    let fields = &step.fields;
     match step.verb {
-        "request" => request(client, &step.fields, answer),
-        "take" => take(client, &step.fields, in_halves, answer),
-        "forget" => show(
-            &ClientEntry::Forgot(client.forget(step.fields.bytes(0))),
-            answer,
-        ),
-        "advance" => {
-            client.advance(step.fields.number(0));
-            answer.word("advanced ;");
-        }
-        "restart" => match client.restart() {
-            Ok(()) => answer.word("restarted ;"),
-            Err(refusal) => {
-                answer.refused(refusal);
-                answer.word(";");
-            }
-        },
-        _ => step.fields.refuse(),
+        "request" => Some(KeptClientEvent::Request {
+            now: fields.number(0),
+            plain: fields.copy(1),
+            out: fields.room(2, FILLED_WITH),
+        }),
+        "take" => Some(KeptClientEvent::Datagram {
+            now: fields.number(0),
+            bytes: fields.copy(1),
+        }),
+        "forget" => Some(KeptClientEvent::Forget {
+            token: fields.copy(0),
+        }),
+        "restart" => Some(KeptClientEvent::Restart),
+        _ => None,
     }
 }
 
-/// All steps, one call each; the first is `keeper KEPT PLAN`.
-fn by_calls(
-    steps: &[Step<'_>],
-    contexts: &[NamedContext<'_>],
+/// The events of steps; `advance` is none.
+fn events_of(steps: &[Step<'_>], answer: &mut Answer) -> Vec<KeptClientEvent> {
+    let mut events = Vec::new(answer.alloc);
+    for step in steps {
+        if let Some(event) = event_of(step) {
+            if events.push(event).is_err() {
+                answer.is_whole = false;
+            }
+        }
+    }
+    events
+}
+
+/// An entry, with a semicolon behind it.
+fn show_entry(entry: &KeptClientEntry<'_>, answer: &mut Answer) {
+    match entry {
+        KeptClientEntry::Asked(entry) => show(entry, answer),
+        KeptClientEntry::Restarted(answered) => show_restart(answered, answer),
+    }
+}
+
+/// A request; the number is read from what was sent.
+fn request<'a>(
+    client: &mut Client<'_>,
+    now: u64,
+    plain: &[u8],
+    out: &'a mut [u8],
+    answer: &mut Answer,
+) -> ClientEntry<'a> {
+    let message = match parse(plain) {
+        Ok(message) => message,
+        Err(fault) => {
+            client.advance(now);
+            return ClientEntry::BadPlain(fault);
+        }
+    };
+    match client.request(now, &message, out) {
+        Ok(len) => sent(&out[..len], answer),
+        Err(refusal) => ClientEntry::NotSent(refusal),
+    }
+}
+
+/// A datagram, by one call or by its two halves.
+fn take<'a>(
+    client: &mut Client<'_>,
+    now: u64,
+    bytes: &'a mut [u8],
+    in_halves: bool,
+) -> ClientEntry<'a> {
+    if in_halves {
+        let decision = client.decide(now, bytes);
+        ClientEntry::Took(read_client_decided(bytes, decision))
+    } else {
+        ClientEntry::Took(client.take(now, bytes))
+    }
+}
+
+/// An event, by calls.
+fn call<'a>(
+    client: &mut Client<'_>,
+    event: &'a mut KeptClientEvent,
     in_halves: bool,
     answer: &mut Answer,
-) {
-    let Some((first, steps)) = steps.split_first() else {
-        return;
-    };
-    let keeper = Memory::new(answer.alloc, first.fields.number(0), first.fields.word(1));
-    let mut end = End::Stopped(keeper);
-    for each in steps {
-        if each.verb == "start" {
-            end = end.start(&each.fields, contexts, answer);
-        } else if let End::Started(client) = &mut end {
-            step(client, each, in_halves, answer);
-        } else {
-            each.fields.refuse();
+) -> KeptClientEntry<'a> {
+    match event {
+        KeptClientEvent::Request { now, plain, out } => {
+            KeptClientEntry::Asked(request(client, *now, plain, out, answer))
         }
+        KeptClientEvent::Datagram { now, bytes } => {
+            KeptClientEntry::Asked(take(client, *now, bytes, in_halves))
+        }
+        KeptClientEvent::Forget { token } => {
+            KeptClientEntry::Asked(ClientEntry::Forgot(client.forget(token)))
+        }
+        KeptClientEvent::Restart => KeptClientEntry::Restarted(client.restart()),
     }
-    end.into_keeper().show(answer);
 }
 
-/// Makes the calls of a row's steps: by `take`, and again by its halves.
-pub(crate) fn steps(text: &str, contexts: &[NamedContext<'_>], answer: &mut Answer) {
-    let steps = steps_of(text, answer);
-    by_calls(&steps, contexts, false, answer);
-    answer.again();
-    by_calls(&steps, contexts, true, answer);
-    if steps.iter().any(|step| step.fields.is_bad()) {
+/// All steps, one call each.
+fn by_calls(client: &mut Client<'_>, steps: &[Step<'_>], in_halves: bool, answer: &mut Answer) {
+    let mut events = events_of(steps, answer);
+    let mut rest = events.as_mut_slice();
+    for step in steps {
+        if step.verb == "advance" {
+            client.advance(step.fields.number(0));
+            answer.word("advanced ;");
+            continue;
+        }
+        let Some((event, tail)) = rest.split_first_mut() else {
+            return step.fields.refuse();
+        };
+        let entry = call(client, event, in_halves, answer);
+        show_entry(&entry, answer);
+        rest = tail;
+    }
+}
+
+/// All steps, by a run.
+fn by_a_run(client: &mut Client<'_>, steps: &[Step<'_>], keeps_rest: bool, answer: &mut Answer) {
+    let mut events = events_of(steps, answer);
+    let (alloc, mut log) = (answer.alloc, Vec::new(answer.alloc));
+    let outcome = if keeps_rest {
+        let mut rest = events.as_mut_slice();
+        run_kept_client_on(alloc, client, &mut rest, &mut log)
+    } else {
+        run_kept_client(alloc, client, &mut events, &mut log)
+    };
+    if outcome.is_err() {
         answer.is_whole = false;
+    }
+    for entry in &log {
+        show_entry(entry, answer);
+    }
+}
+
+impl<'t> KeptEnd<'t> for KeptClient<Memory<'t>, 2> {
+    fn start(
+        context: Context,
+        fields: &Fields<'_>,
+        keeper: Memory<'t>,
+    ) -> Result<Self, (KeptError, Memory<'t>)> {
+        KeptClient::start(context, keeper, fields.number(1))
+    }
+
+    fn into_keeper(self) -> Memory<'t> {
+        KeptClient::into_keeper(self)
+    }
+
+    /// A run knows no `advance`: steps with one are made by calls alone.
+    fn go(&mut self, steps: &[Step<'_>], way: Way, answer: &mut Answer) {
+        let runs = steps.iter().all(|step| step.verb != "advance");
+        match way {
+            Way::ByRun if runs => by_a_run(self, steps, false, answer),
+            Way::ByRunOn if runs => by_a_run(self, steps, true, answer),
+            Way::ByHalves => by_calls(self, steps, true, answer),
+            _ => by_calls(self, steps, false, answer),
+        }
     }
 }

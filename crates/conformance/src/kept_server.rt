@@ -1,198 +1,196 @@
-//! Calls of osc_kept: a kept server, step by step.
+//! Calls of osc_kept: a kept server, step by step and by runs.
 
 use crate::answer::Answer;
-use crate::fields::{Fields, NamedContext};
+use crate::fields::Fields;
 use crate::keeper::Memory;
-use crate::server::part;
+use crate::kept::{KeptEnd, Way, show_restart};
 use crate::server_entry::show;
 use crate::server_steps::{answering, arrival};
-use crate::steps::{Step, steps_of};
+use crate::steps::Step;
 use osc_coap::parse;
+use osc_context::Context;
 use osc_endpoint::{
-    Answering, Arrival, Decided, Outcome, ServerEntry, Taken, Ticket, read_decided,
+    Answering, Arrival, Decided, Outcome, ServerEntry, Taken, Ticket, put_back, read_decided,
+    take_out,
 };
-use osc_kept::KeptServer;
+use osc_kept::{
+    KeptError, KeptServer, KeptServerEntry, KeptServerEvent, run_kept_server, run_kept_server_on,
+};
 use osc_window::WindowSize;
 
-/// A keeper, with a server that is started over it or without.
-#[derive(Drop)]
-enum End<'t> {
-    Stopped(Memory<'t>),
-    Started(KeptServer<Memory<'t>>),
+type Server<'t> = KeptServer<Memory<'t>>;
+
+/// The event of a step.
+fn event_of(step: &Step<'_>) -> Option<KeptServerEvent> {
+    match step.verb {
+        "take" => Some(KeptServerEvent::Datagram(arrival(&step.fields))),
+        "reply" => Some(KeptServerEvent::Reply(answering(&step.fields))),
+        "restart" => Some(KeptServerEvent::Restart),
+        _ => None,
+    }
 }
 
-impl<'t> End<'t> {
-    fn into_keeper(self) -> Memory<'t> {
-        match self {
-            End::Stopped(keeper) => keeper,
-            End::Started(server) => server.into_keeper(),
+/// The events of steps.
+fn events_of(steps: &[Step<'_>], answer: &mut Answer) -> Vec<KeptServerEvent> {
+    let mut events = Vec::new(answer.alloc);
+    for step in steps {
+        match event_of(step) {
+            Some(event) => {
+                if events.push(event).is_err() {
+                    answer.is_whole = false;
+                }
+            }
+            None => step.fields.refuse(),
         }
     }
+    events
+}
 
-    /// `start CONTEXT SIZE`: stops the server, if one is started, and starts one.
+/// An entry, with a semicolon behind it.
+fn show_entry(entry: &KeptServerEntry<'_>, answer: &mut Answer) {
+    match entry {
+        KeptServerEntry::Served(entry) => show(entry, answer),
+        KeptServerEntry::Restarted(answered) => show_restart(answered, answer),
+    }
+}
+
+/// A datagram, by one call or by its two halves.
+fn take<'a>(
+    server: &mut Server<'_>,
+    arrival: &'a mut Arrival,
+    in_halves: bool,
+) -> (ServerEntry<'a>, Option<Ticket>) {
+    let Arrival {
+        now,
+        fresh,
+        bytes,
+        out,
+    } = arrival;
+    let (outcome, reply) = if in_halves {
+        match server.decide(*now, *fresh, bytes, out) {
+            Ok(Decided { decision, reply }) => (read_decided(bytes, decision), reply),
+            Err(_) => (Outcome::KeeperFailed, 0),
+        }
+    } else {
+        let Taken { outcome, reply } = server.take(*now, *fresh, bytes, out);
+        (outcome, reply)
+    };
+    let (seen, ticket) = outcome.part();
+    let reply = &out[..reply];
+    (ServerEntry::Took { seen, reply }, ticket)
+}
+
+/// A reply to the request of an earlier event.
+fn reply<'a>(
+    server: &mut Server<'_>,
+    tickets: &mut [Option<Ticket>],
+    answering: &'a mut Answering,
+) -> ServerEntry<'a> {
+    let of = answering.of;
+    let Some(ticket) = take_out(tickets, of) else {
+        return ServerEntry::NoTicket;
+    };
+    let message = match parse(&answering.plain) {
+        Ok(message) => message,
+        Err(fault) => {
+            put_back(tickets, of, ticket);
+            return ServerEntry::BadPlain(fault);
+        }
+    };
+    let out = answering.out.as_mut_slice();
+    match server.reply(ticket, answering.own, answering.mid, &message, out) {
+        Ok(len) => ServerEntry::Replied(Ok(&out[..len])),
+        Err((refusal, ticket)) => {
+            put_back(tickets, of, ticket);
+            ServerEntry::Replied(Err(refusal))
+        }
+    }
+}
+
+/// An event, by calls.
+fn call<'a>(
+    server: &mut Server<'_>,
+    tickets: &mut [Option<Ticket>],
+    event: &'a mut KeptServerEvent,
+    in_halves: bool,
+) -> (KeptServerEntry<'a>, Option<Ticket>) {
+    match event {
+        KeptServerEvent::Datagram(arrival) => {
+            let (entry, ticket) = take(server, arrival, in_halves);
+            (KeptServerEntry::Served(entry), ticket)
+        }
+        KeptServerEvent::Reply(answering) => {
+            let entry = reply(server, tickets, answering);
+            (KeptServerEntry::Served(entry), None)
+        }
+        KeptServerEvent::Restart => (KeptServerEntry::Restarted(server.restart()), None),
+    }
+}
+
+/// All events, one call each.
+fn by_calls(
+    server: &mut Server<'_>,
+    events: &mut [KeptServerEvent],
+    in_halves: bool,
+    answer: &mut Answer,
+) {
+    let mut tickets = Vec::new(answer.alloc);
+    for event in events {
+        let (entry, ticket) = call(server, &mut tickets, event, in_halves);
+        show_entry(&entry, answer);
+        if tickets.push(ticket).is_err() {
+            answer.is_whole = false;
+        }
+    }
+}
+
+/// All events, by a run.
+fn by_a_run(
+    server: &mut Server<'_>,
+    events: &mut [KeptServerEvent],
+    keeps_rest: bool,
+    answer: &mut Answer,
+) {
+    let (alloc, mut log) = (answer.alloc, Vec::new(answer.alloc));
+    let outcome = if keeps_rest {
+        let mut rest = events;
+        run_kept_server_on(alloc, server, &mut rest, &mut log)
+    } else {
+        run_kept_server(alloc, server, events, &mut log)
+    };
+    if outcome.is_err() {
+        answer.is_whole = false;
+    }
+    for entry in &log {
+        show_entry(entry, answer);
+    }
+}
+
+impl<'t> KeptEnd<'t> for KeptServer<Memory<'t>> {
     fn start(
-        self,
+        context: Context,
         fields: &Fields<'_>,
-        contexts: &[NamedContext<'_>],
-        answer: &mut Answer,
-    ) -> End<'t> {
-        fields.count(2);
-        let Some(context) = fields.context(contexts) else {
-            fields.refuse();
-            return self;
-        };
+        keeper: Memory<'t>,
+    ) -> Result<Self, (KeptError, Memory<'t>)> {
         let size = if fields.number(1) == 32 {
             WindowSize::Places32
         } else {
             WindowSize::Places64
         };
-        match KeptServer::start(context, self.into_keeper(), size) {
-            Ok(server) => {
-                answer.word("started ;");
-                End::Started(server)
-            }
-            Err((refusal, keeper)) => {
-                answer.refused(refusal);
-                answer.word(";");
-                End::Stopped(keeper)
-            }
-        }
+        KeptServer::start(context, keeper, size)
     }
-}
 
-/// Shows what became of a datagram, and answers its ticket.
-fn show_outcome(outcome: Outcome<'_>, reply: &[u8], answer: &mut Answer) -> Option<Ticket> {
-    let (seen, ticket) = part(outcome);
-    show(&ServerEntry::Took { seen, reply }, answer);
-    ticket
-}
-
-/// A datagram, by one call.
-fn take(
-    server: &mut KeptServer<Memory<'_>>,
-    arrival: &mut Arrival,
-    answer: &mut Answer,
-) -> Option<Ticket> {
-    let Arrival {
-        now,
-        fresh,
-        bytes,
-        out,
-    } = arrival;
-    let Taken { outcome, reply } = server.take(*now, *fresh, bytes, out);
-    show_outcome(outcome, &out[..reply], answer)
-}
-
-/// A datagram, by the two halves of that call.
-fn take_in_halves(
-    server: &mut KeptServer<Memory<'_>>,
-    arrival: &mut Arrival,
-    answer: &mut Answer,
-) -> Option<Ticket> {
-    let Arrival {
-        now,
-        fresh,
-        bytes,
-        out,
-    } = arrival;
-    match server.decide(*now, *fresh, bytes, out) {
-        Ok(Decided { decision, reply }) => {
-            let outcome = read_decided(bytes, decision);
-            show_outcome(outcome, &out[..reply], answer)
-        }
-        Err(_) => show_outcome(Outcome::KeeperFailed, &[], answer),
+    fn into_keeper(self) -> Memory<'t> {
+        KeptServer::into_keeper(self)
     }
-}
 
-/// A reply to the request of an earlier step.
-fn reply(
-    server: &mut KeptServer<Memory<'_>>,
-    tickets: &mut [Option<Ticket>],
-    answering: &mut Answering,
-    answer: &mut Answer,
-) {
-    let of = answering.of;
-    if of >= tickets.len() {
-        return show(&ServerEntry::NoTicket, answer);
-    }
-    let Some(ticket) = tickets[of].take() else {
-        return show(&ServerEntry::NoTicket, answer);
-    };
-    let Ok(message) = parse(&answering.plain) else {
-        answer.is_whole = false;
-        return;
-    };
-    let out = answering.out.as_mut_slice();
-    match server.reply(ticket, answering.own, answering.mid, &message, out) {
-        Ok(len) => show(&ServerEntry::Replied(Ok(&out[..len])), answer),
-        Err((refusal, ticket)) => {
-            tickets[of] = Some(ticket);
-            show(&ServerEntry::Replied(Err(refusal)), answer);
+    fn go(&mut self, steps: &[Step<'_>], way: Way, answer: &mut Answer) {
+        let mut events = events_of(steps, answer);
+        match way {
+            Way::ByTake => by_calls(self, &mut events, false, answer),
+            Way::ByHalves => by_calls(self, &mut events, true, answer),
+            Way::ByRun => by_a_run(self, &mut events, false, answer),
+            Way::ByRunOn => by_a_run(self, &mut events, true, answer),
         }
-    }
-}
-
-/// A step of a server that is started, and the ticket that it gives.
-fn step(
-    server: &mut KeptServer<Memory<'_>>,
-    step: &Step<'_>,
-    tickets: &mut [Option<Ticket>],
-    in_halves: bool,
-    answer: &mut Answer,
-) -> Option<Ticket> {
-    match step.verb {
-        "take" if in_halves => {
-            return take_in_halves(server, &mut arrival(&step.fields), answer);
-        }
-        "take" => return take(server, &mut arrival(&step.fields), answer),
-        "reply" => reply(server, tickets, &mut answering(&step.fields), answer),
-        "restart" => match server.restart() {
-            Ok(()) => answer.word("restarted ;"),
-            Err(refusal) => {
-                answer.refused(refusal);
-                answer.word(";");
-            }
-        },
-        _ => step.fields.refuse(),
-    }
-    None
-}
-
-/// All steps, one call each; the first is `keeper KEPT PLAN`.
-fn by_calls(
-    steps: &[Step<'_>],
-    contexts: &[NamedContext<'_>],
-    in_halves: bool,
-    answer: &mut Answer,
-) {
-    let Some((first, steps)) = steps.split_first() else {
-        return;
-    };
-    let keeper = Memory::new(answer.alloc, first.fields.number(0), first.fields.word(1));
-    let (mut end, mut tickets) = (End::Stopped(keeper), Vec::new(answer.alloc));
-    for each in steps {
-        let mut ticket = None;
-        if each.verb == "start" {
-            end = end.start(&each.fields, contexts, answer);
-        } else if let End::Started(server) = &mut end {
-            ticket = step(server, each, &mut tickets, in_halves, answer);
-        } else {
-            each.fields.refuse();
-        }
-        if tickets.push(ticket).is_err() {
-            answer.is_whole = false;
-        }
-    }
-    end.into_keeper().show(answer);
-}
-
-/// Makes the calls of a row's steps: by `take`, and again by its halves.
-pub(crate) fn steps(text: &str, contexts: &[NamedContext<'_>], answer: &mut Answer) {
-    let steps = steps_of(text, answer);
-    by_calls(&steps, contexts, false, answer);
-    answer.again();
-    by_calls(&steps, contexts, true, answer);
-    if steps.iter().any(|step| step.fields.is_bad()) {
-        answer.is_whole = false;
     }
 }

@@ -14,6 +14,7 @@ mod context;
 mod corpus;
 mod fields;
 mod keeper;
+mod kept;
 mod kept_client;
 mod kept_server;
 mod numbers;

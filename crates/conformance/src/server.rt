@@ -7,8 +7,8 @@ use crate::server_steps::{events_of, index, is_event};
 use crate::steps::{FILLED_WITH, Step, number, steps_of};
 use osc_coap::parse;
 use osc_endpoint::{
-    Answering, Arrival, Decided, Outcome, Seen, Server, ServerEntry, ServerEvent, Start, Taken,
-    Ticket, read_decided, run_server, run_server_on,
+    Answering, Arrival, Decided, Server, ServerEntry, ServerEvent, Start, Taken, Ticket, put_back,
+    read_decided, run_server, run_server_on, take_out,
 };
 use osc_window::WindowSize;
 use std::alloc::Global;
@@ -45,32 +45,6 @@ fn add(
     answer.word(";");
 }
 
-/// An outcome as an entry shows it, and its ticket.
-pub(crate) fn part(outcome: Outcome<'_>) -> (Seen<'_>, Option<Ticket>) {
-    let seen = match outcome {
-        Outcome::Deliver(opened, ticket) => {
-            let seen = Seen::Deliver {
-                opened,
-                context: ticket.context(),
-                number: ticket.number(),
-            };
-            return (seen, Some(ticket));
-        }
-        Outcome::Malformed(fault) => Seen::Malformed(fault),
-        Outcome::NotRequest => Seen::NotRequest,
-        Outcome::Plain => Seen::Plain,
-        Outcome::Undecodable => Seen::Undecodable,
-        Outcome::NoContext => Seen::NoContext,
-        Outcome::Replay => Seen::Replay,
-        Outcome::BadTag => Seen::BadTag,
-        Outcome::BadInner => Seen::BadInner,
-        Outcome::Challenge { echo, issued } => Seen::Challenge { echo, issued },
-        Outcome::SequenceExhausted => Seen::SequenceExhausted,
-        Outcome::KeeperFailed => Seen::KeeperFailed,
-    };
-    (seen, None)
-}
-
 /// A datagram, by one call.
 fn take<'a>(server: &mut Server, arrival: &'a mut Arrival) -> (ServerEntry<'a>, Option<Ticket>) {
     let Arrival {
@@ -80,7 +54,7 @@ fn take<'a>(server: &mut Server, arrival: &'a mut Arrival) -> (ServerEntry<'a>, 
         out,
     } = arrival;
     let Taken { outcome, reply } = server.take(*now, *fresh, bytes, out);
-    let (seen, ticket) = part(outcome);
+    let (seen, ticket) = outcome.part();
     let reply = &out[..reply];
     (ServerEntry::Took { seen, reply }, ticket)
 }
@@ -97,7 +71,7 @@ fn take_in_halves<'a>(
         out,
     } = arrival;
     let Decided { decision, reply } = server.decide(*now, *fresh, bytes, out);
-    let (seen, ticket) = part(read_decided(bytes, decision));
+    let (seen, ticket) = read_decided(bytes, decision).part();
     let reply = &out[..reply];
     (ServerEntry::Took { seen, reply }, ticket)
 }
@@ -115,24 +89,20 @@ fn reply<'a>(
         plain,
         out,
     } = answering;
-    let of = *of;
-    if of >= tickets.len() {
-        return ServerEntry::NoTicket;
-    }
-    let Some(ticket) = tickets[of].take() else {
+    let Some(ticket) = take_out(tickets, *of) else {
         return ServerEntry::NoTicket;
     };
     let message = match parse(plain) {
         Ok(message) => message,
         Err(fault) => {
-            tickets[of] = Some(ticket);
+            put_back(tickets, *of, ticket);
             return ServerEntry::BadPlain(fault);
         }
     };
     match server.reply(ticket, *own, *mid, &message, out) {
         Ok(len) => ServerEntry::Replied(Ok(&out[..len])),
         Err((refusal, ticket)) => {
-            tickets[of] = Some(ticket);
+            put_back(tickets, *of, ticket);
             ServerEntry::Replied(Err(refusal))
         }
     }

@@ -2,7 +2,7 @@
 //! of `osc_text`, and answers the status.
 //!
 //! ```
-//! let status = command(alloc, &words, &mut input, &mut out, &mut err);
+//! let status = command(alloc, &words, &mut input, &mut out, &mut err, make_keeper);
 //! ```
 #![tactic(auto)]
 

@@ -18,13 +18,15 @@ const EXAMPLE: &str = "Events of a server:
   take NOW ECHO MID DATAGRAM          a datagram comes at the moment NOW in milliseconds;
                                       ECHO and MID, of 8 and 2 bytes, are drawn anew
   reply EVENT own|shared MID PLAIN    the application answers the request of an event, counted from 0
-  restart NEXT                        the context begins anew, with the next own number NEXT
+  restart NEXT                        the context begins anew, with the next own number NEXT;
+                                      with --numbers FILE the line is restart alone
 
 Events of a client:
   request NOW PLAIN                   the application sends a request at the moment NOW in milliseconds
   take NOW DATAGRAM                   a datagram comes
   forget TOKEN                        the application waits no more for the response to the request of a token
-  restart NEXT                        no request is pending any more, and NEXT is the next own number
+  restart NEXT                        no request is pending any more, and NEXT is the next own number;
+                                      with --numbers FILE the line is restart alone
 
   Bytes are hex, and a dash for none.
 
@@ -36,6 +38,9 @@ Examples:
 const ROLES: &[&str] = &["server", "client"];
 
 const HELP_SEQUENCE: &str = "The next own number, below 2^40: decimal digits";
+
+const HELP_NUMBERS: &str =
+    "The file that keeps the next own number over runs; made where it is missing";
 
 const HELP_WINDOW: &str = "For a server: the places of the replay window [default: 32]";
 
@@ -91,6 +96,15 @@ fn sequence_option<'a>(alloc: Global) -> Arg<'a>
     number_option(alloc, "sequence", "N", HELP_SEQUENCE).default_value("0")
 }
 
+/// The option of the file that keeps the numbers, which says how the end begins.
+fn numbers_option<'a>(alloc: Global) -> Result<Arg<'a>, AllocError>
+    ensures { IfOk result (λ arg. arg.global ≡ false) }
+{
+    number_option(alloc, "numbers", "FILE", HELP_NUMBERS)
+        .conflicts_with("sequence")?
+        .conflicts_with("restarted")
+}
+
 pub(crate) fn run_command<'a>(alloc: Global) -> Result<Command<'a>, AllocError>
     ensures { IfOk result IsLocal }
 {
@@ -99,6 +113,7 @@ pub(crate) fn run_command<'a>(alloc: Global) -> Result<Command<'a>, AllocError>
         .arg(role_option(alloc))?
         .arg(sequence_option(alloc))?
         .arg(restarted_flag(alloc))?
+        .arg(numbers_option(alloc)?)?
         .arg(choice_option(alloc, "window", "SIZE", SIZES, HELP_WINDOW))?
         .arg(number_option(alloc, "life", "MS", HELP_LIFE))
 }
@@ -111,17 +126,39 @@ fn read_next(matches: &ArgMatches<'_>) -> Result<Piv, Fault> {
     }
 }
 
-/// Reads how the server begins.
-pub(crate) fn read_serving(matches: &ArgMatches<'_>) -> Result<Serving, Fault> {
-    let next = read_next(matches)?;
+/// Reads the size of the server's window. The option that is of a client alone is a fault.
+pub(crate) fn read_window(matches: &ArgMatches<'_>) -> Result<WindowSize, Fault> {
     if matches.get_str("life").is_some() {
         return Err(input_fault("--life", Wrong::Role));
     }
-    let window = if matches.get_str("window") == Some("64") {
-        WindowSize::Places64
+    if matches.get_str("window") == Some("64") {
+        Ok(WindowSize::Places64)
     } else {
-        WindowSize::default()
+        Ok(WindowSize::default())
+    }
+}
+
+/// Reads for how many milliseconds a request is pending. The options that are of a server alone are faults.
+pub(crate) fn read_life(matches: &ArgMatches<'_>) -> Result<u64, Fault> {
+    if matches.get_flag("restarted") {
+        return Err(input_fault("--restarted", Wrong::Role));
+    }
+    if matches.get_str("window").is_some() {
+        return Err(input_fault("--window", Wrong::Role));
+    }
+    let Some(word) = matches.get_str("life") else {
+        return Ok(LIFE_MS);
     };
+    match read_decimal(word) {
+        Some(life_ms) => Ok(life_ms),
+        None => Err(input_fault("--life", Wrong::Moment)),
+    }
+}
+
+/// Reads how the server begins.
+pub(crate) fn read_serving(matches: &ArgMatches<'_>) -> Result<Serving, Fault> {
+    let next = read_next(matches)?;
+    let window = read_window(matches)?;
     Ok(Serving {
         next,
         is_restarted: matches.get_flag("restarted"),
@@ -132,22 +169,8 @@ pub(crate) fn read_serving(matches: &ArgMatches<'_>) -> Result<Serving, Fault> {
 /// Reads how the client begins.
 pub(crate) fn read_asking(matches: &ArgMatches<'_>) -> Result<Asking, Fault> {
     let next = read_next(matches)?;
-    if matches.get_flag("restarted") {
-        return Err(input_fault("--restarted", Wrong::Role));
-    }
-    if matches.get_str("window").is_some() {
-        return Err(input_fault("--window", Wrong::Role));
-    }
-    let Some(word) = matches.get_str("life") else {
-        return Ok(Asking {
-            next,
-            life_ms: LIFE_MS,
-        });
-    };
-    match read_decimal(word) {
-        Some(life_ms) => Ok(Asking { next, life_ms }),
-        None => Err(input_fault("--life", Wrong::Moment)),
-    }
+    let life_ms = read_life(matches)?;
+    Ok(Asking { next, life_ms })
 }
 
 /// Reads the whole input.

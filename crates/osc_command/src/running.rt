@@ -5,14 +5,15 @@ ghost use Rattle.clap.specs.Matches.{has_subcommand};
 
 use crate::context_words::ContextWords;
 use crate::fault_text::{put_fault, put_help, usage_text};
-use crate::run_words::{read_asking, read_input, read_serving};
+use crate::run_words::{read_asking, read_input, read_life, read_serving, read_window};
 use crate::words::{input_fault, optional_number, read_words, required_bytes};
 use clap::error::ErrorKind;
 use clap::{ArgMatches, Error};
+use osc_context::{Keeper, Params};
 use osc_protect::RequestRef;
 use osc_text::{
-    Fault, Opening, Sealing, Wrong, ask_text, derive_text, explain_text, open_text, protect_text,
-    serve_text,
+    Fault, Opening, Sealing, Wrong, ask_kept_text, ask_text, derive_text, explain_text, open_text,
+    protect_text, serve_kept_text, serve_text,
 };
 use std::alloc::Global;
 use std::io::{Read, Write};
@@ -75,34 +76,78 @@ fn run_explain<W: Write>(alloc: Global, matches: &ArgMatches<'_>, out: &mut W) -
     explain_text(alloc, datagram.as_slice(), out)
 }
 
-/// Does what `run` asks for, by its role. The whole input is read first.
-fn run_role<R: Read, W: Write>(
+/// Runs a server, whose numbers are kept in a file where the words name one. The whole input is read first.
+fn run_server<R: Read, W: Write, K: Keeper + Drop, F: FnOnce(&str) -> K + Drop>(
+    alloc: Global,
+    matches: &ArgMatches<'_>,
+    params: Params<'_>,
+    input: &mut R,
+    out: &mut W,
+    make: F,
+) -> Result<u8, Fault>
+    requires { F.IsAlwaysCallable make }
+    ensures { IfOk result (λ s. (s ≡ 0) ⊎ (s ≡ 2)) }
+{
+    let Some(file) = matches.get_str("numbers") else {
+        let serving = read_serving(matches)?;
+        let bytes = read_input(alloc, input)?;
+        return serve_text(alloc, params, serving, bytes.as_slice(), out);
+    };
+    let window = read_window(matches)?;
+    let bytes = read_input(alloc, input)?;
+    serve_kept_text(alloc, params, make(file), window, bytes.as_slice(), out)
+}
+
+/// Runs a client, whose numbers are kept in a file where the words name one. The whole input is read first.
+fn run_client<R: Read, W: Write, K: Keeper + Drop, F: FnOnce(&str) -> K + Drop>(
+    alloc: Global,
+    matches: &ArgMatches<'_>,
+    params: Params<'_>,
+    input: &mut R,
+    out: &mut W,
+    make: F,
+) -> Result<u8, Fault>
+    requires { F.IsAlwaysCallable make }
+    ensures { IfOk result (λ s. (s ≡ 0) ⊎ (s ≡ 2)) }
+{
+    let Some(file) = matches.get_str("numbers") else {
+        let asking = read_asking(matches)?;
+        let bytes = read_input(alloc, input)?;
+        return ask_text(alloc, params, asking, bytes.as_slice(), out);
+    };
+    let life_ms = read_life(matches)?;
+    let bytes = read_input(alloc, input)?;
+    ask_kept_text(alloc, params, make(file), life_ms, bytes.as_slice(), out)
+}
+
+/// Does what `run` asks for, by its role.
+fn run_role<R: Read, W: Write, K: Keeper + Drop, F: FnOnce(&str) -> K + Drop>(
     alloc: Global,
     matches: &ArgMatches<'_>,
     input: &mut R,
     out: &mut W,
+    make: F,
 ) -> Result<u8, Fault>
+    requires { F.IsAlwaysCallable make }
     ensures { IfOk result (λ s. (s ≡ 0) ⊎ (s ≡ 2)) }
 {
     let context = ContextWords::read(alloc, matches)?;
     if matches.get_str("role") == Some("client") {
-        let asking = read_asking(matches)?;
-        let bytes = read_input(alloc, input)?;
-        return ask_text(alloc, context.params(), asking, bytes.as_slice(), out);
+        return run_client(alloc, matches, context.params(), input, out, make);
     }
-    let serving = read_serving(matches)?;
-    let bytes = read_input(alloc, input)?;
-    serve_text(alloc, context.params(), serving, bytes.as_slice(), out)
+    run_server(alloc, matches, context.params(), input, out, make)
 }
 
 /// Does what a call asks for, by its name.
-fn run_called<R: Read, W: Write>(
+fn run_called<R: Read, W: Write, K: Keeper + Drop, F: FnOnce(&str) -> K + Drop>(
     alloc: Global,
     matches: &ArgMatches<'_>,
     input: &mut R,
     out: &mut W,
+    make: F,
 ) -> Result<u8, Fault>
-    requires { has_subcommand matches.now ≡ true }
+    requires named { has_subcommand matches.now ≡ true }
+    requires callable { F.IsAlwaysCallable make }
     ensures { IfOk result (λ s. (s ≡ 0) ⊎ (s ≡ 2)) }
 {
     match matches.subcommand() {
@@ -110,7 +155,7 @@ fn run_called<R: Read, W: Write>(
         Some(("open", inner)) => run_open(alloc, inner, out),
         Some(("protect", inner)) => run_protect(alloc, inner, out),
         Some(("explain", inner)) => run_explain(alloc, inner, out),
-        Some(("run", inner)) => run_role(alloc, inner, input, out),
+        Some(("run", inner)) => run_role(alloc, inner, input, out, make),
         // No other is there; clap answers `help` by itself.
         Some(_) => Err(input_fault("the call", Wrong::Unknown)),
         None => unreachable!(),
@@ -132,16 +177,18 @@ fn answer_no_call<W: Write>(alloc: Global, error: &Error, out: &mut W) -> Result
 }
 
 /// Does what the words ask for.
-fn run<R: Read, W: Write>(
+fn run<R: Read, W: Write, K: Keeper + Drop, F: FnOnce(&str) -> K + Drop>(
     alloc: Global,
     words: &[String],
     input: &mut R,
     out: &mut W,
+    make: F,
 ) -> Result<u8, Fault>
+    requires { F.IsAlwaysCallable make }
     ensures { IfOk result (λ s. (s ≡ 0) ⊎ (s ≡ 2)) }
 {
     match read_words(alloc, words) {
-        Ok(matches) => run_called(alloc, &matches, input, out),
+        Ok(matches) => run_called(alloc, &matches, input, out, make),
         Err(error) => answer_no_call(alloc, &error, out),
     }
 }
@@ -155,18 +202,21 @@ pub fn report<E: Write>(fault: &Fault, err: &mut E) -> u8
 }
 
 /// Does what the words ask for, the program's name being the first, and answers the status: 0 where it is done, 2 where
-/// what it was done to is refused, 1 at a fault, which stands on `err` in one line.
-pub fn command<R: Read, W: Write, E: Write>(
+/// what it was done to is refused, 1 at a fault, which stands on `err` in one line. `make` makes the keeper of a file; it is
+/// called only where the words name one.
+pub fn command<R: Read, W: Write, E: Write, K: Keeper + Drop, F: FnOnce(&str) -> K + Drop>(
     alloc: Global,
     words: &[String],
     input: &mut R,
     out: &mut W,
     err: &mut E,
+    make: F,
 ) -> u8
+    requires { F.IsAlwaysCallable make }
     ensures status { (result ≡ 0) ⊎ ((result ≡ 1) ⊎ (result ≡ 2)) }
     ensures quiet { result ≢ 1 → err.new ≡ err.old }
 {
-    match run(alloc, words, input, out) {
+    match run(alloc, words, input, out, make) {
         Ok(status) => status,
         Err(fault) => report(&fault, err),
     }

@@ -28,6 +28,7 @@ mod slot;
 mod start;
 mod table;
 mod ticket;
+mod ticket_places;
 
 pub use client::Client;
 pub use client_event::{ClientEntry, ClientEvent};
@@ -47,3 +48,4 @@ pub use server_run::{run_server, run_server_on};
 pub use server_take::read_decided;
 pub use start::{Fresh, Start};
 pub use ticket::Ticket;
+pub use ticket_places::{put_back, take_out};

@@ -1,5 +1,6 @@
 //! What a server makes of a datagram.
 
+use crate::server_event::Seen;
 use crate::ticket::Ticket;
 use osc_coap::FormatError;
 use osc_protect::Opened;
@@ -31,6 +32,47 @@ pub enum Outcome<'b> {
     KeeperFailed,
     /// The request is delivered, with the right to reply to it.
     Deliver(Opened<'b>, Ticket),
+}
+
+impl<'b> Outcome<'b> {
+    ghost use Rattle.std.specs.Prelude.{◌≡◌, None};
+    ghost use Rattle.std.specs.Option.{option_map};
+    ghost use Rattle.osc_endpoint.specs.ServerHistory.{Answer};
+    ghost use Rattle.osc_endpoint.specs.ServerRun.{Logs, ticket_of};
+    ghost use Rattle.osc_endpoint.specs.Views.{Shows, values_of};
+    ghost use Rattle.osc_endpoint.specs.declared.outcome.Outcome.TheVariants.{KeeperFailed};
+    ghost use Rattle.osc_endpoint.specs.declared.server_event.Seen.TheVariants as seen;
+
+    /// The outcome as the log of a run shows it, and its ticket.
+    #[must_use]
+    pub fn part(self) -> (Seen<'b>, Option<Ticket>)
+        ensures shown { (answer : Answer) → Shows self.entry answer
+            → Logs result.0 answer × (option_map values_of result.1 ≡ ticket_of answer) }
+        ensures keeper_failed { self.entry ≡ KeeperFailed → (result.0 ≡ seen.KeeperFailed) × (result.1 ≡ None) }
+    {
+        match self {
+            Outcome::Malformed(error) => (Seen::Malformed(error), None),
+            Outcome::NotRequest => (Seen::NotRequest, None),
+            Outcome::Plain => (Seen::Plain, None),
+            Outcome::Undecodable => (Seen::Undecodable, None),
+            Outcome::NoContext => (Seen::NoContext, None),
+            Outcome::Replay => (Seen::Replay, None),
+            Outcome::BadTag => (Seen::BadTag, None),
+            Outcome::BadInner => (Seen::BadInner, None),
+            Outcome::Challenge { echo, issued } => (Seen::Challenge { echo, issued }, None),
+            Outcome::SequenceExhausted => (Seen::SequenceExhausted, None),
+            Outcome::KeeperFailed => (Seen::KeeperFailed, None),
+            Outcome::Deliver(opened, ticket) => {
+                let (context, number) = (ticket.context(), ticket.number());
+                let seen = Seen::Deliver {
+                    opened,
+                    context,
+                    number,
+                };
+                (seen, Some(ticket))
+            }
+        }
+    }
 }
 
 /// What a server made of a datagram, and how many bytes of reply stand at the front of `out`; none where it is 0.

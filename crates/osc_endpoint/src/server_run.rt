@@ -1,51 +1,23 @@
 //! A server over a list of events.
 
-ghost use Rattle.std.specs.Prelude.{◌≡◌, ◌<◌, [], ℕ, List, Option, Some, None, length, take, drop, vec_len, slice_get, slice_set, OnOk, OnErr};
-ghost use Rattle.std.specs.Option.{option_map, option_and_then};
+ghost use Rattle.std.specs.Prelude.{◌≡◌, ◌<◌, [], List, Option, None, length, take, drop, vec_len, OnOk, OnErr};
+ghost use Rattle.std.specs.Option.{option_map};
 ghost use Rattle.osc_endpoint.specs.Agrees.{Agrees};
 ghost use Rattle.osc_endpoint.specs.Laws.{TakesTickets};
-ghost use Rattle.osc_endpoint.specs.ServerHistory.{History, TicketValues, Answer};
-ghost use Rattle.osc_endpoint.specs.ServerRun.{Run, Logs, ReplyStep, ticket_of, values_in};
+ghost use Rattle.osc_endpoint.specs.ServerHistory.{History, TicketValues};
+ghost use Rattle.osc_endpoint.specs.ServerRun.{Run, ReplyStep, values_in};
 ghost use Rattle.osc_endpoint.specs.Serving.{Serves};
-ghost use Rattle.osc_endpoint.specs.Views.{Shows, values_of};
+ghost use Rattle.osc_endpoint.specs.Views.{values_of};
 
-use crate::outcome::{Outcome, Taken};
+use crate::outcome::Taken;
 use crate::server::Server;
-use crate::server_event::{Answering, Arrival, Seen, ServerEntry, ServerEvent};
+use crate::server_event::{Answering, Arrival, ServerEntry, ServerEvent};
 use crate::ticket::Ticket;
+use crate::ticket_places::{put_back, take_out};
 use osc_coap::parse;
 use osc_context::Piv;
 use std::alloc::{AllocError, Global};
 use std::mem;
-
-/// An outcome as the log shows it, and its ticket.
-fn part(outcome: Outcome<'_>) -> (Seen<'_>, Option<Ticket>)
-    ensures { (answer : Answer) → Shows outcome.entry answer
-        → Logs result.0 answer × (option_map values_of result.1 ≡ ticket_of answer) }
-{
-    match outcome {
-        Outcome::Malformed(error) => (Seen::Malformed(error), None),
-        Outcome::NotRequest => (Seen::NotRequest, None),
-        Outcome::Plain => (Seen::Plain, None),
-        Outcome::Undecodable => (Seen::Undecodable, None),
-        Outcome::NoContext => (Seen::NoContext, None),
-        Outcome::Replay => (Seen::Replay, None),
-        Outcome::BadTag => (Seen::BadTag, None),
-        Outcome::BadInner => (Seen::BadInner, None),
-        Outcome::Challenge { echo, issued } => (Seen::Challenge { echo, issued }, None),
-        Outcome::SequenceExhausted => (Seen::SequenceExhausted, None),
-        Outcome::KeeperFailed => (Seen::KeeperFailed, None),
-        Outcome::Deliver(opened, ticket) => {
-            let (context, number) = (ticket.context(), ticket.number());
-            let seen = Seen::Deliver {
-                opened,
-                context,
-                number,
-            };
-            (seen, Some(ticket))
-        }
-    }
-}
 
 /// A datagram, whose entry borrows from it.
 fn serve_datagram<'a>(
@@ -63,33 +35,12 @@ fn serve_datagram<'a>(
         out,
     } = arrival;
     let Taken { outcome, reply } = server.take(*now, *fresh, bytes, out);
-    let (seen, ticket) = part(outcome);
+    let (seen, ticket) = outcome.part();
     let entry = ServerEntry::Took {
         seen,
         reply: &out[..reply],
     };
     (entry, ticket)
-}
-
-/// Puts a ticket back.
-fn put_back(tickets: &mut [Option<Ticket>], of: usize, ticket: Ticket)
-    ensures { tickets.new ≡ slice_set tickets.old of (Some ticket) }
-{
-    if of < tickets.len() {
-        tickets[of] = Some(ticket);
-    }
-}
-
-/// Takes out the ticket at an index, where one is left.
-fn take_out(tickets: &mut [Option<Ticket>], of: usize) -> Option<Ticket>
-    ensures ticket { result ≡ option_and_then (λ t. t) (slice_get tickets.old of) }
-    ensures rest { tickets.new ≡ slice_set tickets.old of None }
-{
-    if of < tickets.len() {
-        tickets[of].take()
-    } else {
-        None
-    }
 }
 
 /// A reply by the ticket at an index, whose entry borrows from the room for it.

@@ -8,6 +8,8 @@ pub mod InputWords
 pub mod InputLines
 pub mod InputSpellings
 pub mod InputTexts
+pub mod KeptSpellings
+pub mod KeptPrinting
 pub mod LogLines
 pub mod NumberWords
 pub mod ProtectTexts

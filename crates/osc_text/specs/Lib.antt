@@ -11,18 +11,28 @@ pub mod Inputs
 pub mod InputText
 pub mod EntryLines
 pub mod InputEvents
+pub mod KeptEvents
 pub mod ServerLines
+pub mod ServerLog
 pub mod Serving
 pub mod AskedEvents
+pub mod KeptAskedEvents
 pub mod ClientLines
+pub mod ClientLog
 pub mod Asking
 pub mod Written
+pub mod KeptLog
+pub mod KeptText
+pub mod KeptServing
+pub mod KeptAsking
+-- how the code is seen
+pub mod KeptSeen
 -- for the proofs
 pub mod AskedReading
-pub mod ClientLog
 pub mod InputReading
+pub mod KeptReading
+pub mod KeptStarting
 pub mod Outcomes
 pub mod Printing
 pub mod ServedReading
-pub mod ServerLog
 pub mod Starting

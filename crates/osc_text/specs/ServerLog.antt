@@ -1,4 +1,4 @@
--- For the proofs: the lines of a log of the code.
+-- To be believed: how the entries of a server's log print, as the code has them (own rule: the words).
 use Rattle.std.specs.Prelude.{ℕ, List, ◌++◌, Ok, Err, codes}
 use Rattle.osc_context.specs.Views.{number_of}
 use Rattle.osc_protect.specs.Views.{message_of}

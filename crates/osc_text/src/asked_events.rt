@@ -97,7 +97,7 @@ fn read_fields(alloc: Global, verb: &[u8], fields: &[u8]) -> Result<Option<Clien
 
 /// The event of a line, where it spells one.
 #[tactic(auto, unfolding(crate::specs::AskedReading::asked_read))]
-fn read_event(alloc: Global, line: &[u8]) -> Result<Option<ClientEvent>, AllocError>
+pub(crate) fn read_event(alloc: Global, line: &[u8]) -> Result<Option<ClientEvent>, AllocError>
     ensures seen { IfOk result (λ event. option_map asked_seen event ≡ asked_read line.now) }
     ensures room { IfOk result (λ event. IfSome event HasRoom) }
 {

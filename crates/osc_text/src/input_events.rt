@@ -97,7 +97,7 @@ fn read_fields(alloc: Global, verb: &[u8], fields: &[u8]) -> Result<Option<Serve
 
 /// The event of a line, where it spells one.
 #[tactic(auto, unfolding(crate::specs::ServedReading::event_read))]
-fn read_event(alloc: Global, line: &[u8]) -> Result<Option<ServerEvent>, AllocError>
+pub(crate) fn read_event(alloc: Global, line: &[u8]) -> Result<Option<ServerEvent>, AllocError>
     ensures seen { IfOk result (λ event. option_map event_seen event ≡ event_read line.now) }
     ensures room { IfOk result (λ event. IfSome event IsOfRun) }
 {

@@ -5,7 +5,11 @@
 //! ```
 #![tactic(auto)]
 
+#[cfg(test)]
+mod tests;
+
 use osc_command::{command, report};
+use osc_file::FileKeeper;
 use osc_text::Fault;
 use std::alloc::Global;
 use std::env;
@@ -16,7 +20,9 @@ fn main(rt: HostRuntime) -> ExitCode {
     let alloc = rt.alloc();
     let (mut out, mut err) = (rt.stdout(), rt.stderr());
     let status = match program_words(&rt) {
-        Ok(words) => command(alloc, &words, &mut rt.stdin(), &mut out, &mut err),
+        Ok(words) => command(alloc, &words, &mut rt.stdin(), &mut out, &mut err, |name| {
+            FileKeeper::new(&rt, name)
+        }),
         Err(fault) => report(&fault, &mut err),
     };
     ExitCode::from(status)

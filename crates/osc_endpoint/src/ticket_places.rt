@@ -1,0 +1,27 @@
+//! The tickets of a run: one place an event, with the ticket that its delivery gave, as long as no reply took it.
+
+ghost use Rattle.std.specs.Prelude.{◌≡◌, Some, None, slice_get, slice_set};
+ghost use Rattle.std.specs.Option.{option_and_then};
+
+use crate::ticket::Ticket;
+
+/// Puts a ticket back into its place, where there is one.
+pub fn put_back(tickets: &mut [Option<Ticket>], of: usize, ticket: Ticket)
+    ensures { tickets.new ≡ slice_set tickets.old of (Some ticket) }
+{
+    if of < tickets.len() {
+        tickets[of] = Some(ticket);
+    }
+}
+
+/// Takes out the ticket at an index, where one is left.
+pub fn take_out(tickets: &mut [Option<Ticket>], of: usize) -> Option<Ticket>
+    ensures ticket { result ≡ option_and_then (λ t. t) (slice_get tickets.old of) }
+    ensures rest { tickets.new ≡ slice_set tickets.old of None }
+{
+    if of < tickets.len() {
+        tickets[of].take()
+    } else {
+        None
+    }
+}

@@ -1,0 +1,194 @@
+//! A kept server over a list of events.
+
+ghost use Rattle.std.specs.Prelude.{◌≡◌, ◌<◌, [], List, Option, None, length, take, drop, vec_len, OnOk, OnErr};
+ghost use Rattle.std.specs.Option.{option_map};
+ghost use Rattle.osc_endpoint.specs.ServerHistory.{History, TicketValues};
+ghost use Rattle.osc_endpoint.specs.ServerRun.{values_in};
+ghost use Rattle.osc_endpoint.specs.Views.{values_of};
+ghost use Rattle.osc_kept.specs.KeptRuns.{ArrivalStep, ReplyStep, RestartStep, Serves, ServerRun, server_state};
+ghost use Rattle.osc_kept.specs.KeptServing.{IsKept};
+ghost use Rattle.osc_kept.specs.Numbering.{upcoming};
+ghost use Rattle.osc_kept.specs.Owning.{own_in};
+
+use crate::kept_event::{KeptServerEntry, KeptServerEvent};
+use crate::kept_server::KeptServer;
+use osc_coap::parse;
+use osc_context::Keeper;
+use osc_endpoint::{
+    Answering, Arrival, Outcome, Seen, ServerEntry, Taken, Ticket, put_back, take_out,
+};
+use std::alloc::{AllocError, Global};
+use std::mem;
+
+/// A datagram, whose entry borrows from it.
+fn serve_datagram<'a, K: Keeper>(
+    server: &mut KeptServer<K>,
+    arrival: &'a mut Arrival,
+) -> (ServerEntry<'a>, Option<Ticket>)
+    ensures { (h : History) → IsKept server.old.server (upcoming (own_in server.old.source)) h
+        → (g : History) × ArrivalStep h server.old.source arrival.old result.0 g server.new.source (option_map values_of result.1)
+        × IsKept server.new.server (upcoming (own_in server.new.source)) g }
+{
+    let Arrival {
+        now,
+        fresh,
+        bytes,
+        out,
+    } = arrival;
+    let Taken { outcome, reply } = server.take(*now, *fresh, bytes, out);
+    if let Outcome::KeeperFailed = outcome {
+        let entry = ServerEntry::Took {
+            seen: Seen::KeeperFailed,
+            reply: &[],
+        };
+        return (entry, None);
+    }
+    let (seen, ticket) = outcome.part();
+    let entry = ServerEntry::Took {
+        seen,
+        reply: &out[..reply],
+    };
+    (entry, ticket)
+}
+
+/// A reply by the ticket at an index, whose entry borrows from the room for it.
+fn serve_reply<'a, K: Keeper>(
+    server: &mut KeptServer<K>,
+    tickets: &mut [Option<Ticket>],
+    of: usize,
+    own: bool,
+    mid: u16,
+    plain: &[u8],
+    out: &'a mut [u8],
+) -> ServerEntry<'a>
+    ensures { (h : History) → IsKept server.old.server (upcoming (own_in server.old.source)) h
+        → (g : History) × ReplyStep h server.old.source (values_in tickets.old) of own mid plain.now (length out.old) result g server.new.source (values_in tickets.new)
+        × IsKept server.new.server (upcoming (own_in server.new.source)) g }
+{
+    let Some(ticket) = take_out(tickets, of) else {
+        return ServerEntry::NoTicket;
+    };
+    let message = match parse(plain) {
+        Ok(message) => message,
+        Err(error) => {
+            put_back(tickets, of, ticket);
+            return ServerEntry::BadPlain(error);
+        }
+    };
+    match server.reply(ticket, own, mid, &message, out) {
+        Ok(len) => ServerEntry::Replied(Ok(&out[..len])),
+        Err((error, ticket)) => {
+            put_back(tickets, of, ticket);
+            ServerEntry::Replied(Err(error))
+        }
+    }
+}
+
+/// A reply, whose entry borrows from the room for it.
+fn serve_answering<'a, K: Keeper>(
+    server: &mut KeptServer<K>,
+    answering: &'a mut Answering,
+    tickets: &mut [Option<Ticket>],
+) -> KeptServerEntry<'a>
+    ensures { (h : History) → IsKept server.old.server (upcoming (own_in server.old.source)) h
+        → (g : History) × Serves (server_state h server.old.source (values_in tickets.old)) (KeptServerEvent.Reply answering.old) result
+        g server.new.source (values_in tickets.new) None
+        × IsKept server.new.server (upcoming (own_in server.new.source)) g }
+{
+    let Answering {
+        of,
+        own,
+        mid,
+        plain,
+        out,
+    } = answering;
+    KeptServerEntry::Served(serve_reply(server, tickets, *of, *own, *mid, plain, out))
+}
+
+/// A restart, whose entry borrows nothing.
+fn serve_restart<'a, K: Keeper>(server: &mut KeptServer<K>) -> KeptServerEntry<'a>
+    ensures { (h : History) → IsKept server.old.server (upcoming (own_in server.old.source)) h
+        → (g : History) × RestartStep h server.old.source result g server.new.source
+        × IsKept server.new.server (upcoming (own_in server.new.source)) g }
+{
+    KeptServerEntry::Restarted(server.restart())
+}
+
+/// One event, whose entry borrows from it.
+fn serve<'a, K: Keeper>(
+    server: &mut KeptServer<K>,
+    event: &'a mut KeptServerEvent,
+    tickets: &mut [Option<Ticket>],
+) -> (KeptServerEntry<'a>, Option<Ticket>)
+    ensures { (h : History) → IsKept server.old.server (upcoming (own_in server.old.source)) h
+        → (g : History) × Serves (server_state h server.old.source (values_in tickets.old)) event.old result.0
+        g server.new.source (values_in tickets.new) (option_map values_of result.1)
+        × IsKept server.new.server (upcoming (own_in server.new.source)) g }
+{
+    match event {
+        KeptServerEvent::Datagram(arrival) => {
+            let (entry, ticket) = serve_datagram(server, arrival);
+            (KeptServerEntry::Served(entry), ticket)
+        }
+        KeptServerEvent::Reply(answering) => (serve_answering(server, answering, tickets), None),
+        KeptServerEvent::Restart => (serve_restart(server), None),
+    }
+}
+
+/// Runs a kept server over events: the log gets the entry of each, at the event's index. The entries borrow from the events. It
+/// stops early only where memory for an entry was refused: then the log has the entries of the events before, and `events` is
+/// what is left of them, as it came.
+pub fn run_kept_server_on<'a, K: Keeper>(
+    alloc: Global,
+    server: &mut KeptServer<K>,
+    events: &mut &'a mut [KeptServerEvent],
+    log: &mut Vec<KeptServerEntry<'a>>,
+) -> Result<(), AllocError>
+    requires { log.old.items ≡ [] }
+    ensures run { (h : History) → IsKept server.old.server (upcoming (own_in server.old.source)) h
+        → (g : History) × (us : List (Option TicketValues))
+        × ServerRun (server_state h server.old.source []) (take (vec_len log.new) events.old.now) log.new.items (server_state g server.new.source us)
+        × IsKept server.new.server (upcoming (own_in server.new.source)) g }
+    ensures rest { events.new.now ≡ drop (vec_len log.new) events.old.now }
+    ensures all { OnOk result (vec_len log.new ≡ length events.old.now) }
+    ensures fewer { OnErr result (vec_len log.new < length events.old.now) }
+{
+    let mut tickets = Vec::new(alloc);
+    let mut rest = mem::take(events);
+    while !rest.is_empty() {
+        if let Err(error) = log.reserve(1) {
+            *events = rest;
+            return Err(error);
+        }
+        if let Err(error) = tickets.reserve(1) {
+            *events = rest;
+            return Err(error);
+        }
+        let (front, tail) = rest.split_at_mut(1);
+        let (entry, ticket) = serve(server, &mut front[0], &mut tickets);
+        log.push_reserved(entry);
+        tickets.push_reserved(ticket);
+        rest = tail;
+    }
+    *events = rest;
+    Ok(())
+}
+
+/// Runs a kept server over events, as [`run_kept_server_on`] does; what is left of them isn't handed back.
+pub fn run_kept_server<'a, K: Keeper>(
+    alloc: Global,
+    server: &mut KeptServer<K>,
+    events: &'a mut [KeptServerEvent],
+    log: &mut Vec<KeptServerEntry<'a>>,
+) -> Result<(), AllocError>
+    requires { log.old.items ≡ [] }
+    ensures run { (h : History) → IsKept server.old.server (upcoming (own_in server.old.source)) h
+        → (g : History) × (us : List (Option TicketValues))
+        × ServerRun (server_state h server.old.source []) (take (vec_len log.new) events.old) log.new.items (server_state g server.new.source us)
+        × IsKept server.new.server (upcoming (own_in server.new.source)) g }
+    ensures all { OnOk result (vec_len log.new ≡ length events.old) }
+    ensures fewer { OnErr result (vec_len log.new < length events.old) }
+{
+    let mut rest = events;
+    run_kept_server_on(alloc, server, &mut rest, log)
+}
