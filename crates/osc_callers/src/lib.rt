@@ -1,6 +1,6 @@
-//! Callers of `osc_coap` that prove what their own bytes hold, or what a message that they read says,
-//! from its public contracts alone: a layer above can do the same. Nothing else calls them, so each stands
-//! among the tests, which run them on outside values.
+//! Tests of the layers below, by their public calls: callers that prove what their own bytes hold, or what a
+//! message that they read says, from the public contracts of `osc_coap` alone, and what no contract and no row of
+//! the corpus can say of files, of keepers that go wrong, and of the command over a file.
 #![tactic(auto)]
 
 #[cfg(test)]

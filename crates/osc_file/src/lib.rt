@@ -11,7 +11,5 @@
 
 mod file_keeper;
 mod number_text;
-#[cfg(test)]
-mod tests;
 
 pub use file_keeper::FileKeeper;

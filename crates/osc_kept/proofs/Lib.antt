@@ -2,3 +2,13 @@ pub mod Drawing
 pub mod ServerSteps
 pub mod ClientSteps
 pub mod KeptRunLemmas
+pub mod Deeds
+pub mod Digest
+pub mod Rising
+pub mod Lives
+pub mod Owned
+pub mod Fitting
+pub mod Claims
+pub mod Saving
+pub mod GoingOn
+pub mod InWorld

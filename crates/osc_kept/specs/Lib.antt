@@ -4,6 +4,11 @@ pub mod Refusals
 pub mod KeptServing
 pub mod KeptAsking
 pub mod KeptRuns
+pub mod World
+pub mod Premises
+pub mod Claims
+pub mod GoingOn
+pub mod InWorld
 -- how the code is seen
 pub mod Views
 pub mod Owning

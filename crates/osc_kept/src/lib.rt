@@ -7,14 +7,14 @@ mod kept_client;
 mod kept_error;
 mod kept_event;
 mod kept_server;
+mod laws;
 mod server_run;
 mod source;
-#[cfg(test)]
-mod tests;
 
 pub use client_run::{run_kept_client, run_kept_client_on};
 pub use kept_client::KeptClient;
 pub use kept_error::KeptError;
 pub use kept_event::{KeptClientEntry, KeptClientEvent, KeptServerEntry, KeptServerEvent};
 pub use kept_server::KeptServer;
+pub use laws::{both_ends, fresh_by_saving, kept_ends_begin, kept_ends_go_on, take_in_world};
 pub use server_run::{run_kept_server, run_kept_server_on};

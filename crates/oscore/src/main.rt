@@ -5,9 +5,6 @@
 //! ```
 #![tactic(auto)]
 
-#[cfg(test)]
-mod tests;
-
 use osc_command::{command, report};
 use osc_file::FileKeeper;
 use osc_text::Fault;

@@ -1,6 +1,6 @@
-//! A run of a server and one of a client over fixed inputs, with no word to read: small enough to have each of their growths
-//! refused in turn. Then the status is 1, standard error has one line, and standard output whole lines from the front of what
-//! `stdout` has.
+//! A run of a server and one of a client over fixed inputs, small enough to have each of their growths refused in turn. Then the
+//! status is 1, standard error has one line, and standard output whole lines from the front of what `stdout` has. Before the runs
+//! come as many growths as standard input has bytes, so that one number can refuse each of theirs.
 #![tactic(auto)]
 
 mod runs;
@@ -10,7 +10,7 @@ use osc_text::{Asking, Fault, Serving, ask_text, serve_text};
 use osc_window::WindowSize;
 use std::alloc::Global;
 use std::io;
-use std::io::Write;
+use std::io::{Read, Write};
 use std::process::ExitCode;
 
 /// The Master Secret of RFC 8613, C.1.
@@ -44,6 +44,16 @@ pub(crate) fn params<'a>(sender: &'a [u8], recipient: &'a [u8]) -> Params<'a> {
     }
 }
 
+/// Grows once for each byte of standard input, at most 99.
+fn grow(rt: &HostRuntime) -> Result<(), Fault> {
+    let mut bytes = [0; 99];
+    let count = rt.stdin().read(&mut bytes).map_err(Fault::Read)?;
+    for byte in &bytes[..count] {
+        Vec::new(rt.alloc()).push(*byte)?;
+    }
+    Ok(())
+}
+
 /// Prints the runs of the server and the client that the command prints.
 fn print<W: Write>(alloc: Global, out: &mut W) -> Result<u8, Fault> {
     let serving = Serving {
@@ -61,6 +71,7 @@ fn print<W: Write>(alloc: Global, out: &mut W) -> Result<u8, Fault> {
 
 /// Prints those runs, and then two that go on where a growth of theirs is refused, and answers the status.
 fn run(rt: &HostRuntime) -> Result<u8, Fault> {
+    grow(rt)?;
     let _status = print(rt.alloc(), &mut rt.stdout())?;
     let all_left = runs::serve(rt)?;
     runs::ask(rt)?;

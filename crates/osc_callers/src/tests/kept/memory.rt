@@ -1,0 +1,105 @@
+//! A keeper in memory, one of whose calls fails or is stopped.
+
+ghost use Rattle.std.specs.Prelude.{◌≡◌, ◌≤◌};
+
+use osc_context::{Count, Keeper, KeeperError};
+use std::cell::Cell;
+
+/// How a call of a keeper goes wrong.
+#[derive(Clone, Copy, Debug, PartialEq, Eq)]
+pub enum Wrong {
+    /// It fails, and what was kept stays.
+    Fails,
+    /// The program is stopped within it; a save has kept its number by then.
+    Stops,
+}
+
+/// What is seen of a keeper from outside, while an end has it.
+#[derive(Drop)]
+pub struct Watch {
+    pub calls: Cell<u64>,
+    /// The program was stopped in a call, and isn't started again yet.
+    pub is_stopped: Cell<bool>,
+}
+
+impl Watch {
+    /// Of a keeper that wasn't called yet.
+    pub fn new() -> Watch {
+        Watch {
+            calls: Cell::new(0),
+            is_stopped: Cell::new(false),
+        }
+    }
+}
+
+#[derive(Drop)]
+pub struct Memory<'a> {
+    kept: u64,
+    // The last number whose save was answered with Ok.
+    saved: u64,
+    /// The call that goes wrong, counted from 0, and how.
+    wrong: Option<(u64, Wrong)>,
+    watch: &'a Watch,
+    failures: Count,
+    ghost least: { saved ≤ kept },
+}
+
+impl<'a> Memory<'a> {
+    /// A keeper that keeps 0.
+    pub fn new(watch: &'a Watch, wrong: Option<(u64, Wrong)>) -> Memory<'a> {
+        Memory {
+            kept: 0,
+            saved: 0,
+            wrong,
+            watch,
+            failures: Count::none(),
+        }
+    }
+
+    /// The program is started again.
+    pub fn start(&self) {
+        self.watch.is_stopped.set(false);
+    }
+
+    /// Counts a call, and answers how it goes wrong, if it does.
+    fn next_call(&self) -> Option<Wrong> {
+        let call = self.watch.calls.get();
+        self.watch.calls.set(call.wrapping_add(1));
+        match self.wrong {
+            Some((wrong_call, wrong)) if wrong_call == call => {
+                self.watch.is_stopped.set(wrong == Wrong::Stops);
+                Some(wrong)
+            }
+            _ => None,
+        }
+    }
+}
+
+impl Keeper for Memory<'_> {
+    ghost floor = { λ k. k.saved };
+
+    ghost failures = { λ k. k.failures.value };
+
+    ghost loads = { λ old n new. n ≡ old.kept };
+
+    fn load(&mut self) -> Result<u64, KeeperError> {
+        if self.next_call().is_none() {
+            return Ok(self.kept);
+        }
+        self.failures = Count::one_more(&self.failures);
+        Err(KeeperError)
+    }
+
+    fn save(&mut self, next: u64) -> Result<(), KeeperError> {
+        let wrong = self.next_call();
+        if wrong != Some(Wrong::Fails) {
+            self.kept = next;
+        }
+        if wrong.is_none() {
+            self.saved = next;
+            return Ok(());
+        }
+        self.failures = Count::one_more(&self.failures);
+        Err(KeeperError)
+    }
+}

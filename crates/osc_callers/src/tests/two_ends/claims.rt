@@ -1,0 +1,92 @@
+//! What must hold of each run, judged by the log alone.
+
+use super::log::{Entry, Request, Response};
+
+/// What an entry of a log can break.
+#[derive(Clone, Copy, Debug, PartialEq, Eq)]
+pub enum Claim {
+    /// Each request that is delivered was sealed before, with that number and payload, and no number is delivered twice.
+    Requests,
+    /// Each response that is delivered was sealed before, for the very request that the client sealed last under its token.
+    Responses,
+    /// No end seals twice under one nonce (RFC 8613, 5.2).
+    Nonces,
+}
+
+/// The first claim that a log breaks, where it breaks one.
+pub fn first_broken(log: &[Entry]) -> Option<Claim> {
+    for place in 0..log.len() {
+        let broken = broken_by(log[place], &log[..place]);
+        if broken.is_some() {
+            return broken;
+        }
+    }
+    None
+}
+
+/// The claim that an entry breaks behind those before it, where it breaks one.
+fn broken_by(entry: Entry, before: &[Entry]) -> Option<Claim> {
+    let (claim, holds) = match entry {
+        Entry::RequestSealed(request) => (Claim::Nonces, !is_number_used(request.number, before)),
+        Entry::RequestDelivered(request) => (Claim::Requests, may_deliver(request, before)),
+        Entry::ResponseSealed(response) => (Claim::Nonces, !is_nonce_used(response, before)),
+        Entry::ResponseDelivered(response) => (Claim::Responses, may_answer(response, before)),
+    };
+    if holds { None } else { Some(claim) }
+}
+
+/// Whether the client sealed a request with this number.
+fn is_number_used(number: u64, before: &[Entry]) -> bool {
+    before.iter().any(|entry| match entry {
+        Entry::RequestSealed(request) => request.number == number,
+        _ => false,
+    })
+}
+
+/// Whether a request was sealed, and none with its number was delivered.
+fn may_deliver(request: Request, before: &[Entry]) -> bool {
+    let is_delivered = before.iter().any(|entry| match entry {
+        Entry::RequestDelivered(other) => other.number == request.number,
+        _ => false,
+    });
+    !is_delivered && before.contains(&Entry::RequestSealed(request))
+}
+
+/// Whether the server sealed a response with the same own number, or one without to the same request: that one is under the
+/// nonce of the request.
+fn is_nonce_used(response: Response, before: &[Entry]) -> bool {
+    before.iter().any(|entry| match entry {
+        Entry::ResponseSealed(other) => {
+            let is_of_request = response.own.is_none() && other.request == response.request;
+            other.own == response.own && (other.own.is_some() || is_of_request)
+        }
+        _ => false,
+    })
+}
+
+/// Whether a response was sealed, for the request that the client waits for.
+fn may_answer(response: Response, before: &[Entry]) -> bool {
+    let Some(asked) = last_asked(response.token, before) else {
+        return false;
+    };
+    let is_for_it = match response.payload {
+        Some(payload) => payload == asked.payload,
+        None => true,
+    };
+    is_for_it
+        && response.request == asked.number
+        && before.contains(&Entry::ResponseSealed(response))
+}
+
+/// The last request that the client sealed under a token.
+fn last_asked(token: u8, before: &[Entry]) -> Option<Request> {
+    let mut last = None;
+    for entry in before {
+        if let Entry::RequestSealed(request) = entry
+            && request.payload.token == token
+        {
+            last = Some(*request);
+        }
+    }
+    last
+}

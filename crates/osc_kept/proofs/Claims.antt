@@ -1,0 +1,143 @@
+-- What holds of two ends: of each delivery, of each response, of each nonce. w is a world that meets the premises.
+use Rattle.std.proofs.Common.{◌≡◌, ℕ, ◌<◌, ◌^◌, ◌∙◌, sym, ap, subst, refl, arith, true, false, Option, Some, None, List, ◌∷◌}
+use Rattle.std.specs.Prelude.{max}
+use Rattle.osc_coap.specs.Inner.{InnerParts}
+use Rattle.osc_context.specs.Nonce.{nonce_of}
+use Rattle.osc_context.specs.SecurityContext.{SecurityContext}
+use Rattle.osc_protect.specs.CipherLaws.{response_seal}
+use Rattle.osc_protect.specs.Protection.{ProtectsResponse, response_nonce}
+use Rattle.osc_endpoint.specs.ClientHistory as client
+use Rattle.osc_endpoint.specs.Life.{Life, next_own}
+use Rattle.osc_endpoint.specs.ServerHistory as server
+use Rattle.osc_kept.specs.Numbering.{Use}
+use Rattle.osc_kept.specs.Claims.{AnswersThatRequest, BothEnds, DeliversOnce, IsForThatRequest, IsNewForClient, IsNewForServer, SealsUnderNewNonce}
+use Rattle.osc_kept.specs.Premises.{AtEach, IsLawful, SealedByServer}
+use Rattle.osc_kept.specs.World.{World, Event, Begin, Then, Client, Server, AtClient, AtServer, Has, Request, Response, answered, client_history, server_life}
+use Rattle.osc_kept.proofs.Deeds.{AllBelow, AllFit, Delivers, Holds, IsSent, answered_sent, delivered_sent, given_delivered, not_before, not_shared, one_request, owned, owns, sends}
+use Rattle.osc_kept.proofs.Digest.{answered_is, delivered_is, digest, sent_is, server_deed}
+use Rattle.osc_kept.proofs.Fitting.{LawsBelow, all_fit, at_server, at_stands, before, fits_client, held, own_above}
+use Rattle.osc_kept.proofs.Lives.{own_use, some_is}
+use Rattle.osc_kept.proofs.Owned.{effect_is, own_used, pending_sent, runs, sent_used}
+use Rattle.osc_kept.proofs.Rising.{use_bounded, use_small}
+
+-- ---- deliveries
+
+delivers_once : LawsBelow → (n : ℕ) (s : SecurityContext) (w : World) (event : Event) → IsLawful n s (Then w event) → DeliversOnce s w event
+delivers_once laws n s w (AtServer (server.Datagram now echo mid d) (server.Took (server.Deliver received t) reply)) i =
+    let fits : AllFit s (Delivers t received.message ∷ digest s w) = all_fit laws n s (Then w (AtServer (server.Datagram now echo mid d) (server.Took (server.Deliver received t) reply))) i in (
+      subst (λ rs. Has (record { number = t.number; message = received.message }) rs) (sym (sent_is s w)) fits.1.2,
+      λ k. not_before s (digest s w) t received.message fits (subst (λ ns. Has t.number ns) (delivered_is s w) k),
+    )
+delivers_once laws n s w event i = tt
+
+-- ---- responses
+
+sent_small : (n : ℕ) (s : SecurityContext) (w : World) (k : ℕ) → IsLawful n s w → IsSent (digest s w) k → k < 2 ^ 40
+sent_small n s w k i x = subst (λ y. y < 2 ^ 40) x.2 (use_small Client s w x.0.number i.kept (sent_used s w x.0 x.1))
+
+answered_small : LawsBelow → (n : ℕ) (s : SecurityContext) (w : World) (r : Response) → IsLawful n s w → Has r (answered s w) → r.number < 2 ^ 40
+answered_small laws n s w r i k =
+    sent_small n s w r.number i (answered_sent s (digest s w) r (all_fit laws n s w i) (subst (λ rs. Has r rs) (answered_is s w) k))
+
+-- a response to a pending request, which the server sealed
+is_for : LawsBelow → (n : ℕ) (s : SecurityContext) (w : World) (k : ℕ) (own : Option ℕ) (m : InnerParts) (d : List ℕ) → IsLawful n s w → IsSent (digest s w) k
+    → (p : ProtectsResponse s k own m d) → SealedByServer s w (response_seal s k own) p.outer.payload → IsForThatRequest s w k own m
+is_for laws n s w k own m d i asked p x =
+    let same = laws.response.numbers s x.response.number k x.response.own own i.usable (answered_small laws n s w x.response i x.was_answered) (sent_small n s w k i asked)
+    (laws.in_range _ _ x.protects.reads) (laws.in_range _ _ p.reads) x.input_is in
+    let message : x.response.message ≡ m = laws.response.message s s x.response.number k x.response.own own x.response.message m x.bytes d x.protects p x.input_is x.text_is in
+    record {
+      was_answered =
+          subst (λ y. Has (record { number = y; own = own; message = m }) (answered s w)) same.0
+          (subst (λ y. Has (record { number = x.response.number; own = y; message = m }) (answered s w)) same.1
+          (subst (λ y. Has (record { number = x.response.number; own = x.response.own; message = y }) (answered s w)) message x.was_answered));
+      request = asked.0;
+      was_sent = subst (λ rs. Has asked.0 rs) (sym (sent_is s w)) asked.1;
+      number_is = asked.2;
+      one_alone = λ r h e. one_request s (digest s w) r asked.0 (all_fit laws n s w i) (subst (λ rs. Has r rs) (sent_is s w) h) asked.1 (e ∙ sym asked.2);
+    }
+
+answers_that : LawsBelow → (n : ℕ) (s : SecurityContext) (w : World) (event : Event) → IsLawful n s (Then w event) → AnswersThatRequest s w event
+answers_that laws n s w (AtClient (client.Datagram now d) (client.Took (client.Deliver received number))) i =
+    let h : client.History = i.answers.1.0 in
+    let f : client_history s w ≡ Some h = i.answers.1.1 in
+    let a = i.answers.1.2 in
+    let clock : ℕ = max (client.clock h) now in
+    let p : ProtectsResponse s a.0.number a.2.1 received.message d = subst (λ c. ProtectsResponse c a.0.number a.2.1 received.message d) (runs n s w h i.answers.0 f).context_is a.2.2.protects in
+    let x : SealedByServer s w (response_seal s a.0.number a.2.1) p.outer.payload = i.sealed.1 h f a.0 a.2.1 received.message a.1.1 p in
+    subst (λ y. IsForThatRequest s w number y received.message) (sym a.2.2.number)
+    (subst (λ y. IsForThatRequest s w y a.2.1 received.message) (sym a.2.0)
+    (is_for laws n s w a.0.number a.2.1 received.message d (before n s w _ i) (pending_sent n s w h clock a.0 i.answers.0 f a.1.1) p x))
+answers_that laws n s w event i = tt
+
+-- ---- nonces
+
+new_for_client : LawsBelow → (n : ℕ) (s : SecurityContext) (w : World) (k : ℕ) → IsLawful n s w → k < 2 ^ 40 → ((r : Request) → Has r (sends (digest s w)) → r.number < k) → IsNewForClient s w k
+new_for_client laws n s w k i small above r h e =
+    let is : Has r (sends (digest s w)) = subst (λ rs. Has r rs) (sent_is s w) h in
+    let same : r.number ≡ k = (laws.nonce s.common_iv s.client s.client r.number k i.usable.client_fits i.usable.client_fits (sent_small n s w r.number i (r, is, refl)) small e).1 in
+    let less : r.number < k = above r is in
+    omega (arith, same, less)
+
+-- with an own number
+own_differs : LawsBelow → (n : ℕ) (s : SecurityContext) (w : World) (k own : ℕ) (r : Response) (o : Option ℕ) → IsLawful n s w → own < 2 ^ 40 → AllBelow (owns (digest s w)) own
+    → Has r (answered s w) → r.own ≡ o → response_nonce s.common_iv s.client s.server r.number o ≡ nonce_of s.common_iv s.server own → ⊥
+own_differs laws n s w k own r (Some x) i small above h f e =
+    let is : Has x (owns (digest s w)) = owned (digest s w) r x (subst (λ rs. Has r rs) (answered_is s w) h) f in
+    let less : x < own = above x is in
+    let same : x ≡ own = (laws.nonce s.common_iv s.server s.server x own i.usable.server_fits i.usable.server_fits (use_small Server s w x i.kept (own_used n s w x i.answers is)) small e).1 in
+    omega (arith, less, same)
+own_differs laws n s w k own r None i small above h f e =
+    i.usable.differ (laws.nonce s.common_iv s.client s.server r.number own i.usable.client_fits i.usable.server_fits (answered_small laws n s w r i h) small e).0
+
+-- with the request's
+shared_differs : LawsBelow → (n : ℕ) (s : SecurityContext) (w : World) (t : server.TicketValues) (r : Response) (o : Option ℕ) → IsLawful n s w → Holds (digest s w) t
+    → t.number < 2 ^ 40 → Has r (answered s w) → r.own ≡ o → response_nonce s.common_iv s.client s.server r.number o ≡ nonce_of s.common_iv s.client t.number → ⊥
+shared_differs laws n s w t r (Some x) i holds small h f e =
+    let is : Has x (owns (digest s w)) = owned (digest s w) r x (subst (λ rs. Has r rs) (answered_is s w) h) f in
+    i.usable.differ (sym (laws.nonce s.common_iv s.server s.client x t.number i.usable.server_fits i.usable.client_fits (use_small Server s w x i.kept (own_used n s w x i.answers is)) small e).0)
+shared_differs laws n s w t r None i holds small h f e =
+    not_shared s (digest s w) t r (all_fit laws n s w i) holds (subst (λ rs. Has r rs) (answered_is s w) h) f
+    (laws.nonce s.common_iv s.client s.client r.number t.number i.usable.client_fits i.usable.client_fits (answered_small laws n s w r i h) small e).1
+
+held_small : LawsBelow → (n : ℕ) (s : SecurityContext) (w : World) (t : server.TicketValues) → IsLawful n s w → Holds (digest s w) t → t.number < 2 ^ 40
+held_small laws n s w t i holds = sent_small n s w t.number i (delivered_sent s (digest s w) t.number (all_fit laws n s w i) (given_delivered (digest s w) t holds.0))
+
+-- what a server seals under its next own number is new
+new_own : LawsBelow → (n : ℕ) (s : SecurityContext) (w : World) (k : ℕ) (event : server.Event) (entry : server.Entry) (of : Life) → IsLawful n s (Then w (AtServer event entry))
+    → server_life s w ≡ Some of → own_use (server_deed (Some of) event entry) ≡ Use (next_own of) → IsNewForServer s w k (Some (next_own of))
+new_own laws n s w k event entry of i f is_used r h e =
+    let uses : own_use (server_deed (server_life s w) event entry) ≡ Use (next_own of) = ap (λ l. own_use (server_deed l event entry)) f ∙ is_used in
+    own_differs laws n s w k (next_own of) r r.own (before n s w _ i)
+    (use_bounded Server s w (AtServer event entry) (next_own of) i.kept.0 i.kept.1 (effect_is n s w event entry i.answers.0 i.answers.1 ∙ uses))
+    (own_above n s w event entry (next_own of) i.answers.0 i.answers.1 i.kept.0 i.kept.1 uses) h refl e
+
+seals_new : LawsBelow → (n : ℕ) (s : SecurityContext) (w : World) (event : Event) → IsLawful n s (Then w event) → SealsUnderNewNonce s w event
+seals_new laws n s w (AtClient (client.Request now p room) (client.Sent bytes)) i = λ h f.
+    let same : i.answers.1.0 ≡ h = some_is (sym i.answers.1.1 ∙ f) in
+    new_for_client laws n s w (client.next h) (before n s w _ i) (subst (λ g. client.next g < 2 ^ 40) same i.answers.1.2.0.2)
+    (fits_client n s w (Some h) (client.Request now p room) (client.Sent bytes) f i.kept.0 i.kept.1)
+seals_new laws n s w (AtServer (server.Datagram now echo mid d) (server.Took (server.Challenge c k value issued) reply)) i = λ of f.
+    new_own laws n s w k (server.Datagram now echo mid d) (server.Took (server.Challenge c k value issued) reply) of i f refl
+seals_new laws n s w (AtServer (server.Reply t true mid p room) (server.Replied bytes)) i = λ of f.
+    new_own laws n s w t.number (server.Reply t true mid p room) (server.Replied bytes) of i f refl
+seals_new laws n s w (AtServer (server.Reply t false mid p room) (server.Replied bytes)) i = λ of f r h e.
+    let y = at_server n s w (server.Reply t false mid p room) (server.Replied bytes) i in
+    let holds : Holds (digest s w) t = held laws.tickets s (digest s w) y.answer.0 t false mid room p bytes (at_stands n s w _ _ y) y.answer.2 y.answer.4 in
+    let earlier = before n s w _ i in
+    shared_differs laws n s w t r r.own earlier holds (held_small laws n s w t earlier holds) h refl e
+seals_new laws n s w event i = tt
+
+-- ---- all of it
+
+each : (P : World → Event → Type 0) (n : ℕ) (s : SecurityContext) → ((w : World) (event : Event) → IsLawful n s (Then w event) → P w event) → (w : World) → IsLawful n s w → AtEach P w
+each P n s f Begin i = tt
+each P n s f (Then w event) i = (each P n s f w (before n s w event i), f w event i)
+
+pub both_ends_hold : LawsBelow → (n : ℕ) (s : SecurityContext) (w : World) → IsLawful n s w → BothEnds s w
+both_ends_hold laws n s w i =
+    record {
+      once = each (DeliversOnce s) n s (delivers_once laws n s) w i;
+      that_request = each (AnswersThatRequest s) n s (answers_that laws n s) w i;
+      nonces = each (SealsUnderNewNonce s) n s (seals_new laws n s) w i;
+    }

@@ -1,0 +1,68 @@
+//! What holds of both ends of a security context over all their lives (RFC 8613, 5.2, 7.2.1, 7.4 and 8.4), and how the calls
+//! of the kept ends add to such a list. All functions but the last are there for their contracts alone.
+
+ghost use Rattle.std.specs.Prelude.{◌≢◌, ℕ, take};
+ghost use Rattle.osc_context.specs.SecurityContext.{SecurityContext};
+ghost use Rattle.osc_endpoint.specs.declared.outcome.Outcome.TheVariants as outcomes;
+ghost use Rattle.osc_kept.specs.Claims.{TwoEnds};
+ghost use Rattle.osc_kept.specs.GoingOn.{ClientBegins, ClientGoesOn, FreshBySaving, ServerBegins, ServerGoesOn};
+ghost use Rattle.osc_kept.specs.InWorld.{IsUnseen, RunsIn, TakesInWorld};
+ghost use Rattle.osc_kept.specs.Premises.{IsLawful, NobodyForgesRequests};
+ghost use Rattle.osc_kept.specs.World.{World};
+
+use crate::kept_server::KeptServer;
+use osc_context::{Keeper, one_nonce, one_option_value};
+use osc_endpoint::{Fresh, Taken, ticket_once};
+use osc_protect::one_cipher_input;
+
+/// Over each list of what happens at both ends and between them, restarts and lost memory of either among it: a request is
+/// delivered at most once, and the client sealed it; a response is delivered for the very request that it answers, and the
+/// server sealed it for that; no end seals twice under one nonce. The list has to meet the premises (`IsLawful`): both ends
+/// answer by their tables, nobody else makes texts that open, Echo values are new, numbers are kept, and a server starts fresh
+/// only while nothing was delivered.
+pub fn both_ends()
+    ensures { TwoEnds }
+{
+    ticket_once();
+    one_cipher_input();
+    one_option_value();
+    one_nonce();
+}
+
+/// A call of a kept end adds zero or one draw to such a list, and then its event, and the numbers stay kept (RFC 8613, B.1.1).
+pub fn kept_ends_go_on()
+    ensures server { ServerGoesOn }
+    ensures client { ClientGoesOn }
+{}
+
+/// The start of a kept end adds to such a list too, and the numbers stay kept where its keeper loads none below the floor
+/// (RFC 8613, B.1.1 and B.1.2).
+pub fn kept_ends_begin()
+    ensures server { ServerBegins }
+    ensures client { ClientBegins }
+{}
+
+/// A server that starts fresh at 0 alone, and for which a number is saved before it takes a datagram, starts fresh only while
+/// nothing was delivered (RFC 8613, B.1.1 and B.1.2).
+pub fn fresh_by_saving()
+    ensures { FreshBySaving }
+{}
+
+/// `KeptServer::take`, within the list of what happened at both ends: where that list meets the premises, this server runs in
+/// it, nobody forged the datagram, and no request carries the fresh Echo value yet, the list with this call meets them too, and
+/// all of it is as `both_ends` says. Nothing else is done here.
+pub fn take_in_world<'b, K: Keeper>(
+    server: &mut KeptServer<K>,
+    now: u64,
+    fresh: Fresh,
+    datagram: &'b mut [u8],
+    out: &mut [u8; 64],
+) -> Taken<'b>
+    ensures answered { result.outcome ≢ outcomes.KeeperFailed → (n : ℕ) (s : SecurityContext) (w : World) → IsLawful n s w → RunsIn s w server.old
+        → NobodyForgesRequests s w datagram.old → IsUnseen s w fresh.echo
+        → TakesInWorld n s w now fresh datagram.old result.outcome (take result.reply out.new) server.new }
+{
+    both_ends();
+    kept_ends_go_on();
+    server.take(now, fresh, datagram, out)
+}
