@@ -38,11 +38,12 @@ run_more Step s mid t (d ∷ ds) [] e x r step = absurd r
 run_more Step s mid t (d ∷ ds) (y ∷ ys) e x r step = (r.0, r.1, run_more Step r.0 mid t ds ys e x r.2 step)
 
 -- one event more, over the front of all events
-pub run_on : {S E X : Type 0} (Step : S → E → X → S → Type 0) (s mid t : S) (all : List E) (i j : ℕ) (log after : List X) (e : E) (x : X)
-    → RunOf Step s (take i all) log mid → Step mid e x t → take i all ++ e ∷ [] ≡ take j all → after ≡ log ++ x ∷ [] → RunOf Step s (take j all) after t
-run_on Step s mid t all i j log after e x run step events_are entries_are =
+pub run_on : {S E X : Type 0} (Step : S → E → X → S → Type 0) (s mid t : S) (all : List E) (i j : ℕ) (log reserved after : List X) (e : E) (x : X)
+    → RunOf Step s (take i all) log mid → Step mid e x t → take i all ++ e ∷ [] ≡ take j all → after ≡ reserved ++ x ∷ [] → reserved ≡ log → RunOf Step s (take j all) after t
+run_on Step s mid t all i j log reserved after e x run step events_are entries_are same =
     subst (λ es. RunOf Step s es after t) events_are
-    (subst (λ xs. RunOf Step s (take i all ++ e ∷ []) xs t) (sym entries_are) (run_more Step s mid t (take i all) log e x run step))
+    (subst (λ xs. RunOf Step s (take i all ++ e ∷ []) xs t) (sym entries_are)
+    (subst (λ xs. RunOf Step s (take i all ++ e ∷ []) (xs ++ x ∷ []) t) (sym same) (run_more Step s mid t (take i all) log e x run step)))
 
 -- an entry that tells an answer isn't that of a keeper that failed
 pub took_step : {K : Type 0} {k : keeper.Ghosts K} (h : History) (old : Source K k) (a : Arrival) (x : Seen) (reply : Bor (List ℕ)) (g : History) (new : Source K k) (o : Option TicketValues) (answer : Answer)

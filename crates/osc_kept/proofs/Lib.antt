@@ -12,3 +12,4 @@ pub mod Claims
 pub mod Saving
 pub mod GoingOn
 pub mod InWorld
+pub mod Examples

@@ -60,16 +60,16 @@ pub record SealedByServer (s : SecurityContext) (w : World) (input : CipherInput
   pub text_is : protects.outer.payload ≡ text
 
 -- what comes to the server and opens as request n is a text that the client sealed before, under the same key, nonce and additional data: both ends
--- alone know the keys, and whoever doesn't makes no text that opens (RFC 8613, 12.1)
+-- alone know the keys, and whoever doesn't makes no text that opens (RFC 8613, 12.3 and 12.6)
 abbrev pub NobodyForgesRequests : SecurityContext → World → List ℕ → Type 0
 NobodyForgesRequests s w d = (n : ℕ) (m : InnerParts) (p : ProtectsRequest s n m d) → SealedByClient s w (request_seal s n) p.outer.payload
 
--- what comes to the client and opens as a response to a pending request is a text that the server sealed before, under the same three (RFC 8613, 12.1)
+-- what comes to the client and opens as a response to a pending request is a text that the server sealed before, under the same three (RFC 8613, 12.3 and 12.6)
 abbrev pub NobodyForgesResponses : SecurityContext → World → List client.Asked → List ℕ → Type 0
 NobodyForgesResponses s w pending d = (r : client.Asked) (own : Option ℕ) (m : InnerParts) → Contains pending r → (p : ProtectsResponse s r.number own m d)
     → SealedByServer s w (response_seal s r.number own) p.outer.payload
 
--- both, of the datagrams that come (RFC 8613, 12.1)
+-- both, of the datagrams that come (RFC 8613, 12.3 and 12.6)
 abbrev pub NobodyForges : SecurityContext → World → Event → Type 0
 NobodyForges s w (AtServer (server.Datagram now echo mid d) entry) = NobodyForgesRequests s w d
 NobodyForges s w (AtClient (client.Datagram now d) entry) = (h : client.History) → client_history s w ≡ Some h

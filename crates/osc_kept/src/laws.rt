@@ -5,15 +5,17 @@ ghost use Rattle.std.specs.Prelude.{◌≢◌, ℕ, take};
 ghost use Rattle.osc_context.specs.SecurityContext.{SecurityContext};
 ghost use Rattle.osc_endpoint.specs.declared.outcome.Outcome.TheVariants as outcomes;
 ghost use Rattle.osc_kept.specs.Claims.{TwoEnds};
+ghost use Rattle.osc_kept.specs.Examples.{NoneCanBeLeftOut, PremisesCanBeMet};
 ghost use Rattle.osc_kept.specs.GoingOn.{ClientBegins, ClientGoesOn, FreshBySaving, ServerBegins, ServerGoesOn};
 ghost use Rattle.osc_kept.specs.InWorld.{IsUnseen, RunsIn, TakesInWorld};
 ghost use Rattle.osc_kept.specs.Premises.{IsLawful, NobodyForgesRequests};
 ghost use Rattle.osc_kept.specs.World.{World};
 
 use crate::kept_server::KeptServer;
+use osc_coap::one_datagram;
 use osc_context::{Keeper, one_nonce, one_option_value};
 use osc_endpoint::{Fresh, Taken, ticket_once};
-use osc_protect::one_cipher_input;
+use osc_protect::{one_cipher_input, sealed_opens};
 
 /// Over each list of what happens at both ends and between them, restarts and lost memory of either among it: a request is
 /// delivered at most once, and the client sealed it; a response is delivered for the very request that it answers, and the
@@ -47,6 +49,24 @@ pub fn kept_ends_begin()
 pub fn fresh_by_saving()
     ensures { FreshBySaving }
 {}
+
+/// The premises can be met: an exchange, a restart of both ends, and a challenge with a delivery through it, over whatever
+/// datagrams both ends answer so, meet them all.
+pub fn premises_can_be_met()
+    ensures { PremisesCanBeMet }
+{
+    one_datagram();
+    sealed_opens();
+}
+
+/// The premises are needed: with forged requests alone, with an Echo value that a request carried before, or with numbers that
+/// are each used once, but not in order, what `both_ends` says fails of a list that meets all others.
+pub fn premises_are_needed()
+    ensures { NoneCanBeLeftOut }
+{
+    one_datagram();
+    sealed_opens();
+}
 
 /// `KeptServer::take`, within the list of what happened at both ends: where that list meets the premises, this server runs in
 /// it, nobody forged the datagram, and no request carries the fresh Echo value yet, the list with this call meets them too, and

@@ -16,5 +16,8 @@ pub use kept_client::KeptClient;
 pub use kept_error::KeptError;
 pub use kept_event::{KeptClientEntry, KeptClientEvent, KeptServerEntry, KeptServerEvent};
 pub use kept_server::KeptServer;
-pub use laws::{both_ends, fresh_by_saving, kept_ends_begin, kept_ends_go_on, take_in_world};
+pub use laws::{
+    both_ends, fresh_by_saving, kept_ends_begin, kept_ends_go_on, premises_are_needed,
+    premises_can_be_met, take_in_world,
+};
 pub use server_run::{run_kept_server, run_kept_server_on};

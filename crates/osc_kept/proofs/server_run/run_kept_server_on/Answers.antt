@@ -25,7 +25,6 @@ loop-log-preserved g c =
           let (after, serves, next) = c.serve-entry.ensures mid kept in
           let event = c.index-front-0.result in
           let events_are = one_more xs c.loop-log.rest.now c.split_at_mut-front.result.0.now i (vec_len c.push_reserved.new.self) event c.loop-log.invariant.rest_is c.split_at_mut-front.ensures.front nonempty c.index-front-0.is len in
-          let entries_are = c.push_reserved.ensures.items ∙ ap (λ z. z ++ c.serve-entry.result.0 ∷ []) c.reserve.ensures.items in
           let before = c.reserve-in-loop-log.new.self in
           let shown : c.deref_mut.result.now ≡ c.loop-log.tickets.items = c.deref_mut.ensures.value ∙ c.reserve-in-loop-log.ensures.items in
           let put : take before.len (c.serve-entry.new.tickets ++ drop (length c.serve-entry.new.tickets) before.items) ≡ c.serve-entry.new.tickets = take_at c.serve-entry.new.tickets (drop (length c.serve-entry.new.tickets) before.items) before.len (omega (arith, c.serve-entry.auto.tickets, c.deref_mut.ensures.len)) in
@@ -36,8 +35,8 @@ loop-log-preserved g c =
           let o = option_map values_of c.serve-entry.result.1 in
           let step = subst (λ (ts : List (Option Ticket)). Serves (server_state mid old (values_in ts)) event c.serve-entry.result.0 after new us o) shown serves in (
             after,
-            run_on ServerStep (server_state h c.args.server.now.source []) (server_state mid old (values_in c.loop-log.tickets.items)) (server_state after new _) xs i (vec_len c.push_reserved.new.self) c.loop-log.log.items _ event c.serve-entry.result.0 run
-                (us, o, step, ap values_in tickets_are ∙ values_more c.serve-entry.new.tickets c.serve-entry.result.1) events_are entries_are,
+            run_on ServerStep (server_state h c.args.server.now.source []) (server_state mid old (values_in c.loop-log.tickets.items)) (server_state after new _) xs i (vec_len c.push_reserved.new.self) c.loop-log.log.items c.reserve.new.self.items c.push_reserved.new.self.items event c.serve-entry.result.0 run
+                (us, o, step, ap values_in tickets_are ∙ values_more c.serve-entry.new.tickets c.serve-entry.result.1) events_are c.push_reserved.ensures.items c.reserve.ensures.items,
             next,
           );
     }
