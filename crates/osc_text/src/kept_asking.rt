@@ -1,7 +1,7 @@
 //! What `run` prints of a client whose numbers are kept.
 
 ghost use Rattle.std.specs.Mem.{FitsInMemory};
-ghost use Rattle.std.specs.Prelude.{◌≡◌, ◌⊎◌, All, IfOk, map, true};
+ghost use Rattle.std.specs.Prelude.{◌≡◌, ◌⊎◌, ◌↔◌, All, IfOk, map, true};
 ghost use Rattle.osc_context.specs.Views.{as_client};
 ghost use Rattle.osc_endpoint.specs.ClientHistory.{History};
 ghost use Rattle.osc_kept.specs.KeptAsking.{IsKept};
@@ -50,12 +50,11 @@ pub fn ask_kept_text<K: Keeper + Drop, W: Write>(
     write_kept(alloc, params, keeper, life_ms, input, out)
 }
 
-/// Whether a value of a type takes fewer than 2^63 bytes.
-fn fits_in_memory<T>() -> bool
-    ensures { result ≡ true → FitsInMemory T.row }
+/// Whether a value of this type takes fewer than 2^63 bytes.
+fn is_of_a_size<T>(value: &T) -> bool
+    ensures { result ≡ true ↔ FitsInMemory T.row }
 {
-    let none: Option<ManuallyDrop<T>> = None;
-    mem::size_of_val(&none) <= isize::MAX as usize
+    mem::size_of_val(value) <= isize::MAX as usize
 }
 
 /// Writes what a client prints, or the refusal of its context.
@@ -92,7 +91,8 @@ fn write_started<K: Keeper + Drop, W: Write>(
         (StartsClientBadly K.Keeper (as_client context) life_ms keeper input.now) out.old out.new result }
 {
     // No type is larger, and the branch is none in the program: it tells the proof that a client over this keeper fits.
-    if !fits_in_memory::<KeptClient<K, 16>>() {
+    let none: Option<ManuallyDrop<KeptClient<K, 16>>> = None;
+    if !is_of_a_size(&none) {
         return Err(Fault::Memory);
     }
     match KeptClient::<K, 16>::start(context, keeper, life_ms) {
