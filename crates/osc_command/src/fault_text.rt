@@ -4,7 +4,7 @@ use osc_text::Fault;
 use std::alloc::{AllocError, Global};
 use std::io::Write;
 
-/// Writes the help that was asked for.
+/// Writes the help or the version that was asked for.
 pub(crate) fn put_help<W: Write>(
     alloc: Global,
     help: &clap::Error,

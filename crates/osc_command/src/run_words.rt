@@ -11,41 +11,51 @@ use osc_window::WindowSize;
 use std::alloc::{AllocError, Global};
 use std::io::{ErrorKind, Read};
 
-const ABOUT: &str =
-    "Runs a server or a client of one context over the events on standard input, one a line, and prints what each came to, one a line.";
+const ABOUT: &str = "Runs a server or a client over the events on standard input.";
 
-const EXAMPLE: &str = "Events of a server:
-  take NOW ECHO MID DATAGRAM          a datagram comes at the moment NOW in milliseconds;
-                                      ECHO and MID, of 8 and 2 bytes, are drawn anew
-  reply EVENT own|shared MID PLAIN    the application answers the request of an event, counted from 0
-  restart NEXT                        the context begins anew, with the next own number NEXT;
-                                      with --numbers FILE the line is restart alone
+const EXAMPLE: &str = "Prints what each event came to, one a line. Of a server alone are --restarted
+and --window, of a client alone --life.
+
+Events of a server, one a line; bytes are hex, and - for none:
+  take NOW ECHO MID DATAGRAM        a datagram comes at NOW, in milliseconds;
+                                    ECHO (8 bytes) and MID (2) are drawn anew
+  reply EVENT own|shared MID PLAIN  the answer to the request of an event,
+                                    which is counted from 0
+  restart NEXT                      a new life, with the next own number NEXT
 
 Events of a client:
-  request NOW PLAIN                   the application sends a request at the moment NOW in milliseconds
-  take NOW DATAGRAM                   a datagram comes
-  forget TOKEN                        the application waits no more for the response to the request of a token
-  restart NEXT                        no request is pending any more, and NEXT is the next own number;
-                                      with --numbers FILE the line is restart alone
+  request NOW PLAIN                 a request is sent
+  take NOW DATAGRAM                 a datagram comes
+  forget TOKEN                      no response to that request is waited for
+  restart NEXT                      none is pending, and NEXT is the next number
 
-  Bytes are hex, and a dash for none.
+With --numbers FILE, made where it is missing, the line is restart alone.
 
 Examples:
-  printf 'take 1000 0102030405060708 0001 44025d1f00003974396c6f63616c686f7374620914ff612f1092f1776f1c1668b3825e\\ntake 1001 0102030405060708 0001 44025d1f00003974396c6f63616c686f7374620914ff612f1092f1776f1c1668b3825e\\nreply 0 shared 0001 64455d1f00003974ff48656c6c6f20576f726c6421\\n' | oscore run --role server --secret 0102030405060708090a0b0c0d0e0f10 --salt 9e7ca92223786340 --sender 01
+  D=44025d1f00003974396c6f63616c686f7374620914ff612f1092f1776f1c1668b3825e
+  R=64455d1f00003974ff48656c6c6f20576f726c6421
+  printf '%s\\n' \"take 1000 0102030405060708 0001 $D\" \\
+    \"take 1001 0102030405060708 0001 $D\" \"reply 0 shared 0001 $R\" |
+    oscore run --role server --secret 0102030405060708090a0b0c0d0e0f10 \\
+      --salt 9e7ca92223786340 --sender 01
 
-  printf 'request 0 44015d1f00003974396c6f63616c686f737483747631\\ntake 1 64445d1f0000397490ffdbaad1e9a7e7b2a813d3c31524378303cdafae119106\\nforget 00003974\\n' | oscore run --role client --sequence 20 --secret 0102030405060708090a0b0c0d0e0f10 --salt 9e7ca92223786340 --recipient 01";
+  Q=44015d1f00003974396c6f63616c686f737483747631
+  A=64445d1f0000397490ffdbaad1e9a7e7b2a813d3c31524378303cdafae119106
+  printf '%s\\n' \"request 0 $Q\" \"take 1 $A\" \"forget 00003974\" |
+    oscore run --role client --secret 0102030405060708090a0b0c0d0e0f10 \\
+      --salt 9e7ca92223786340 --recipient 01 --sequence 20";
 
 const ROLES: &[&str] = &["server", "client"];
 
-const HELP_SEQUENCE: &str = "The next own number, below 2^40: decimal digits";
+const HELP_SEQUENCE: &str = "The next own number, below 2^40";
 
-const HELP_NUMBERS: &str =
-    "The file that keeps the next own number over runs; made where it is missing";
+const HELP_RESTARTED: &str = "Requests may have come to it in an earlier life";
 
-const HELP_WINDOW: &str = "For a server: the places of the replay window [default: 32]";
+const HELP_NUMBERS: &str = "The file that keeps the next own number [optional]";
 
-const HELP_LIFE: &str =
-    "For a client: for how many milliseconds a request is pending, below 2^64: decimal digits [default: 60000]";
+const HELP_WINDOW: &str = "Window size [default: 32]";
+
+const HELP_LIFE: &str = "How many ms a request is pending [default: 60000]";
 
 /// For how long a request is pending, in milliseconds, where the words don't say it.
 const LIFE_MS: u64 = 60_000;
@@ -77,9 +87,7 @@ fn restarted_flag<'a>(alloc: Global) -> Arg<'a>
     Arg::new(alloc, "restarted")
         .long("restarted")
         .action(ArgAction::SetTrue)
-        .help(
-            "For a server: the context may have received requests before; the first ones are challenged",
-        )
+        .help(HELP_RESTARTED)
 }
 
 /// The option that names the role.

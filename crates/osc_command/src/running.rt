@@ -1,6 +1,6 @@
 //! The command on any streams.
 
-ghost use Rattle.std.specs.Prelude.{◌≡◌, ◌≢◌, ◌⊎◌, IfOk, true};
+ghost use Rattle.std.specs.Prelude.{◌≡◌, ◌≢◌, ◌⊎◌, IfOk, Ok, true};
 ghost use Rattle.clap.specs.Matches.{has_subcommand};
 
 use crate::context_words::ContextWords;
@@ -17,6 +17,12 @@ use osc_text::{
 };
 use std::alloc::Global;
 use std::io::{Read, Write};
+
+/// The words that begin the lines of a server's events.
+const SERVER_EVENTS: &str = "take, reply and restart";
+
+/// The words that begin the lines of a client's events.
+const CLIENT_EVENTS: &str = "request, take, forget and restart";
 
 /// Does what `derive` asks for.
 fn run_derive<W: Write>(alloc: Global, matches: &ArgMatches<'_>, out: &mut W) -> Result<u8, Fault>
@@ -132,10 +138,25 @@ fn run_role<R: Read, W: Write, K: Keeper + Drop, F: FnOnce(&str) -> K + Drop>(
     ensures { IfOk result (λ s. (s ≡ 0) ⊎ (s ≡ 2)) }
 {
     let context = ContextWords::read(alloc, matches)?;
+    let params = context.params();
     if matches.get_str("role") == Some("client") {
-        return run_client(alloc, matches, context.params(), input, out, make);
+        let done = run_client(alloc, matches, params, input, out, make);
+        return name_events(alloc, done, CLIENT_EVENTS);
     }
-    run_server(alloc, matches, context.params(), input, out, make)
+    let done = run_server(alloc, matches, params, input, out, make);
+    name_events(alloc, done, SERVER_EVENTS)
+}
+
+/// Where a line is no event, the fault that names the words which begin one.
+fn name_events(alloc: Global, done: Result<u8, Fault>, events: &str) -> Result<u8, Fault>
+    ensures { IfOk result (λ s. done ≡ Ok s) }
+{
+    match done {
+        Err(Fault::Line(line)) => Err(Fault::Usage(format!(in alloc;
+            "line {line}: not an event: {events} are"
+        )?)),
+        done => done,
+    }
 }
 
 /// Does what a call asks for, by its name.
@@ -162,13 +183,13 @@ fn run_called<R: Read, W: Write, K: Keeper + Drop, F: FnOnce(&str) -> K + Drop>(
     }
 }
 
-/// Prints the help that was asked for, or answers the fault of the words.
+/// Prints the help or the version that was asked for, or answers the fault of the words.
 fn answer_no_call<W: Write>(alloc: Global, error: &Error, out: &mut W) -> Result<u8, Fault>
     ensures { IfOk result (λ s. s ≡ 0) }
 {
     match error.kind() {
         ErrorKind::OutOfMemory => Err(Fault::Memory),
-        ErrorKind::DisplayHelp => {
+        ErrorKind::DisplayHelp | ErrorKind::DisplayVersion => {
             put_help(alloc, error, out)?;
             Ok(0)
         }

@@ -10,34 +10,44 @@ use osc_context::Piv;
 use osc_text::{Fault, HexError, Wrong, read_hex, read_number};
 use std::alloc::{AllocError, Global};
 
-const ABOUT: &str =
-    "Derives contexts of OSCORE (RFC 8613), protects CoAP requests and responses and opens protected ones, explains datagrams, and runs servers and clients.";
+const VERSION: &str = "0.1.0";
+
+const ABOUT: &str = "oscore 0.1.0: OSCORE (RFC 8613) for CoAP. Protects, opens and explains
+datagrams, and runs servers and clients.";
 
 const EXAMPLE: &str = "Example:
-  oscore open --secret 0102030405060708090a0b0c0d0e0f10 --salt 9e7ca92223786340 --sender 01 44025d1f00003974396c6f63616c686f7374620914ff612f1092f1776f1c1668b3825e";
+  oscore open --secret 0102030405060708090a0b0c0d0e0f10 \\
+    --salt 9e7ca92223786340 --sender 01 \\
+    44025d1f00003974396c6f63616c686f7374620914ff612f1092f1776f1c1668b3825e";
 
-const ABOUT_DERIVE: &str = "Derives a context, and prints its keys and its Common IV.";
+const ABOUT_DERIVE: &str = "Prints the keys and the Common IV of a context.";
 
-const ABOUT_OPEN: &str =
-    "Opens a protected request, or a response to a request, and prints what it says, one part a line.";
+const EXAMPLE_DERIVE: &str = "Example:
+  oscore derive --secret 0102030405060708090a0b0c0d0e0f10 \\
+    --salt 9e7ca92223786340 --recipient 01";
 
-const ABOUT_PROTECT: &str =
-    "Protects a plain request under a number that was never used, or a response to a request, and prints it in hex.";
+const ABOUT_OPEN: &str = "Opens a protected request or response, and prints its parts.";
 
-const EXAMPLE_PROTECT: &str = "Example:
-  oscore protect --secret 0102030405060708090a0b0c0d0e0f10 --salt 9e7ca92223786340 --recipient 01 --sequence 20 44015d1f00003974396c6f63616c686f737483747631";
+const ABOUT_PROTECT: &str = "Protects a plain request or response, and prints it in hex.";
 
-const HELP_SEQUENCE: &str =
-    "The message's own number, below 2^40: decimal digits; a response can be without";
+const EXAMPLE_PROTECT: &str =
+    "A request needs --sequence, a number that was never used. A response needs
+--request, and --sequence only where it is to have a number of its own.
 
-const HELP_REQUEST: &str =
-    "For a response: the number of the request that it answers, below 2^40: decimal digits";
+Example:
+  oscore protect --secret 0102030405060708090a0b0c0d0e0f10 \\
+    --salt 9e7ca92223786340 --recipient 01 --sequence 20 \\
+    44015d1f00003974396c6f63616c686f737483747631";
 
-const ABOUT_EXPLAIN: &str =
-    "Reads a datagram without a key, and prints what it shows and what its OSCORE options say.";
+const HELP_SEQUENCE: &str = "The message's own number, below 2^40 [optional]";
+
+const HELP_REQUEST: &str = "Of a response: the number of its request [optional]";
+
+const ABOUT_EXPLAIN: &str = "Prints what a datagram shows without a key.";
 
 const EXAMPLE_EXPLAIN: &str = "Example:
-  oscore explain 44025d1f00003974396c6f63616c686f7374620914ff612f1092f1776f1c1668b3825e";
+  oscore explain \\
+    44025d1f00003974396c6f63616c686f7374620914ff612f1092f1776f1c1668b3825e";
 
 /// An option with one value, a word of hex.
 fn hex_option<'a>(alloc: Global, name: &'a str, help: &'a str) -> Arg<'a>
@@ -88,22 +98,22 @@ pub(crate) fn with_context<'a>(
     let salt = hex_option(
         alloc,
         "salt",
-        "The Master Salt, 0 to 64 bytes [default: none]",
+        "The Master Salt, 0 to 64 bytes [default: empty]",
     );
     let sender = hex_option(
         alloc,
         "sender",
-        "This end's identifier, 0 to 7 bytes [default: none]",
+        "This end's identifier, 0 to 7 bytes [default: empty]",
     );
     let recipient = hex_option(
         alloc,
         "recipient",
-        "The other end's identifier, 0 to 7 bytes [default: none]",
+        "The other end's, 0 to 7 bytes [default: empty]",
     );
     let id_context = hex_option(
         alloc,
         "id-context",
-        "The ID Context, 1 to 32 bytes, where there is one",
+        "The ID Context, 1 to 32 bytes [optional]",
     );
     command
         .arg(secret)?
@@ -116,7 +126,10 @@ pub(crate) fn with_context<'a>(
 fn derive_command<'a>(alloc: Global) -> Result<Command<'a>, AllocError>
     ensures { IfOk result IsLocal }
 {
-    with_context(Command::new(alloc, "derive").about(ABOUT_DERIVE), alloc)
+    let command = Command::new(alloc, "derive")
+        .about(ABOUT_DERIVE)
+        .after_help(EXAMPLE_DERIVE);
+    with_context(command, alloc)
 }
 
 fn open_command<'a>(alloc: Global) -> Result<Command<'a>, AllocError>
@@ -158,6 +171,7 @@ fn program<'a>(alloc: Global) -> Result<Command<'a>, AllocError>
 {
     let command = Command::new(alloc, "oscore")
         .bin_name("oscore")?
+        .version(VERSION)
         .about(ABOUT)
         .after_help(EXAMPLE)
         .subcommand(derive_command(alloc)?)?
@@ -187,7 +201,10 @@ pub(crate) fn bytes_of(alloc: Global, name: &'static str, word: &str) -> Result<
     match read_hex(alloc, word) {
         Ok(bytes) => Ok(bytes),
         Err(HexError::Memory) => Err(Fault::Memory),
-        Err(HexError::BadHex) => Err(input_fault(name, Wrong::BadHex)),
+        Err(HexError::NotDigit { place }) => {
+            Err(input_fault(name, Wrong::BadHex(place.saturating_add(1))))
+        }
+        Err(HexError::OddLength) => Err(input_fault(name, Wrong::OddHex)),
     }
 }
 

@@ -1,6 +1,6 @@
 -- The words that decode are those that spell bytes.
-use Rattle.std.proofs.Common.{◌≡◌, ℕ, zero, suc, ◌+◌, ◌*◌, ◌/◌, ◌%◌, ◌<◌, ◌==◌, ◌&&◌, Bool, true, List, [], ◌∷◌, map, length, Option, Some, None, Result, Ok, Err, refl, sym, ap, ◌∙◌, arith, inl, inr, slice_index}
-use Rattle.std.specs.Prelude.{nat_lt, if◌then◌else◌}
+use Rattle.std.proofs.Common.{◌≡◌, ℕ, zero, suc, ◌+◌, ◌*◌, ◌/◌, ◌%◌, ◌<◌, ◌≤◌, ◌==◌, ◌&&◌, Bool, false, true, List, [], ◌∷◌, map, length, Option, Some, None, Result, Ok, Err, refl, sym, ap, ◌∙◌, arith, inl, inr, slice_index}
+use Rattle.std.specs.Prelude.{not, nat_lt, if◌then◌else◌}
 use Rattle.std.specs.List.{AllPass}
 use Rattle.std.specs.Result.{result_unwrap_or}
 use Rattle.std.proofs.lemmas.Bool.{and_parts, cases_lt, eqb-true}
@@ -8,8 +8,11 @@ use Rattle.std.proofs.lemmas.List.{length-map}
 use Rattle.std.proofs.lemmas.List.Elements.{All-cons, All-head, All-nil, All-tail}
 use Rattle.hex.specs.Hex.{decode_of, decode_pairs, digit_or_error, encode_lower, encode_with, hex_digit_value, is_hex_digit, lower_digits, pair_value, value_at, ◌>>=◌}
 use Rattle.hex.specs.declared.error.FromHexError.{FromHexError}
-use Rattle.hex.proofs.HexLemmas.{decode_of-digits, decode_of-encode_lower, decode_of-even, decode_of-ok}
+use Rattle.hex.proofs.HexLemmas.{decode_of-digits, decode_of-encode_lower, decode_of-err, decode_of-even, decode_of-ok}
+use Rattle.std.specs.List.{position, position_or_len}
+use Rattle.std.proofs.lemmas.List.Sums.{fails_before_first}
 use Rattle.osc_text.specs.Hex.{small, SpellsBytes}
+use Rattle.osc_text.specs.HexFaults.{is_no_digit}
 
 -- ---- digits
 
@@ -112,3 +115,13 @@ spells_decodes word bytes e h refused =
     let read = decode_of-digits word even (digits_of_small word all) in
     let bad : Ok read.0 ≡ Err e = sym read.1 ∙ refused in
     cc bad
+
+-- a word of digits alone that doesn't decode has an odd number of them
+pub odd_digits : (word : List ℕ) (e : FromHexError) → decode_of word ≡ Err e → position is_no_digit word ≡ None → length word % 2 ≡ 1
+odd_digits word e refused none = elim (decode_of-err word e refused) [
+  | inl odd ↦ odd.0
+  | inr bad ↦
+      let all : length word ≤ position_or_len is_no_digit word = grind (arith) in
+      let digit : is_no_digit (slice_index word bad.0) ≡ false = fails_before_first is_no_digit word bad.0 0 (omega arith) in
+      cc (digit, ap not bad.3)
+]

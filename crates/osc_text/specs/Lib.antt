@@ -6,6 +6,7 @@ pub mod Opening
 pub mod Protecting
 pub mod Explanation
 pub mod Hex
+pub mod HexFaults
 pub mod Numbers
 pub mod Inputs
 pub mod InputText

@@ -13,9 +13,12 @@ pub enum Wrong {
     /// The word is not there.
     #[error("missing")]
     Missing,
-    /// The word spells no bytes.
-    #[error("bad hex")]
-    BadHex,
+    /// The character at this place, counted from 1, is no hex digit, and all before it are.
+    #[error("bad hex at character {0}")]
+    BadHex(usize),
+    /// The word is hex digits, and their number is odd.
+    #[error("an odd number of hex digits")]
+    OddHex,
     /// The word is no number, or one from 2^40 up, which no message can have.
     #[error("not a number below 2^40")]
     Number,
@@ -33,7 +36,7 @@ pub enum Wrong {
 /// Why the command ends with status 1. Each prints on one line.
 #[derive(Debug, Drop, Error)]
 pub enum Fault {
-    /// The words are not those of a call: what is wrong with them, on one line.
+    /// What is wrong with the words of the call, or with a line of its input, on one line.
     #[error("{0}")]
     Usage(String),
     /// The words of the call are no text, or could not be read.

@@ -1,7 +1,9 @@
 //! Bytes from a word of hex.
 
-ghost use Rattle.std.specs.Prelude.{◌≡◌, ℕ, List, IfOk, Err};
+ghost use Rattle.std.specs.Prelude.{◌≡◌, IfErr, IfOk};
 ghost use Rattle.osc_text.specs.Hex.{SpellsBytes};
+ghost use Rattle.std.specs.List.{position};
+ghost use Rattle.osc_text.specs.HexFaults.{is_no_digit, IsWhyNotHex};
 
 use hex::FromHexError;
 use std::alloc::Global;
@@ -9,8 +11,10 @@ use std::alloc::Global;
 /// Why a word gave no bytes.
 #[derive(Clone, Copy, Debug, PartialEq, Eq)]
 pub enum HexError {
-    /// The word spells no bytes.
-    BadHex,
+    /// The byte of the word at this place, counted from 0, is no hex digit, and all before it are.
+    NotDigit { place: usize },
+    /// The word is hex digits, and their number is odd.
+    OddLength,
     /// A growth was refused.
     Memory,
 }
@@ -20,11 +24,23 @@ pub enum HexError {
 #[tactic(auto, using(crate::proofs::HexWords::spells_decodes))]
 pub fn read_hex(alloc: Global, word: &str) -> Result<Vec<u8>, HexError>
     ensures spelled { IfOk result (λ bytes. SpellsBytes word.now bytes.items) }
-    ensures refused { result ≡ Err HexError.BadHex → (bytes : List ℕ) → SpellsBytes word.now bytes → ⊥ }
+    ensures refused { IfErr result (λ error. IsWhyNotHex word.now error) }
 {
     match hex::decode(alloc, word) {
         Ok(bytes) => Ok(bytes),
         Err(FromHexError::OutOfMemory) => Err(HexError::Memory),
-        Err(_) => Err(HexError::BadHex),
+        Err(_) => match first_no_digit(word) {
+            Some(place) => Err(HexError::NotDigit { place }),
+            None => Err(HexError::OddLength),
+        },
     }
+}
+
+/// The place of the first byte of a word that is no hex digit.
+fn first_no_digit(word: &str) -> Option<usize>
+    ensures { result ≡ position is_no_digit word.now }
+{
+    word.as_bytes()
+        .iter()
+        .position(|byte| !byte.is_ascii_hexdigit())
 }

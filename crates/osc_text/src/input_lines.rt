@@ -1,6 +1,7 @@
 //! The lines of an input, and the events that they spell.
 
-ghost use Rattle.std.specs.Prelude.{◌≡◌, ◌≢◌, ◌∷◌, ◌<◌, [], ℕ, List, IfOk, IfErr, IfSome, IfNone, length};
+ghost use Rattle.std.specs.Prelude.{◌≡◌, ◌≢◌, ◌∷◌, ◌<◌, ◌+◌, ◌^◌, [], ℕ, List, IfOk, IfErr, IfSome, IfNone, length};
+ghost use Rattle.osc_text.specs.declared.fault.Fault.TheVariants.{Line};
 ghost use Rattle.osc_text.specs.Inputs.{SpellEvents};
 ghost use Rattle.osc_text.specs.InputReading.{Misreads, lines_of};
 
@@ -34,6 +35,14 @@ fn first_line(rest: &[u8]) -> (&[u8], &[u8])
     }
 }
 
+/// The line behind so many good ones is bad. The first line is line 1.
+fn line_behind(good: usize) -> Fault
+    requires { good < 2 ^ 63 }
+    ensures { result ≡ Line (good + 1) }
+{
+    Fault::Line(good + 1)
+}
+
 /// The events that an input spells, one a line, or the number of the first line that spells none.
 pub(crate) fn read_events<E: LineEvent>(alloc: Global, input: &[u8]) -> Result<Vec<E>, Fault>
     ensures read { IfOk result (λ events. SpellEvents E.spells (lines_of input.now) events.items) }
@@ -45,7 +54,7 @@ pub(crate) fn read_events<E: LineEvent>(alloc: Global, input: &[u8]) -> Result<V
         let (line, behind) = first_line(rest);
         match E::from_line(alloc, line)? {
             Some(event) => events.push(event)?,
-            None => return Err(Fault::Line(events.len() + 1)),
+            None => return Err(line_behind(events.len())),
         }
         rest = behind;
     }

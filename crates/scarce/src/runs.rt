@@ -41,7 +41,7 @@ fn bytes(alloc: Global, text: &str) -> Result<Vec<u8>, Fault> {
         Err(hex::FromHexError::OutOfMemory) => Err(Fault::Memory),
         Err(_) => Err(Fault::Input {
             word: "EVENT",
-            wrong: Wrong::BadHex,
+            wrong: Wrong::OddHex,
         }),
     }
 }
