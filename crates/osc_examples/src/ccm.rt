@@ -1,0 +1,23 @@
+//! The example of osc_ccm.
+
+ghost use Rattle.std.specs.Prelude.{◌≡◌, ◌++◌, [], IfSome, take, drop};
+ghost use Rattle.osc_ccm.specs.Ccm.{ccm};
+
+use osc_aes::TableAes;
+use osc_ccm::{open, seal};
+
+/// Seals the first 64 bytes of a buffer: with their tag they are 72, and what stands behind stays.
+pub fn seal_block(key: &[u8; 16], nonce: &[u8; 13], buf: &mut [u8; 128])
+    ensures { buf.new ≡ ccm key.now nonce.now [] (take 64 buf.old) ++ drop 72 buf.old }
+{
+    let Ok(_) = seal(&TableAes::new(key), nonce, &[], buf, 64) else {
+        unreachable!()
+    };
+}
+
+/// Opens a buffer that is a plaintext, sealed under this key and nonce: the plaintext stands in front. Answers its length.
+pub fn open_all(key: &[u8; 16], nonce: &[u8; 13], buf: &mut [u8]) -> Option<usize>
+    ensures { IfSome result (λ len. buf.old ≡ ccm key.now nonce.now [] (take len buf.new)) }
+{
+    open(&TableAes::new(key), nonce, &[], buf).ok()
+}

@@ -1,0 +1,15 @@
+//! The example of each library's page, proved from the public contracts alone: what stands on the page is its module here.
+#![tactic(auto)]
+
+pub mod aes;
+pub mod ccm;
+pub mod coap;
+pub mod command;
+pub mod context;
+pub mod endpoint;
+pub mod file;
+pub mod hkdf;
+pub mod kept;
+pub mod protect;
+pub mod text;
+pub mod window;

@@ -1,0 +1,28 @@
+//! The example of osc_text.
+
+ghost use Rattle.std.specs.Prelude.{ℕ, List, IfSome};
+ghost use Rattle.osc_text.specs.Hex.{SpellsBytes};
+ghost use Rattle.osc_text.specs.Opening.{OpenText};
+ghost use Rattle.osc_text.specs.declared.opening.Opening.TheVariants.{Request};
+
+use osc_context::Params;
+use osc_text::{Opening, open_text, read_hex};
+use std::alloc::Global;
+use std::io::Write;
+
+/// Prints what a request says that is a word of hex, one part a line, or the one line of a refusal. The status is 0 where it
+/// opens, and 2 where it is refused.
+pub fn print_request<W: Write>(
+    alloc: Global,
+    params: Params<'_>,
+    word: &str,
+    out: &mut W,
+) -> Option<u8>
+    ensures { IfSome result (λ s. (datagram : List ℕ) × (lines : List (List ℕ)) × SpellsBytes word.now datagram
+        × OpenText params.entry Request datagram lines s) }
+{
+    let Ok(mut datagram) = read_hex(alloc, word) else {
+        return None;
+    };
+    open_text(alloc, params, Opening::Request, &mut datagram, out).ok()
+}

@@ -1,0 +1,60 @@
+# Completions of oscore for bash: source this file.
+
+# The words that can stand at the cursor: of an option its values, else the options that can still be given.
+_oscore() {
+    local word=${COMP_WORDS[COMP_CWORD]} before=${COMP_WORDS[COMP_CWORD - 1]} call=${COMP_WORDS[1]}
+    local words=() option
+
+    # bash parts --name=value into three words.
+    if [[ $word == "=" ]]; then
+        word=
+    elif [[ $before == "=" ]]; then
+        before=${COMP_WORDS[COMP_CWORD - 2]}
+    fi
+    # All words but the one at the cursor, each between two spaces.
+    local given=" ${COMP_WORDS[*]:0:COMP_CWORD} ${COMP_WORDS[*]:COMP_CWORD + 1} "
+
+    COMPREPLY=()
+    if ((COMP_CWORD == 1)); then
+        mapfile -t COMPREPLY < <(compgen -W "derive open protect explain run help --help --version" -- "$word")
+        return
+    fi
+    case $before in
+        --role) words=(server client) ;;
+        --window) words=(32 64) ;;
+        --numbers)
+            compopt -o filenames 2>/dev/null
+            mapfile -t COMPREPLY < <(compgen -f -- "$word")
+            return
+            ;;
+        # A word of hex or a number.
+        --secret | --salt | --sender | --recipient | --id-context | --sequence | --request | --life) return ;;
+    esac
+    if ((${#words[@]})); then
+        mapfile -t COMPREPLY < <(compgen -W "${words[*]}" -- "$word")
+        return
+    fi
+
+    case $call in
+        derive | open | protect | run) words=(--secret --salt --sender --recipient --id-context --help) ;;
+        explain) words=(--help) ;;
+        help) ((COMP_CWORD == 2)) && words=(derive open protect explain run) ;;
+    esac
+    case $call in
+        open) words+=(--request) ;;
+        protect) words+=(--sequence --request) ;;
+        run)
+            words+=(--role)
+            [[ $given == *" --numbers "* ]] || words+=(--sequence)
+            [[ $given == *" --"@(sequence|restarted)" "* ]] || words+=(--numbers)
+            [[ $given == *" --role "?("= ")"client "* || $given == *" --"@(life|numbers)" "* ]] || words+=(--restarted)
+            [[ $given == *" --role "?("= ")"client "* || $given == *" --life "* ]] || words+=(--window)
+            [[ $given == *" --role "?("= ")"server "* || $given == *" --"@(restarted|window)" "* ]] || words+=(--life)
+            ;;
+    esac
+    for option in $(compgen -W "${words[*]}" -- "$word"); do
+        [[ $given == *" $option "* ]] || COMPREPLY+=("$option")
+    done
+}
+
+complete -F _oscore oscore
