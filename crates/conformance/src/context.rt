@@ -100,20 +100,46 @@ pub(crate) fn write_option(fields: &Fields<'_>, answer: &mut Answer) {
     answer.left(&[1], value.as_slice());
 }
 
+fn show(context: &Context, answer: &mut Answer) {
+    answer.bytes(context.sender_key());
+    answer.bytes(context.recipient_key());
+    answer.bytes(context.common_iv());
+    answer.bytes(context.sender().bytes());
+    answer.bytes(context.recipient().bytes());
+    match context.id_context() {
+        Some(id_context) => answer.bytes(id_context.bytes()),
+        None => answer.word("none"),
+    }
+}
+
 pub(crate) fn derive(fields: &Fields<'_>, answer: &mut Answer) {
     match Context::derive(fields.params()) {
-        Ok(context) => {
-            answer.bytes(context.sender_key());
-            answer.bytes(context.recipient_key());
-            answer.bytes(context.common_iv());
-            answer.bytes(context.sender().bytes());
-            answer.bytes(context.recipient().bytes());
-            match context.id_context() {
-                Some(id_context) => answer.bytes(id_context.bytes()),
-                None => answer.word("none"),
-            }
-        }
+        Ok(context) => show(&context, answer),
         Err(refusal) => answer.refused(refusal),
+    }
+}
+
+/// The context of both keys, a Common IV, both identifiers and an ID Context or none.
+pub(crate) fn from_derived(fields: &Fields<'_>, answer: &mut Answer) {
+    fields.count(6);
+    let id_context = match fields.part(5) {
+        Some(bytes) => IdContext::new(bytes),
+        None => None,
+    };
+    if let (Some(sender), Some(recipient)) = (fields.kid(3), fields.kid(4)) {
+        let (sender_key, recipient_key) = (fields.array::<16>(0), fields.array::<16>(1));
+        let common_iv = fields.array::<13>(2);
+        match Context::from_derived(
+            sender,
+            recipient,
+            id_context,
+            sender_key,
+            recipient_key,
+            common_iv,
+        ) {
+            Some(context) => show(&context, answer),
+            None => answer.word("none"),
+        }
     }
 }
 

@@ -81,6 +81,7 @@ fn of_contexts(
 fn of_windows(verb: &str, fields: &Fields<'_>, contexts: &[NamedContext<'_>], answer: &mut Answer) {
     match verb {
         "derive" => context::derive(fields, answer),
+        "from-derived" => context::from_derived(fields, answer),
         "debug-context" => context::debug(fields, answer),
         "debug-keyed-context" => protection::debug(fields, answer),
         "window" => window::window(fields, answer),

@@ -1,6 +1,6 @@
 //! A security context, as one of its two ends holds it (RFC 8613, 3.1).
 
-ghost use Rattle.std.specs.Prelude.{◌≡◌, ◌≢◌, IfOk, IfErr, IsOk, IsErrOf, true, false};
+ghost use Rattle.std.specs.Prelude.{◌≡◌, ◌≢◌, IfSome, IsSome, IsNone, IfOk, IfErr, IsOk, IsErrOf, true, false};
 ghost use Rattle.std.specs.Option.{option_copied, option_map};
 ghost use Rattle.osc_context.specs.ContextRefusal.{IsFirstParamsRefusal, RefusesParams};
 ghost use Rattle.osc_context.specs.PrivateWords.{PassesBelow};
@@ -72,6 +72,50 @@ impl Context {
             sender_id: sender,
             recipient_id: recipient,
             id_context,
+        })
+    }
+
+    /// The context of what was derived before, as the calls below show it: identifiers, the ID Context where there is one, both
+    /// keys and the Common IV; None where both ends have one identifier (RFC 8613, 3.3). Nothing can tell whether the keys were
+    /// derived for it.
+    #[must_use]
+    pub fn from_derived(
+        sender: Kid,
+        recipient: Kid,
+        id_context: Option<IdContext>,
+        sender_key: [u8; 16],
+        recipient_key: [u8; 16],
+        common_iv: [u8; 13],
+    ) -> Option<Context>
+        ensures client { IfSome result (λ c. as_client c ≡ record {
+          client = sender;
+          client_key = sender_key;
+          server = recipient;
+          server_key = recipient_key;
+          common_iv = common_iv;
+          id_context = id_context;
+        }) }
+        ensures server { IfSome result (λ c. as_server c ≡ record {
+          client = recipient;
+          client_key = recipient_key;
+          server = sender;
+          server_key = sender_key;
+          common_iv = common_iv;
+          id_context = id_context;
+        }) }
+        ensures accepts { sender ≢ recipient → IsSome result }
+        ensures refuses { sender ≡ recipient → IsNone result }
+    {
+        if sender == recipient {
+            return None;
+        }
+        Some(Context {
+            sender_id: sender,
+            recipient_id: recipient,
+            id_context,
+            sender_key,
+            recipient_key,
+            common_iv,
         })
     }
 

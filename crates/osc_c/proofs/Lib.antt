@@ -1,0 +1,2 @@
+mod Moved
+mod Names

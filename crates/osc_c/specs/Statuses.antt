@@ -1,0 +1,125 @@
+-- To be believed: which status and detail a refusal has, which number a status, and which name a number (own rules).
+use Rattle.std.specs.Prelude.{ℕ, List, [], ◌∷◌, Option, Some, None, codes, slice_get}
+use Rattle.osc_coap.specs.declared.format_error.Fault.{Fault}
+use Rattle.osc_coap.specs.declared.format_error.Fault.TheVariants as faults
+use Rattle.osc_context.specs.declared.context_error.ContextError.{ContextError}
+use Rattle.osc_context.specs.declared.context_error.ContextError.TheVariants as contexts
+use Rattle.osc_protect.specs.declared.head_error.HeadError.{HeadError}
+use Rattle.osc_protect.specs.declared.head_error.HeadError.TheVariants as heads
+use Rattle.osc_protect.specs.declared.protect_error.ProtectError.{ProtectError}
+use Rattle.osc_protect.specs.declared.protect_error.ProtectError.TheVariants as seals
+use Rattle.osc_protect.specs.declared.unprotect_error.UnprotectError.{UnprotectError}
+use Rattle.osc_protect.specs.declared.unprotect_error.UnprotectError.TheVariants as opens
+use Rattle.osc_c.specs.declared.status.Status.{Status}
+use Rattle.osc_c.specs.declared.status.Status.TheVariants.{BadHandle, BadNumber, SecretLength, SaltLength, IdTooLong, SameIds, IdContextLength, DatagramTooLong, Short, Version, TokenLength, EmptyWithRest, TokenCut, Nibble15, OptionCut, NumberTooLarge, EmptyPayload, NotThatKind, NoOscore, Undecodable, WrongContext, Tag, Inner, Unsupported, TooLong, NoRoom}
+
+-- the number of a status, as C reads it; 0 is that of a call which is done (own rule)
+abbrev pub code : Status → ℕ
+code BadHandle = 1
+code BadNumber = 2
+code SecretLength = 3
+code SaltLength = 4
+code IdTooLong = 5
+code SameIds = 6
+code IdContextLength = 7
+code DatagramTooLong = 8
+code Short = 9
+code Version = 10
+code TokenLength = 11
+code EmptyWithRest = 12
+code TokenCut = 13
+code Nibble15 = 14
+code OptionCut = 15
+code NumberTooLarge = 16
+code EmptyPayload = 17
+code NotThatKind = 18
+code NoOscore = 19
+code Undecodable = 20
+code WrongContext = 21
+code Tag = 22
+code Inner = 23
+code Unsupported = 24
+code TooLong = 25
+code NoRoom = 26
+
+-- the names of the statuses in the order of their numbers, from that of 0 (own rule)
+abbrev pub status_names : List (List ℕ)
+status_names = codes "Done" ∷ codes "BadHandle" ∷ codes "BadNumber" ∷ codes "SecretLength" ∷ codes "SaltLength" ∷ codes "IdTooLong" ∷ codes "SameIds" ∷ codes "IdContextLength" ∷ codes "DatagramTooLong" ∷ codes "Short" ∷ codes "Version" ∷ codes "TokenLength" ∷ codes "EmptyWithRest" ∷ codes "TokenCut" ∷ codes "Nibble15" ∷ codes "OptionCut" ∷ codes "NumberTooLarge" ∷ codes "EmptyPayload" ∷ codes "NotThatKind" ∷ codes "NoOscore" ∷ codes "Undecodable" ∷ codes "WrongContext" ∷ codes "Tag" ∷ codes "Inner" ∷ codes "Unsupported" ∷ codes "TooLong" ∷ codes "NoRoom" ∷ []
+
+-- a name that is there, or Unknown (own rule)
+abbrev pub name_or_unknown : Option (List ℕ) → List ℕ
+name_or_unknown (Some name) = name
+name_or_unknown None = codes "Unknown"
+
+-- the name of the status that has this number, or Unknown where none has it (own rule)
+abbrev pub status_name : ℕ → List ℕ
+status_name n = name_or_unknown (slice_get status_names n)
+
+-- the status of a refusal to derive: that of its name (own rule)
+abbrev pub context_status : ContextError → Status
+context_status contexts.SecretLength = SecretLength
+context_status contexts.SaltLength = SaltLength
+context_status contexts.IdTooLong = IdTooLong
+context_status contexts.SameIds = SameIds
+context_status contexts.IdContextLength = IdContextLength
+
+-- the status of a datagram's fault: that of its name (own rule)
+abbrev pub format_status : Fault → Status
+format_status faults.DatagramTooLong = DatagramTooLong
+format_status faults.Short = Short
+format_status faults.Version = Version
+format_status faults.TokenLength = TokenLength
+format_status faults.EmptyWithRest = EmptyWithRest
+format_status faults.TokenCut = TokenCut
+format_status faults.Nibble15 = Nibble15
+format_status faults.OptionCut = OptionCut
+format_status faults.NumberTooLarge = NumberTooLarge
+format_status faults.EmptyPayload = EmptyPayload
+
+-- the status of a refusal to read a head: that of its name, or of the fault's (own rule)
+abbrev pub head_status : HeadError → Status
+head_status (heads.Format e) = format_status e.fault
+head_status heads.NotThatKind = NotThatKind
+head_status heads.NoOscore = NoOscore
+head_status heads.Undecodable = Undecodable
+
+-- the detail of a refusal to read a head: the place of a fault, else 0 (own rule)
+abbrev pub head_detail : HeadError → ℕ
+head_detail (heads.Format e) = e.place
+head_detail heads.NotThatKind = 0
+head_detail heads.NoOscore = 0
+head_detail heads.Undecodable = 0
+
+-- the status of a refusal to open: that of its name, or of the fault's (own rule)
+abbrev pub open_status : UnprotectError → Status
+open_status (opens.Format e) = format_status e.fault
+open_status opens.NotThatKind = NotThatKind
+open_status opens.NoOscore = NoOscore
+open_status opens.Undecodable = Undecodable
+open_status opens.WrongContext = WrongContext
+open_status opens.Tag = Tag
+open_status opens.Inner = Inner
+
+-- the detail of a refusal to open: the place of a fault, else 0 (own rule)
+abbrev pub open_detail : UnprotectError → ℕ
+open_detail (opens.Format e) = e.place
+open_detail opens.NotThatKind = 0
+open_detail opens.NoOscore = 0
+open_detail opens.Undecodable = 0
+open_detail opens.WrongContext = 0
+open_detail opens.Tag = 0
+open_detail opens.Inner = 0
+
+-- the status of a refusal to seal: that of its name (own rule)
+abbrev pub seal_status : ProtectError → Status
+seal_status seals.NotThatKind = NotThatKind
+seal_status (seals.Unsupported n) = Unsupported
+seal_status seals.TooLong = TooLong
+seal_status seals.NoRoom = NoRoom
+
+-- the detail of a refusal to seal: the number of the option, else 0 (own rule)
+abbrev pub seal_detail : ProtectError → ℕ
+seal_detail seals.NotThatKind = 0
+seal_detail (seals.Unsupported n) = n
+seal_detail seals.TooLong = 0
+seal_detail seals.NoRoom = 0

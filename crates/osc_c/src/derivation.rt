@@ -1,0 +1,48 @@
+//! Deriving a context into the caller's memory.
+
+ghost use Rattle.std.specs.Prelude.{◌≡◌, ◌≢◌, ◌≤◌, Bool, List, ℕ, length, take};
+ghost use Rattle.osc_context.specs.ContextRefusal.{IsFirstParamsRefusal};
+ghost use Rattle.osc_context.specs.Views.{as_client, client_context_of};
+ghost use Rattle.osc_context.specs.declared.context_error.ContextError.{ContextError};
+ghost use Rattle.osc_c.specs.Handle.{client_in, given, IsContext};
+ghost use Rattle.osc_c.specs.Statuses.{code, context_status};
+
+use crate::context_handle::ContextHandle;
+use crate::status::{DONE, Status};
+use osc_context::{Context, Params};
+
+/// Derives a context by HKDF (RFC 8613, 3.2.1) and writes it into the handle. Without `has_id_context` there is no ID Context,
+/// whatever the bytes are.
+#[unsafe(no_mangle)]
+pub extern "C" fn oscore_derive(
+    out: &mut ContextHandle,
+    secret: &[u8],
+    salt: &[u8],
+    has_id_context: bool,
+    id_context: &[u8],
+    sender: &[u8],
+    recipient: &[u8],
+) -> u32
+    ensures client { result ≡ 0 → IsContext out.new × (client_in out.new ≡ client_context_of (given secret.entry salt.entry has_id_context id_context.entry sender.entry recipient.entry)) }
+    ensures refused { result ≢ 0 → (e : ContextError) × (result ≡ code (context_status e)) × IsFirstParamsRefusal (given secret.entry salt.entry has_id_context id_context.entry sender.entry recipient.entry) e }
+    ensures unchanged { result ≢ 0 → out.new ≡ out.old }
+{
+    let params = Params {
+        secret,
+        salt,
+        id_context: if has_id_context {
+            Some(id_context)
+        } else {
+            None
+        },
+        sender,
+        recipient,
+    };
+    match Context::derive(params) {
+        Ok(context) => {
+            *out = ContextHandle::of(&context);
+            DONE
+        }
+        Err(error) => Status::from(error).code(),
+    }
+}

@@ -1,0 +1,132 @@
+//! Opening one request, or one response, for C, in the datagram that carries it.
+
+ghost use Rattle.std.specs.Prelude.{◌≡◌, ◌≢◌, ◌<◌, ◌^◌, ℕ, IfOk, IsOk, IfErr, IsErrAnd, Option, true, false, take, map, length};
+ghost use Rattle.osc_protect.specs.Opening.{Opens};
+ghost use Rattle.osc_protect.specs.Protection.{ProtectsRequest, ProtectsResponse, requests, responses};
+ghost use Rattle.osc_coap.specs.Inner.{InnerParts};
+ghost use Rattle.osc_protect.specs.Views.{message_of};
+ghost use Rattle.osc_protect.specs.declared.opened.Opened.{Opened as OpenedOf};
+ghost use Rattle.osc_c.specs.Calls.{RefusesOpening};
+ghost use Rattle.osc_c.specs.Handle.{client_in, server_in, IsContext};
+ghost use Rattle.osc_c.specs.Opened.{option_in, Shows};
+ghost use Rattle.osc_c.specs.Statuses.{code};
+ghost use Rattle.osc_c.specs.declared.status.Status.{Status as StatusOf};
+
+use crate::context_handle::ContextHandle;
+use crate::opened_view::{OpenedView, OptionView, show};
+use crate::status::{DONE, Refusal, Status};
+use osc_context::Piv;
+use osc_protect::{Opened, RequestRef, open_request, open_response};
+
+/// Opens a request as the context's server.
+fn open_request_in<'b>(
+    context: &ContextHandle,
+    datagram: &'b mut [u8],
+) -> Result<Opened<'b>, Refusal>
+    ensures opened { IfOk result (λ o. Opens (requests (server_in context.now)) datagram.old o) }
+    ensures accepts { (n : ℕ) (m : InnerParts) → IsContext context.now → ProtectsRequest (server_in context.now) n m datagram.old → IsOk result }
+    ensures refused { IfErr result (λ r. RefusesOpening (IsContext context.now) Unit (requests (server_in context.now)) datagram.old r.status r.detail) }
+    ensures refuses { (status : StatusOf) (why : ℕ) → RefusesOpening (IsContext context.now) Unit (requests (server_in context.now)) datagram.old status why
+        → IsErrAnd result (λ r. (r.status ≡ status) × (r.detail ≡ why)) }
+{
+    let Some(context) = context.context() else {
+        return Err(Status::BadHandle.into());
+    };
+    match open_request(&context, datagram) {
+        Ok(opened) => Ok(opened),
+        Err(error) => Err(error.into()),
+    }
+}
+
+/// Opens a request in its datagram (RFC 8613, 8.2), as the context's server. `options` has room for so many options; `view` says
+/// whether there are more. A refusal is BadHandle, one of the datagram's faults with its place, NotThatKind, NoOscore, Undecodable,
+/// WrongContext, Tag or Inner, in this order. From Inner on the payload is the plaintext, and the old tag behind it; before, the
+/// datagram stays.
+#[unsafe(no_mangle)]
+pub extern "C" fn oscore_open_request<'b>(
+    context: &ContextHandle,
+    datagram: &'b mut [u8],
+    options: &mut [OptionView<'b>],
+    view: &mut OpenedView<'b>,
+    detail: &mut usize,
+) -> u32
+    ensures opened { result ≡ 0 → (o : OpenedOf) × Opens (requests (server_in context.now)) datagram.old o × Shows view.new o
+        × (view.new.has_more_options ≡ false → map option_in (take view.new.option_count options.new) ≡ (message_of o).options)
+        × (view.new.has_more_options ≡ true → map option_in options.new ≡ take (length options.old) (message_of o).options) }
+    ensures accepts { (n : ℕ) (m : InnerParts) → IsContext context.now → ProtectsRequest (server_in context.now) n m datagram.old → result ≡ 0 }
+    ensures refused { result ≢ 0 → (status : StatusOf) × (result ≡ code status)
+        × RefusesOpening (IsContext context.now) Unit (requests (server_in context.now)) datagram.old status detail.new }
+    ensures refuses { (status : StatusOf) (why : ℕ) → RefusesOpening (IsContext context.now) Unit (requests (server_in context.now)) datagram.old status why
+        → (result ≡ code status) × (detail.new ≡ why) }
+    ensures unchanged { result ≢ 0 → (view.new ≡ view.old) × (options.new ≡ options.old) }
+{
+    match open_request_in(context, datagram) {
+        Ok(opened) => {
+            show(&opened, options, view);
+            DONE
+        }
+        Err(refusal) => {
+            *detail = refusal.detail;
+            refusal.status.code()
+        }
+    }
+}
+
+/// Opens a response as the context's client.
+fn open_response_in<'b>(
+    context: &ContextHandle,
+    request: u64,
+    datagram: &'b mut [u8],
+) -> Result<Opened<'b>, Refusal>
+    ensures opened { IfOk result (λ o. Opens (responses (client_in context.now) request) datagram.old o) }
+    ensures accepts { (own : Option ℕ) (m : InnerParts) → IsContext context.now → request < 2 ^ 40
+        → ProtectsResponse (client_in context.now) request own m datagram.old → IsOk result }
+    ensures refused { IfErr result (λ r. RefusesOpening (IsContext context.now) (request < 2 ^ 40) (responses (client_in context.now) request) datagram.old r.status r.detail) }
+    ensures refuses { (status : StatusOf) (why : ℕ) → RefusesOpening (IsContext context.now) (request < 2 ^ 40) (responses (client_in context.now) request) datagram.old status why
+        → IsErrAnd result (λ r. (r.status ≡ status) × (r.detail ≡ why)) }
+{
+    let Some(context) = context.context() else {
+        return Err(Status::BadHandle.into());
+    };
+    let Some(request) = Piv::new(request) else {
+        return Err(Status::BadNumber.into());
+    };
+    match open_response(&context, &RequestRef::new(request), datagram) {
+        Ok(opened) => Ok(opened),
+        Err(error) => Err(error.into()),
+    }
+}
+
+/// Opens a response to the request of this number in its datagram (RFC 8613, 8.4), as the context's client. What else it does is said
+/// at `oscore_open_request`; BadNumber comes behind BadHandle, and WrongContext never.
+#[unsafe(no_mangle)]
+pub extern "C" fn oscore_open_response<'b>(
+    context: &ContextHandle,
+    request: u64,
+    datagram: &'b mut [u8],
+    options: &mut [OptionView<'b>],
+    view: &mut OpenedView<'b>,
+    detail: &mut usize,
+) -> u32
+    ensures opened { result ≡ 0 → (o : OpenedOf) × Opens (responses (client_in context.now) request) datagram.old o × Shows view.new o
+        × (view.new.has_more_options ≡ false → map option_in (take view.new.option_count options.new) ≡ (message_of o).options)
+        × (view.new.has_more_options ≡ true → map option_in options.new ≡ take (length options.old) (message_of o).options) }
+    ensures accepts { (own : Option ℕ) (m : InnerParts) → IsContext context.now → request < 2 ^ 40
+        → ProtectsResponse (client_in context.now) request own m datagram.old → result ≡ 0 }
+    ensures refused { result ≢ 0 → (status : StatusOf) × (result ≡ code status)
+        × RefusesOpening (IsContext context.now) (request < 2 ^ 40) (responses (client_in context.now) request) datagram.old status detail.new }
+    ensures refuses { (status : StatusOf) (why : ℕ) → RefusesOpening (IsContext context.now) (request < 2 ^ 40) (responses (client_in context.now) request) datagram.old status why
+        → (result ≡ code status) × (detail.new ≡ why) }
+    ensures unchanged { result ≢ 0 → (view.new ≡ view.old) × (options.new ≡ options.old) }
+{
+    match open_response_in(context, request, datagram) {
+        Ok(opened) => {
+            show(&opened, options, view);
+            DONE
+        }
+        Err(refusal) => {
+            *detail = refusal.detail;
+            refusal.status.code()
+        }
+    }
+}

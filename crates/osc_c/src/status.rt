@@ -1,0 +1,219 @@
+//! The statuses that calls answer.
+
+ghost use Rattle.std.specs.Prelude.{◌≡◌, ◌<◌, Some, length, map, slice_get, take};
+ghost use Rattle.osc_c.specs.Statuses.{code, context_status, format_status, open_detail, open_status, seal_detail, seal_status, head_detail, head_status, name_or_unknown, status_name};
+
+use osc_coap::{Fault, FormatError};
+use osc_context::ContextError;
+use osc_protect::{HeadError, ProtectError, UnprotectError};
+
+/// What a call answers that is done.
+pub(crate) const DONE: u32 = 0;
+
+/// The names of the statuses by their numbers, from that of 0 on.
+const NAMES: [&[u8]; 27] = [
+    b"Done",
+    b"BadHandle",
+    b"BadNumber",
+    b"SecretLength",
+    b"SaltLength",
+    b"IdTooLong",
+    b"SameIds",
+    b"IdContextLength",
+    b"DatagramTooLong",
+    b"Short",
+    b"Version",
+    b"TokenLength",
+    b"EmptyWithRest",
+    b"TokenCut",
+    b"Nibble15",
+    b"OptionCut",
+    b"NumberTooLarge",
+    b"EmptyPayload",
+    b"NotThatKind",
+    b"NoOscore",
+    b"Undecodable",
+    b"WrongContext",
+    b"Tag",
+    b"Inner",
+    b"Unsupported",
+    b"TooLong",
+    b"NoRoom",
+];
+
+/// Why a call does nothing: the first refusal whose condition holds, in this order. A call that is done answers 0.
+#[derive(Clone, Copy, Debug, PartialEq, Eq)]
+pub(crate) enum Status {
+    /// The handle's bytes are none that a call wrote.
+    BadHandle = 1,
+    /// A number is 2^40 or more.
+    BadNumber = 2,
+    SecretLength = 3,
+    SaltLength = 4,
+    IdTooLong = 5,
+    SameIds = 6,
+    IdContextLength = 7,
+    DatagramTooLong = 8,
+    Short = 9,
+    Version = 10,
+    TokenLength = 11,
+    EmptyWithRest = 12,
+    TokenCut = 13,
+    Nibble15 = 14,
+    OptionCut = 15,
+    NumberTooLarge = 16,
+    EmptyPayload = 17,
+    NotThatKind = 18,
+    NoOscore = 19,
+    Undecodable = 20,
+    WrongContext = 21,
+    Tag = 22,
+    Inner = 23,
+    Unsupported = 24,
+    TooLong = 25,
+    NoRoom = 26,
+}
+
+impl Status {
+    /// The number that C reads.
+    pub(crate) fn code(self) -> u32
+        ensures { result ≡ code self }
+    {
+        self as u32
+    }
+}
+
+/// Why nothing was done, and its detail: the place of a fault, or the number of an option; else 0.
+#[derive(Clone, Copy, Debug, PartialEq, Eq)]
+pub(crate) struct Refusal {
+    pub(crate) status: Status,
+    pub(crate) detail: usize,
+}
+
+impl From<Status> for Refusal {
+    ghost from_gives = { λ status given. given ≡ record { status = status; detail = 0 } };
+
+    /// A refusal that says no more than its name.
+    fn from(status: Status) -> Refusal {
+        Refusal { status, detail: 0 }
+    }
+}
+
+impl From<ContextError> for Status {
+    ghost from_gives = { λ error given. given ≡ context_status error };
+
+    fn from(error: ContextError) -> Status {
+        match error {
+            ContextError::SecretLength => Status::SecretLength,
+            ContextError::SaltLength => Status::SaltLength,
+            ContextError::IdTooLong => Status::IdTooLong,
+            ContextError::SameIds => Status::SameIds,
+            ContextError::IdContextLength => Status::IdContextLength,
+        }
+    }
+}
+
+impl From<Fault> for Status {
+    ghost from_gives = { λ fault given. given ≡ format_status fault };
+
+    fn from(fault: Fault) -> Status {
+        match fault {
+            Fault::DatagramTooLong => Status::DatagramTooLong,
+            Fault::Short => Status::Short,
+            Fault::Version => Status::Version,
+            Fault::TokenLength => Status::TokenLength,
+            Fault::EmptyWithRest => Status::EmptyWithRest,
+            Fault::TokenCut => Status::TokenCut,
+            Fault::Nibble15 => Status::Nibble15,
+            Fault::OptionCut => Status::OptionCut,
+            Fault::NumberTooLarge => Status::NumberTooLarge,
+            Fault::EmptyPayload => Status::EmptyPayload,
+        }
+    }
+}
+
+impl From<FormatError> for Refusal {
+    ghost from_gives = { λ error given. given ≡ record { status = format_status error.fault; detail = error.place } };
+
+    fn from(error: FormatError) -> Refusal {
+        Refusal {
+            status: error.fault.into(),
+            detail: error.place,
+        }
+    }
+}
+
+impl From<HeadError> for Refusal {
+    ghost from_gives = { λ error given. given ≡ record { status = head_status error; detail = head_detail error } };
+
+    fn from(error: HeadError) -> Refusal {
+        match error {
+            HeadError::Format(error) => error.into(),
+            HeadError::NotThatKind => Status::NotThatKind.into(),
+            HeadError::NoOscore => Status::NoOscore.into(),
+            HeadError::Undecodable => Status::Undecodable.into(),
+        }
+    }
+}
+
+impl From<UnprotectError> for Refusal {
+    ghost from_gives = { λ error given. given ≡ record { status = open_status error; detail = open_detail error } };
+
+    fn from(error: UnprotectError) -> Refusal {
+        match error {
+            UnprotectError::Format(error) => error.into(),
+            UnprotectError::NotThatKind => Status::NotThatKind.into(),
+            UnprotectError::NoOscore => Status::NoOscore.into(),
+            UnprotectError::Undecodable => Status::Undecodable.into(),
+            UnprotectError::WrongContext => Status::WrongContext.into(),
+            UnprotectError::Tag => Status::Tag.into(),
+            UnprotectError::Inner => Status::Inner.into(),
+        }
+    }
+}
+
+impl From<ProtectError> for Refusal {
+    ghost from_gives = { λ error given. given ≡ record { status = seal_status error; detail = seal_detail error } };
+
+    fn from(error: ProtectError) -> Refusal {
+        match error {
+            ProtectError::NotThatKind => Status::NotThatKind.into(),
+            ProtectError::Unsupported(number) => Refusal {
+                status: Status::Unsupported,
+                detail: usize::from(number),
+            },
+            ProtectError::TooLong => Status::TooLong.into(),
+            ProtectError::NoRoom => Status::NoRoom.into(),
+        }
+    }
+}
+
+/// The name at a number, or Unknown behind the last.
+fn name_at<'a>(names: &[&'a [u8]], status: u32) -> &'a [u8]
+    ensures { result.now ≡ name_or_unknown (slice_get (map (λ name. name.now) names.now) status) }
+{
+    if status as usize >= names.len() {
+        return b"Unknown";
+    }
+    names[status as usize]
+}
+
+/// The name of the status that has this number, or Unknown where none has it.
+fn name_of(status: u32) -> &'static [u8]
+    ensures name { result.now ≡ status_name status }
+    ensures short { length result.now < 24 }
+{
+    name_at(&NAMES, status)
+}
+
+/// Writes the name of a status as text that ends in a byte 0: `Done` for 0, that of the refusal for each other, and `Unknown` for
+/// a number that is no status's.
+#[unsafe(no_mangle)]
+pub extern "C" fn oscore_status_name(status: u32, name: &mut [u8; 24])
+    ensures front { take (length (status_name status)) name.new ≡ status_name status }
+    ensures ended { slice_get name.new (length (status_name status)) ≡ Some 0 }
+{
+    let text = name_of(status);
+    name[..text.len()].copy_from_slice(text);
+    name[text.len()] = 0;
+}
