@@ -14,17 +14,18 @@ extern "C" {
    handle or of a datagram are, a call is safe, ends, and refuses by name what it can't use.
 
    What no call can see is left to the caller: a pointer leads to as many bytes as the length beside it says, or to a whole struct,
-   and stays so until the call returns; what a call writes (`out`, `datagram`, `options`, `opened`, `head`, `out_len`, `detail`,
-   `name`, `sizes`) overlaps nothing else that it is given; a struct is set to zero before it is given for the first time; a `bool`
-   is 0 or 1. A pointer may be NULL where the length beside it is 0, and nowhere else. */
+   and stays so until the call returns; what a call writes (`out`, `datagram`, `options`, `opened`, `head`, `server`, `index`,
+   `ticket`, `out_len`, `detail`, `name`, `sizes`) overlaps nothing else that it is given; a struct is set to zero before it is given
+   for the first time; a `bool` is 0 or 1. A pointer may be NULL where the length beside it is 0, and nowhere else. */
 
 /* What a call answers: 0 where it is done, else the first refusal whose condition holds, in the order of this list. A call that
    refuses writes `detail`: the place of a datagram's fault in bytes from 0, the number of an option, or 0. It leaves `out`,
-   `out_len`, `options`, `opened` and `head` as they were. */
+   `out_len`, `options`, `opened`, `head`, `index`, `ticket`, `request`, the server and the client as they were; where a call does more, it
+   says so. */
 typedef enum oscore_status {
     OSCORE_DONE = 0,
-    OSCORE_BAD_HANDLE = 1,         /* no call wrote such a handle: a length is too large, or both identifiers are one */
-    OSCORE_BAD_NUMBER = 2,         /* a number is 2^40 or more */
+    OSCORE_BAD_HANDLE = 1,         /* no call wrote such a handle: as a length that is too large, or two identifiers that are one */
+    OSCORE_BAD_NUMBER = 2,         /* a number is 2^40 or more, or a window has neither 32 nor 64 places */
     OSCORE_SECRET_LENGTH = 3,      /* the Master Secret has no byte, or more than 64 */
     OSCORE_SALT_LENGTH = 4,        /* the Master Salt has more than 64 bytes */
     OSCORE_ID_TOO_LONG = 5,        /* an identifier has more than 7 bytes */
@@ -40,15 +41,29 @@ typedef enum oscore_status {
     OSCORE_OPTION_CUT = 15,        /* it ends inside an option */
     OSCORE_NUMBER_TOO_LARGE = 16,  /* an option's number is above 65,535 */
     OSCORE_EMPTY_PAYLOAD = 17,     /* a payload marker, and no payload */
-    OSCORE_NOT_THAT_KIND = 18,     /* the message is no request, or no response, by its kind and code */
-    OSCORE_NO_OSCORE = 19,         /* no OSCORE option: the message isn't protected */
-    OSCORE_UNDECODABLE = 20,       /* several OSCORE options, one that can't be used, no payload, or an option for proxies */
-    OSCORE_WRONG_CONTEXT = 21,     /* the request names another context by its kid or kid context */
-    OSCORE_TAG = 22,               /* the payload protects nothing under this context and this number */
-    OSCORE_INNER = 23,             /* it protects what may not stand inside a message */
-    OSCORE_UNSUPPORTED = 24,       /* an option that isn't sealed, as Block1; `detail` is its number */
-    OSCORE_TOO_LONG = 25,          /* the sealed message would have more than 65,535 bytes */
-    OSCORE_NO_ROOM = 26            /* the buffer is shorter than the sealed message */
+    OSCORE_NO_SUCH_CONTEXT = 18,   /* no context of the server has this index */
+    OSCORE_LIVES_EXHAUSTED = 19,   /* the context was restarted 2^64 - 1 times */
+    OSCORE_FULL = 20,              /* the server has eight contexts */
+    OSCORE_SAME_LOOKUP = 21,       /* one of them is named by the same kid and kid context */
+    OSCORE_STALE_TICKET = 22,      /* the ticket's context isn't there, or was restarted since */
+    OSCORE_TICKET_SPENT = 23,      /* the ticket's request has its answer, lies too far back, or was never delivered */
+    OSCORE_NOT_THAT_KIND = 24,     /* the message is no request, or no response, by its kind and code */
+    OSCORE_UNKNOWN_TOKEN = 25,     /* no request with the token of the response is pending */
+    OSCORE_NO_OSCORE = 26,         /* no OSCORE option: the message isn't protected */
+    OSCORE_UNDECODABLE = 27,       /* several OSCORE options, one that can't be used, no payload, or an option for proxies */
+    OSCORE_NO_CONTEXT = 28,        /* no context of the server is the one that the request names */
+    OSCORE_WRONG_CONTEXT = 29,     /* the request names another context by its kid or kid context */
+    OSCORE_REPLAY = 30,            /* the request's number isn't new, or too old to tell */
+    OSCORE_TAG = 31,               /* the payload protects nothing under this context and this number */
+    OSCORE_INNER = 32,             /* it protects what may not stand inside a message */
+    OSCORE_CHALLENGE = 33,         /* the context was restarted, and the request lacks the Echo value that the reply asks for */
+    OSCORE_UNSUPPORTED = 34,       /* an option that isn't sealed, as Block1; `detail` is its number */
+    OSCORE_TOKEN_IN_USE = 35,      /* a request with this token is pending */
+    OSCORE_PENDING_FULL = 36,      /* eight requests are pending */
+    OSCORE_SEQUENCE_EXHAUSTED = 37, /* no own number below 2^40 is left */
+    OSCORE_TOO_LONG = 38,          /* the sealed message would have more than 65,535 bytes */
+    OSCORE_NO_ROOM = 39,           /* the buffer is shorter than the sealed message */
+    OSCORE_NOT_PENDING = 40        /* no request with this token is pending */
 } oscore_status;
 
 /* A context as one of its two ends holds it (RFC 8613, 3.1): plain bytes, to be made by `oscore_derive` and copied as you like.
@@ -101,9 +116,66 @@ typedef struct oscore_request_head {
     size_t kid_context_len;
 } oscore_request_head;
 
+/* One context of a server: which of its numbers were seen, and which own number is next. The calls write it: read
+   it, and change nothing. */
+typedef struct oscore_server_context {
+    oscore_context context;
+    uint8_t places;        /* of the window that the context gets: 32 or 64 */
+    uint8_t window_places; /* of the window that is open */
+    uint8_t gate;          /* 0 restarted, 1 restarted and challenged, 2 open with no number seen, 3 open */
+    uint8_t echo[8];       /* the challenge */
+    uint64_t at;           /* when it was drawn, or the highest number that was seen */
+    uint64_t spent_mask;
+    uint64_t next; /* own number: the one to keep, ahead of its use, for a restart */
+    uint64_t life; /* how often it was restarted */
+} oscore_server_context;
+
+/* The requests of one context that wait for their answers. */
+typedef struct oscore_unanswered {
+    uint64_t highest, mask;
+} oscore_unanswered;
+
+/* A server of up to eight contexts, which counts their numbers: plain bytes, begun by `oscore_server_begin`. Never copy one and go on
+   with both, and never restore one from a copy: its own numbers would be rolled back, and a nonce used twice. What has lost its
+   server begins a new one, and adds each context as `restarted`. One call at a time works on a server. It holds keys: wipe it when
+   it isn't needed. */
+typedef struct oscore_server {
+    uint64_t clock; /* the latest moment that a call was given */
+    size_t count;   /* how many of the contexts are in use */
+    oscore_server_context contexts[8];
+    oscore_unanswered unanswered[8];
+} oscore_server;
+
+/* The right to answer one request that was delivered. It may be copied, and a copy gives no second answer. */
+typedef struct oscore_ticket {
+    size_t context; /* its index, as `oscore_server_add` gave it */
+    uint64_t life, number;
+    uint8_t kind; /* 0 CON, 1 NON */
+    uint16_t message_id;
+    uint8_t token[8], token_len;
+} oscore_ticket;
+
+/* A request of a client that waits for its response. */
+typedef struct oscore_pending {
+    uint64_t number;
+    uint64_t moment; /* when it was sealed */
+    uint8_t token[8], token_len;
+} oscore_pending;
+
+/* A client of one context, which counts its numbers and knows which requests wait for their responses: plain bytes, begun by
+   `oscore_client_begin`. The calls write it: read it, and change nothing. What is said of copies of a server holds of a client too. */
+typedef struct oscore_client {
+    oscore_context context;
+    uint64_t life_ms; /* for how long a request is pending */
+    uint64_t clock;   /* the latest moment that a call was given */
+    uint64_t next;    /* number: the one to keep, ahead of its use, for a restart */
+    size_t count;     /* how many of the requests are pending, oldest first */
+    oscore_pending pending[8];
+} oscore_client;
+
 /* The sizes of the structs above, in bytes, as the library has them. */
 typedef struct oscore_struct_sizes {
-    size_t context, option, opened, request_head;
+    size_t context, option, opened, request_head, server, ticket, client;
 } oscore_struct_sizes;
 
 void oscore_sizes(oscore_struct_sizes *sizes);
@@ -140,6 +212,59 @@ uint32_t oscore_open_request(const oscore_context *context, uint8_t *datagram, s
    said at `oscore_open_request`. */
 uint32_t oscore_open_response(const oscore_context *context, uint64_t request, uint8_t *datagram, size_t datagram_len,
                               oscore_option *options, size_t options_room, oscore_opened *opened, size_t *detail);
+
+/* A server without contexts. */
+void oscore_server_begin(oscore_server *server);
+
+/* Adds a context, and writes its index. `restarted` says that it may have received requests before, so that what was seen of them is
+   lost: then no request is delivered until one brings back an Echo value (RFC 8613, B.1.2). `next` is its next own number, above each
+   that it ever sealed under. A context that was never used begins with false and 0. Its window has 32 or 64 places. From then on the
+   server counts the numbers of the context's sender: seal neither requests nor responses by `context` beside it. */
+uint32_t oscore_server_add(oscore_server *server, const oscore_context *context, bool restarted, uint64_t next,
+                           uint8_t window_places, size_t *index);
+
+/* Begins a new life of a context, as if it had been added as restarted: its earlier tickets are stale, and the next request is
+   challenged. `next` is as at `oscore_server_add`. */
+uint32_t oscore_server_restart(oscore_server *server, size_t context, uint64_t next);
+
+/* Answers a datagram, where it lies. 0: a request is delivered. `opened` and `options` show it, and `ticket` is the right to answer it;
+   these three are written at 0 alone. `now` is the time in milliseconds, by a clock that doesn't go back; `echo` are 8 bytes that
+   nobody can predict, and `mid` is a new message ID: hand in both anew with each datagram. `out_len` is always written: so many bytes
+   of `out` go back to the sender, whatever the status; where it is 0, none do. So a replay, a bad tag and a challenge get the replies
+   of RFC 8613, 7.4, 8.2 and B.1.2.
+   OSCORE_BAD_HANDLE leaves the server as it was, the others move its clock; OSCORE_INNER spends the request's number too, and
+   OSCORE_CHALLENGE an own number. From OSCORE_INNER on, the datagram's payload isn't what came. */
+uint32_t oscore_server_take(oscore_server *server, uint64_t now, const uint8_t echo[8], uint16_t mid, uint8_t *datagram,
+                            size_t datagram_len, oscore_option *options, size_t options_room, oscore_opened *opened,
+                            oscore_ticket *ticket, uint8_t out[64], size_t *out_len, size_t *detail);
+
+/* Seals the answer to the request of a ticket: under an own number where `own` says so, else under the request's. Of `plain`, which is
+   a datagram, the code, the options and the payload are used; kind, message ID and token are those that the request asks for, and
+   `mid` is the message ID where the request wasn't confirmable. A request is answered once: OSCORE_TICKET_SPENT where it has its
+   answer, or where a number that lies 64 or more above its was delivered since. A refusal spends nothing. */
+uint32_t oscore_server_reply(oscore_server *server, const oscore_ticket *ticket, bool own, uint16_t mid, const uint8_t *plain,
+                             size_t plain_len, uint8_t *out, size_t out_room, size_t *out_len, size_t *detail);
+
+/* A client with nothing pending. `next` is its next number, above each that the context ever sealed under; 0 for a context that was
+   never used. A request is pending for `life_ms` milliseconds and no longer. From then on the client counts the numbers of the
+   context's sender: seal neither requests nor responses by `context` beside it. */
+uint32_t oscore_client_begin(oscore_client *client, const oscore_context *context, uint64_t next, uint64_t life_ms);
+
+/* Drops every pending request, and goes on at a number. The clock stays. */
+uint32_t oscore_client_restart(oscore_client *client, uint64_t next);
+
+/* Waits no more for the response to the request of a token; OSCORE_NOT_PENDING where there is none. */
+uint32_t oscore_client_forget(oscore_client *client, const uint8_t *token, size_t token_len);
+
+/* Seals a request with the client's next number. `plain` is its datagram, and its token is pending from then on. `now` is as at
+   `oscore_server_take`. A refusal from OSCORE_NOT_THAT_KIND on moves the clock, which ends what was pending for too long. */
+uint32_t oscore_client_request(oscore_client *client, uint64_t now, const uint8_t *plain, size_t plain_len, uint8_t *out,
+                               size_t out_room, size_t *out_len, size_t *detail);
+
+/* Answers a datagram, where it lies. 0: a response to a pending request, which is pending no more, and `request` is its number; that,
+   `opened` and `options` are written at 0 alone. OSCORE_BAD_HANDLE leaves the client as it was, the others move its clock. */
+uint32_t oscore_client_take(oscore_client *client, uint64_t now, uint8_t *datagram, size_t datagram_len, oscore_option *options,
+                            size_t options_room, oscore_opened *opened, uint64_t *request, size_t *detail);
 
 #ifdef __cplusplus
 }

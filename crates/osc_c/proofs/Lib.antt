@@ -1,2 +1,4 @@
 mod Moved
 mod Names
+mod Taking
+mod Serving

@@ -1,29 +1,7 @@
--- To be believed: what the bytes of a context handle say. h is a handle.
-use Rattle.std.specs.Prelude.{◌≢◌, ℕ, ◌≤◌, zero, suc, Bool, true, false, List, Option, Some, None, take}
+-- How the code is seen: what is given to derive a context from.
+use Rattle.std.specs.Prelude.{Bool, true, false, List, ℕ, Some, None}
 use Rattle.std.specs.Borrow.{Bor}
-use Rattle.osc_context.specs.SecurityContext.{SecurityContext}
 use Rattle.osc_context.specs.declared.parameters.Params.{Params}
-use Rattle.osc_c.specs.declared.context_handle.ContextHandle.{ContextHandle}
-
--- the ID Context of so many of the bytes, or none where there are none of them (own rule)
-abbrev pub id_context_in : List ℕ → ℕ → Option (List ℕ)
-id_context_in bytes zero = None
-id_context_in bytes (suc n) = Some (take (suc n) bytes)
-
--- the context of an end that makes requests (RFC 8613, 3.1)
-abbrev pub client_in : ContextHandle → SecurityContext
-client_in h = record { client = take h.sender_len h.sender; client_key = h.sender_key; server = take h.recipient_len h.recipient; server_key = h.recipient_key; common_iv = h.common_iv; id_context = id_context_in h.id_context h.id_context_len }
-
--- the context of an end that answers requests (RFC 8613, 3.1)
-abbrev pub server_in : ContextHandle → SecurityContext
-server_in h = record { client = take h.recipient_len h.recipient; client_key = h.recipient_key; server = take h.sender_len h.sender; server_key = h.sender_key; common_iv = h.common_iv; id_context = id_context_in h.id_context h.id_context_len }
-
--- bytes that a call may have written: lengths that the fields have room for, and two identifiers (RFC 8613, 3.3)
-pub record IsContext (h : ContextHandle) : Type 0 where
-  pub sender_fits : h.sender_len ≤ 7
-  pub recipient_fits : h.recipient_len ≤ 7
-  pub id_context_fits : h.id_context_len ≤ 32
-  pub differ : take h.sender_len h.sender ≢ take h.recipient_len h.recipient
 
 -- what is given to derive a context from, with an ID Context or without (how the code is seen)
 abbrev pub given : Bor (List ℕ) → Bor (List ℕ) → Bool → Bor (List ℕ) → Bor (List ℕ) → Bor (List ℕ) → Params

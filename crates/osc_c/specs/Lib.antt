@@ -2,3 +2,5 @@ pub mod Handle
 pub mod Statuses
 pub mod Calls
 pub mod Opened
+pub mod ClientCalls
+pub mod ServerCalls

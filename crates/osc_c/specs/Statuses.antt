@@ -11,7 +11,7 @@ use Rattle.osc_protect.specs.declared.protect_error.ProtectError.TheVariants as 
 use Rattle.osc_protect.specs.declared.unprotect_error.UnprotectError.{UnprotectError}
 use Rattle.osc_protect.specs.declared.unprotect_error.UnprotectError.TheVariants as opens
 use Rattle.osc_c.specs.declared.status.Status.{Status}
-use Rattle.osc_c.specs.declared.status.Status.TheVariants.{BadHandle, BadNumber, SecretLength, SaltLength, IdTooLong, SameIds, IdContextLength, DatagramTooLong, Short, Version, TokenLength, EmptyWithRest, TokenCut, Nibble15, OptionCut, NumberTooLarge, EmptyPayload, NotThatKind, NoOscore, Undecodable, WrongContext, Tag, Inner, Unsupported, TooLong, NoRoom}
+use Rattle.osc_c.specs.declared.status.Status.TheVariants.{BadHandle, BadNumber, SecretLength, SaltLength, IdTooLong, SameIds, IdContextLength, DatagramTooLong, Short, Version, TokenLength, EmptyWithRest, TokenCut, Nibble15, OptionCut, NumberTooLarge, EmptyPayload, NoSuchContext, LivesExhausted, Full, SameLookup, StaleTicket, TicketSpent, NotThatKind, UnknownToken, NoOscore, Undecodable, NoContext, WrongContext, Replay, Tag, Inner, Challenge, Unsupported, TokenInUse, PendingFull, SequenceExhausted, TooLong, NoRoom, NotPending}
 
 -- the number of a status, as C reads it; 0 is that of a call which is done (own rule)
 abbrev pub code : Status → ℕ
@@ -32,19 +32,33 @@ code Nibble15 = 14
 code OptionCut = 15
 code NumberTooLarge = 16
 code EmptyPayload = 17
-code NotThatKind = 18
-code NoOscore = 19
-code Undecodable = 20
-code WrongContext = 21
-code Tag = 22
-code Inner = 23
-code Unsupported = 24
-code TooLong = 25
-code NoRoom = 26
+code NoSuchContext = 18
+code LivesExhausted = 19
+code Full = 20
+code SameLookup = 21
+code StaleTicket = 22
+code TicketSpent = 23
+code NotThatKind = 24
+code UnknownToken = 25
+code NoOscore = 26
+code Undecodable = 27
+code NoContext = 28
+code WrongContext = 29
+code Replay = 30
+code Tag = 31
+code Inner = 32
+code Challenge = 33
+code Unsupported = 34
+code TokenInUse = 35
+code PendingFull = 36
+code SequenceExhausted = 37
+code TooLong = 38
+code NoRoom = 39
+code NotPending = 40
 
 -- the names of the statuses in the order of their numbers, from that of 0 (own rule)
 abbrev pub status_names : List (List ℕ)
-status_names = codes "Done" ∷ codes "BadHandle" ∷ codes "BadNumber" ∷ codes "SecretLength" ∷ codes "SaltLength" ∷ codes "IdTooLong" ∷ codes "SameIds" ∷ codes "IdContextLength" ∷ codes "DatagramTooLong" ∷ codes "Short" ∷ codes "Version" ∷ codes "TokenLength" ∷ codes "EmptyWithRest" ∷ codes "TokenCut" ∷ codes "Nibble15" ∷ codes "OptionCut" ∷ codes "NumberTooLarge" ∷ codes "EmptyPayload" ∷ codes "NotThatKind" ∷ codes "NoOscore" ∷ codes "Undecodable" ∷ codes "WrongContext" ∷ codes "Tag" ∷ codes "Inner" ∷ codes "Unsupported" ∷ codes "TooLong" ∷ codes "NoRoom" ∷ []
+status_names = codes "Done" ∷ codes "BadHandle" ∷ codes "BadNumber" ∷ codes "SecretLength" ∷ codes "SaltLength" ∷ codes "IdTooLong" ∷ codes "SameIds" ∷ codes "IdContextLength" ∷ codes "DatagramTooLong" ∷ codes "Short" ∷ codes "Version" ∷ codes "TokenLength" ∷ codes "EmptyWithRest" ∷ codes "TokenCut" ∷ codes "Nibble15" ∷ codes "OptionCut" ∷ codes "NumberTooLarge" ∷ codes "EmptyPayload" ∷ codes "NoSuchContext" ∷ codes "LivesExhausted" ∷ codes "Full" ∷ codes "SameLookup" ∷ codes "StaleTicket" ∷ codes "TicketSpent" ∷ codes "NotThatKind" ∷ codes "UnknownToken" ∷ codes "NoOscore" ∷ codes "Undecodable" ∷ codes "NoContext" ∷ codes "WrongContext" ∷ codes "Replay" ∷ codes "Tag" ∷ codes "Inner" ∷ codes "Challenge" ∷ codes "Unsupported" ∷ codes "TokenInUse" ∷ codes "PendingFull" ∷ codes "SequenceExhausted" ∷ codes "TooLong" ∷ codes "NoRoom" ∷ codes "NotPending" ∷ []
 
 -- a name that is there, or Unknown (own rule)
 abbrev pub name_or_unknown : Option (List ℕ) → List ℕ

@@ -4,12 +4,13 @@ ghost use Rattle.std.specs.Prelude.{◌≡◌, ◌≢◌, ◌≤◌, Bool, List,
 ghost use Rattle.osc_context.specs.ContextRefusal.{IsFirstParamsRefusal};
 ghost use Rattle.osc_context.specs.Views.{as_client, client_context_of};
 ghost use Rattle.osc_context.specs.declared.context_error.ContextError.{ContextError};
-ghost use Rattle.osc_c.specs.Handle.{client_in, given, IsContext};
+ghost use Rattle.osc_c.specs.Handle.{given};
+ghost use Rattle.osc_handle.specs.ContextBytes.{client_in, IsContext};
 ghost use Rattle.osc_c.specs.Statuses.{code, context_status};
 
-use crate::context_handle::ContextHandle;
 use crate::status::{DONE, Status};
 use osc_context::{Context, Params};
+use osc_handle::ContextHandle;
 
 /// Derives a context by HKDF (RFC 8613, 3.2.1) and writes it into the handle. Without `has_id_context` there is no ID Context,
 /// whatever the bytes are.

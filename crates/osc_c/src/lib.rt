@@ -3,11 +3,12 @@
 //! is safe and ends: what can't be used is refused by name.
 #![tactic(auto)]
 
-mod context_handle;
+mod client;
 mod derivation;
 mod head_view;
 mod opened_view;
 mod opening;
 mod sealing;
+mod server;
 mod sizes;
 mod status;

@@ -7,15 +7,15 @@ ghost use Rattle.osc_coap.specs.Inner.{InnerParts};
 ghost use Rattle.osc_protect.specs.Views.{message_of};
 ghost use Rattle.osc_protect.specs.declared.opened.Opened.{Opened as OpenedOf};
 ghost use Rattle.osc_c.specs.Calls.{RefusesOpening};
-ghost use Rattle.osc_c.specs.Handle.{client_in, server_in, IsContext};
+ghost use Rattle.osc_handle.specs.ContextBytes.{client_in, server_in, IsContext};
 ghost use Rattle.osc_c.specs.Opened.{option_in, Shows};
 ghost use Rattle.osc_c.specs.Statuses.{code};
 ghost use Rattle.osc_c.specs.declared.status.Status.{Status as StatusOf};
 
-use crate::context_handle::ContextHandle;
 use crate::opened_view::{OpenedView, OptionView, show};
 use crate::status::{DONE, Refusal, Status};
 use osc_context::Piv;
+use osc_handle::ContextHandle;
 use osc_protect::{Opened, RequestRef, open_request, open_response};
 
 /// Opens a request as the context's server.

@@ -9,14 +9,14 @@ ghost use Rattle.osc_protect.specs.SealRefusals.{FitsToSeal};
 ghost use Rattle.osc_protect.specs.Sealed.{SealsRequest, SealsResponse};
 ghost use Rattle.osc_c.specs.Calls.{AreNumbers, IsOwnNumber, RefusesSealing};
 ghost use Rattle.osc_c.specs.Opened.{number_given};
-ghost use Rattle.osc_c.specs.Handle.{client_in, server_in, IsContext};
+ghost use Rattle.osc_handle.specs.ContextBytes.{client_in, server_in, IsContext};
 ghost use Rattle.osc_c.specs.Statuses.{code};
 ghost use Rattle.osc_c.specs.declared.status.Status.{Status as StatusOf};
 
-use crate::context_handle::ContextHandle;
 use crate::status::{DONE, Refusal, Status};
 use osc_coap::{one_datagram, parse};
 use osc_context::Piv;
+use osc_handle::ContextHandle;
 use osc_protect::{RequestRef, seal_request, seal_response};
 
 /// Seals a plain request, which is a datagram.

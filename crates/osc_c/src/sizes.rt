@@ -2,9 +2,9 @@
 
 ghost use Rattle.std.specs.Prelude.{◌≡◌};
 
-use crate::context_handle::ContextHandle;
 use crate::head_view::HeadView;
 use crate::opened_view::{OpenedView, OptionView};
+use osc_handle::{ClientHandle, ContextHandle, ServerHandle, TicketHandle};
 
 /// The sizes of the structs of `oscore.h` in bytes, as the library has them.
 #[repr(C)]
@@ -14,17 +14,23 @@ pub struct Sizes {
     pub option: usize,
     pub opened: usize,
     pub request_head: usize,
+    pub server: usize,
+    pub ticket: usize,
+    pub client: usize,
 }
 
 /// Tells the sizes, for a caller to compare with those that its compiler has.
 #[unsafe(no_mangle)]
 pub extern "C" fn oscore_sizes(sizes: &mut Sizes)
-    ensures { sizes.new ≡ record { context = 94; option = 24; opened = 104; request_head = 64 } }
+    ensures { sizes.new ≡ record { context = 94; option = 24; opened = 104; request_head = 64; server = 1296; ticket = 40; client = 384 } }
 {
     *sizes = Sizes {
         context: size_of::<ContextHandle>(),
         option: size_of::<OptionView<'_>>(),
         opened: size_of::<OpenedView<'_>>(),
         request_head: size_of::<HeadView<'_>>(),
+        server: size_of::<ServerHandle>(),
+        ticket: size_of::<TicketHandle>(),
+        client: size_of::<ClientHandle>(),
     };
 }

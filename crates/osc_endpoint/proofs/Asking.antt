@@ -1,13 +1,14 @@
 -- The table of a client's pending requests, and the requests that it stands for.
-use Rattle.std.proofs.Common.{◌≡◌, ◌≢◌, ℕ, zero, suc, ◌≤◌, ◌-◌, ◌∙◌, sym, ap, subst, refl, arith, Bool, true, false, Some, None, List, [], ◌∷◌, inl, inr}
+use Rattle.std.proofs.Common.{◌≡◌, ◌≢◌, ℕ, zero, suc, ◌<◌, ◌≤◌, ◌-◌, ◌∙◌, sym, ap, subst, refl, arith, Bool, true, false, Some, None, List, [], ◌∷◌, length, inl, inr}
 use Rattle.std.specs.Prelude.{All, Contains, bytes_eq, cond, filter, map, max, nat_le, not, remove, slice_get, slice_index_or}
 use Rattle.std.proofs.lemmas.Bool.{cases_order, false_from_ne_true, not_from_false, not_from_true}
 use Rattle.std.proofs.lemmas.Bool.Decides.{nat_tests}
-use Rattle.std.proofs.lemmas.List.{get_or_default}
+use Rattle.std.proofs.lemmas.List.{get_or_default, length-map}
 use Rattle.std.proofs.lemmas.Option.{get_or_from_slice_get, slice_get_within}
 use Rattle.std.proofs.lemmas.Slice.Eq.{bytes_eq-Decides}
 use Rattle.std.proofs.lemmas.List.Elements.{All-contains, All-contains_itself, All-filter}
 use Rattle.std.proofs.lemmas.List.Kept.{AllPairs-filter}
+use Rattle.std.proofs.lemmas.List.Quantifiers.{all_pairs_remove}
 use Rattle.osc_context.specs.Views.{as_client}
 use Rattle.osc_protect.specs.Views.{context_of}
 use Rattle.osc_endpoint.specs.declared.client.Client.{Client}
@@ -112,6 +113,22 @@ contains_filter p xs r h = All-contains (Contains xs) (filter p xs) r (All-filte
 -- no two of those that are left have one token
 pub differ_filter : (p : Asked → Bool) (xs : List Asked) → TokensDiffer xs → TokensDiffer (filter p xs)
 differ_filter p xs h = AllPairs-filter (λ (r q : Asked). r.token ≢ q.token) p xs h
+
+-- nor one of those that are alive
+pub differ_alive : (moment ms : ℕ) (xs ys : List Asked) → ys ≡ alive moment ms xs → TokensDiffer xs → TokensDiffer ys
+differ_alive moment ms xs ys is d = subst TokensDiffer (sym is) (differ_filter (λ r. nat_le (moment - r.moment) ms) xs d)
+
+map_remove : (xs : List Pending) (i : ℕ) → map asked_of (remove xs i) ≡ remove (map asked_of xs) i
+map_remove [] zero = refl
+map_remove [] (suc i) = refl
+map_remove (x ∷ xs) zero = refl
+map_remove (x ∷ xs) (suc i) = ap (λ zs. asked_of x ∷ zs) (map_remove xs i)
+
+-- nor one of those but that at a place
+pub differ_removed : (xs ys : List Pending) (i : ℕ) → ys ≡ remove xs i → i < length xs → TokensDiffer (map asked_of xs) → TokensDiffer (map asked_of ys)
+differ_removed xs ys i is less d =
+    let within : i < length (map asked_of xs) = subst (λ n. i < n) (sym (length-map xs asked_of)) less in
+    subst TokensDiffer (sym (ap (map asked_of) is ∙ map_remove xs i)) (all_pairs_remove (λ (r q : Asked). r.token ≢ q.token) (map asked_of xs) i within d)
 
 pub differ_later : (h : History) (now : ℕ) → TokensDiffer (pending h) → TokensDiffer (pending_at h (max (clock h) now))
 differ_later h now d =

@@ -95,3 +95,10 @@ agrees_sent c new h now room p bytes r a can same_context same_life same_clock c
           ∙ ap (λ q. pending_at h (max (clock h) now) ++ q ∷ []) is ∙ sym grows;
       differ = subst TokensDiffer (sym grows) (differ_more (pending_at h (max (clock h) now)) asked_now a.differ can.0.1);
     }
+
+-- its token is none of those before
+pub differ_sent : (xs ys : List Pending) (r : Pending) (token : List ℕ) → ys ≡ xs ++ r ∷ [] → r.token.items ≡ token → (IsAmong token (map asked_of xs) → ⊥)
+    → TokensDiffer (map asked_of xs) → TokensDiffer (map asked_of ys)
+differ_sent xs ys r token more same new d =
+    subst TokensDiffer (sym (ap (map asked_of) more ∙ map-append asked_of xs (r ∷ [])))
+    (differ_more (map asked_of xs) (asked_of r) d (subst (λ t. IsAmong t (map asked_of xs) → ⊥) (sym same) new))

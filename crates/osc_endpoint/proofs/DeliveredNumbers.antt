@@ -43,7 +43,7 @@ unspent of clock n m admits = elim (cases_Bool (is_open of)) [
 -- ---- tickets of spent numbers
 
 -- the ticket is of an earlier life, or its number is spent in the present one
-abbrev IsSpentIn : Option Life → TicketValues → Type 0
+abbrev pub IsSpentIn : Option Life → TicketValues → Type 0
 IsSpentIn None t = ⊥
 IsSpentIn (Some of) t = (t.life ≤ of.count) × (t.life ≡ of.count → IsAmong (spent of.fresh of.marks) t.number)
 
@@ -69,7 +69,7 @@ spent_now o of b t there here count = rw (there, here) (omega (arith, count), λ
 -- ---- indices
 
 -- no context is there from the next index on
-abbrev HasNoneBeyond : History → Type 0
+abbrev pub HasNoneBeyond : History → Type 0
 HasNoneBeyond h = (i : ℕ) → added h ≤ i → life h i ≡ None
 
 none_after : (h : History) (event : Event) (entry : Entry) → ServerAnswer h event entry → HasNoneBeyond h → HasNoneBeyond (Then h event entry)
@@ -84,14 +84,14 @@ none_after h (Restart context next) Restarted row none i beyond =
 none_after h event (Added index) row none i beyond = let later : added h + 1 ≤ i = beyond in none i (omega (arith, later))
 none_after h event entry row none i beyond = none i beyond
 
-none_beyond : (h : History) → AllAnswers h → HasNoneBeyond h
+pub none_beyond : (h : History) → AllAnswers h → HasNoneBeyond h
 none_beyond Begin all = λ i beyond. refl
 none_beyond (Then h event entry) all = none_after h event entry all.1 (none_beyond h all.0)
 
 -- ---- one event more
 
 -- a number that is spent stays so
-still_spent : (h : History) (event : Event) (entry : Entry) → ServerAnswer h event entry → HasNoneBeyond h
+pub still_spent : (h : History) (event : Event) (entry : Entry) → ServerAnswer h event entry → HasNoneBeyond h
     → (t : TicketValues) → IsSpentIn (life h t.context) t → IsSpentIn (life (Then h event entry) t.context) t
 still_spent h (Add s start size) (Added index) row none t before =
     let index_is : index ≡ added h = row.1.2 in
@@ -112,7 +112,7 @@ apart_from h of clock m ticket t there count admits before context_is life_is nu
     now.1 (sym life_is ∙ count) (subst (λ n. All (λ k. k ≢ n) (spent of.fresh of.marks)) number_is (unspent of clock ticket.number m admits))
 
 -- the ticket's number is spent in the later history, and isn't one of those before
-record IsFirst (h g : History) (ticket : TicketValues) : Type 0 where
+pub record IsFirst (h g : History) (ticket : TicketValues) : Type 0 where
   pub spent_then : IsSpentIn (life g ticket.context) ticket
   pub apart : (t : TicketValues) → IsSpentIn (life h t.context) t → AreApart ticket t
 
@@ -120,7 +120,7 @@ restart_takes_none : (o : Option Life) (answer : Answer) (reply : List ℕ) → 
 restart_takes_none None answer reply row = row
 restart_takes_none (Some of) answer reply row = row
 
-first_delivery : (h : History) (event : Event) (received : Received) (ticket : TicketValues) (reply : List ℕ)
+pub first_delivery : (h : History) (event : Event) (received : Received) (ticket : TicketValues) (reply : List ℕ)
     → ServerAnswer h event (Took (Deliver received ticket) reply) → IsFirst h (Then h event (Took (Deliver received ticket) reply)) ticket
 first_delivery h (Datagram now echo mid d) received ticket reply (i, n, of, request, (receives, admits, values, none)) =
     let there : life h ticket.context ≡ Some of = ap (λ (v : TicketValues). life h v.context) values ∙ request.life_is in
@@ -138,7 +138,7 @@ first_delivery h (Advance now) received ticket reply row = absurd row
 
 -- ---- histories
 
-all_kept : (P Q : TicketValues → Type 0) (ts : List TicketValues) → ((t : TicketValues) → P t → Q t) → AllByRecursion P ts → AllByRecursion Q ts
+pub all_kept : (P Q : TicketValues → Type 0) (ts : List TicketValues) → ((t : TicketValues) → P t → Q t) → AllByRecursion P ts → AllByRecursion Q ts
 all_kept P Q [] keeps h = tt
 all_kept P Q (t ∷ ts) keeps h = (keeps t h.0, all_kept P Q ts keeps h.1)
 

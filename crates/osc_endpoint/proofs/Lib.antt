@@ -2,6 +2,7 @@ pub mod Lives
 pub mod ChallengeLengths
 pub mod Judgments
 pub mod Places
+pub mod Finding
 pub mod Decisions
 pub mod Deliveries
 pub mod SealedReplies
@@ -28,3 +29,4 @@ pub mod ClientRequestRows
 pub mod ClientTakeRows
 pub mod OneClientAnswers
 pub mod RequestNumbers
+pub mod Waiting

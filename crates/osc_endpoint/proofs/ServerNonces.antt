@@ -8,7 +8,7 @@ use Rattle.osc_context.specs.Laws.{OneNonce, ValueNumberInRange}
 use Rattle.osc_context.specs.SecurityContext.{SecurityContext}
 use Rattle.osc_protect.specs.Laws.{ResponsesShowHeads}
 use Rattle.osc_protect.specs.Protection.{requests, response_nonce}
-use Rattle.osc_endpoint.specs.Laws.{AllAnswers, AreApart, CountsUp, DeliveredOnce, HaveTwoNonces, Pairwise, ServerNoncesOnce, Text, answered, delivered, nonce_of_text, own_texts}
+use Rattle.osc_endpoint.specs.Laws.{AllAnswers, AreApart, CountsUp, DeliveredOnce, HaveTwoNonces, Pairwise, ServerNoncesOnce, Text, answered, delivered, nonce_of_text, own_texts, texts}
 use Rattle.osc_endpoint.specs.Life.{Life}
 use Rattle.osc_endpoint.specs.ServerAnswer.{IsContext, LifeRestart}
 use Rattle.osc_endpoint.specs.ServerHistory.{History, Begin, Then, Add, Datagram, Reply, Restart, Advance, Deliver, Took, Answer, TicketValues, life}
@@ -100,7 +100,7 @@ ticket_of P u (w ∷ ws) all (inl is) = (w, all.0, is)
 ticket_of P u (w ∷ ws) all (inr later) = ticket_of P u ws all.1 later
 
 -- the number of the request is one that a nonce has room for
-abbrev IsFor : TicketValues → Type 0
+abbrev pub IsFor : TicketValues → Type 0
 IsFor w = w.number < 2 ^ 40
 
 -- tickets of one request each, with numbers that a nonce has room for
@@ -221,13 +221,17 @@ all_sound one shows Begin a fine = record { each = tt; pairs = tt }
 all_sound one shows (Then h event entry) a fine =
     sound_on one (image h) (image (Then h event entry)) (counted shows h a.0) (steps shows h event entry a.1) (all_sound one shows h a.0) fine
 
+-- no two texts of one life of a context share a nonce, where no request was answered twice
+pub texts_apart : OneNonce → ResponsesShowHeads → (h : History) → AllAnswers h → Pairwise AreApart (answered h) → AllByRecursion IsFor (answered h) → Pairwise HaveTwoNonces (texts h)
+texts_apart one shows h a apart fine = (all_sound one shows h a (apart, fine)).pairs
+
 -- ---- numbers that were delivered
 
 no_restart : (o : Option Life) (answer : Answer) (reply : List ℕ) → LifeRestart o (Took answer reply) → ⊥
 no_restart None answer reply row = row
 no_restart (Some l) answer reply row = row
 
-all_for : ValueNumberInRange → (h : History) → AllAnswers h → AllByRecursion IsFor (delivered h)
+pub all_for : ValueNumberInRange → (h : History) → AllAnswers h → AllByRecursion IsFor (delivered h)
 all_for range Begin a = tt
 all_for range (Then h (Datagram now echo mid d) (Took (Deliver received ticket) reply)) (before, (i, n, of, request, (receives, admits, values, none))) =
     (subst IsFor (sym values) (range ((requests of.context).parts n) receives.protects.value receives.protects.reads), all_for range h before)
@@ -237,7 +241,7 @@ all_for range (Then h (Restart i next) (Took (Deliver received ticket) reply)) a
 all_for range (Then h (Advance now) (Took (Deliver received ticket) reply)) a = absurd a.1
 all_for range (Then h event entry) a = all_for range h a.0
 
--- no two texts of one life of a context share a nonce
+-- nor where each reply takes a ticket
 pub no_shared_nonce : OneNonce → ValueNumberInRange → ResponsesShowHeads → DeliveredOnce → ServerNoncesOnce
 no_shared_nonce one range shows once h a takes =
-    (all_sound one shows h a (tickets_once once h a takes, all_answered IsFor h takes.0 takes.1 (all_for range h a))).pairs
+    texts_apart one shows h a (tickets_once once h a takes) (all_answered IsFor h takes.0 takes.1 (all_for range h a))

@@ -1,5 +1,6 @@
 -- How the code is seen: that a server, or a client, is as its history says.
 use Rattle.std.specs.Prelude.{◌≡◌, ◌≢◌, ℕ, true, false, List, AllPairs, Option, Some, None, length, map, slice_get}
+use Rattle.osc_context.specs.SecurityContext.{SecurityContext}
 use Rattle.osc_context.specs.Views.{as_client, as_server}
 use Rattle.osc_window.specs.declared.gate.Gate.{Gate}
 use Rattle.osc_window.specs.declared.gate.Gate.TheVariants as gates
@@ -54,9 +55,29 @@ pub record Agrees (s : Server) (h : History) : Type 0 where
   pub places : TableAgrees s.slots.items (life h)
   pub one_each : OneEach h
 
+-- a server of this clock and these places (how the code is seen)
+abbrev pub server_of : ℕ → List (Option Slot) → Server
+server_of clock slots = record { clock = clock; slots = record { items = slots } }
+
+-- what a client is made of, as numbers and lists: the pending requests are those in its table (how the code is seen)
+pub record ClientParts : Type 0 where
+  pub context : SecurityContext
+  pub life_ms : ℕ
+  pub clock : ℕ
+  pub next : ℕ
+  pub pending : List client.Asked
+
+-- what this client is made of (how the code is seen)
+abbrev pub client_parts : {N : ℕ} → Client N → ClientParts
+client_parts c = record { context = as_client (context_of c.context); life_ms = c.life_ms; clock = c.clock; next = c.next; pending = map asked_of c.pending.items }
+
 -- no two of these requests have one token (RFC 7252, 5.3.1)
 abbrev pub TokensDiffer : List client.Asked → Type 0
 TokensDiffer requests = AllPairs (λ r q. r.token ≢ q.token) requests
+
+-- no two requests in the client's table have one token (RFC 7252, 5.3.1)
+abbrev pub HasTokensApart : {N : ℕ} → Client N → Type 0
+HasTokensApart c = TokensDiffer (client_parts c).pending
 
 -- the client is as its history says (RFC 8613, 3.1)
 pub record ClientAgrees {N : ℕ} (c : Client N) (h : client.History) : Type 0 where

@@ -9,6 +9,7 @@ pub mod ClientHistory
 pub mod ClientAnswer
 pub mod ClientRun
 pub mod Laws
+pub mod Waiting
 pub mod ClientLaws
 pub mod Text
 -- how the code is seen

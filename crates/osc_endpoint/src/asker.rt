@@ -15,10 +15,10 @@ pub(crate) fn copy_of(token: &Token) -> Token
 
 /// What a reply takes from the head of its request (RFC 7252, 5.2 and 5.3.2).
 #[derive(Debug, Drop)]
-pub(crate) struct Asker {
-    pub(crate) kind: Kind,
-    pub(crate) message_id: u16,
-    pub(crate) token: Token,
+pub struct Asker {
+    pub kind: Kind,
+    pub message_id: u16,
+    pub token: Token,
 }
 
 impl Asker {

@@ -22,7 +22,7 @@ pub struct Client<const N: usize> {
 }
 
 impl<const N: usize> Client<N> {
-    ghost use Rattle.osc_endpoint.specs.Agrees.{ClientAgrees};
+    ghost use Rattle.osc_endpoint.specs.Agrees.{ClientAgrees, HasTokensApart};
     ghost use Rattle.osc_endpoint.specs.ClientAnswer.{ClientAnswer};
     ghost use Rattle.osc_endpoint.specs.ClientHistory.{History, New, Then, Advance, Advanced, Forget, Forgot, Restart, Restarted};
 
@@ -50,7 +50,8 @@ impl<const N: usize> Client<N> {
 
     /// Moves the clock to a moment in milliseconds, where that is later, and drops the requests whose time has passed.
     pub fn advance(&mut self, now: u64)
-        ensures { (h : History) → ClientAgrees self.old h → ClientAgrees self.new (Then h (Advance now) Advanced) }
+        ensures follows { (h : History) → ClientAgrees self.old h → ClientAgrees self.new (Then h (Advance now) Advanced) }
+        ensures apart { HasTokensApart self.old → HasTokensApart self.new }
     {
         self.clock = self.clock.max(now);
         drop_expired(&mut self.pending, self.clock, self.life_ms);
@@ -60,6 +61,7 @@ impl<const N: usize> Client<N> {
     pub fn forget(&mut self, token: &[u8]) -> bool
         ensures answered { (h : History) → ClientAgrees self.old h → ClientAnswer N h (Forget token.now) (Forgot result) }
         ensures follows { (h : History) → ClientAgrees self.old h → ClientAgrees self.new (Then h (Forget token.now) (Forgot result)) }
+        ensures apart { HasTokensApart self.old → HasTokensApart self.new }
     {
         match find_request(self.pending.as_slice(), token) {
             Some(found) => {

@@ -29,8 +29,8 @@ fn lift(error: ProtectError) -> RequestError
 }
 
 impl<const N: usize> Client<N> {
-    ghost use Rattle.osc_endpoint.specs.Agrees.{ClientAgrees};
-    ghost use Rattle.osc_endpoint.specs.ClientAnswer.{CanAsk, ClientAnswer, RequestAnswer};
+    ghost use Rattle.osc_endpoint.specs.Agrees.{ClientAgrees, HasTokensApart, client_parts};
+    ghost use Rattle.osc_endpoint.specs.ClientAnswer.{CanAsk, ClientAnswer, IsAmong, RequestAnswer};
     ghost use Rattle.osc_endpoint.specs.ClientHistory.{History, Then, Request, NotSent, Advance, Advanced, clock, next};
     ghost use Rattle.osc_endpoint.specs.Requesting.{sent_entry};
     ghost use Rattle.osc_endpoint.specs.Views.{request_entry};
@@ -42,6 +42,7 @@ impl<const N: usize> Client<N> {
         ensures refused { IfErr result (λ e. (h : History) (room : ℕ) → ClientAgrees self.now h
             → RequestAnswer N h (clock h) (parts_of plain.now) room (NotSent e)) }
         ensures fits { OnOk result ((array_vec_len self.now.pending < N) × (self.now.next < 2 ^ 40)) }
+        ensures unused { OnOk result (IsAmong (parts_of plain.now).token (client_parts self.now).pending → ⊥) }
         ensures no_keeper_failed { IfErr result (λ e. e ≢ KeeperFailed) }
     {
         if let Err(error) = check_request(plain) {
@@ -76,6 +77,7 @@ impl<const N: usize> Client<N> {
         ensures unchanged { OnErr result ((out.new ≡ out.old)
             × ((h : History) → ClientAgrees self.old h → ClientAgrees self.new (Then h (Advance now) Advanced))) }
         ensures no_keeper_failed { IfErr result (λ e. e ≢ KeeperFailed) }
+        ensures apart { HasTokensApart self.old → HasTokensApart self.new }
     {
         self.advance(now);
         let number = match self.number_for(plain) {
@@ -114,6 +116,7 @@ impl<const N: usize> Client<N> {
         ensures unchanged { OnErr result ((out.new ≡ out.old)
             × ((h : History) → ClientAgrees self.old h → ClientAgrees self.new (Then h (Advance now) Advanced))) }
         ensures no_keeper_failed { IfErr result (λ e. e ≢ KeeperFailed) }
+        ensures apart { HasTokensApart self.old → HasTokensApart self.new }
     {
         match self.send(now, plain, out) {
             Ok((_, len)) => Ok(len),

@@ -46,7 +46,7 @@ impl<const N: usize> Client<N> {
     ghost use Rattle.osc_context.specs.SecurityContext.{SecurityContext};
     ghost use Rattle.osc_protect.specs.Protection.{responses};
     ghost use Rattle.osc_protect.specs.StageViews.{DecryptsResponse, FitsResponse};
-    ghost use Rattle.osc_endpoint.specs.Agrees.{ClientAgrees};
+    ghost use Rattle.osc_endpoint.specs.Agrees.{ClientAgrees, HasTokensApart};
     ghost use Rattle.osc_endpoint.specs.ClientAnswer.{Delivers};
     ghost use Rattle.osc_endpoint.specs.ClientDeciding.{ClientDecidesTo, ClientTakes, IsDecryptedFor, IsOpenedBy};
     ghost use Rattle.osc_endpoint.specs.ClientHistory.{History};
@@ -68,6 +68,7 @@ impl<const N: usize> Client<N> {
         ensures opened { OnOk result (IsOpenedBy self.old datagram.old datagram.new) }
         ensures fits { IfOk result (λ p. FitsResponse datagram.new p.0) }
         ensures within { IfOk result (λ p. p.1.place < array_vec_len self.new.pending) }
+        ensures apart { HasTokensApart self.old → HasTokensApart self.new }
     {
         one_datagram();
         self.clock = self.clock.max(now);
@@ -101,6 +102,7 @@ impl<const N: usize> Client<N> {
         ensures answered { (h : History) → ClientAgrees self.old h → ClientDecidesTo h now datagram.old result datagram.new self.new }
         ensures shown { CanShow result datagram.new }
         ensures left { LeavesBy self.old result datagram.old datagram.new }
+        ensures apart { HasTokensApart self.old → HasTokensApart self.new }
     {
         one_datagram();
         one_reading();
@@ -117,7 +119,8 @@ impl<const N: usize> Client<N> {
 
     /// As `take`, one stage after the other.
     fn take_forward<'b>(&mut self, now: u64, datagram: &'b mut [u8]) -> ClientOutcome<'b>
-        ensures { (h : History) → ClientAgrees self.old h → ClientTakes h now datagram.old result self.new }
+        ensures takes { (h : History) → ClientAgrees self.old h → ClientTakes h now datagram.old result self.new }
+        ensures apart { HasTokensApart self.old → HasTokensApart self.new }
     {
         one_datagram();
         let (decrypted, found) = match self.decrypt(now, datagram) {
@@ -140,6 +143,7 @@ impl<const N: usize> Client<N> {
             → client_delivery_of result ≡ Some (n, own, m) → Delivers h now datagram.old n own m }
         ensures delivers { (h : History) (n : ℕ) (own : Option ℕ) (m : InnerParts) → ClientAgrees self.old h
             → Delivers h now datagram.old n own m → client_delivery_of result ≡ Some (n, own, m) }
+        ensures apart { HasTokensApart self.old → HasTokensApart self.new }
     {
         one_datagram();
         one_response();

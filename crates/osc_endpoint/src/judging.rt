@@ -1,6 +1,11 @@
 //! How a context judges a request that names it, from the window on.
 
-ghost use Rattle.std.specs.Prelude.{◌≡◌, ◌≤◌, ℕ, List, Option, Some, slice_get, take, drop, false};
+ghost use Rattle.std.specs.Prelude.{◌≡◌, ◌≤◌, ℕ, List, Option, Some, slice_get, take, drop, true, false};
+ghost use Rattle.osc_endpoint.specs.Agrees.{SlotAgrees};
+ghost use Rattle.osc_endpoint.specs.Deciding.{CanShow, Leaves};
+ghost use Rattle.osc_endpoint.specs.Judging.{GatePasses, GateRefuses, IsAskerOf, JudgesTo};
+ghost use Rattle.osc_endpoint.specs.Life.{Life};
+ghost use Rattle.osc_endpoint.specs.declared.slot.Slot.{Slot};
 ghost use Rattle.osc_context.specs.Views.{as_server, number_of};
 ghost use Rattle.osc_window.specs.Views.{is_open as is_open_gate};
 ghost use Rattle.osc_protect.specs.Protection.{requests};
@@ -17,24 +22,51 @@ use crate::ticket::Ticket;
 use osc_coap::one_datagram;
 use osc_context::Piv;
 use osc_protect::{DecryptedRequest, SealedRequest, decrypt_request, one_reading, read_request};
+use osc_window::Gate;
 
 /// A request that names a context: its index, its number, what is handed in with it, whom a reply goes to, and what is to be
 /// decrypted.
 #[derive(Drop)]
-pub(crate) struct Named {
-    pub(crate) index: usize,
-    pub(crate) number: Piv,
+pub struct Named {
+    pub index: usize,
+    pub number: Piv,
     pub(crate) clock: u64,
     pub(crate) fresh: Fresh,
     pub(crate) asker: Asker,
     pub(crate) sealed: SealedRequest,
 }
 
+/// Whether the gate is open and the number isn't new.
+#[must_use]
+pub fn is_replay(gate: &Gate, number: Piv) -> bool
+    ensures yes { result ≡ true → GateRefuses gate.now (number_of number) }
+    ensures no { result ≡ false → GatePasses gate.now (number_of number) }
+{
+    match gate {
+        Gate::Open(window) => !window.is_new(number),
+        Gate::Restarted { .. } => false,
+    }
+}
+
+/// Refuses a request whose number isn't new (RFC 8613, 7.4).
+pub fn refuse_replay(request: &Named, out: &mut [u8; 64]) -> Decided
+    ensures decided { (s : Slot) (l : Life) (d : List ℕ) → SlotAgrees s l → GateRefuses s.gate (number_of request.now.number)
+        → IsAskerOf request.now.asker d → JudgesTo l request.now d result d (take result.reply out.new) (Some s) }
+    ensures shown { (d : List ℕ) → CanShow result.decision d }
+    ensures leaves { (slots : List (Option Slot)) (d : List ℕ) → Leaves slots result.decision d d }
+    ensures within { result.reply ≤ 64 }
+    ensures behind { drop result.reply out.new ≡ drop result.reply out.old }
+{
+    let reply = write_error(&request.asker, request.fresh.mid, ErrorReply::Replay, out);
+    Decided {
+        decision: Decision::Replay,
+        reply,
+    }
+}
+
 impl Slot {
-    ghost use Rattle.osc_endpoint.specs.Agrees.{SlotAgrees};
-    ghost use Rattle.osc_endpoint.specs.Deciding.{CanShow, IsOpenedIn, Leaves};
-    ghost use Rattle.osc_endpoint.specs.Judging.{GatePasses, IsAskerOf, IsNamed, JudgesTo, RefusesEcho};
-    ghost use Rattle.osc_endpoint.specs.Life.{Life};
+    ghost use Rattle.osc_endpoint.specs.Deciding.{IsOpenedIn};
+    ghost use Rattle.osc_endpoint.specs.Judging.{IsNamed, RefusesEcho};
 
     /// Answers a request that doesn't carry the challenge in force: by one, where an own number is left.
     fn demand(&mut self, request: &Named, out: &mut [u8; 64]) -> Decided
@@ -139,13 +171,27 @@ impl Slot {
         ensures behind { drop result.reply out.new ≡ drop result.reply out.old }
     {
         // The window is asked before the tag is checked.
-        if self.is_replay(request.number) {
-            let reply = write_error(&request.asker, request.fresh.mid, ErrorReply::Replay, out);
-            return Decided {
-                decision: Decision::Replay,
-                reply,
-            };
+        if is_replay(&self.gate, request.number) {
+            return refuse_replay(&request, out);
         }
+        self.judge_new(request, datagram, out)
+    }
+
+    /// Answers a request that names this context, and whose number is new or judged by the Echo value, in its datagram.
+    pub fn judge_new(&mut self, request: Named, datagram: &mut [u8], out: &mut [u8; 64]) -> Decided
+        requires passes { GatePasses self.old.gate (number_of request.number) }
+        requires named { IsNamed (as_server (context_of self.old.context)) (number_of request.number) datagram.old }
+        requires asker { IsAskerOf request.asker datagram.old }
+        requires sealed { IsSealedRequest (requests (as_server (context_of self.old.context))) datagram.old request.sealed }
+        ensures context { self.new.context ≡ self.old.context }
+        ensures decided { (l : Life) → SlotAgrees self.old l
+            → JudgesTo l request datagram.old result datagram.new (take result.reply out.new) (Some self.new) }
+        ensures shown { CanShow result.decision datagram.new }
+        ensures leaves { (slots : List (Option Slot)) (i : ℕ) → slice_get slots i ≡ Some (Some self.old)
+            → Leaves slots result.decision datagram.old datagram.new }
+        ensures within { result.reply ≤ 64 }
+        ensures behind { drop result.reply out.new ≡ drop result.reply out.old }
+    {
         let Ok(decrypted) = decrypt_request(&self.context, datagram, request.sealed) else {
             let reply = write_error(&request.asker, request.fresh.mid, ErrorReply::BadTag, out);
             return Decided {

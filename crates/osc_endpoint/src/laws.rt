@@ -3,6 +3,7 @@
 
 ghost use Rattle.osc_endpoint.specs.ClientLaws.{ClientNoncesOnce, OneClientAnswer, RequestNumbersOnce};
 ghost use Rattle.osc_endpoint.specs.Laws.{DeliveredOnce, OneServerAnswer, OwnNumbersOnce, ServerNoncesOnce, TicketOnce};
+ghost use Rattle.osc_endpoint.specs.Waiting.{AnsweredOnce, WaitingHasLife, WaitingNoncesOnce};
 
 use osc_coap::{one_datagram, one_text};
 use osc_context::{one_nonce, one_option_value};
@@ -59,6 +60,18 @@ pub fn nonces_once()
     ensures client { ClientNoncesOnce }
 {
     delivered_once();
+    one_nonce();
+    one_option_value();
+    protections_show_heads();
+}
+
+/// Where tickets may be copied or altered, each request is answered once at most, and no two texts that a server seals in one life
+/// under one context share a nonce, if each accepted reply is to a request that waits for its answer (RFC 8613, 5.2 and 8.3).
+pub fn answered_once()
+    ensures once { AnsweredOnce }
+    ensures nonces { WaitingNoncesOnce }
+    ensures life { WaitingHasLife }
+{
     one_nonce();
     one_option_value();
     protections_show_heads();

@@ -12,11 +12,11 @@ use osc_context::Piv;
 
 /// A request that waits for its response.
 #[derive(Drop)]
-pub(crate) struct Pending {
-    pub(crate) token: Token,
-    pub(crate) number: Piv,
-    // The clock when it was sealed, in milliseconds.
-    pub(crate) moment: u64,
+pub struct Pending {
+    pub token: Token,
+    pub number: Piv,
+    /// The clock when it was sealed, in milliseconds.
+    pub moment: u64,
 }
 
 // What stands where the table has no request.

@@ -7,9 +7,9 @@ ghost use Rattle.osc_context.specs.Views.{number_of};
 ghost use Rattle.osc_endpoint.specs.Replying.{lifted};
 ghost use Rattle.osc_endpoint.specs.declared.server_error.ReplyError.TheVariants.{KeeperFailed};
 
+use crate::asker::Asker;
 use crate::server_error::ReplyError;
 use crate::slot::Slot;
-use crate::ticket::Ticket;
 use osc_coap::Message;
 use osc_context::Piv;
 use osc_protect::{ProtectError, RequestRef, check_response};
@@ -61,10 +61,12 @@ impl Slot {
         }
     }
 
-    /// Seals a reply to the request of a ticket of the present life, and answers how many bytes at the front of `out` it takes.
-    pub(crate) fn reply(
+    /// Seals a reply to the request that had this number and came from this asker in the present life, and answers how many bytes at
+    /// the front of `out` it takes.
+    pub fn reply_to(
         &mut self,
-        ticket: &Ticket,
+        number: Piv,
+        asker: &Asker,
         own: bool,
         mid: u16,
         plain: &Message<'_>,
@@ -72,8 +74,8 @@ impl Slot {
     ) -> Result<usize, ReplyError>
         ensures context { self.new.context ≡ self.old.context }
         ensures kept { (l : Life) → SlotAgrees self.old l
-            → LifeReply l (number_of ticket.now.number) own
-            (as_reply ticket.now.asker.kind ticket.now.asker.message_id ticket.now.asker.token.items mid (parts_of plain.now))
+            → LifeReply l (number_of number) own
+            (as_reply asker.now.kind asker.now.message_id asker.now.token.items mid (parts_of plain.now))
             (length out.old) (reply_entry result out.new)
             × SlotAgrees self.new (marked (reply_mark result own) l) }
         ensures within { IfOk result (λ n. n ≤ length out.new) }
@@ -82,16 +84,19 @@ impl Slot {
         ensures same { OnErr result (self.new ≡ self.old) }
         ensures no_keeper_failed { IfErr result (λ e. e ≢ KeeperFailed) }
     {
-        let (kind, id) = (ticket.asker.reply_kind(), ticket.asker.reply_id(mid));
-        let message = plain.with_head(kind, id, ticket.asker.token());
+        let (kind, id) = (asker.reply_kind(), asker.reply_id(mid));
+        let message = plain.with_head(kind, id, asker.token());
         if let Err(error) = check_response(&message) {
             return Err(lift(error));
         }
-        let Some(number) = self.asked_number(own) else {
+        let Some(own_number) = self.asked_number(own) else {
             return Err(ReplyError::SequenceExhausted);
         };
-        let request = RequestRef::new(ticket.number);
-        match self.context.seal_response(&request, number, &message, out) {
+        let request = RequestRef::new(number);
+        match self
+            .context
+            .seal_response(&request, own_number, &message, out)
+        {
             Ok(len) => {
                 self.count(own);
                 Ok(len)

@@ -26,7 +26,8 @@ impl Slot {
     ghost use Rattle.osc_endpoint.specs.Life.{born};
 
     /// A context that begins.
-    fn begin(context: Context, start: Start, size: WindowSize) -> Slot
+    #[must_use]
+    pub fn begin(context: Context, start: Start, size: WindowSize) -> Slot
         ensures context { context_of result.context ≡ context }
         ensures agrees { SlotAgrees result (born (as_server context) start size) }
     {

@@ -20,7 +20,7 @@ impl Slot {
     ghost use Rattle.osc_endpoint.specs.Life.{renewed};
 
     /// Begins a new life.
-    fn renew(&mut self, next: Piv)
+    pub fn renew(&mut self, next: Piv)
         requires { self.old.life + 1 < 2 ^ 64 }
         ensures context { self.new.context ≡ self.old.context }
         ensures kept { (l : Life) → SlotAgrees self.old l → SlotAgrees self.new (renewed (number_of next) l) }

@@ -10,15 +10,18 @@ ghost use Rattle.osc_endpoint.specs.declared.slot.Slot.{Slot};
 ghost use Rattle.osc_endpoint.specs.Views.{Shows};
 ghost use Rattle.osc_endpoint.specs.ServerHistory.{Answer};
 ghost use Rattle.osc_endpoint.specs.declared.outcome.Outcome.TheVariants.{KeeperFailed};
+ghost use Rattle.osc_endpoint.specs.Agrees.{Agrees, server_of};
+ghost use Rattle.osc_endpoint.specs.Deciding.{DecidesTo};
+ghost use Rattle.osc_endpoint.specs.ServerHistory.{History};
 
 use crate::asker::Asker;
+use crate::contexts::Contexts;
 use crate::decision::{Decided, Decision};
 use crate::error_reply::{ErrorReply, write_error};
 use crate::judging::Named;
 use crate::outcome::{Outcome, Taken};
 use crate::server::Server;
 use crate::start::Fresh;
-use crate::table::{find, judge_at};
 use osc_coap::{one_datagram, parse};
 use osc_protect::{
     DecryptedRequest, NoHead, Opened, RequestHead, one_head, one_reading, one_request, read_request,
@@ -86,6 +89,61 @@ pub fn read_decided(datagram: &[u8], decision: Decision) -> Outcome<'_>
     }
 }
 
+/// Decides what a datagram is answered by a server whose clock and contexts these are, wherever they lie: what `Server::decide`
+/// does.
+pub fn decide_over<T: Contexts>(
+    clock: &mut u64,
+    contexts: &mut T,
+    now: u64,
+    fresh: Fresh,
+    datagram: &mut [u8],
+    out: &mut [u8; 64],
+) -> Decided
+    requires { T.is_table contexts.old }
+    ensures answered { (h : History) (slots : List (Option Slot)) → T.holds contexts.old slots → Agrees (server_of clock.old slots) h
+        → (new : List (Option Slot)) × T.holds contexts.new new
+        × DecidesTo h now fresh datagram.old result datagram.new (take result.reply out.new) (server_of clock.new new) }
+    ensures table { T.is_table contexts.new }
+    ensures shown { CanShow result.decision datagram.new }
+    ensures left { (slots : List (Option Slot)) → T.holds contexts.old slots → Leaves slots result.decision datagram.old datagram.new }
+    ensures within { result.reply ≤ 64 }
+    ensures behind { drop result.reply out.new ≡ drop result.reply out.old }
+{
+    *clock = (*clock).max(now);
+    let message = match parse(datagram) {
+        Ok(message) => message,
+        Err(error) => {
+            return Decided {
+                decision: Decision::Malformed(error),
+                reply: 0,
+            };
+        }
+    };
+    let read = RequestHead::read(&message);
+    let asker = Asker::of(message);
+    let head = match read {
+        Ok(head) => head,
+        Err(none) => return refuse_head(none, &asker, fresh.mid, out),
+    };
+    let Some(index) = contexts.find(head.kid, head.kid_context) else {
+        let reply = write_error(&asker, fresh.mid, ErrorReply::NoContext, out);
+        return Decided {
+            decision: Decision::NoContext,
+            reply,
+        };
+    };
+    let (number, sealed) = (head.number, head.sealed());
+    let request = Named {
+        index,
+        number,
+        clock: *clock,
+        fresh,
+        asker,
+        sealed,
+    };
+    contexts.judge_at(request, datagram, out)
+}
+
 impl Server {
     ghost use Rattle.osc_endpoint.specs.Agrees.{Agrees};
     ghost use Rattle.osc_endpoint.specs.ServerHistory.{History};
@@ -110,39 +168,7 @@ impl Server {
         ensures within { result.reply ≤ 64 }
         ensures behind { drop result.reply out.new ≡ drop result.reply out.old }
     {
-        self.clock = self.clock.max(now);
-        let message = match parse(datagram) {
-            Ok(message) => message,
-            Err(error) => {
-                return Decided {
-                    decision: Decision::Malformed(error),
-                    reply: 0,
-                };
-            }
-        };
-        let read = RequestHead::read(&message);
-        let asker = Asker::of(message);
-        let head = match read {
-            Ok(head) => head,
-            Err(none) => return refuse_head(none, &asker, fresh.mid, out),
-        };
-        let Some(index) = find(self.slots.as_slice(), head.kid, head.kid_context) else {
-            let reply = write_error(&asker, fresh.mid, ErrorReply::NoContext, out);
-            return Decided {
-                decision: Decision::NoContext,
-                reply,
-            };
-        };
-        let (number, sealed) = (head.number, head.sealed());
-        let request = Named {
-            index,
-            number,
-            clock: self.clock,
-            fresh,
-            asker,
-            sealed,
-        };
-        judge_at(self.slots.as_mut_slice(), request, datagram, out)
+        decide_over(&mut self.clock, &mut self.slots, now, fresh, datagram, out)
     }
 
     /// Answers a datagram, where it lies (RFC 8613, 8.2): `decide`, then `read_decided`. The first `reply` bytes of `out` are the

@@ -17,33 +17,22 @@ pub(crate) const OWN_LIMIT: u64 = 1 << 40;
 
 /// One context of a server, in its present life.
 #[derive(Drop)]
-pub(crate) struct Slot {
-    pub(crate) context: KeyedContext,
-    pub(crate) size: WindowSize,
-    pub(crate) gate: Gate,
+pub struct Slot {
+    pub context: KeyedContext,
+    pub size: WindowSize,
+    pub gate: Gate,
     // The next own number, or the limit where none is left.
-    pub(crate) next: u64,
+    pub next: u64,
     // How often the context was restarted.
-    pub(crate) life: u64,
+    pub life: u64,
     pub ghost in_range: { next ≤ 2 ^ 40 },
 }
 
 impl Slot {
     ghost use Rattle.osc_endpoint.specs.Agrees.{SlotAgrees};
-    ghost use Rattle.osc_endpoint.specs.Judging.{GatePasses, GateRefuses};
+    ghost use Rattle.osc_endpoint.specs.Judging.{GatePasses};
     ghost use Rattle.osc_endpoint.specs.Life.{Life, Spoiled, Delivered, Challenged, Answered, Carries, is_open, in_force, marked, born, renewed, next_own};
     ghost use Rattle.osc_endpoint.specs.ServerAnswer.{challenge_given};
-
-    /// Whether the gate is open and the number isn't new.
-    pub(crate) fn is_replay(&self, number: Piv) -> bool
-        ensures yes { result ≡ true → GateRefuses self.now.gate (number_of number) }
-        ensures no { result ≡ false → GatePasses self.now.gate (number_of number) }
-    {
-        match &self.gate {
-            Gate::Open(window) => !window.is_new(number),
-            Gate::Restarted { .. } => false,
-        }
-    }
 
     /// Spends a number where the gate is open.
     pub(crate) fn spoil(&mut self, number: Piv)

@@ -120,7 +120,7 @@ fn reply_place(
             if slot.life != ticket.life {
                 return Err(ReplyError::StaleTicket);
             }
-            slot.reply(ticket, own, mid, plain, out)
+            slot.reply_to(ticket.number, &ticket.asker, own, mid, plain, out)
         }
         None => Err(ReplyError::StaleTicket),
     }

@@ -34,4 +34,22 @@ impl Ticket {
     {
         self.context
     }
+
+    /// How often the context had been restarted when the request was delivered.
+    #[must_use]
+    pub fn life(&self) -> u64
+        ensures { result ≡ (values_of self.now).life }
+    {
+        self.life
+    }
+
+    /// Whom the reply goes to.
+    #[must_use]
+    pub fn asker(&self) -> &Asker
+        ensures kind { result.now.kind ≡ (values_of self.now).kind }
+        ensures message_id { result.now.message_id ≡ (values_of self.now).message_id }
+        ensures token { result.now.token.items ≡ (values_of self.now).token }
+    {
+        &self.asker
+    }
 }

@@ -1,3 +1,4 @@
 pub mod Masks
 pub mod Agreements
 pub mod Marks
+pub mod Alike

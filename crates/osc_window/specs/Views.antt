@@ -5,6 +5,7 @@ use Rattle.osc_context.specs.Views.{number_of}
 use Rattle.osc_window.specs.declared.window_size.WindowSize.{WindowSize}
 use Rattle.osc_window.specs.declared.window_size.WindowSize.TheVariants.{Places32, Places64}
 use Rattle.osc_window.specs.declared.window.Window.{Window}
+use Rattle.osc_window.specs.declared.window.WindowParts.{WindowParts}
 use Rattle.osc_window.specs.declared.gate.Gate.{Gate}
 use Rattle.osc_window.specs.declared.gate.Gate.TheVariants.{Restarted, Open}
 use Rattle.osc_window.specs.SpentMask.{taken_by}
@@ -13,6 +14,10 @@ use Rattle.osc_window.specs.SpentMask.{taken_by}
 abbrev pub places_of : WindowSize → ℕ
 places_of Places32 = 32
 places_of Places64 = 64
+
+-- what a window keeps (how the code is seen)
+abbrev pub parts_of : Window → WindowParts
+parts_of window = record { highest = window.highest; spent_mask = window.spent_mask; size = window.size }
 
 -- the size of a window (how the code is seen)
 unfoldable pub size_of : Window → WindowSize

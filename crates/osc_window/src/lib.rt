@@ -19,5 +19,5 @@ mod window_size;
 
 pub use gate::Gate;
 pub use laws::takes_new_numbers;
-pub use window::Window;
+pub use window::{Window, WindowParts};
 pub use window_size::WindowSize;

@@ -6,8 +6,9 @@
 ghost use Rattle.std.specs.Prelude.{◌≡◌, ◌-◌, ◌<◌, ◌≤◌, ◌==◌, ◌&&◌, ◌||◌, ◌∷◌, [], ℕ, List, IsTrue, not, nat_lt};
 ghost use Rattle.osc_context.specs.Views.{number_of};
 ghost use Rattle.osc_window.specs.declared.window_size.WindowSize.{WindowSize};
+ghost use Rattle.osc_window.specs.declared.window.Window.{Window};
 ghost use Rattle.osc_window.specs.SpentMask.{unspent_at};
-ghost use Rattle.osc_window.specs.Views.{takes, size_of};
+ghost use Rattle.osc_window.specs.Views.{takes, size_of, parts_of};
 ghost use Rattle.osc_window.specs.Taken.{IsFresh, IsFromFloor, Spends, AgreesWith};
 
 use crate::window_size::WindowSize;
@@ -24,7 +25,41 @@ pub struct Window {
     size: WindowSize,
 }
 
+/// What a window keeps, as plain values, for whoever keeps it elsewhere. The lowest bit of the mask stands for the highest number;
+/// a bit that is set refuses its number.
+#[derive(Clone, Copy, Debug, PartialEq, Eq)]
+pub struct WindowParts {
+    pub highest: Option<Piv>,
+    pub spent_mask: u64,
+    pub size: WindowSize,
+}
+
 impl Window {
+    /// What the window keeps.
+    #[must_use]
+    pub fn parts(&self) -> WindowParts
+        ensures { result ≡ parts_of self.now }
+    {
+        WindowParts {
+            highest: self.highest,
+            spent_mask: self.spent_mask,
+            size: self.size,
+        }
+    }
+
+    /// The window that keeps this.
+    #[must_use]
+    pub fn from_parts(parts: WindowParts) -> Window
+        ensures made { parts_of result ≡ parts }
+        ensures same { (window : Window) → parts_of window ≡ parts → result ≡ window }
+    {
+        Window {
+            highest: parts.highest,
+            spent_mask: parts.spent_mask,
+            size: parts.size,
+        }
+    }
+
     /// The window of a context that has never restarted: no number is spent (RFC 8613, 3.2.2).
     #[tactic(auto, unfolding(crate::specs::Views::takes, crate::specs::Views::size_of))]
     #[must_use]

@@ -4,7 +4,7 @@ use Rattle.osc_context.specs.Views.{as_client, number_of}
 use Rattle.osc_protect.specs.Protection.{ProtectsResponse, responses}
 use Rattle.osc_protect.specs.Refusals.{RefusesToOpen}
 use Rattle.osc_c.specs.Calls.RefusesOpening.{refused}
-use Rattle.osc_c.specs.Handle.{client_in}
+use Rattle.osc_handle.specs.ContextBytes.{client_in}
 use Rattle.osc_c.specs.declared.status.Refusal.{Refusal}
 use Rattle.osc_c.proofs.opening.open_response_in.Goals as goal
 

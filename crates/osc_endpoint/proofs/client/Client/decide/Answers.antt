@@ -1,6 +1,6 @@
 use Rattle.std.proofs.Common.{refl}
 use Rattle.osc_endpoint.specs.ClientHistory.{BadInner, context}
-use Rattle.osc_endpoint.proofs.Asking.{moved}
+use Rattle.osc_endpoint.proofs.Asking.{differ_removed, moved}
 use Rattle.osc_endpoint.proofs.ClientDecisions.{delivered}
 use Rattle.osc_endpoint.proofs.client.Client.decide.Goals as goal
 
@@ -23,3 +23,6 @@ returns-clause-shown g c =
     let (s, n, decrypts) = c.in-Ok.ensures.decrypted in
     let opens = c.in-Ok-read_response.ensures.opened s n c.args.datagram.now decrypts in
     (c.in-Ok.ensures.fits, (s, n, c.args.datagram.now, opens.number, _, decrypts, opens.protects))
+
+pub returns-clause-apart : goal.returns-clause-apart
+returns-clause-apart g c = λ d. differ_removed _ _ _ c.remove-answered.ensures.items c.in-Ok.ensures.within (c.decrypt.ensures.apart d)

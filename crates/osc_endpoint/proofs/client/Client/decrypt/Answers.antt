@@ -8,7 +8,7 @@ use Rattle.osc_protect.specs.StageViews.{DecryptsResponse}
 use Rattle.osc_protect.specs.Views.{context_of, request_number}
 use Rattle.osc_endpoint.specs.ClientHistory.{Malformed, NotResponse, UnknownToken, Unprotected, Undecodable, BadTag, context}
 use Rattle.osc_endpoint.specs.Views.{asked_of}
-use Rattle.osc_endpoint.proofs.Asking.{advanced, contains_at, moved}
+use Rattle.osc_endpoint.proofs.Asking.{advanced, contains_at, differ_alive, moved}
 use Rattle.osc_endpoint.proofs.ClientDecisions.{answers, in_history, not_there, opened_by, there}
 use Rattle.osc_endpoint.proofs.client.Client.decrypt.Goals as goal
 
@@ -116,3 +116,24 @@ returns-clause-opened g c =
     let (r, has, token, number) = there c.as_slice.result.now c.drop_expired.new.pending.items _ _ c.as_slice-2.result.now _ c.as_slice.ensures.value c.as_slice-2.ensures.value c.in-Some.ensures.found in
     opened_by c.args.self.now c.max-self.result (request_number c.new-request.result) c.in-Some.found.number _ c.args.datagram.now c.decrypt_response.new.datagram r c.in-Ok-decrypt_response.decrypted
     c.drop_expired.ensures has number c.new-request.ensures c.in-Ok-decrypt_response.ensures.decrypted
+
+pub returns-in-Err-clause-apart : goal.returns-in-Err-clause-apart
+returns-in-Err-clause-apart g c = λ d. differ_alive _ _ _ _ c.drop_expired.ensures d
+
+pub returns-then-not-is_response-clause-apart : goal.returns-then-not-is_response-clause-apart
+returns-then-not-is_response-clause-apart g c = λ d. differ_alive _ _ _ _ c.drop_expired.ensures d
+
+pub returns-in_default-clause-apart : goal.returns-in_default-clause-apart
+returns-in_default-clause-apart g c = λ d. differ_alive _ _ _ _ c.drop_expired.ensures d
+
+pub returns-in-Err-NoOscore-clause-apart : goal.returns-in-Err-NoOscore-clause-apart
+returns-in-Err-NoOscore-clause-apart g c = λ d. differ_alive _ _ _ _ c.drop_expired.ensures d
+
+pub returns-in-Err-Undecodable-clause-apart : goal.returns-in-Err-Undecodable-clause-apart
+returns-in-Err-Undecodable-clause-apart g c = λ d. differ_alive _ _ _ _ c.drop_expired.ensures d
+
+pub returns-in_default-decrypt_response-clause-apart : goal.returns-in_default-decrypt_response-clause-apart
+returns-in_default-decrypt_response-clause-apart g c = λ d. differ_alive _ _ _ _ c.drop_expired.ensures d
+
+pub returns-clause-apart : goal.returns-clause-apart
+returns-clause-apart g c = λ d. differ_alive _ _ _ _ c.drop_expired.ensures d

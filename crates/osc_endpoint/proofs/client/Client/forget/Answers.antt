@@ -1,10 +1,10 @@
-use Rattle.std.proofs.Common.{◌≡◌, ◌∙◌, ap, sym, subst, refl, bytes_eq, not, Some}
+use Rattle.std.proofs.Common.{◌≡◌, ◌<◌, ◌∙◌, ap, sym, subst, refl, bytes_eq, length, not, Some}
 use Rattle.std.specs.Prelude.{Contains, map, slice_get}
 use Rattle.osc_endpoint.specs.Agrees.{TokensDiffer}
 use Rattle.osc_endpoint.specs.ClientAnswer.{IsAmong}
 use Rattle.osc_endpoint.specs.ClientHistory.{clock, pending, without}
 use Rattle.osc_endpoint.specs.Views.{asked_of}
-use Rattle.osc_endpoint.proofs.Asking.{contains_at, differ_filter, ended, removed, untouched}
+use Rattle.osc_endpoint.proofs.Asking.{contains_at, differ_filter, differ_removed, ended, removed, untouched}
 use Rattle.osc_endpoint.proofs.client.Client.forget.Goals as goal
 
 pub returns-in-Some-clause-answered : goal.returns-in-Some-clause-answered
@@ -43,3 +43,7 @@ returns-in-None-clause-follows g c = λ h a.
       table = a.table ∙ sym (untouched (pending h) c.args.token.now none) ∙ ended h (clock h) c.args.token.now;
       differ = subst TokensDiffer (ended h (clock h) c.args.token.now) (differ_filter (λ r. not (bytes_eq r.token c.args.token.now)) (pending h) a.differ);
     }
+
+pub returns-in-Some-clause-apart : goal.returns-in-Some-clause-apart
+returns-in-Some-clause-apart g c = λ d.
+    differ_removed _ _ _ c.remove-forgotten.ensures.items (subst (λ xs. c.in-Some.found.place < length xs) c.as_slice.ensures.value c.in-Some.ensures.within) d

@@ -1,0 +1,73 @@
+#!/usr/bin/env bash
+# Builds the lock and its key, lets them speak over 127.0.0.1, and compares what they print with `expected`. Words are passed on to the
+# C compiler. Where tshark is installed, it opens what the key sent, from the same secret by its own OSCORE; where it isn't, this says so.
+set -euo pipefail
+cd "$(dirname "$0")"
+work=$(mktemp -d)
+lock=
+trap 'if [ -n "$lock" ]; then kill "$lock" 2> /dev/null || true; fi; rm -rf "$work"' EXIT
+for name in lock key; do
+    cc -std=c11 -Wall -Wextra -Werror -O1 -I .. "$@" "$name.c" ../../../crates/osc_c/out/libosc_c.a -o "$work/$name"
+done
+mkfifo "$work/says"
+
+# Starts a lock for so many datagrams; its first line says its port.
+begin() {
+    echo "== lock $*"
+    "$work/lock" 0 "$@" > "$work/says" &
+    lock=$!
+    exec 3< "$work/says"
+    read -r -t 10 _ port <&3
+}
+
+# Shows what the lock printed until it ended.
+finish() {
+    timeout 20 cat <&3 | tee "$work/last" | sed 's/^/lock: /'
+    exec 3<&-
+    wait "$lock"
+    lock=
+}
+
+key() {
+    echo "-- key $*"
+    (cd "$work" && timeout 20 ./key "$port" "$@") | sed 's/^/key: /'
+}
+
+says() {
+    begin 3
+    key 0 shut
+    key 1 open sent
+    key 1 replay sent.1
+    finish
+    # The number that a lock must not fall behind is all that is carried over.
+    begin 4 restarted "$(sed -n 's/^next own number //p' "$work/last")"
+    key 1 replay sent.1
+    key 2 shut sent
+    key 1 replay sent.1
+    finish
+}
+
+says > "$work/said"
+cat "$work/said"
+diff expected "$work/said" || { echo "bindings/c/examples: the lock and the key don't print what is expected"; exit 1; }
+
+# Wireshark's names: the key is the sender. Each datagram that was kept is a packet of its own.
+opened() {
+    local datagram secret
+    secret=$(sed -nE 's/.* SECRET\[\] = "(.*)";/\1/p' key.c | tr '\n' '\0' | od -An -v -tx1 | tr -d ' \n')
+    for datagram in "$work"/sent.*; do
+        od -Ax -v -tx1 "$datagram"
+    done | text2pcap -q -u 40000,5683 - "$work/sent.pcap" > /dev/null 2>&1
+    tshark -r "$work/sent.pcap" -V -o "uat:oscore_contexts:\"02\",\"01\",\"$secret\",\"\",\"\",\"AES-CCM-16-64-128 (CCM*)\"" 2> /dev/null \
+        | sed -n '/^Object Security/,/^    End of options/p' | sed -nE 's/^    (Code: |    Uri-Path: )/\1/p' | sed 's/^ *//' | paste -d ' ' - - | sed 's/^/tshark: /'
+}
+
+{ command -v tshark && command -v text2pcap; } > /dev/null || { echo "lock and key: as expected; no tshark here, so it did not open what was sent"; exit; }
+opened > "$work/opened" || true
+cat "$work/opened"
+diff - "$work/opened" <<'LINES' || { echo "bindings/c/examples: tshark doesn't show what was sent"; exit 1; }
+tshark: Code: PUT (3) Uri-Path: lock
+tshark: Code: PUT (3) Uri-Path: lock
+tshark: Code: PUT (3) Uri-Path: lock
+LINES
+echo "lock and key: as expected, and tshark opens what was sent"

@@ -1,0 +1,22 @@
+use Rattle.std.proofs.Common.{◌≡◌, Bool, refl, rules, subst, true, false}
+use Rattle.osc_endpoint.specs.ClientAnswer.{ClientAnswer}
+use Rattle.osc_endpoint.specs.ClientHistory.{Forget, Forgot, Then}
+use Rattle.osc_handle.specs.ClientBytes.{Asks}
+use Rattle.osc_c.specs.ClientCalls.RefusesForgetting.{bad_handle, not_pending}
+use Rattle.osc_c.specs.declared.status.Status.TheVariants.{BadHandle, NotPending}
+use Rattle.osc_c.proofs.client.oscore_client_forget.Goals as goal
+
+pub returns-in-Some-false-clause-refused : goal.returns-in-Some-false-clause-refused
+returns-in-Some-false-clause-refused c = λ _.
+    let is : c.in-Some-false.field-0 ≡ false = search rules in (
+      NotPending,
+      search rules,
+      not_pending (c.in-Some-false.ensures.accepted refl) refl (λ h a. (
+        subst (λ (was : Bool). ClientAnswer 8 h (Forget c.args.token.now) (Forgot was)) is (c.in-Some-false.ensures.answered h a),
+        subst (λ (was : Bool). Asks c.forget.new.self (Then h (Forget c.args.token.now) (Forgot was))) is (c.in-Some-false.ensures.follows h a),
+      )),
+    )
+
+pub returns-in-None-clause-refused : goal.returns-in-None-clause-refused
+returns-in-None-clause-refused c = λ _.
+    (BadHandle, search rules, bad_handle (λ is. let f : false ≡ true = c.in-None.ensures.accepts is in absurd (cc)) (c.in-None.ensures.unchanged refl) refl)

@@ -1,0 +1,80 @@
+-- To be believed: why a call of C on a client does nothing, or less, row by row in the order in which it is judged, and what it leaves. c
+-- are the client's bytes before, new those after, plain the datagram of a plain message, room the length of the buffer, d a datagram.
+use Rattle.std.specs.Prelude.{◌≡◌, ℕ, false, List}
+use Rattle.osc_coap.specs.Datagram.{Parts, IsDatagram}
+use Rattle.osc_coap.specs.Fault.{HasFault}
+use Rattle.osc_coap.specs.declared.format_error.Fault.{Fault}
+use Rattle.osc_endpoint.specs.ClientAnswer.{ClientAnswer}
+use Rattle.osc_endpoint.specs.ClientHistory.{Advance, Advanced, Answer, BadInner, BadTag, Datagram, Deliver, Forget, Forgot, History, Malformed, NotResponse, NotSent, Request, Then, Took, Undecodable as NoAnswer, UnknownToken as Unknown, Unprotected}
+use Rattle.osc_endpoint.specs.declared.client_outcome.ClientOutcome.{ClientOutcome}
+use Rattle.osc_endpoint.specs.declared.client_outcome.ClientOutcome.TheVariants as outcomes
+use Rattle.osc_endpoint.specs.declared.client_outcome.RequestError.{RequestError}
+use Rattle.osc_endpoint.specs.declared.client_outcome.RequestError.TheVariants as requests
+use Rattle.osc_handle.specs.ClientBytes.{Asks, IsClient}
+use Rattle.osc_handle.specs.declared.client_handle.ClientHandle.{ClientHandle}
+use Rattle.osc_c.specs.Statuses.{format_status}
+use Rattle.osc_c.specs.declared.status.Status.{Status}
+use Rattle.osc_c.specs.declared.status.Status.TheVariants.{BadHandle, BadNumber, NotThatKind, UnknownToken, NoOscore, Undecodable, Tag, Inner, Unsupported, TokenInUse, PendingFull, SequenceExhausted, TooLong, NoRoom, NotPending}
+
+-- why a client neither begins nor is restarted (own rule)
+pub data RefusesNumber (IsHandle IsNumber : Type 0) (status : Status) : Type 0 where
+  bad_handle : (IsHandle → ⊥) → status ≡ BadHandle → RefusesNumber IsHandle IsNumber status
+  bad_number : IsHandle → (IsNumber → ⊥) → status ≡ BadNumber → RefusesNumber IsHandle IsNumber status
+
+-- the status of a refusal to ask is that of its name, its detail the number of the option, else 0; a client of C has no keeper (own rule)
+abbrev pub IsAskingStatus : RequestError → Status → ℕ → Type 0
+IsAskingStatus requests.NotThatKind status detail = (status ≡ NotThatKind) × (detail ≡ 0)
+IsAskingStatus (requests.Unsupported n) status detail = (status ≡ Unsupported) × (detail ≡ n)
+IsAskingStatus requests.TokenInUse status detail = (status ≡ TokenInUse) × (detail ≡ 0)
+IsAskingStatus requests.PendingFull status detail = (status ≡ PendingFull) × (detail ≡ 0)
+IsAskingStatus requests.SequenceExhausted status detail = (status ≡ SequenceExhausted) × (detail ≡ 0)
+IsAskingStatus requests.TooLong status detail = (status ≡ TooLong) × (detail ≡ 0)
+IsAskingStatus requests.NoRoom status detail = (status ≡ NoRoom) × (detail ≡ 0)
+IsAskingStatus requests.KeeperFailed status detail = ⊥
+
+-- why no request is sealed: a text that is no message changes nothing, any later refusal moves the clock alone (RFC 8613, 8.1)
+pub data RefusesAsking (c new : ClientHandle) (now : ℕ) (plain : List ℕ) (room : ℕ) (status : Status) (detail : ℕ) : Type 0 where
+  bad_handle : (IsClient c → ⊥) → new ≡ c → status ≡ BadHandle → detail ≡ 0 → RefusesAsking c new now plain room status detail
+  malformed : IsClient c → new ≡ c → (fault : Fault) (place : ℕ) → HasFault plain fault place → status ≡ format_status fault → detail ≡ place → RefusesAsking c new now plain room status detail
+  refused : IsClient c → (p : Parts) → IsDatagram p plain → (e : RequestError) → IsAskingStatus e status detail
+      → ((h : History) → Asks c h → ClientAnswer 8 h (Request now p room) (NotSent e) × Asks new (Then h (Advance now) Advanced)) → RefusesAsking c new now plain room status detail
+
+-- the status of what an outcome says, and its detail, the place of a fault, else 0 (own rule)
+abbrev pub IsOutcomeStatus : ClientOutcome → Status → ℕ → Type 0
+IsOutcomeStatus (outcomes.Malformed e) status detail = (status ≡ format_status e.fault) × (detail ≡ e.place)
+IsOutcomeStatus outcomes.NotResponse status detail = (status ≡ NotThatKind) × (detail ≡ 0)
+IsOutcomeStatus outcomes.UnknownToken status detail = (status ≡ UnknownToken) × (detail ≡ 0)
+IsOutcomeStatus outcomes.Unprotected status detail = (status ≡ NoOscore) × (detail ≡ 0)
+IsOutcomeStatus outcomes.Undecodable status detail = (status ≡ Undecodable) × (detail ≡ 0)
+IsOutcomeStatus outcomes.BadTag status detail = (status ≡ Tag) × (detail ≡ 0)
+IsOutcomeStatus outcomes.BadInner status detail = (status ≡ Inner) × (detail ≡ 0)
+IsOutcomeStatus (outcomes.Deliver o number) status detail = ⊥
+
+-- the status of an answer, and its detail, the place of a fault, else 0 (own rule)
+abbrev pub IsAnswerStatus : Answer → Status → ℕ → Type 0
+IsAnswerStatus (Malformed fault place) status detail = (status ≡ format_status fault) × (detail ≡ place)
+IsAnswerStatus NotResponse status detail = (status ≡ NotThatKind) × (detail ≡ 0)
+IsAnswerStatus Unknown status detail = (status ≡ UnknownToken) × (detail ≡ 0)
+IsAnswerStatus Unprotected status detail = (status ≡ NoOscore) × (detail ≡ 0)
+IsAnswerStatus NoAnswer status detail = (status ≡ Undecodable) × (detail ≡ 0)
+IsAnswerStatus BadTag status detail = (status ≡ Tag) × (detail ≡ 0)
+IsAnswerStatus BadInner status detail = (status ≡ Inner) × (detail ≡ 0)
+IsAnswerStatus (Deliver received number) status detail = ⊥
+
+-- the answer to a datagram has this status and detail, and the bytes are as it says (RFC 8613, 8.4)
+pub record AnswersBy (h : History) (new : ClientHandle) (now : ℕ) (d : List ℕ) (status : Status) (detail : ℕ) : Type 0 where
+  pub answer : Answer
+  pub says : IsAnswerStatus answer status detail
+  pub row : ClientAnswer 8 h (Datagram now d) (Took answer)
+  pub asks : Asks new (Then h (Datagram now d) (Took answer))
+
+-- why nothing is delivered (RFC 8613, 8.4)
+pub data RefusesTaking (c new : ClientHandle) (now : ℕ) (d : List ℕ) (status : Status) (detail : ℕ) : Type 0 where
+  bad_handle : (IsClient c → ⊥) → new ≡ c → status ≡ BadHandle → detail ≡ 0 → RefusesTaking c new now d status detail
+  refused : IsClient c → ((h : History) → Asks c h → AnswersBy h new now d status detail) → RefusesTaking c new now d status detail
+
+-- why no request is forgotten (own rule)
+pub data RefusesForgetting (c new : ClientHandle) (token : List ℕ) (status : Status) : Type 0 where
+  bad_handle : (IsClient c → ⊥) → new ≡ c → status ≡ BadHandle → RefusesForgetting c new token status
+  not_pending : IsClient c → status ≡ NotPending
+      → ((h : History) → Asks c h → ClientAnswer 8 h (Forget token) (Forgot false) × Asks new (Then h (Forget token) (Forgot false))) → RefusesForgetting c new token status

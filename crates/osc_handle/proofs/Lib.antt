@@ -1,0 +1,6 @@
+pub mod ClientHistories
+pub mod ClientPlaces
+pub mod Tables
+pub mod Bits
+pub mod Waits
+pub mod Servers

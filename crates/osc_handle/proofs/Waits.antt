@@ -1,0 +1,279 @@
+-- What the numbers of a server's contexts stand for, after each event. u and v are the numbers of one context, us and vs those of all, w says
+-- which numbers wait in a life of this count.
+use Rattle.std.proofs.Common.{◌≡◌, ◌≢◌, ◌∙◌, ◌<◌, ◌≤◌, ◌+◌, sym, ap, subst, refl, arith, ℕ, zero, suc, Bool, true, false, not, ◌&&◌, ◌||◌, ◌==◌, List, [], ◌∷◌, Option, Some, None, length, slice_set, inl, inr, if◌then◌else◌}
+use Rattle.std.specs.Prelude.{max, nat_le, slice_get}
+use Rattle.std.specs.List.{All}
+use Rattle.std.specs.Option.{option_map}
+use Rattle.std.proofs.lemmas.Bool.{and_left, both_ways, cases_eq, cases_Bool, cond-false, eq-eqb, false_from_ne_true, ne_eqb}
+use Rattle.std.proofs.lemmas.List.Elements.{All-head, All-nil, All-tail, All-weaker}
+use Rattle.std.proofs.lemmas.Option.{same_Some, slice_get_within}
+use Rattle.osc_coap.specs.Datagram.{Parts}
+use Rattle.osc_coap.specs.Inner.{InnerParts}
+use Rattle.osc_window.proofs.Agreements.{places_most}
+use Rattle.osc_window.specs.Views.{places_of}
+use Rattle.osc_endpoint.proofs.Lives.{closed_bare}
+use Rattle.osc_endpoint.proofs.Places.{same_life, slice_get-set_other}
+use Rattle.osc_endpoint.specs.Deciding.{Decides}
+use Rattle.osc_endpoint.specs.Laws.{AllAnswers}
+use Rattle.osc_endpoint.specs.Life.{Admits, Answered, Challenged, Delivered, Life, Mark, Spoiled, is_open, marked, opened, spent}
+use Rattle.osc_endpoint.specs.Received.{Received}
+use Rattle.osc_endpoint.specs.ServerAnswer.{ServerAnswer}
+use Rattle.osc_endpoint.specs.ServerHistory as server
+use Rattle.osc_endpoint.specs.Waiting.{WaitingHasLife, is_far_above, is_to, waits}
+use Rattle.osc_endpoint.specs.declared.decision.Decision.{Decision}
+use Rattle.osc_endpoint.specs.declared.decision.Decision.TheVariants as decisions
+use Rattle.osc_handle.specs.Noting.{AddsNumber, Notes, NotesTicket}
+use Rattle.osc_handle.specs.ServerBytes.{Remembers, RemembersAt, RemembersLife}
+use Rattle.osc_handle.specs.UnansweredBytes.{holds}
+use Rattle.osc_handle.specs.declared.unanswered_handle.UnansweredHandle.{UnansweredHandle}
+
+-- ---- one life
+
+-- what is spent in a life stays so
+all_before : (P : ℕ → Type 0) (fresh : Bool) (mark : Mark) (marks : List Mark) → All P (spent fresh (mark ∷ marks)) → All P (spent fresh marks)
+all_before P fresh (Delivered n) marks h = All-tail P n (spent fresh marks) h
+all_before P fresh (Spoiled n) marks h = all_shut (opened fresh marks) h where
+  all_shut : (b : Bool) → All P (if b then n ∷ spent fresh marks else spent fresh marks) → All P (spent fresh marks)
+  all_shut true k = All-tail P n (spent fresh marks) k
+  all_shut false k = k
+all_before P fresh (Challenged echo issued) marks h = h
+all_before P fresh Answered marks h = h
+
+life_marked : (u : UnansweredHandle) (of : Life) (m : Option Mark) (w : ℕ → Bool) → RemembersLife u of w → RemembersLife u (marked m of) w
+life_marked u of None w r = r
+life_marked u of (Some mark) w r = record { held = r.held; reach = λ bound some all. r.reach bound some (all_before (λ m. m < bound) of.fresh mark of.marks all) }
+
+marked_count : (m : Option Mark) (of : Life) → (marked m of).count ≡ of.count
+marked_count None of = refl
+marked_count (Some mark) of = refl
+
+at_marked : (u : UnansweredHandle) (o : Option Life) (m : Option Mark) (w : ℕ → ℕ → Bool) → RemembersAt u o w → RemembersAt u (option_map (marked m) o) w
+at_marked u None m w r = tt
+at_marked u (Some of) m w r = subst (λ c. RemembersLife u (marked m of) (w c)) (sym (marked_count m of)) (life_marked u of m (w of.count) r)
+
+at_same : (u : UnansweredHandle) (o : Option Life) (w x : ℕ → ℕ → Bool) → ((c n : ℕ) → w c n ≡ x c n) → RemembersAt u o w → RemembersAt u o x
+at_same u None w x same r = tt
+at_same u (Some of) w x same r = record { held = λ n. r.held n ∙ same of.count n; reach = r.reach }
+
+-- a number that is admitted is less than 64 below those that were spent
+admitted_near : (of : Life) (clock n : ℕ) (m : InnerParts) → Admits of clock n m → All (λ k. k < n + 64) (spent of.fresh of.marks)
+admitted_near of clock n m admits = elim (cases_Bool (is_open of)) [
+  | inl is ↦
+      let most = places_most of.size in
+      All-weaker (λ k. k < n + places_of of.size) (λ k. k < n + 64) (λ k less. omega (arith, less, most)) (spent of.fresh of.marks) (admits.0 is).within
+  | inr shut ↦ subst (All (λ k. k < n + 64)) (sym (closed_bare of.fresh of.marks shut).spent_is) (All-nil (λ k. k < n + 64))
+]
+
+-- ---- tickets to a request of one context
+
+cond_or : (x y : Bool) → (if x then true else y) ≡ (x || y)
+cond_or true y = refl
+cond_or false y = refl
+
+cond_and : (x y : Bool) → (if x then false else y) ≡ (not x && y)
+cond_and true y = refl
+cond_and false y = refl
+
+same_and : (x y : Bool) → x ≡ true → (x && y) ≡ y
+same_and true y e = refl
+same_and false y e = absurd (both_ways false refl e)
+
+to_same : (t : server.TicketValues) (c n : ℕ) → t.life ≡ c → is_to t.context c n t ≡ (n == t.number)
+to_same t c n e =
+    same_and (t.context == t.context) ((c == t.life) && (n == t.number)) (eq-eqb t.context t.context refl) ∙ same_and (c == t.life) (n == t.number) (eq-eqb c t.life (sym e))
+
+far_same : (t : server.TicketValues) (c n : ℕ) → t.life ≡ c → is_far_above t.context c n t ≡ nat_le (n + 64) t.number
+far_same t c n e =
+    same_and (t.context == t.context) ((c == t.life) && nat_le (n + 64) t.number) (eq-eqb t.context t.context refl) ∙ same_and (c == t.life) (nat_le (n + 64) t.number) (eq-eqb c t.life (sym e))
+
+to_other : (t : server.TicketValues) (j c n : ℕ) → j ≢ t.context → is_to j c n t ≡ false
+to_other t j c n other = and_left (j == t.context) ((c == t.life) && (n == t.number)) (ne_eqb j t.context other)
+
+far_other : (t : server.TicketValues) (j c n : ℕ) → j ≢ t.context → is_far_above j c n t ≡ false
+far_other t j c n other = and_left (j == t.context) ((c == t.life) && nat_le (n + 64) t.number) (ne_eqb j t.context other)
+
+and_not : (x b : Bool) → b ≡ false → (x && not b) ≡ x
+and_not true false e = refl
+and_not false false e = refl
+and_not x true e = absurd (both_ways true e refl)
+
+-- ---- a delivery
+
+delivered_here : (u v : UnansweredHandle) (of : Life) (t : server.TicketValues) (w x : ℕ → Bool) → RemembersLife u of w → AddsNumber u v t.number → All (λ k. k < t.number + 64) (spent of.fresh of.marks)
+    → ((n : ℕ) → x n ≡ ((n == t.number) || (w n && not (nat_le (n + 64) t.number)))) → RemembersLife v (marked (Some (Delivered t.number)) of) x
+delivered_here u v of t w x r adds near is =
+    record {
+      held = λ n. adds.held (r.reach (t.number + 64) (omega arith) near) n ∙ (ap (λ b. (n == t.number) || (b && not (nat_le (n + 64) t.number))) (r.held n) ∙ sym (is n));
+      reach = λ bound some all.
+          let below = All-head (λ m. m < bound) t.number (spent of.fresh of.marks) all in
+          let old = r.reach bound some (All-tail (λ m. m < bound) t.number (spent of.fresh of.marks) all) in
+          subst (λ n. n < bound) (sym adds.highest) (max_below u.highest t.number bound old below);
+    } where
+      max_below : (a b bound : ℕ) → a < bound → b < bound → max a b < bound
+      max_below a b bound p q = omega (arith, p, q)
+
+remembers_delivery : (us vs : List UnansweredHandle) (h : server.History) (now mid : ℕ) (echo d : List ℕ) (received : Received) (t : server.TicketValues) (reply : List ℕ)
+    → ServerAnswer h (server.Datagram now echo mid d) (server.Took (server.Deliver received t) reply) → NotesTicket us vs t → Remembers us h
+    → Remembers vs (server.Then h (server.Datagram now echo mid d) (server.Took (server.Deliver received t) reply))
+remembers_delivery us vs h now mid echo d received t reply (i, n, of, request, (receives, admits, values, none)) notes r =
+    let g = server.Then h (server.Datagram now echo mid d) (server.Took (server.Deliver received t) reply) in
+    let there : server.life h t.context ≡ Some of = ap (λ (v : server.TicketValues). server.life h v.context) values ∙ request.life_is in
+    let count : t.life ≡ of.count = ap (λ (v : server.TicketValues). v.life) values in
+    let number : t.number ≡ n = ap (λ (v : server.TicketValues). v.number) values in
+    let near : All (λ k. k < t.number + 64) (spent of.fresh of.marks) = subst (λ m. All (λ k. k < m + 64) (spent of.fresh of.marks)) (sym number) (admitted_near of (max (server.clock h) now) n received.message admits) in
+    record {
+      at = λ j v e. elim (cases_eq j t.context) [
+        | inl same ↦
+            let (u, was, adds) = notes.at v (sym (ap (slice_get vs) same) ∙ e) in
+            let old : RemembersLife u of (waits h t.context of.count) = subst (λ o. RemembersAt u o (waits h t.context)) there (r.at t.context u was) in
+            let new : RemembersLife v (marked (Some (Delivered t.number)) of) (waits g t.context of.count) =
+            delivered_here u v of t (waits h t.context of.count) (waits g t.context of.count) old adds near
+            (λ m. cond_or (is_to t.context of.count m t) (waits h t.context of.count m && not (is_far_above t.context of.count m t))
+            ∙ (ap (λ b. b || (waits h t.context of.count m && not (is_far_above t.context of.count m t))) (to_same t of.count m count)
+            ∙ ap (λ b. (m == t.number) || (waits h t.context of.count m && not b)) (far_same t of.count m count))) in
+            let life_is : server.life g t.context ≡ Some (marked (Some (Delivered t.number)) of) =
+            ap (λ b. option_map (marked (if b then Some (Delivered t.number) else None)) (server.life h t.context)) (eq-eqb t.context t.context refl) ∙ ap (option_map (marked (Some (Delivered t.number)))) there in
+            subst (λ k. RemembersAt v (server.life g k) (waits g k)) (sym same) (subst (λ o. RemembersAt v o (waits g t.context)) (sym life_is) new)
+        | inr other ↦
+            let old = r.at j v (sym (notes.others j other) ∙ e) in
+            let life_is : server.life g j ≡ server.life h j =
+            same_life (server.life h j) (if j == t.context then Some (Delivered t.number) else None) (cond-false (j == t.context) (Some (Delivered t.number)) None (ne_eqb j t.context other)) in
+            let same : (c m : ℕ) → waits h j c m ≡ waits g j c m =
+            λ c m. sym (cond-false (is_to j c m t) true (waits h j c m && not (is_far_above j c m t)) (to_other t j c m other) ∙ and_not (waits h j c m) (is_far_above j c m t) (far_other t j c m other)) in
+            subst (λ o. RemembersAt v o (waits g j)) (sym life_is) (at_same v (server.life h j) (waits h j) (waits g j) same old)
+      ];
+    }
+
+-- ---- other answers
+
+-- an answer that delivers nothing leaves what waits
+remembers_other : (us vs : List UnansweredHandle) (h g : server.History) (m : ℕ → Option Mark) → vs ≡ us → ((i : ℕ) → server.life g i ≡ option_map (marked (m i)) (server.life h i))
+    → ((i c n : ℕ) → waits h i c n ≡ waits g i c n) → Remembers us h → Remembers vs g
+remembers_other us vs h g m same life_is waits_is r =
+    record {
+      at = λ i u e.
+          subst (λ o. RemembersAt u o (waits g i)) (sym (life_is i))
+          (at_marked u (server.life h i) (m i) (waits g i) (at_same u (server.life h i) (waits h i) (waits g i) (waits_is i) (r.at i u (sym (ap (λ (xs : List UnansweredHandle). slice_get xs i) same) ∙ e))));
+    }
+
+pub remembers_took : (us vs : List UnansweredHandle) (h : server.History) (now mid : ℕ) (echo d new : List ℕ) (decision : Decision) (answer : server.Answer) (reply : List ℕ)
+    → ServerAnswer h (server.Datagram now echo mid d) (server.Took answer reply) → Decides decision new answer → Notes us vs decision → Remembers us h
+    → Remembers vs (server.Then h (server.Datagram now echo mid d) (server.Took answer reply))
+remembers_took us vs h now mid echo d new (decisions.Deliver x t) (server.Deliver received ticket) reply row decides notes r =
+    remembers_delivery us vs h now mid echo d received ticket reply row (subst (NotesTicket us vs) decides.1 notes) r
+remembers_took us vs h now mid echo d new (decisions.Malformed e) (server.Malformed fault place) reply row decides notes r = remembers_other us vs h _ (λ i. None) notes (λ i. refl) (λ i c n. refl) r
+remembers_took us vs h now mid echo d new decisions.NotRequest server.NotRequest reply row decides notes r = remembers_other us vs h _ (λ i. None) notes (λ i. refl) (λ i c n. refl) r
+remembers_took us vs h now mid echo d new decisions.Plain server.Plain reply row decides notes r = remembers_other us vs h _ (λ i. None) notes (λ i. refl) (λ i c n. refl) r
+remembers_took us vs h now mid echo d new decisions.Undecodable server.Undecodable reply row decides notes r = remembers_other us vs h _ (λ i. None) notes (λ i. refl) (λ i c n. refl) r
+remembers_took us vs h now mid echo d new decisions.NoContext server.NoContext reply row decides notes r = remembers_other us vs h _ (λ i. None) notes (λ i. refl) (λ i c n. refl) r
+remembers_took us vs h now mid echo d new decisions.Replay server.Replay reply row decides notes r = remembers_other us vs h _ (λ i. None) notes (λ i. refl) (λ i c n. refl) r
+remembers_took us vs h now mid echo d new decisions.BadTag server.BadTag reply row decides notes r = remembers_other us vs h _ (λ i. None) notes (λ i. refl) (λ i c n. refl) r
+remembers_took us vs h now mid echo d new decisions.BadInner (server.BadInner k m) reply row decides notes r =
+    remembers_other us vs h _ (λ i. server.mark_at i (server.BadInner k m)) notes (λ i. refl) (λ i c n. refl) r
+remembers_took us vs h now mid echo d new (decisions.Challenge given issued) (server.Challenge k m value moment) reply row decides notes r =
+    remembers_other us vs h _ (λ i. server.mark_at i (server.Challenge k m value moment)) notes (λ i. refl) (λ i c n. refl) r
+remembers_took us vs h now mid echo d new decisions.SequenceExhausted server.SequenceExhausted reply row decides notes r = remembers_other us vs h _ (λ i. None) notes (λ i. refl) (λ i c n. refl) r
+remembers_took us vs h now mid echo d new decision answer reply row decides notes r = absurd decides
+
+-- ---- what is noted
+
+-- what stands where something was written
+set_is : (xs : List UnansweredHandle) (k : ℕ) (x y : UnansweredHandle) → slice_get (slice_set xs k x) k ≡ Some y → y ≡ x
+set_is [] k x y e = absurd (let e' : None ≡ Some y = e in cc)
+set_is (z ∷ xs) zero x y e = sym (same_Some x y e)
+set_is (z ∷ xs) (suc k) x y e = set_is xs k x y e
+
+-- the number of a ticket is added to those of its context
+notes_added : (us : List UnansweredHandle) (t : server.TicketValues) (u v : UnansweredHandle) → slice_get us t.context ≡ Some u → AddsNumber u v t.number → NotesTicket us (slice_set us t.context v) t
+notes_added us t u v there adds =
+    record {
+      at = λ x e. (u, there, subst (λ y. AddsNumber u y t.number) (sym (set_is us t.context v x e)) adds);
+      others = λ j other. slice_get-set_other us t.context j v other;
+    }
+
+-- the same, where the index and the number are given by values that are those of the ticket
+pub notes_added_at : (us : List UnansweredHandle) (t : server.TicketValues) (i n : ℕ) (u v : UnansweredHandle) → i ≡ t.context → n ≡ t.number → slice_get us i ≡ Some u
+    → (u.highest < n + 64 → (m : ℕ) → holds v m ≡ ((m == n) || (holds u m && not (nat_le (m + 64) n)))) → v.highest ≡ max u.highest n → NotesTicket us (slice_set us i v) t
+notes_added_at us t i n u v same number there held highest =
+    subst (λ k. NotesTicket us (slice_set us k v) t) (sym same)
+    (notes_added us t u v (ap (slice_get us) (sym same) ∙ there) (subst (AddsNumber u v) number (record { held = held; highest = highest })))
+
+-- no context has the index
+notes_none : (us : List UnansweredHandle) (t : server.TicketValues) → length us ≤ t.context → NotesTicket us us t
+notes_none us t past =
+    record {
+      at = λ x e. absurd (let there = slice_get_within us t.context x e in omega (arith, past, there));
+      others = λ j other. refl;
+    }
+
+pub notes_none_at : (us : List UnansweredHandle) (t : server.TicketValues) (i : ℕ) → i ≡ t.context → length us ≤ i → NotesTicket us us t
+notes_none_at us t i same past = notes_none us t (subst (λ k. length us ≤ k) same past)
+
+-- ---- a context that begins a life
+
+bare_life : (u : UnansweredHandle) (l : Life) (w : ℕ → Bool) → ((n : ℕ) → holds u n ≡ false) → u.highest ≡ 0 → ((n : ℕ) → w n ≡ false) → RemembersLife u l w
+bare_life u l w none low waiting = record { held = λ n. none n ∙ sym (waiting n); reach = λ bound some all. subst (λ n. n < bound) (sym low) some }
+
+-- nothing waits in a life that wasn't yet
+none_waits : WaitingHasLife → (h : server.History) → AllAnswers h → (i c n : ℕ) → ((of : Life) → server.life h i ≡ Some of → of.count < c) → waits h i c n ≡ false
+none_waits law h all i c n later =
+    false_from_ne_true (waits h i c n) (λ e.
+    let (of, is, most) = law h i c n all e in
+    let less = later of is in
+    omega (arith, most, less))
+
+-- the numbers of one context are those of a life that begins; g is the later history, b says of which context
+pub remembers_begun : (us : List UnansweredHandle) (h g : server.History) (i : ℕ) (u : UnansweredHandle) → ((n : ℕ) → holds u n ≡ false) → u.highest ≡ 0
+    → ((j c n : ℕ) → waits g j c n ≡ waits h j c n) → ((of : Life) → server.life g i ≡ Some of → (n : ℕ) → waits h i of.count n ≡ false) → ((j : ℕ) → j ≢ i → server.life g j ≡ server.life h j)
+    → Remembers us h → Remembers (slice_set us i u) g
+remembers_begun us h g i u none low same begun others r =
+    record {
+      at = λ j v e. elim (cases_eq j i) [
+        | inl here ↦ subst (λ k. RemembersAt v (server.life g k) (waits g k)) (sym here) (begun_at (server.life g i) v (set_is us i u v (sym (ap (slice_get (slice_set us i u)) here) ∙ e)) begun)
+        | inr other ↦
+            subst (λ o. RemembersAt v o (waits g j)) (sym (others j other))
+            (at_same v (server.life h j) (waits h j) (waits g j) (λ c n. sym (same j c n)) (r.at j v (sym (slice_get-set_other us i j u other) ∙ e)))
+      ];
+    } where
+      begun_at : (o : Option Life) (v : UnansweredHandle) → v ≡ u → ((of : Life) → o ≡ Some of → (n : ℕ) → waits h i of.count n ≡ false) → RemembersAt v o (waits g i)
+      begun_at None v is waiting = tt
+      begun_at (Some of) v is waiting =
+          bare_life v of (waits g i of.count) (λ n. ap (λ (x : UnansweredHandle). holds x n) is ∙ none n) (ap (λ (x : UnansweredHandle). x.highest) is ∙ low) (λ n. same i of.count n ∙ waiting of refl n)
+
+pub none_waits_new : WaitingHasLife → (h : server.History) → AllAnswers h → (i c n : ℕ) → server.life h i ≡ None → waits h i c n ≡ false
+none_waits_new law h all i c n none = none_waits law h all i c n (λ of is. absurd (let e : None ≡ Some of = sym none ∙ is in cc))
+
+pub none_waits_next : WaitingHasLife → (h : server.History) → AllAnswers h → (i n : ℕ) (of : Life) → server.life h i ≡ Some of → waits h i (of.count + 1) n ≡ false
+none_waits_next law h all i n of there = none_waits law h all i (of.count + 1) n (λ k is. let same : k.count ≡ of.count = ap (λ (l : Life). l.count) (same_Some k of (sym is ∙ there)) in omega (arith, same))
+
+-- ---- a reply
+
+removed_here : (u v : UnansweredHandle) (of : Life) (number : ℕ) (w x : ℕ → Bool) → RemembersLife u of w → ((n : ℕ) → holds v n ≡ (not (n == number) && holds u n)) → v.highest ≡ u.highest
+    → ((n : ℕ) → x n ≡ (not (n == number) && w n)) → RemembersLife v of x
+removed_here u v of number w x r removes low is =
+    record {
+      held = λ n. removes n ∙ (ap (λ b. not (n == number) && b) (r.held n) ∙ sym (is n));
+      reach = λ bound some all. subst (λ n. n < bound) (sym low) (r.reach bound some all);
+    }
+
+pub remembers_replied : (us : List UnansweredHandle) (h : server.History) (t : server.TicketValues) (own : Bool) (mid room : ℕ) (plain : Parts) (bytes : List ℕ) (u v : UnansweredHandle) (of : Life)
+    → slice_get us t.context ≡ Some u → server.life h t.context ≡ Some of → t.life ≡ of.count → ((n : ℕ) → holds v n ≡ (not (n == t.number) && holds u n)) → v.highest ≡ u.highest
+    → Remembers us h → Remembers (slice_set us t.context v) (server.Then h (server.Reply t own mid plain room) (server.Replied bytes))
+remembers_replied us h t own mid room plain bytes u v of was there count removes low r =
+    let g = server.Then h (server.Reply t own mid plain room) (server.Replied bytes) in
+    record {
+      at = λ j x e. elim (cases_eq j t.context) [
+        | inl same ↦
+            let is : x ≡ v = set_is us t.context v x (sym (ap (slice_get (slice_set us t.context v)) same) ∙ e) in
+            let old : RemembersLife u of (waits h t.context of.count) = subst (λ o. RemembersAt u o (waits h t.context)) there (r.at t.context u was) in
+            let new : RemembersAt v (server.life h t.context) (waits g t.context) =
+            subst (λ o. RemembersAt v o (waits g t.context)) (sym there)
+            (removed_here u v of t.number (waits h t.context of.count) (waits g t.context of.count) old removes low
+            (λ m. cond_and (is_to t.context of.count m t) (waits h t.context of.count m) ∙ ap (λ b. not b && waits h t.context of.count m) (to_same t of.count m count))) in
+            subst (λ y. RemembersAt y (server.life g j) (waits g j)) (sym is)
+            (subst (λ k. RemembersAt v (server.life g k) (waits g k)) (sym same) (at_marked v (server.life h t.context) (server.reply_mark_at t.context t own) (waits g t.context) new))
+        | inr other ↦
+            at_marked x (server.life h j) (server.reply_mark_at j t own) (waits g j)
+            (at_same x (server.life h j) (waits h j) (waits g j) (λ c m. sym (cond-false (is_to j c m t) false (waits h j c m) (to_other t j c m other))) (r.at j x (sym (slice_get-set_other us t.context j v other) ∙ e)))
+      ];
+    }

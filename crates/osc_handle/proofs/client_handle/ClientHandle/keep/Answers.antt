@@ -1,0 +1,24 @@
+use Rattle.std.proofs.Common.{◌∙◌, sym, subst, refl}
+use Rattle.osc_endpoint.specs.Agrees.{TokensDiffer}
+use Rattle.osc_handle.proofs.client_handle.ClientHandle.keep.Goals as goal
+
+pub returns-clause-kept : goal.returns-clause-kept
+returns-clause-kept c =
+    record {
+      context = refl;
+      life_ms = refl;
+      clock = c.clock-self.ensures;
+      next = c.next-self.ensures.value;
+      pending = c.places_of-self.ensures.made ∙ c.pending-requests.ensures.value;
+    }
+
+pub returns-clause-whole : goal.returns-clause-whole
+returns-clause-whole c = λ w apart. record {
+  context = w.context;
+  next = c.next-self.ensures.most;
+  requests = record {
+    fits = c.pending-requests.ensures.most;
+    each = c.places_of-self.ensures.each;
+    differ = subst TokensDiffer (sym (c.places_of-self.ensures.made ∙ c.pending-requests.ensures.value)) apart;
+  };
+}

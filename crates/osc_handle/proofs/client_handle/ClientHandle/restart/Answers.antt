@@ -1,0 +1,16 @@
+use Rattle.std.proofs.Common.{refl, arith}
+use Rattle.osc_handle.proofs.client_handle.ClientHandle.restart.Goals as goal
+
+pub returns-clause-whole : goal.returns-clause-whole
+returns-clause-whole c = λ _.
+    let w = c.in-Some.ensures.accepted refl in
+    let below = c.number-self.ensures.in_range in
+    record {
+      context = w.context;
+      next = omega (arith, below);
+      requests = record {
+        fits = omega arith;
+        each = λ i b there. absurd (let f = there in cc);
+        differ = λ i j d less within. absurd (omega (arith, within));
+      };
+    }

@@ -1,0 +1,10 @@
+use Rattle.std.proofs.Common.{◌≡◌, ◌<◌, ℕ, Some}
+use Rattle.std.specs.Prelude.{slice_get}
+use Rattle.osc_context.specs.SecurityContext.{AnswersTo}
+use Rattle.osc_protect.specs.Views.{shown}
+use Rattle.osc_handle.specs.ContextBytes.{server_in}
+use Rattle.osc_handle.specs.declared.slot_handle.SlotHandle.{SlotHandle}
+use Rattle.osc_handle.proofs.contexts_handle.ContextsHandleContexts.find.Given as goal
+
+abbrev pub invariant-loop-index : goal.invariant-loop-index
+invariant-loop-index l = (i : ℕ) (b : SlotHandle) → i < l.index → slice_get l.self.slots i ≡ Some b → AnswersTo (server_in b.context) l.kid (shown l.kid_context) → ⊥

@@ -1,0 +1,60 @@
+-- To be believed: what the bytes of a client say. c are the bytes, b those of one pending request, h is a history.
+use Rattle.std.specs.Prelude.{◌≡◌, ℕ, ◌≤◌, ◌<◌, ◌^◌, List, Some, map, slice_get, take}
+use Rattle.osc_endpoint.specs.Agrees.{ClientParts, TokensDiffer}
+use Rattle.osc_endpoint.specs.ClientHistory.{Asked, History, clock, context, life_ms, next, pending}
+use Rattle.osc_endpoint.specs.ClientLaws.{AllClientAnswers, RequestsCountUp, RequestsHaveTwoNonces, first_number, restarts, sealed, sealed_after}
+use Rattle.osc_endpoint.specs.Laws.{Pairwise}
+use Rattle.osc_handle.specs.ContextBytes.{IsContext, client_in}
+use Rattle.osc_handle.specs.declared.client_handle.ClientHandle.{ClientHandle}
+use Rattle.osc_handle.specs.declared.pending_handle.PendingHandle.{PendingHandle}
+
+-- a request that was sealed (own rule)
+abbrev pub asked_at : PendingHandle → Asked
+asked_at b = record { token = take b.token_len b.token; number = b.number; moment = b.moment }
+
+-- the places that are in use (own rule)
+abbrev pub pending_in : ClientHandle → List PendingHandle
+pending_in c = take c.count c.pending
+
+-- the pending requests, oldest first (own rule)
+abbrev pub asked_in : ClientHandle → List Asked
+asked_in c = map asked_at (pending_in c)
+
+-- what the client is made of (own rule)
+abbrev pub parts_in : ClientHandle → ClientParts
+parts_in c = record { context = client_in c.context; life_ms = c.life_ms; clock = c.clock; next = c.next; pending = asked_in c }
+
+-- bytes of a pending request that a call may have written (own rule)
+pub record IsPending (b : PendingHandle) : Type 0 where
+  pub token : b.token_len ≤ 8
+  pub number : b.number < 2 ^ 40
+
+-- bytes of pending requests that a call may have written: at most eight, no two of one token (RFC 7252, 5.3.1; own rule: eight)
+pub record ArePending (c : ClientHandle) : Type 0 where
+  pub fits : c.count ≤ 8
+  pub each : (i : ℕ) (b : PendingHandle) → slice_get (pending_in c) i ≡ Some b → IsPending b
+  pub differ : TokensDiffer (asked_in c)
+
+-- bytes of a client that a call may have written (own rule)
+pub record IsClient (c : ClientHandle) : Type 0 where
+  pub context : IsContext c.context
+  pub next : c.next ≤ 2 ^ 40
+  pub requests : ArePending c
+
+-- the bytes are as the history says, and each of its entries is the client's answer (RFC 8613, 3.1 and 8)
+pub record Asks (c : ClientHandle) (h : History) : Type 0 where
+  pub whole : IsClient c
+  pub context_is : client_in c.context ≡ context h
+  pub life_is : c.life_ms ≡ life_ms h
+  pub clock_is : c.clock ≡ clock h
+  pub next_is : c.next ≡ next h
+  pub table : asked_in c ≡ pending h
+  pub answers : AllClientAnswers 8 h
+
+-- no two requests between two restarts share a nonce (RFC 8613, 5.2)
+abbrev pub NoncesOnceIn : Type 0
+NoncesOnceIn = (c : ClientHandle) (h : History) → Asks c h → Pairwise (RequestsHaveTwoNonces (context h)) (sealed h)
+
+-- the numbers since the start or the last restart are consecutive, and none is used twice (RFC 8613, 7.2.1)
+abbrev pub NumbersOnceIn : Type 0
+NumbersOnceIn = (c : ClientHandle) (h : History) → Asks c h → RequestsCountUp (context h) (first_number h) (sealed_after (restarts h) (sealed h))

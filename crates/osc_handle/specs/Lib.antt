@@ -1,0 +1,15 @@
+-- to be believed, in reading order
+pub mod ContextBytes
+pub mod SlotBytes
+pub mod TableBytes
+pub mod UnansweredBytes
+pub mod TicketBytes
+pub mod ClientBytes
+pub mod ServerLaws
+-- how the code is seen
+pub mod ServerBytes
+pub mod ClientSteps
+-- for the proofs
+pub mod Held
+pub mod Noting
+pub mod TableSteps

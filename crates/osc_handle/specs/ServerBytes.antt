@@ -1,0 +1,75 @@
+-- How the code is seen: that the bytes of a server are as its history says. s are the bytes, h is the history.
+use Rattle.std.specs.Prelude.{◌≡◌, ℕ, ◌<◌, Bool, false, List, Option, Some, None, Result, Ok, Err, slice_get, take}
+use Rattle.std.specs.List.{All}
+use Rattle.osc_coap.specs.Datagram.{Parts}
+use Rattle.osc_endpoint.specs.Agrees.{Agrees, server_of}
+use Rattle.osc_endpoint.specs.Deciding.{Decides}
+use Rattle.osc_endpoint.specs.Laws.{AllAnswers}
+use Rattle.osc_endpoint.specs.Life.{Life, spent}
+use Rattle.osc_endpoint.specs.ServerAnswer.{IsPresent, ServerAnswer}
+use Rattle.osc_endpoint.specs.ServerHistory.{Answer, Datagram, Entry, History, NotReplied, Replied, Reply, Then, TicketValues, Took, life}
+use Rattle.osc_endpoint.specs.Views.{Shows}
+use Rattle.osc_endpoint.specs.Waiting.{AnswersWaiting, waits}
+use Rattle.osc_endpoint.specs.declared.decision.Decision.{Decision}
+use Rattle.osc_endpoint.specs.declared.outcome.Outcome.{Outcome}
+use Rattle.osc_endpoint.specs.declared.slot.Slot.{Slot}
+use Rattle.osc_endpoint.specs.declared.start.Fresh.{Fresh}
+use Rattle.osc_handle.specs.TableBytes.{IsTableIn}
+use Rattle.osc_handle.specs.UnansweredBytes.{holds}
+use Rattle.osc_handle.specs.declared.reply_refusal.ReplyRefusal.{ReplyRefusal}
+use Rattle.osc_handle.specs.declared.reply_refusal.ReplyRefusal.TheVariants.{BadHandle, TicketSpent, Refused}
+use Rattle.osc_handle.specs.declared.server_handle.ServerHandle.{ServerHandle}
+use Rattle.osc_handle.specs.declared.unanswered_handle.UnansweredHandle.{UnansweredHandle}
+
+-- the bytes hold exactly the numbers that wait in this life, and none above those that were spent in it (RFC 8613, 8.3)
+pub record RemembersLife (u : UnansweredHandle) (of : Life) (waiting : ℕ → Bool) : Type 0 where
+  pub held : (n : ℕ) → holds u n ≡ waiting n
+  pub reach : (bound : ℕ) → 0 < bound → All (λ m. m < bound) (spent of.fresh of.marks) → u.highest < bound
+
+-- the same of the present life of a context, if it is there; waiting takes the count of its lives before (RFC 8613, 8.3)
+abbrev pub RemembersAt : UnansweredHandle → Option Life → (ℕ → ℕ → Bool) → Type 0
+RemembersAt u None waiting = Unit {0}
+RemembersAt u (Some of) waiting = RemembersLife u of (waiting of.count)
+
+-- and of each context (RFC 8613, 8.3)
+pub record Remembers (us : List UnansweredHandle) (h : History) : Type 0 where
+  pub at : (i : ℕ) (u : UnansweredHandle) → slice_get us i ≡ Some u → RemembersAt u (life h i) (waits h i)
+
+-- the bytes stand for a server that is as its history says; each of its entries was the answer, and each reply one to a request that waited for
+-- it (RFC 8613, 3.1 and 8.3)
+pub record Serves (s : ServerHandle) (h : History) : Type 0 where
+  pub slots : List (Option Slot)
+  pub table : IsTableIn s.contexts slots
+  pub agrees : Agrees (server_of s.clock slots) h
+  pub remembers : Remembers s.unanswered h
+  pub answers : AllAnswers h
+  pub waiting : AnswersWaiting h
+
+-- what was decided of a datagram is the answer after the history, and the bytes are as both say (how the code is seen)
+pub record DecidesIn (h : History) (now : ℕ) (fresh : Fresh) (d : List ℕ) (decision : Decision) (new reply : List ℕ) (s : ServerHandle) : Type 0 where
+  pub answer : Answer
+  pub row : ServerAnswer h (Datagram now fresh.echo fresh.mid d) (Took answer reply)
+  pub decides : Decides decision new answer
+  pub serves : Serves s (Then h (Datagram now fresh.echo fresh.mid d) (Took answer reply))
+
+-- the outcome shows the answer after the history, and the bytes are as both say (how the code is seen)
+pub record TakesIn (h : History) (now : ℕ) (fresh : Fresh) (d : List ℕ) (outcome : Outcome) (reply : List ℕ) (s : ServerHandle) : Type 0 where
+  pub answer : Answer
+  pub row : ServerAnswer h (Datagram now fresh.echo fresh.mid d) (Took answer reply)
+  pub shows : Shows outcome answer
+  pub serves : Serves s (Then h (Datagram now fresh.echo fresh.mid d) (Took answer reply))
+
+-- the ticket is of the present life of its context, and its request doesn't wait for an answer (RFC 8613, 8.3)
+abbrev pub IsSpent : History → TicketValues → Type 0
+IsSpent h t = (of : Life) × IsPresent h t of × (waits h t.context t.life t.number ≡ false)
+
+-- the entry of a reply, whose text stands at the front of the buffer; a spent ticket and bad bytes are no event of a server (how the code is seen)
+abbrev pub entry_of_reply : Result ℕ ReplyRefusal → List ℕ → Option Entry
+entry_of_reply (Ok n) out = Some (Replied (take n out))
+entry_of_reply (Err BadHandle) out = None
+entry_of_reply (Err TicketSpent) out = None
+entry_of_reply (Err (Refused e)) out = Some (NotReplied e)
+
+-- the entry is the answer to the reply after the history, and the bytes are as both say (RFC 8613, 8.3)
+abbrev pub RepliesIn : History → TicketValues → Bool → ℕ → Parts → ℕ → Entry → ServerHandle → Type 0
+RepliesIn h t own mid plain room entry s = ServerAnswer h (Reply t own mid plain room) entry × Serves s (Then h (Reply t own mid plain room) entry)

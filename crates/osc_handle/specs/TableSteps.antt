@@ -1,0 +1,37 @@
+-- For the proofs: what a call does to the bytes of a server's contexts. t are the bytes.
+use Rattle.std.specs.Prelude.{◌≡◌, ◌≢◌, ℕ, ◌==◌, List, [], ◌∷◌, ◌++◌, Bool, false, Option, Some, None, length, slice_get}
+use Rattle.osc_context.specs.SecurityContext.{SecurityContext}
+use Rattle.osc_endpoint.specs.Agrees.{SlotAgrees, TableAgrees}
+use Rattle.osc_endpoint.specs.Life.{Life}
+use Rattle.osc_endpoint.specs.Table.{FindsAt}
+use Rattle.osc_endpoint.specs.declared.server_error.AddError.{AddError}
+use Rattle.osc_endpoint.specs.declared.server_error.AddError.TheVariants.{Full, SameLookup}
+use Rattle.osc_endpoint.specs.declared.slot.Slot.{Slot}
+use Rattle.osc_handle.specs.TableBytes.{IsTableIn, bytes_at, places_in}
+use Rattle.osc_handle.specs.declared.contexts_handle.ContextsHandle.{ContextsHandle}
+use Rattle.osc_handle.specs.declared.slot_handle.SlotHandle.{SlotHandle}
+
+-- the life that the bytes of a place say (how the code is seen)
+abbrev pub life_in : Option SlotHandle → ℕ → Bool
+life_in None life = false
+life_in (Some b) life = b.life == life
+
+-- a context is there, and in this life (RFC 8613, B.1)
+abbrev pub is_present_in : ContextsHandle → ℕ → ℕ → Bool
+is_present_in t i life = life_in (slice_get (places_in t) i) life
+
+-- why a context isn't added: there are eight, or one has the same lookup (own rule: eight; RFC 8613, 3.3)
+abbrev pub RefusesToAdd : ContextsHandle → SecurityContext → AddError → Type 0
+RefusesToAdd t s Full = t.count ≡ 8
+RefusesToAdd t s SameLookup = (t.count ≢ 8) × (i : ℕ) × FindsAt (bytes_at t) i s.client s.id_context
+
+-- behind these places there is one more, of this life (RFC 8613, B.1)
+abbrev pub GrowsBy : List (Option Slot) → Life → ContextsHandle → Type 0
+GrowsBy slots l t = (s : Slot) × SlotAgrees s l × IsTableIn t (slots ++ Some s ∷ [])
+
+-- one place is of this life now, and all others as they were (how the code is seen)
+pub record ChangesAt (slots : List (Option Slot)) (lives : ℕ → Option Life) (i : ℕ) (l : Life) (t : ContextsHandle) : Type 0 where
+  pub new : List (Option Slot)
+  pub table : IsTableIn t new
+  pub len : length new ≡ length slots
+  pub agrees : (after : ℕ → Option Life) → after i ≡ Some l → ((j : ℕ) → j ≢ i → after j ≡ lives j) → TableAgrees new after

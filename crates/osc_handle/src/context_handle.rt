@@ -1,0 +1,167 @@
+//! A context in the caller's memory: plain bytes, of which each may have any value.
+
+ghost use Rattle.std.specs.Prelude.{◌≡◌, ◌≤◌, take, IfSome, IfNone, IsSome, length, true, false};
+ghost use Rattle.osc_context.specs.SecurityContext.{AnswersTo};
+ghost use Rattle.osc_context.specs.Views.{as_client, as_server};
+ghost use Rattle.osc_protect.specs.Views.{shown};
+ghost use Rattle.osc_handle.specs.ContextBytes.{client_in, server_in, id_context_in, IsContext};
+
+use osc_context::{Context, IdContext, Kid};
+
+/// A context in the caller's memory. An ID Context of no bytes is none.
+#[repr(C)]
+#[derive(Clone, Copy)]
+pub struct ContextHandle {
+    pub sender: [u8; 7],
+    pub sender_len: u8,
+    pub recipient: [u8; 7],
+    pub recipient_len: u8,
+    pub id_context: [u8; 32],
+    pub id_context_len: u8,
+    pub sender_key: [u8; 16],
+    pub recipient_key: [u8; 16],
+    pub common_iv: [u8; 13],
+}
+
+impl ContextHandle {
+    /// The bytes of a context.
+    pub fn of(context: &Context) -> ContextHandle
+        ensures client { client_in result ≡ as_client context.now }
+        ensures server { server_in result ≡ as_server context.now }
+        ensures handle { IsContext result }
+    {
+        let (sender, sender_len) = padded(context.sender().bytes());
+        let (recipient, recipient_len) = padded(context.recipient().bytes());
+        let (id_context, id_context_len) = match context.id_context() {
+            Some(id_context) => padded(id_context.bytes()),
+            None => ([0; 32], 0),
+        };
+        ContextHandle {
+            sender,
+            sender_len,
+            recipient,
+            recipient_len,
+            id_context,
+            id_context_len,
+            sender_key: *context.sender_key(),
+            recipient_key: *context.recipient_key(),
+            common_iv: *context.common_iv(),
+        }
+    }
+
+    /// The bytes of no context.
+    pub(crate) fn unused() -> ContextHandle {
+        ContextHandle {
+            sender: [0; 7],
+            sender_len: 0,
+            recipient: [0; 7],
+            recipient_len: 0,
+            id_context: [0; 32],
+            id_context_len: 0,
+            sender_key: [0; 16],
+            recipient_key: [0; 16],
+            common_iv: [0; 13],
+        }
+    }
+
+    /// The context that the handle says, or None where its bytes are none that a call wrote.
+    pub fn context(&self) -> Option<Context>
+        ensures client { IfSome result (λ c. as_client c ≡ client_in self.now) }
+        ensures server { IfSome result (λ c. as_server c ≡ server_in self.now) }
+        ensures accepted { IsSome result → IsContext self.now }
+        ensures accepts { IsContext self.now → IsSome result }
+    {
+        let sender = identifier(&self.sender, self.sender_len)?;
+        let recipient = identifier(&self.recipient, self.recipient_len)?;
+        let id_context = id_context(&self.id_context, self.id_context_len)?;
+        Context::from_derived(
+            sender,
+            recipient,
+            id_context,
+            self.sender_key,
+            self.recipient_key,
+            self.common_iv,
+        )
+    }
+}
+
+impl ContextHandle {
+    /// Whether the bytes are ones that a call may have written.
+    #[must_use]
+    pub fn is_whole(&self) -> bool
+        ensures yes { result ≡ true → IsContext self.now }
+        ensures no { result ≡ false → IsContext self.now → ⊥ }
+    {
+        self.sender_len <= 7
+            && self.recipient_len <= 7
+            && self.id_context_len <= 32
+            && self.sender[..usize::from(self.sender_len)]
+                != self.recipient[..usize::from(self.recipient_len)]
+    }
+
+    /// The identifier that requests for the context name it by, as its server.
+    pub(crate) fn kid(&self) -> &[u8]
+        requires { IsContext self.now }
+        ensures { result.now ≡ (server_in self.now).client }
+    {
+        &self.recipient[..usize::from(self.recipient_len)]
+    }
+
+    /// The ID Context, or none.
+    pub(crate) fn kid_context(&self) -> Option<&[u8]>
+        requires { IsContext self.now }
+        ensures { shown result ≡ (server_in self.now).id_context }
+    {
+        if self.id_context_len == 0 {
+            return None;
+        }
+        Some(&self.id_context[..usize::from(self.id_context_len)])
+    }
+
+    /// Whether requests with this kid, and this kid context or none, are for the context, as its server.
+    pub(crate) fn answers_to(&self, kid: &[u8], kid_context: Option<&[u8]>) -> bool
+        requires { IsContext self.now }
+        ensures yes { result ≡ true → AnswersTo (server_in self.now) kid.now (shown kid_context.entry) }
+        ensures no { result ≡ false → AnswersTo (server_in self.now) kid.now (shown kid_context.entry) → ⊥ }
+    {
+        let id_context = &self.id_context[..usize::from(self.id_context_len)];
+        let same = match kid_context {
+            Some(kid_context) => kid_context == id_context && !kid_context.is_empty(),
+            None => id_context.is_empty(),
+        };
+        same && &self.recipient[..usize::from(self.recipient_len)] == kid
+    }
+}
+
+/// The identifier of so many of the bytes, or None where there are not so many.
+fn identifier(bytes: &[u8; 7], len: u8) -> Option<Kid>
+    ensures made { IfSome result (λ kid. kid ≡ take len bytes.now) }
+    ensures accepted { IsSome result → len ≤ 7 }
+    ensures accepts { len ≤ 7 → IsSome result }
+{
+    Kid::new(bytes.get(..usize::from(len))?)
+}
+
+/// The ID Context of so many of the bytes, none for none of them, or None where there are not so many.
+fn id_context(bytes: &[u8; 32], len: u8) -> Option<Option<IdContext>>
+    ensures made { IfSome result (λ id_context. id_context ≡ id_context_in bytes.now len) }
+    ensures accepted { IsSome result → len ≤ 32 }
+    ensures accepts { len ≤ 32 → IsSome result }
+{
+    if len == 0 {
+        return Some(None);
+    }
+    IdContext::new(bytes.get(..usize::from(len))?).map(Some)
+}
+
+/// The bytes at the front of a field, zeros behind them, and how many they are.
+pub(crate) fn padded<const N: usize>(bytes: &[u8]) -> ([u8; N], u8)
+    requires fits { length bytes.now ≤ N }
+    requires small { N ≤ 255 }
+    ensures front { take result.1 result.0 ≡ bytes.now }
+    ensures len { result.1 ≡ length bytes.now }
+{
+    let mut field = [0; N];
+    field[..bytes.len()].copy_from_slice(bytes);
+    (field, bytes.len() as u8)
+}

@@ -1,0 +1,26 @@
+//! Both ends of OSCORE (RFC 8613) in plain bytes.
+#![tactic(auto)]
+
+mod client_handle;
+mod client_laws;
+mod context_handle;
+mod contexts_handle;
+mod pending_handle;
+mod reply_refusal;
+mod server_handle;
+mod server_laws;
+mod slot_handle;
+mod ticket_handle;
+mod unanswered_handle;
+
+pub use client_handle::ClientHandle;
+pub use client_laws::{client_nonces_once, client_numbers_once};
+pub use context_handle::ContextHandle;
+pub use contexts_handle::ContextsHandle;
+pub use pending_handle::PendingHandle;
+pub use reply_refusal::ReplyRefusal;
+pub use server_handle::ServerHandle;
+pub use server_laws::server_nonces_once;
+pub use slot_handle::{SlotHandle, size_with};
+pub use ticket_handle::TicketHandle;
+pub use unanswered_handle::UnansweredHandle;

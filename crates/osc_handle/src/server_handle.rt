@@ -1,0 +1,239 @@
+//! A server, as bytes.
+
+ghost use Rattle.std.specs.Prelude.{◌≡◌, ◌≢◌, ◌≤◌, ℕ, Ok, Err, IfOk, IfErr, IfSome, IsSome, OnErr, true, false, length, take, drop};
+ghost use Rattle.osc_coap.specs.Views.{parts_of};
+ghost use Rattle.osc_context.specs.Views.{number_of};
+ghost use Rattle.osc_endpoint.specs.Deciding.{CanShow};
+ghost use Rattle.osc_endpoint.specs.ServerAnswer.{ServerAnswer};
+ghost use Rattle.osc_endpoint.specs.ServerHistory.{Add, Begin, History, Restart, Then};
+ghost use Rattle.osc_endpoint.specs.Views.{added_entry, restarted_entry, values_of};
+ghost use Rattle.osc_endpoint.specs.declared.outcome.Outcome.TheVariants.{KeeperFailed as KeeperFailedOutcome};
+ghost use Rattle.osc_endpoint.specs.declared.server_error.ReplyError.TheVariants.{KeeperFailed};
+ghost use Rattle.osc_handle.specs.ContextBytes.{IsContext, server_in};
+ghost use Rattle.osc_handle.specs.Noting.{Notes, NotesTicket};
+ghost use Rattle.osc_handle.specs.ServerBytes.{DecidesIn, IsSpent, RepliesIn, Serves, TakesIn, entry_of_reply};
+ghost use Rattle.osc_handle.specs.TableBytes.{IsTable};
+ghost use Rattle.osc_handle.specs.TicketBytes.{IsTicket, ticket_in};
+ghost use Rattle.osc_handle.specs.declared.reply_refusal.ReplyRefusal.TheVariants.{BadHandle, TicketSpent, Refused};
+
+use crate::context_handle::ContextHandle;
+use crate::contexts_handle::ContextsHandle;
+use crate::reply_refusal::ReplyRefusal;
+use crate::ticket_handle::TicketHandle;
+use crate::unanswered_handle::UnansweredHandle;
+use osc_coap::Message;
+use osc_context::Piv;
+use osc_endpoint::{
+    AddError, Decided, Decision, Fresh, ReplyError, RestartError, Start, Taken, Ticket,
+    answered_once, decide_over, read_decided,
+};
+use osc_window::WindowSize;
+
+/// A server of up to eight contexts: its clock, its contexts, and which requests of each wait for their answers.
+#[repr(C)]
+#[derive(Clone, Copy)]
+pub struct ServerHandle {
+    pub clock: u64,
+    pub contexts: ContextsHandle,
+    pub unanswered: [UnansweredHandle; 8],
+}
+
+impl ServerHandle {
+    /// A server with no context.
+    #[must_use]
+    pub fn new() -> ServerHandle
+        ensures serves { Serves result Begin }
+        ensures bytes { IsTable result.contexts }
+    {
+        ServerHandle {
+            clock: 0,
+            contexts: ContextsHandle::none(),
+            unanswered: [UnansweredHandle::none(); 8],
+        }
+    }
+
+    /// Adds a context, and answers its index (RFC 8613, B.1); None where the bytes are none that a call may have written. The first
+    /// refusal in the order of `AddError` is answered, and changes nothing.
+    pub fn add(
+        &mut self,
+        context: &ContextHandle,
+        start: Start,
+        size: WindowSize,
+    ) -> Option<Result<usize, AddError>>
+        ensures accepts { IsTable self.old.contexts → IsContext context.now → IsSome result }
+        ensures accepted { IsSome result → IsTable self.old.contexts × IsContext context.now }
+        ensures answered { IfSome result (λ r. (h : History) → Serves self.old h
+            → ServerAnswer h (Add (server_in context.now) start size) (added_entry r)
+            × Serves self.new (Then h (Add (server_in context.now) start size) (added_entry r))) }
+        ensures bytes { IfSome result (λ r. IsTable self.new.contexts) }
+        ensures same { IfSome result (λ r. OnErr r (self.new ≡ self.old)) }
+        ensures unchanged { result ≡ None → self.new ≡ self.old }
+    {
+        if !self.contexts.is_whole() || !context.is_whole() {
+            return None;
+        }
+        answered_once();
+        match self.contexts.add(context, start, size) {
+            Ok(index) => {
+                self.unanswered[index] = UnansweredHandle::none();
+                Some(Ok(index))
+            }
+            Err(error) => Some(Err(error)),
+        }
+    }
+
+    /// Begins a new life of a context (RFC 8613, B.1); None where the bytes are none that a call may have written. The first refusal in
+    /// the order of `RestartError` is answered, and changes nothing.
+    pub fn restart(&mut self, context: usize, next: Piv) -> Option<Result<(), RestartError>>
+        ensures accepts { IsTable self.old.contexts → IsSome result }
+        ensures accepted { IsSome result → IsTable self.old.contexts }
+        ensures answered { IfSome result (λ r. (h : History) → Serves self.old h
+            → ServerAnswer h (Restart context (number_of next)) (restarted_entry r)
+            × Serves self.new (Then h (Restart context (number_of next)) (restarted_entry r))) }
+        ensures bytes { IfSome result (λ r. IsTable self.new.contexts) }
+        ensures same { IfSome result (λ r. OnErr r (self.new ≡ self.old)) }
+        ensures unchanged { result ≡ None → self.new ≡ self.old }
+    {
+        if !self.contexts.is_whole() {
+            return None;
+        }
+        answered_once();
+        match self.contexts.restart(context, next) {
+            Ok(()) => {
+                self.unanswered[context] = UnansweredHandle::none();
+                Some(Ok(()))
+            }
+            Err(error) => Some(Err(error)),
+        }
+    }
+
+    /// Notes the request of a ticket.
+    fn note_ticket(&mut self, ticket: &Ticket)
+        ensures notes { NotesTicket self.old.unanswered self.new.unanswered (values_of ticket.now) }
+        ensures clock { self.new.clock ≡ self.old.clock }
+        ensures contexts { self.new.contexts ≡ self.old.contexts }
+    {
+        let context = ticket.context();
+        if context < 8 {
+            self.unanswered[context].add(ticket.number().number());
+        }
+    }
+
+    /// Notes a request that was delivered.
+    fn note(&mut self, decision: &Decision)
+        ensures notes { Notes self.old.unanswered self.new.unanswered decision.now }
+        ensures clock { self.new.clock ≡ self.old.clock }
+        ensures contexts { self.new.contexts ≡ self.old.contexts }
+    {
+        if let Decision::Deliver(_, ticket) = decision {
+            self.note_ticket(ticket);
+        }
+    }
+
+    /// Decides what a datagram is answered, or None where the bytes are none that a call may have written: the first half of `take`.
+    pub fn decide(
+        &mut self,
+        now: u64,
+        fresh: Fresh,
+        datagram: &mut [u8],
+        out: &mut [u8; 64],
+    ) -> Option<Decided>
+        ensures accepts { IsTable self.old.contexts → IsSome result }
+        ensures accepted { IsSome result → IsTable self.old.contexts }
+        ensures answered { IfSome result (λ decided. (h : History) → Serves self.old h
+            → DecidesIn h now fresh datagram.old decided.decision datagram.new (take decided.reply out.new) self.new) }
+        ensures bytes { IfSome result (λ decided. IsTable self.new.contexts) }
+        ensures shown { IfSome result (λ decided. CanShow decided.decision datagram.new) }
+        ensures within { IfSome result (λ decided. decided.reply ≤ 64) }
+        ensures behind { IfSome result (λ decided. drop decided.reply out.new ≡ drop decided.reply out.old) }
+        ensures unchanged { result ≡ None → (self.new ≡ self.old) × (datagram.new ≡ datagram.old) × (out.new ≡ out.old) }
+    {
+        if !self.contexts.is_whole() {
+            return None;
+        }
+        let decided = decide_over(
+            &mut self.clock,
+            &mut self.contexts,
+            now,
+            fresh,
+            datagram,
+            out,
+        );
+        self.note(&decided.decision);
+        Some(decided)
+    }
+
+    /// Answers a datagram, where it lies (RFC 8613, 8.2), or None where the bytes are none that a call may have written: `decide`, then
+    /// `read_decided`. The first `reply` bytes of `out` are the reply.
+    pub fn take<'b>(
+        &mut self,
+        now: u64,
+        fresh: Fresh,
+        datagram: &'b mut [u8],
+        out: &mut [u8; 64],
+    ) -> Option<Taken<'b>>
+        ensures accepts { IsTable self.old.contexts → IsSome result }
+        ensures accepted { IsSome result → IsTable self.old.contexts }
+        ensures answered { IfSome result (λ taken. (h : History) → Serves self.old h
+            → TakesIn h now fresh datagram.old taken.outcome (take taken.reply out.new) self.new) }
+        ensures bytes { IfSome result (λ taken. IsTable self.new.contexts) }
+        ensures within { IfSome result (λ taken. taken.reply ≤ 64) }
+        ensures behind { IfSome result (λ taken. drop taken.reply out.new ≡ drop taken.reply out.old) }
+        ensures no_keeper_failed { IfSome result (λ taken. taken.outcome ≢ KeeperFailedOutcome) }
+        ensures unchanged { result ≡ None → (self.new ≡ self.old) × (out.new ≡ out.old) }
+    {
+        let Some(Decided { decision, reply }) = self.decide(now, fresh, datagram, out) else {
+            return None;
+        };
+        let outcome = read_decided(datagram, decision);
+        Some(Taken { outcome, reply })
+    }
+
+    /// Seals a reply to the request of a ticket into `out`, and answers how many bytes at its front it takes (RFC 8613, 8.3). Of the
+    /// plain message the code, options and payload are used. Judged in this order: bad bytes, a stale ticket, a spent one, and what else
+    /// a `Server` refuses in the order of `ReplyError`; a refusal changes nothing.
+    pub fn reply(
+        &mut self,
+        ticket: &TicketHandle,
+        own: bool,
+        mid: u16,
+        plain: &Message<'_>,
+        out: &mut [u8],
+    ) -> Result<usize, ReplyRefusal>
+        ensures bad { result ≡ Err BadHandle → IsTable self.old.contexts → IsTicket ticket.now → ⊥ }
+        ensures accepted { result ≢ Err BadHandle → IsTable self.old.contexts × IsTicket ticket.now }
+        ensures answered { (h : History) → Serves self.old h
+            → IfSome (entry_of_reply result out.new) (λ entry. RepliesIn h (ticket_in ticket.now) own mid (parts_of plain.now) (length out.old) entry self.new) }
+        ensures spent { result ≡ Err TicketSpent → (h : History) → Serves self.old h → IsSpent h (ticket_in ticket.now) }
+        ensures once { IsTable self.old.contexts → IsTicket ticket.now → (h : History) → Serves self.old h → IsSpent h (ticket_in ticket.now) → result ≡ Err TicketSpent }
+        ensures bytes { IsTable self.old.contexts → IsTable self.new.contexts }
+        ensures within { IfOk result (λ n. n ≤ length out.new) }
+        ensures behind { IfOk result (λ n. drop n out.new ≡ drop n out.old) }
+        ensures unchanged { OnErr result ((out.new ≡ out.old) × (self.new ≡ self.old)) }
+        ensures no_keeper_failed { result ≢ Err (Refused KeeperFailed) }
+    {
+        if !self.contexts.is_whole() {
+            return Err(ReplyRefusal::BadHandle);
+        }
+        let Some((number, asker)) = ticket.parts() else {
+            return Err(ReplyRefusal::BadHandle);
+        };
+        let context = ticket.context;
+        if !self.contexts.is_present(context, ticket.life) {
+            return Err(ReplyRefusal::Refused(ReplyError::StaleTicket));
+        }
+        if !self.unanswered[context].has(ticket.number) {
+            return Err(ReplyRefusal::TicketSpent);
+        }
+        match self
+            .contexts
+            .reply_at(context, number, &asker, own, mid, plain, out)
+        {
+            Ok(len) => {
+                self.unanswered[context].remove(ticket.number);
+                Ok(len)
+            }
+            Err(error) => Err(ReplyRefusal::Refused(error)),
+        }
+    }
+}

@@ -1,0 +1,269 @@
+//! One context of a server, in its present life, as bytes.
+
+ghost use Rattle.std.specs.Prelude.{◌≡◌, ◌≢◌, ◌≤◌, ◌<◌, ◌+◌, ◌^◌, ◌⊎◌, IfSome, IsSome, IfOk, IfErr, OnErr, true, false, length, drop};
+ghost use Rattle.std.specs.Option.{option_map};
+ghost use Rattle.osc_context.specs.Views.{as_server, number_of};
+ghost use Rattle.osc_window.specs.Views.{places_of};
+ghost use Rattle.osc_coap.specs.Views.{parts_of};
+ghost use Rattle.osc_protect.specs.Views.{context_of};
+ghost use Rattle.osc_endpoint.specs.Agrees.{SlotAgrees};
+ghost use Rattle.osc_endpoint.specs.Life.{Life, marked, renewed};
+ghost use Rattle.osc_endpoint.specs.Replies.{as_reply};
+ghost use Rattle.osc_endpoint.specs.Replying.{reply_entry, reply_mark};
+ghost use Rattle.osc_endpoint.specs.ServerAnswer.{LifeReply};
+ghost use Rattle.osc_endpoint.specs.declared.server_error.ReplyError.TheVariants.{KeeperFailed};
+ghost use Rattle.osc_handle.specs.ContextBytes.{IsContext, server_in};
+ghost use Rattle.osc_handle.specs.SlotBytes.{HoldsIn, IsGateBytes, IsGateIn, IsHighestIn, IsSlotBytes, IsSlotIn, SameBut};
+ghost use Rattle.osc_endpoint.specs.declared.slot.Slot.{Slot as SlotOf};
+
+use crate::context_handle::ContextHandle;
+use osc_coap::Message;
+use osc_context::Piv;
+use osc_endpoint::{Asker, ReplyError, Slot};
+use osc_protect::KeyedContext;
+use osc_window::{Gate, Window, WindowParts, WindowSize};
+
+/// One context of a server, in its present life.
+#[repr(C)]
+#[derive(Clone, Copy)]
+pub struct SlotHandle {
+    pub context: ContextHandle,
+    /// The places of the window that the context gets: 32 or 64.
+    pub places: u8,
+    /// The places of the window that is open.
+    pub window_places: u8,
+    /// 0 closed, 1 closed with a challenge, 2 open with no number, 3 open.
+    pub gate: u8,
+    /// The challenge.
+    pub echo: [u8; 8],
+    /// The moment of the challenge, or the highest number.
+    pub at: u64,
+    pub spent_mask: u64,
+    pub next: u64,
+    pub life: u64,
+}
+
+/// The size of a window with so many places, 32 or 64; None where there is none.
+#[must_use]
+pub fn size_with(places: u8) -> Option<WindowSize>
+    ensures made { IfSome result (λ size. places_of size ≡ places) }
+    ensures accepts { (places ≡ 32) ⊎ (places ≡ 64) → IsSome result }
+    ensures accepted { IsSome result → (places ≡ 32) ⊎ (places ≡ 64) }
+{
+    match places {
+        32 => Some(WindowSize::Places32),
+        64 => Some(WindowSize::Places64),
+        _ => None,
+    }
+}
+
+impl SlotHandle {
+    /// The highest number of the open window, or none; None where there is no such number, or the gate is closed.
+    fn highest(&self) -> Option<Option<Piv>>
+        ensures made { IfSome result (λ highest. IsHighestIn self.now (option_map number_of highest)) }
+        ensures accepts_none { self.now.gate ≡ 2 → IsSome result }
+        ensures accepts_some { self.now.gate ≡ 3 → self.now.at < 2 ^ 40 → IsSome result }
+        ensures accepted { IsSome result → (self.now.gate ≡ 2) ⊎ ((self.now.gate ≡ 3) × (self.now.at < 2 ^ 40)) }
+    {
+        match self.gate {
+            2 => Some(None),
+            3 => Piv::new(self.at).map(Some),
+            _ => None,
+        }
+    }
+
+    /// The gate, or None where the bytes are none.
+    pub(crate) fn gate(&self) -> Option<Gate>
+        ensures made { IfSome result (λ gate. IsGateIn self.now gate) }
+        ensures accepts { IsGateBytes self.now → IsSome result }
+        ensures accepted { IsSome result → IsGateBytes self.now }
+    {
+        match self.gate {
+            0 => Some(Gate::Restarted { challenge: None }),
+            1 => Some(Gate::Restarted {
+                challenge: Some((self.echo, self.at)),
+            }),
+            _ => {
+                let highest = self.highest()?;
+                let size = size_with(self.window_places)?;
+                Some(Gate::Open(Window::from_parts(WindowParts {
+                    highest,
+                    spent_mask: self.spent_mask,
+                    size,
+                })))
+            }
+        }
+    }
+
+    /// Keeps a gate.
+    fn keep_gate(&mut self, gate: &Gate)
+        ensures kept { IsGateIn self.new gate.now }
+        ensures rest { SameBut self.old self.new }
+        ensures bytes { IsGateBytes self.new }
+    {
+        match gate {
+            Gate::Restarted { challenge: None } => self.gate = 0,
+            Gate::Restarted {
+                challenge: Some(challenge),
+            } => {
+                self.gate = 1;
+                self.echo = challenge.0;
+                self.at = challenge.1;
+            }
+            Gate::Open(window) => {
+                let parts = window.parts();
+                self.window_places = parts.size.places() as u8;
+                self.spent_mask = parts.spent_mask;
+                match parts.highest {
+                    None => self.gate = 2,
+                    Some(highest) => {
+                        self.gate = 3;
+                        self.at = highest.number();
+                    }
+                }
+            }
+        }
+    }
+
+    /// Keeps what a context came to: the gate, the next own number and the life. The context and the size stay.
+    pub(crate) fn keep(&mut self, slot: &Slot)
+        ensures kept { (before : SlotOf) → IsSlotIn self.old before → slot.now.context ≡ before.context → slot.now.size ≡ before.size → IsSlotIn self.new slot.now }
+        ensures bytes { IsSlotBytes self.old → IsSlotBytes self.new }
+    {
+        self.keep_gate(&slot.gate);
+        self.next = slot.next;
+        self.life = slot.life;
+    }
+
+    /// Whether the bytes are ones that a call may have written.
+    #[must_use]
+    pub fn is_whole(&self) -> bool
+        ensures yes { result ≡ true → IsSlotBytes self.now }
+        ensures no { result ≡ false → IsSlotBytes self.now → ⊥ }
+    {
+        self.context.is_whole()
+            && size_with(self.places).is_some()
+            && self.gate().is_some()
+            && self.next <= 1 << 40
+    }
+
+    /// The context in its life, whose gate this is.
+    pub(crate) fn slot_with(&self, gate: Gate) -> Slot
+        requires bytes { IsSlotBytes self.now }
+        requires gate { IsGateIn self.now gate }
+        ensures made { IsSlotIn self.now result }
+        ensures gate { result.gate ≡ gate }
+    {
+        let (Some(context), Some(size)) = (self.context.context(), size_with(self.places)) else {
+            unreachable!();
+        };
+        Slot {
+            context: KeyedContext::new(context),
+            size,
+            gate,
+            next: self.next,
+            life: self.life,
+        }
+    }
+
+    /// The context in its life.
+    fn slot(&self) -> Slot
+        requires { IsSlotBytes self.now }
+        ensures { IsSlotIn self.now result }
+    {
+        let Some(gate) = self.gate() else {
+            unreachable!();
+        };
+        self.slot_with(gate)
+    }
+
+    /// The bytes of a place that isn't in use.
+    pub(crate) fn unused() -> SlotHandle {
+        SlotHandle {
+            context: ContextHandle::unused(),
+            places: 0,
+            window_places: 0,
+            gate: 0,
+            echo: [0; 8],
+            at: 0,
+            spent_mask: 0,
+            next: 0,
+            life: 0,
+        }
+    }
+
+    /// The bytes of a context in its life.
+    pub(crate) fn of(context: &ContextHandle, slot: &Slot) -> SlotHandle
+        requires handle { IsContext context.now }
+        requires same { as_server (context_of slot.now.context) ≡ server_in context.now }
+        ensures made { IsSlotIn result slot.now }
+        ensures bytes { IsSlotBytes result }
+    {
+        let places = slot.size.places() as u8;
+        let mut bytes = SlotHandle {
+            context: *context,
+            places,
+            window_places: places,
+            gate: 0,
+            echo: [0; 8],
+            at: 0,
+            spent_mask: 0,
+            next: slot.next,
+            life: slot.life,
+        };
+        bytes.keep_gate(&slot.gate);
+        bytes
+    }
+
+    /// Whether another life may begin: a count of 64 bits has room for it.
+    pub(crate) fn can_renew(&self) -> bool
+        ensures yes { result ≡ true → self.now.life + 1 < 2 ^ 64 }
+        ensures no { result ≡ false → 2 ^ 64 ≤ self.now.life + 1 }
+    {
+        self.life < u64::MAX
+    }
+
+    /// Begins a new life.
+    pub(crate) fn renew(&mut self, next: Piv)
+        requires bytes { IsSlotBytes self.old }
+        requires left { self.old.life + 1 < 2 ^ 64 }
+        ensures kept { (before : SlotOf) (l : Life) → IsSlotIn self.old before → SlotAgrees before l → HoldsIn self.new (renewed (number_of next) l) }
+        ensures bytes { IsSlotBytes self.new }
+    {
+        let mut slot = self.slot();
+        slot.renew(next);
+        self.keep(&slot);
+    }
+
+    /// Seals a reply to the request of the present life that had this number and came from this asker, and answers how many bytes at the
+    /// front of `out` it takes.
+    pub(crate) fn reply_to(
+        &mut self,
+        number: Piv,
+        asker: &Asker,
+        own: bool,
+        mid: u16,
+        plain: &Message<'_>,
+        out: &mut [u8],
+    ) -> Result<usize, ReplyError>
+        requires { IsSlotBytes self.old }
+        ensures answer { (before : SlotOf) (l : Life) → IsSlotIn self.old before → SlotAgrees before l → LifeReply l (number_of number) own
+            (as_reply asker.now.kind asker.now.message_id asker.now.token.items mid (parts_of plain.now)) (length out.old) (reply_entry result out.new) }
+        ensures kept { (before : SlotOf) (l : Life) → IsSlotIn self.old before → SlotAgrees before l → HoldsIn self.new (marked (reply_mark result own) l) }
+        ensures bytes { IsSlotBytes self.new }
+        ensures within { IfOk result (λ n. n ≤ length out.new) }
+        ensures behind { IfOk result (λ n. drop n out.new ≡ drop n out.old) }
+        ensures unchanged { OnErr result (out.new ≡ out.old) }
+        ensures same { OnErr result (self.new ≡ self.old) }
+        ensures no_keeper_failed { IfErr result (λ e. e ≢ KeeperFailed) }
+    {
+        let mut slot = self.slot();
+        match slot.reply_to(number, asker, own, mid, plain, out) {
+            Ok(len) => {
+                self.keep(&slot);
+                Ok(len)
+            }
+            Err(error) => Err(error),
+        }
+    }
+}

@@ -1,0 +1,120 @@
+//! The right to answer one request, as bytes. They can be copied, which the right can't: the server keeps which requests wait for
+//! their answers.
+
+ghost use Rattle.std.specs.Prelude.{◌≡◌, ◌≤◌, IfSome, IsSome, take, true, false};
+ghost use Rattle.osc_context.specs.Views.{number_of};
+ghost use Rattle.osc_endpoint.specs.Views.{values_of};
+ghost use Rattle.osc_handle.specs.TicketBytes.{IsTicket, kind_in, ticket_in};
+
+use osc_coap::{Kind, Token};
+use osc_context::Piv;
+use osc_endpoint::{Asker, Ticket};
+
+/// The ticket of a request that was delivered.
+#[repr(C)]
+#[derive(Clone, Copy)]
+pub struct TicketHandle {
+    /// The index of the context.
+    pub context: usize,
+    /// How often the context had been restarted.
+    pub life: u64,
+    pub number: u64,
+    /// 0 for CON, 1 for NON.
+    pub kind: u8,
+    pub message_id: u16,
+    pub token: [u8; 8],
+    pub token_len: u8,
+}
+
+/// The number of a kind, as it stands in a datagram (RFC 7252, 3).
+fn number_of_kind(kind: Kind) -> u8
+    ensures is { kind_in result ≡ kind }
+    ensures within { result ≤ 3 }
+{
+    match kind {
+        Kind::Con => 0,
+        Kind::Non => 1,
+        Kind::Ack => 2,
+        Kind::Rst => 3,
+    }
+}
+
+/// The kind that has this number, or None where none has it.
+fn kind_with(number: u8) -> Option<Kind>
+    ensures is { IfSome result (λ kind. kind ≡ kind_in number) }
+    ensures accepts { number ≤ 3 → IsSome result }
+    ensures accepted { IsSome result → number ≤ 3 }
+{
+    match number {
+        0 => Some(Kind::Con),
+        1 => Some(Kind::Non),
+        2 => Some(Kind::Ack),
+        3 => Some(Kind::Rst),
+        _ => None,
+    }
+}
+
+impl TicketHandle {
+    /// The bytes of a ticket.
+    #[must_use]
+    pub fn of(ticket: &Ticket) -> TicketHandle
+        ensures ticket { ticket_in result ≡ values_of ticket.now }
+        ensures bytes { IsTicket result }
+    {
+        let asker = ticket.asker();
+        let mut token = [0; 8];
+        token[..asker.token.len()].copy_from_slice(asker.token.as_slice());
+        TicketHandle {
+            context: ticket.context(),
+            life: ticket.life(),
+            number: ticket.number().number(),
+            kind: number_of_kind(asker.kind),
+            message_id: asker.message_id,
+            token,
+            token_len: asker.token.len() as u8,
+        }
+    }
+
+    /// Whom the reply goes to, or None where the bytes are none that a call may have written.
+    fn asker(&self) -> Option<Asker>
+        ensures kind { IfSome result (λ asker. asker.kind ≡ kind_in self.now.kind) }
+        ensures message_id { IfSome result (λ asker. asker.message_id ≡ self.now.message_id) }
+        ensures token { IfSome result (λ asker. asker.token.items ≡ take self.now.token_len self.now.token) }
+        ensures accepts { self.now.kind ≤ 3 → self.now.token_len ≤ 8 → IsSome result }
+        ensures accepted { IsSome result → (self.now.kind ≤ 3) × (self.now.token_len ≤ 8) }
+    {
+        let kind = kind_with(self.kind)?;
+        let bytes = self.token.get(..usize::from(self.token_len))?;
+        let mut token = Token::new();
+        token.try_extend_from_slice(bytes).unwrap();
+        Some(Asker {
+            kind,
+            message_id: self.message_id,
+            token,
+        })
+    }
+
+    /// The number of the request, and whom the reply goes to; None where the bytes are none that a call may have written.
+    #[must_use]
+    pub fn parts(&self) -> Option<(Piv, Asker)>
+        ensures number { IfSome result (λ parts. number_of parts.0 ≡ self.now.number) }
+        ensures kind { IfSome result (λ parts. parts.1.kind ≡ (ticket_in self.now).kind) }
+        ensures message_id { IfSome result (λ parts. parts.1.message_id ≡ (ticket_in self.now).message_id) }
+        ensures token { IfSome result (λ parts. parts.1.token.items ≡ (ticket_in self.now).token) }
+        ensures accepts { IsTicket self.now → IsSome result }
+        ensures accepted { IsSome result → IsTicket self.now }
+    {
+        let number = Piv::new(self.number)?;
+        let asker = self.asker()?;
+        Some((number, asker))
+    }
+
+    /// Whether the bytes are ones that a call may have written.
+    #[must_use]
+    pub fn is_whole(&self) -> bool
+        ensures yes { result ≡ true → IsTicket self.now }
+        ensures no { result ≡ false → IsTicket self.now → ⊥ }
+    {
+        self.parts().is_some()
+    }
+}
