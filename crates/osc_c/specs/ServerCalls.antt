@@ -127,6 +127,6 @@ pub data RefusesServing (s new : ServerHandle) (now : ℕ) (echo : List ℕ) (mi
 pub data RefusesReplying (s new : ServerHandle) (t : TicketHandle) (own : Bool) (mid : ℕ) (plain : List ℕ) (room : ℕ) (status : Status) (detail : ℕ) : Type 0 where
   bad_handle : (IsTable s.contexts → IsTicket t → ⊥) → status ≡ BadHandle → detail ≡ 0 → RefusesReplying s new t own mid plain room status detail
   malformed : IsTable s.contexts → IsTicket t → (fault : Fault) (place : ℕ) → HasFault plain fault place → status ≡ format_status fault → detail ≡ place → RefusesReplying s new t own mid plain room status detail
-  spent : IsTable s.contexts → IsTicket t → ((h : History) → Serves s h → IsSpent h (ticket_in t)) → status ≡ TicketSpent → detail ≡ 0 → RefusesReplying s new t own mid plain room status detail
+  spent : IsTable s.contexts → IsTicket t → (p : Parts) → IsDatagram p plain → ((h : History) → Serves s h → IsSpent h (ticket_in t)) → status ≡ TicketSpent → detail ≡ 0 → RefusesReplying s new t own mid plain room status detail
   refused : IsTable s.contexts → IsTicket t → (p : Parts) → IsDatagram p plain → (e : ReplyError) → IsReplyStatus e status detail
       → ((h : History) → Serves s h → RepliesIn h (ticket_in t) own mid p room (NotReplied e) new) → RefusesReplying s new t own mid plain room status detail

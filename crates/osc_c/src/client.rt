@@ -129,12 +129,14 @@ fn request_in(
     ensures accepted { IsOk result → IsClient client.old }
     ensures unchanged { OnErr result (out.new ≡ out.old) }
 {
-    if !client.is_whole() {
-        return Err(Status::BadHandle.into());
-    }
     let message = match parse(plain) {
         Ok(message) => message,
-        Err(error) => return Err(error.into()),
+        Err(error) => {
+            if !client.is_whole() {
+                return Err(Status::BadHandle.into());
+            }
+            return Err(error.into());
+        }
     };
     match client.request(now, &message, out) {
         Some(Ok(len)) => Ok(len),

@@ -33,7 +33,7 @@ returns-in-Some-Err-clause-refused c =
     let room = length c.args.out.now in
     let left = subst (λ (r : Result ℕ RequestError). OnErr r ((c.request.new.out ≡ c.args.out.now)
     × ((h : History) → Asks c.args.client.now h → Asks c.request.new.self (Then h (Advance c.args.now) Advanced)))) c.in-Some-Err.field-0-is c.in-Some-Err.ensures.advanced in
-    refused (c.if-not-is_whole.ensures.yes refl) p c.in-Ok.ensures.accepted c.in-Some-Err.error c.asking_refusal.ensures
+    refused (c.in-Some-Err.ensures.accepted refl) p c.in-Ok.ensures.accepted c.in-Some-Err.error c.asking_refusal.ensures
     (λ h a. (
       subst (λ (r : Result ℕ RequestError). ClientAnswer 8 h (Request c.args.now p room) (request_entry r c.request.new.out)) c.in-Some-Err.field-0-is (c.in-Some-Err.ensures.answered h a),
       left.1 h a,

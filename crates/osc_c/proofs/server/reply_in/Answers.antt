@@ -1,11 +1,11 @@
-use Rattle.std.proofs.Common.{◌≡◌, ℕ, ap, refl, subst, length, Result, Ok, Err, IfSome}
+use Rattle.std.proofs.Common.{◌≡◌, ℕ, ap, refl, subst, length, Result, Ok, Err, IfSome, ◌∙◌, sym}
 use Rattle.osc_coap.specs.Views.{parts_of}
 use Rattle.osc_endpoint.specs.ServerHistory.{History}
 use Rattle.osc_handle.specs.ServerBytes.{RepliesIn, Serves, entry_of_reply}
 use Rattle.osc_handle.specs.TicketBytes.{ticket_in}
 use Rattle.osc_handle.specs.declared.reply_refusal.ReplyRefusal.{ReplyRefusal}
 use Rattle.osc_handle.specs.declared.reply_refusal.ReplyRefusal.TheVariants.{BadHandle, Refused, TicketSpent}
-use Rattle.osc_c.specs.ServerCalls.RefusesReplying.{malformed, refused}
+use Rattle.osc_c.specs.ServerCalls.RefusesReplying.{malformed, refused, spent}
 use Rattle.osc_c.specs.declared.status.Refusal.{Refusal}
 use Rattle.osc_c.proofs.Serving.{refused_alone}
 use Rattle.osc_c.proofs.server.reply_in.Goals as goal
@@ -36,3 +36,11 @@ pub returns-in-Err-Refused-clause-once : goal.returns-in-Err-Refused-clause-once
 returns-in-Err-Refused-clause-once c = λ p is table ticket h serves spent.
     absurd (refused_alone c.in-Err-Refused.field-0 c.in-Err-Refused.error TicketSpent c.in-Err-Refused.field-0-is (λ f. let f' : Refused c.in-Err-Refused.error ≡ TicketSpent = f in cc)
     (c.in-Err-Refused.ensures.once table ticket h serves spent))
+
+pub returns-in-Err-TicketSpent-clause-refused : goal.returns-in-Err-TicketSpent-clause-refused
+returns-in-Err-TicketSpent-clause-refused c =
+    let is : ◌≡◌ {A = Result ℕ ReplyRefusal} (Err c.in-Err-TicketSpent.field-0) (Err TicketSpent) = ap (λ (r : ReplyRefusal). Err r) c.in-Err-TicketSpent.field-0-is in
+    let whole = c.in-Err-TicketSpent.ensures.accepted (λ e. let f : ◌≡◌ {A = Result ℕ ReplyRefusal} (Err TicketSpent) (Err BadHandle) = sym is ∙ e in cc) in
+    spent whole.0 whole.1 (parts_of c.in-Ok.message) c.in-Ok.ensures.accepted (c.in-Err-TicketSpent.ensures.spent is)
+    (ap (λ (r : Refusal). r.status) c.into-in-Err-TicketSpent.ensures)
+    (ap (λ (r : Refusal). r.detail) c.into-in-Err-TicketSpent.ensures)
