@@ -108,23 +108,30 @@ fn of_protection(
 }
 
 /// A call of osc_context or osc_protect under a context.
+fn under_this(verb: &str, fields: &Fields<'_>, context: &KeyedContext, answer: &mut Answer) {
+    match verb {
+        "answers-to" => context::answers_to(fields, context.context(), answer),
+        "names" => protection::named(fields, context, answer),
+        "seal-request" => protection::sealed_request(fields, context, answer),
+        "seal-response" => protection::sealed_response(fields, context, answer),
+        "open-request" => protection::opened_request(fields, context, answer),
+        "open-response" => protection::opened_response(fields, context, answer),
+        _ => fields.refuse(),
+    }
+}
+
+/// Such a call under a context that keeps its schedules, and once more under one that keeps none.
 fn under_a_context(
     verb: &str,
     fields: &Fields<'_>,
     contexts: &[NamedContext<'_>],
     answer: &mut Answer,
 ) {
-    let Some(context) = fields.context(contexts) else {
+    let (Some(context), Some(again)) = (fields.context(contexts), fields.context(contexts)) else {
         return fields.refuse();
     };
-    let keyed = KeyedContext::new(context);
-    match verb {
-        "answers-to" => context::answers_to(fields, keyed.context(), answer),
-        "names" => protection::named(fields, &keyed, answer),
-        "seal-request" => protection::sealed_request(fields, &keyed, answer),
-        "seal-response" => protection::sealed_response(fields, &keyed, answer),
-        "open-request" => protection::opened_request(fields, &keyed, answer),
-        "open-response" => protection::opened_response(fields, &keyed, answer),
-        _ => fields.refuse(),
-    }
+    under_this(verb, fields, &KeyedContext::new(context), answer);
+    answer.again();
+    let context = KeyedContext::for_one_message(again);
+    under_this(verb, fields, &context, answer);
 }

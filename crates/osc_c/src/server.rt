@@ -1,11 +1,10 @@
 //! A server, for C: its bytes are the caller's, and each call does what the server does. A request is answered once, however often its
 //! ticket is copied.
 
-ghost use Rattle.std.specs.Prelude.{◌≡◌, ◌≢◌, ◌≤◌, ◌<◌, ◌^◌, ◌⊎◌, IfSome, IsSome, IfOk, IfErr, IsOk, IsErrAnd, OnErr, true, false, take, drop, map, length, Err};
+ghost use Rattle.std.specs.Prelude.{◌≡◌, ◌≢◌, ◌≤◌, ◌<◌, ◌^◌, IfOk, IfErr, IsOk, IsErrAnd, OnErr, true, false, take, drop, map, length, Err};
 ghost use Rattle.osc_coap.specs.Datagram.{Parts, IsDatagram};
 ghost use Rattle.osc_context.specs.Views.{number_of};
 ghost use Rattle.osc_context.specs.declared.partial_iv.Piv.{Piv as PivOf};
-ghost use Rattle.osc_window.specs.Views.{places_of};
 ghost use Rattle.osc_window.specs.declared.window_size.WindowSize.{WindowSize as WindowSizeOf};
 ghost use Rattle.osc_protect.specs.Views.{message_of};
 ghost use Rattle.osc_protect.specs.declared.opened.Opened.{Opened as OpenedOf};
@@ -28,9 +27,8 @@ use crate::status::{DONE, Refusal, Status};
 use osc_coap::parse;
 use osc_context::Piv;
 use osc_endpoint::{AddError, Fresh, Outcome, ReplyError, RestartError, Start, Taken, Ticket};
-use osc_handle::{ContextHandle, ReplyRefusal, ServerHandle, TicketHandle};
+use osc_handle::{ContextHandle, ReplyRefusal, ServerHandle, TicketHandle, size_with};
 use osc_protect::Opened;
-use osc_window::WindowSize;
 
 /// Begins a server with no context.
 #[unsafe(no_mangle)]
@@ -62,24 +60,6 @@ fn start_with(restarted: bool, next: Piv) -> Start
     }
 }
 
-/// The size of a window with so many places, or None where there is none.
-fn size_given(places: u8) -> Option<WindowSize>
-    ensures made { IfSome result (λ size. places_of size ≡ places) }
-    ensures accepts { (places ≡ 32) ⊎ (places ≡ 64) → IsSome result }
-    ensures accepted { IsSome result → (places ≡ 32) ⊎ (places ≡ 64) }
-{
-    let size = if places == 64 {
-        WindowSize::Places64
-    } else {
-        WindowSize::Places32
-    };
-    if size.places() == u64::from(places) {
-        Some(size)
-    } else {
-        None
-    }
-}
-
 /// Adds a context to a server.
 fn add_in(
     server: &mut ServerHandle,
@@ -101,7 +81,7 @@ fn add_in(
     let Some(number) = Piv::new(next) else {
         return Err(Status::BadNumber);
     };
-    let Some(size) = size_given(window_places) else {
+    let Some(size) = size_with(window_places) else {
         return Err(Status::BadNumber);
     };
     match server.add(context, start_with(restarted, number), size) {

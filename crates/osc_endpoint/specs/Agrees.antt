@@ -1,7 +1,8 @@
 -- How the code is seen: that a server, or a client, is as its history says.
-use Rattle.std.specs.Prelude.{◌≡◌, ◌≢◌, ℕ, true, false, List, AllPairs, Option, Some, None, length, map, slice_get}
+use Rattle.std.specs.Prelude.{◌≡◌, ◌≢◌, ◌^◌, ℕ, true, false, List, AllPairs, Option, Some, None, length, map, slice_get}
 use Rattle.osc_context.specs.SecurityContext.{SecurityContext}
-use Rattle.osc_context.specs.Views.{as_client, as_server}
+use Rattle.osc_context.specs.Views.{as_client, as_server, number_of}
+use Rattle.osc_context.specs.declared.partial_iv.Piv.{Piv}
 use Rattle.osc_window.specs.declared.gate.Gate.{Gate}
 use Rattle.osc_window.specs.declared.gate.Gate.TheVariants as gates
 use Rattle.osc_window.specs.Taken.{AgreesWith}
@@ -70,6 +71,11 @@ pub record ClientParts : Type 0 where
 -- what this client is made of (how the code is seen)
 abbrev pub client_parts : {N : ℕ} → Client N → ClientParts
 client_parts c = record { context = as_client (context_of c.context); life_ms = c.life_ms; clock = c.clock; next = c.next; pending = map asked_of c.pending.items }
+
+-- the number that a client goes on at, or the limit where none is left (RFC 8613, 7.2.1)
+abbrev pub next_of : Option Piv → ℕ
+next_of None = 2 ^ 40
+next_of (Some next) = number_of next
 
 -- no two of these requests have one token (RFC 7252, 5.3.1)
 abbrev pub TokensDiffer : List client.Asked → Type 0

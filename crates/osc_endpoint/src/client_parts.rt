@@ -1,41 +1,43 @@
 //! A client of plain values, and the values of a client, for a caller who keeps them elsewhere between two calls.
 
-ghost use Rattle.std.specs.Prelude.{◌≡◌, ◌≤◌, ◌^◌, IfSome, IsSome, length, map};
+ghost use Rattle.std.specs.Prelude.{◌≡◌, ◌≤◌, ◌<◌, ◌^◌, ◌++◌, ◌∷◌, [], length, map};
 ghost use Rattle.osc_context.specs.Views.{as_client};
 ghost use Rattle.osc_endpoint.specs.Views.{asked_of};
 
 use crate::client::Client;
 use crate::pending::Pending;
+use crate::slot::OWN_LIMIT;
 use arrayvec::ArrayVec;
-use osc_context::Context;
+use osc_context::{Context, Piv};
 use osc_protect::KeyedContext;
 
 impl<const N: usize> Client<N> {
-    ghost use Rattle.osc_endpoint.specs.Agrees.{client_parts};
+    ghost use Rattle.osc_endpoint.specs.Agrees.{client_parts, next_of};
 
-    /// The client that has these values, or None where the next number is past the limit, 2^40.
+    /// The client that has these values and nothing pending, without a next number where none is left. It keeps no key schedule: each
+    /// call makes the one that it needs.
     #[must_use]
-    pub fn resumed(
-        context: Context,
-        life_ms: u64,
-        clock: u64,
-        next: u64,
-        pending: ArrayVec<Pending, N>,
-    ) -> Option<Client<N>>
-        ensures made { IfSome result (λ c. client_parts c ≡ record { context = as_client context; life_ms = life_ms; clock = clock; next = next; pending = map asked_of pending.entry.items }) }
-        ensures accepted { IsSome result → next ≤ 2 ^ 40 }
-        ensures accepts { next ≤ 2 ^ 40 → IsSome result }
+    pub fn resumed(context: Context, life_ms: u64, clock: u64, next: Option<Piv>) -> Client<N>
+        ensures { client_parts result ≡ record { context = as_client context; life_ms = life_ms; clock = clock; next = next_of next; pending = [] } }
     {
-        if next > 1 << 40 {
-            return None;
-        }
-        Some(Client {
-            context: KeyedContext::new(context),
+        Client {
+            context: KeyedContext::for_one_message(context),
             life_ms,
             clock,
-            next,
-            pending,
-        })
+            next: match next {
+                Some(next) => next.number(),
+                None => OWN_LIMIT,
+            },
+            pending: ArrayVec::new(),
+        }
+    }
+
+    /// Puts a request that was sealed before at the end of the table. No request of its token may be there.
+    pub fn remember(&mut self, request: Pending)
+        requires { length (client_parts self.old).pending < N }
+        ensures { client_parts self.new ≡ record (client_parts self.old) { pending = (client_parts self.old).pending ++ asked_of request ∷ [] } }
+    {
+        self.pending.push(request);
     }
 
     /// The clock: the greatest moment so far, in milliseconds.

@@ -1,25 +1,11 @@
 -- The bits of a mask of 64, and the numbers that they stand for. below is how far a number lies below the highest one.
-use Rattle.std.proofs.Common.{◌≡◌, ℕ, ◌+◌, ◌-◌, ◌*◌, ◌%◌, ◌^◌, ◌<◌, ◌≤◌, ◌∙◌, sym, ap, arith, add-zero, ◌&&◌, ◌||◌, not, bit_or, bit_and}
+use Rattle.std.proofs.Common.{◌≡◌, ℕ, ◌+◌, ◌-◌, ◌*◌, ◌%◌, ◌^◌, ◌<◌, ◌≤◌, ◌∙◌, arith, ◌&&◌, ◌||◌, not, bit_or, bit_and}
 use Rattle.std.specs.Prelude.{nat_lt, nat_le, ◌==◌}
-use Rattle.std.specs.Int.{bit_at, bit_not, w64}
-use Rattle.std.proofs.lemmas.Nat.{and_mask, pow_pos}
-use Rattle.std.proofs.lemmas.Nat.Bits.{bit_at_cat_low, bit_at_cat_high, bit_at-zero, bit_at_and, bit_at_ones, bit_at-lt, bit_at_set_same, bit_at_set_other, bit_at_clear_same, bit_at_clear_other}
+use Rattle.std.specs.Int.{bit_not, w64}
+use Rattle.std.proofs.lemmas.Nat.Bits.{bit_at_set_same, bit_at_set_other, bit_at_clear_same, bit_at_clear_other}
 use Rattle.std.proofs.lemmas.Bool.Decides.{nat_tests}
+use Rattle.osc_window.proofs.Masks.{kept_below, shifted_high, shifted_low}
 use Rattle.osc_handle.specs.UnansweredBytes.{has_bit}
-
--- the low bits of a shifted mask are empty
-shifted_low : (mask k i : ℕ) → i < k → bit_at (mask * 2 ^ k) i ≡ 0
-shifted_low mask k i h = ap (λ x. bit_at x i) (sym (add-zero (mask * 2 ^ k))) ∙ bit_at_cat_low mask k 0 i h ∙ bit_at-zero i
-
--- its high bits are those of the mask
-shifted_high : (mask k i : ℕ) → k ≤ i → bit_at (mask * 2 ^ k) i ≡ bit_at mask (i - k)
-shifted_high mask k i h = ap (λ x. bit_at x i) (sym (add-zero (mask * 2 ^ k))) ∙ bit_at_cat_high mask k 0 i (pow_pos k) h
-
--- a word keeps the bits below 64
-kept_below : (x i : ℕ) → i < 64 → bit_at (x % 2 ^ 64) i ≡ bit_at x i
-kept_below x i h =
-    ap (λ y. bit_at y i) (sym (and_mask x 64)) ∙ bit_at_and x (2 ^ 64 - 1) i
-    ∙ omega (arith, bit_at_ones 64 i h, bit_at-lt x i)
 
 pub bit_set : (mask below other : ℕ) → below < 64 → has_bit (bit_or mask (1 * 2 ^ below % 2 ^ 64)) other ≡ ((other == below) || has_bit mask other)
 bit_set mask below other h = grind (arith, nat_tests, bit_at_set_same w64 mask below, bit_at_set_other w64 mask below)

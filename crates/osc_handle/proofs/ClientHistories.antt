@@ -1,37 +1,55 @@
 -- The bytes of a client, the client that they stand for, and the history of both.
-use Rattle.std.proofs.Common.{◌≡◌, ◌∙◌, sym, ap, subst, ℕ, List, Option, Some, None, Result, Ok, Err}
-use Rattle.std.specs.Prelude.{IfSome, OnErr, max}
-use Rattle.std.proofs.lemmas.Option.{none-some, same_Some}
-use Rattle.osc_coap.specs.Inner.{InnerParts}
+use Rattle.std.proofs.Common.{◌≡◌, ◌∙◌, ◌^◌, ◌≤◌, ◌<◌, ◌+◌, ◌++◌, ◌∷◌, [], sym, ap, subst, arith, ℕ, List, Option, Some, None, Result, Ok, Err, length, map, take}
+use Rattle.std.specs.Prelude.{IfSome, IfNone, OnErr, slice_get}
+use Rattle.std.proofs.lemmas.List.{length-map, length-take-le}
 use Rattle.osc_context.specs.SecurityContext.{SecurityContext}
-use Rattle.osc_endpoint.specs.Agrees.{ClientAgrees, ClientParts, HasTokensApart, TokensDiffer, client_parts}
-use Rattle.osc_endpoint.specs.ClientAnswer.{ClientAnswer, Delivers, TakeAnswer}
+use Rattle.osc_context.specs.Views.{number_of}
+use Rattle.osc_context.specs.declared.partial_iv.Piv.{Piv}
+use Rattle.osc_endpoint.specs.Agrees.{ClientAgrees, ClientParts, HasTokensApart, TokensDiffer, client_parts, next_of}
+use Rattle.osc_endpoint.specs.ClientAnswer.{ClientAnswer}
 use Rattle.osc_endpoint.specs.ClientDeciding.{LeavesBy}
-use Rattle.osc_endpoint.specs.ClientHistory.{Answer, Asked, BadInner, BadTag, Deliver, Entry, Event, History, Malformed, NotResponse, Then, Undecodable, UnknownToken, Unprotected, clock, context}
-use Rattle.osc_endpoint.proofs.ClientDeliveries.{delivered}
-use Rattle.osc_protect.specs.Protection.{ProtectsResponse}
+use Rattle.osc_endpoint.specs.ClientHistory.{Asked, Entry, Event, History, Then}
 use Rattle.osc_endpoint.specs.declared.client.Client.{Client}
 use Rattle.osc_endpoint.specs.declared.decision.ClientDecision.{ClientDecision}
 use Rattle.osc_endpoint.specs.declared.decision.ClientDecision.TheVariants as decisions
-use Rattle.osc_handle.specs.ClientBytes.{Asks, IsClient, asked_in, parts_in}
-use Rattle.osc_handle.specs.ClientSteps.{Keeps, LeavesIn}
+use Rattle.osc_handle.specs.ClientBytes.{Asks, IsClient, asked_at, parts_in}
+use Rattle.osc_handle.specs.ClientSteps.{Keeps, LeavesIn, parts_with}
 use Rattle.osc_handle.specs.ContextBytes.{client_in}
 use Rattle.osc_handle.specs.declared.client_handle.ClientHandle.{ClientHandle}
-
--- what holds of an answer that is there
-pub if_some : {A : Type 0} → (o : Option A) (P Q : A → Type 0) → ((x : A) → P x → Q x) → IfSome o P → IfSome o Q
-if_some None P Q f h = tt
-if_some (Some x) P Q f h = f x h
+use Rattle.osc_handle.specs.declared.pending_handle.PendingHandle.{PendingHandle}
+use Rattle.osc_handle.proofs.ClientPlaces.{asked_more}
 
 -- what holds where it is refused
 pub on_err : {A B : Type 0} → (r : Result A B) (P Q : Type 0) → (P → Q) → OnErr r P → OnErr r Q
 on_err (Ok x) P Q f h = tt
 on_err (Err e) P Q f h = f h
 
--- what was read is what the bytes say
-pub parts_same : (c : ClientHandle) (s : SecurityContext) (xs : List Asked) (p : ClientParts) → s ≡ client_in c.context → xs ≡ asked_in c
-    → p ≡ record { context = s; life_ms = c.life_ms; clock = c.clock; next = c.next; pending = xs } → p ≡ parts_in c
-parts_same c s xs p same there is = is ∙ (λ i. record { context = same i; life_ms = c.life_ms; clock = c.clock; next = c.next; pending = there i })
+-- a number below the limit is the next one, and the limit is where there is none
+next_is : (o : Option Piv) (n : ℕ) → n ≤ 2 ^ 40 → IfSome o (λ number. number_of number ≡ n) → IfNone o (2 ^ 40 ≤ n) → next_of o ≡ n
+next_is None n most given limit = omega (arith, most, limit)
+next_is (Some number) n most given limit = given
+
+-- a client that begins again with the values of the bytes
+pub begun : (c : ClientHandle) (p : ClientParts) (s : SecurityContext) (next : Option Piv) → s ≡ client_in c.context → c.next ≤ 2 ^ 40
+    → IfSome next (λ number. number_of number ≡ c.next) → IfNone next (2 ^ 40 ≤ c.next)
+    → p ≡ record { context = s; life_ms = c.life_ms; clock = c.clock; next = next_of next; pending = [] } → p ≡ parts_with 0 c
+begun c p s next same most given limit is =
+    is ∙ (λ i. record { context = same i; life_ms = c.life_ms; clock = c.clock; next = next_is next c.next most given limit i; pending = [] })
+
+-- one request more is read
+pub parts_more : (c : ClientHandle) (i : ℕ) (p q : ClientParts) (a : Asked) (b : PendingHandle) → slice_get c.pending i ≡ Some b → a ≡ asked_at b → p ≡ parts_with i c
+    → q ≡ record p { pending = p.pending ++ a ∷ [] } → q ≡ parts_with (i + 1) c
+parts_more c i p q a b there is before grown =
+    let last : map asked_at (take i c.pending) ++ a ∷ [] ≡ map asked_at (take (i + 1) c.pending) =
+    ap (λ x. map asked_at (take i c.pending) ++ x ∷ []) is ∙ sym (asked_more c.pending i b there) in
+    grown ∙ (ap (λ (x : ClientParts). record x { pending = x.pending ++ a ∷ [] }) before ∙ ap (λ xs. record (parts_with i c) { pending = xs }) last)
+
+-- those that were read are not yet so many
+pub read_few : (c : ClientHandle) (i n : ℕ) (p : ClientParts) → i < n → i < length c.pending → p ≡ parts_with i c → length p.pending < n
+read_few c i n p less within before =
+    let many : length p.pending ≡ i =
+    ap (λ (x : ClientParts). length x.pending) before ∙ (length-map (take i c.pending) asked_at ∙ length-take-le i c.pending (omega (arith, within))) in
+    omega (arith, many, less)
 
 -- the client that the bytes stand for is as their history says
 pub agrees_of : (c : ClientHandle) (h : History) (k : Client 8) → client_parts k ≡ parts_in c → Asks c h → ClientAgrees k h
@@ -73,27 +91,3 @@ leaves_parts k decisions.Undecodable d new h = h
 leaves_parts k decisions.BadTag d new h = h
 leaves_parts k decisions.BadInner d new h = h
 leaves_parts k (decisions.Deliver x number) d new h = h
-
--- what is delivered is to be
-pub delivered_is : (h : History) (now n : ℕ) (d : List ℕ) (answer : Answer) (own : Option ℕ) (m : InnerParts) → TakeAnswer h (max (clock h) now) d answer
-    → delivered answer ≡ Some (n, own, m) → Delivers h now d n own m
-delivered_is h now n d (Malformed fault place) own m row is = absurd (none-some (n, own, m) is)
-delivered_is h now n d NotResponse own m row is = absurd (none-some (n, own, m) is)
-delivered_is h now n d UnknownToken own m row is = absurd (none-some (n, own, m) is)
-delivered_is h now n d Unprotected own m row is = absurd (none-some (n, own, m) is)
-delivered_is h now n d Undecodable own m row is = absurd (none-some (n, own, m) is)
-delivered_is h now n d BadTag own m row is = absurd (none-some (n, own, m) is)
-delivered_is h now n d BadInner own m row is = absurd (none-some (n, own, m) is)
-delivered_is h now n d (Deliver received k) own m (r, at, (k_is, mine, receives)) is =
-    let all = same_Some _ _ is in
-    let number : r.number ≡ n = sym k_is ∙ ap (λ (x : ℕ × Option ℕ × InnerParts). x.0) all in
-    let own_is : mine ≡ own = sym receives.number ∙ ap (λ (x : ℕ × Option ℕ × InnerParts). x.1) all in
-    let message : received.message ≡ m = ap (λ (x : ℕ × Option ℕ × InnerParts). x.2) all in
-    record {
-      to = r;
-      number_is = number;
-      answers = at;
-      protects =
-          subst (λ x. ProtectsResponse (context h) x own m d) number
-          (subst (λ x. ProtectsResponse (context h) r.number x m d) own_is (subst (λ x. ProtectsResponse (context h) r.number mine x d) message receives.protects));
-    }

@@ -1,10 +1,11 @@
 -- The pending requests of a client, as bytes and as what they stand for.
-use Rattle.std.proofs.Common.{◌≡◌, ◌∙◌, ◌<◌, ◌+◌, sym, ap, subst, refl, arith, ℕ, zero, suc, List, [], ◌∷◌, ◌++◌, Option, Some, None, length, map, take, slice_set, slice_index_or, inl, inr}
+use Rattle.std.proofs.Common.{◌≡◌, ◌≢◌, ◌∙◌, ◌<◌, ◌≤◌, ◌+◌, sym, ap, subst, refl, arith, ℕ, zero, suc, List, [], ◌∷◌, ◌++◌, Option, Some, None, length, map, take, slice_set, slice_index_or, inl, inr}
 use Rattle.std.specs.Prelude.{slice_get, unwrap_or}
 use Rattle.std.specs.Option.{option_map}
 use Rattle.std.proofs.lemmas.Bool.{cases_eq}
-use Rattle.std.proofs.lemmas.List.{map-append}
+use Rattle.std.proofs.lemmas.List.{length-map, map-append}
 use Rattle.std.proofs.lemmas.Option.{get_or_from_slice_get, none-some, slice_get-get_or, slice_get-map, slice_get_within}
+use Rattle.osc_endpoint.proofs.Asking.{contains_at}
 use Rattle.osc_endpoint.proofs.ClientRequests.{differ_more}
 use Rattle.osc_endpoint.proofs.Places.{slice_get-set_other, slice_get-set_same}
 use Rattle.osc_endpoint.specs.Agrees.{TokensDiffer}
@@ -57,18 +58,42 @@ each_placed ps i b within is before j c less there = elim (cases_eq j i) [
   | inr other ↦ before j c (omega (arith, less, other)) (sym (slice_get-set_other ps i j b other) ∙ there)
 ]
 
--- a request more is read
-pub read_more : (xs ys : List Pending) (ps : List PendingHandle) (i : ℕ) (r : Pending) (b : PendingHandle) → ys ≡ xs ++ r ∷ [] → slice_get ps i ≡ Some b → asked_of r ≡ asked_at b
-    → map asked_of xs ≡ map asked_at (take i ps) → map asked_of ys ≡ map asked_at (take (i + 1) ps)
-read_more xs ys ps i r b grown there is before =
-    ap (map asked_of) grown ∙ (map-append asked_of xs (r ∷ []) ∙ (ap (λ zs. zs ++ asked_of r ∷ []) before ∙ (ap (λ a. map asked_at (take i ps) ++ a ∷ []) is
-    ∙ (sym (map-append asked_at (take i ps) (b ∷ [])) ∙ sym (ap (map asked_at) (more ps i b there))))))
+-- the requests of one place more
+pub asked_more : (ps : List PendingHandle) (i : ℕ) (b : PendingHandle) → slice_get ps i ≡ Some b → map asked_at (take (i + 1) ps) ≡ map asked_at (take i ps) ++ asked_at b ∷ []
+asked_more ps i b there = ap (map asked_at) (more ps i b there) ∙ map-append asked_at (take i ps) (b ∷ [])
+
+-- a token that a place has is among those of all
+pub found_among : (ps : List PendingHandle) (i : ℕ) (other : PendingHandle) (token : List ℕ) → i < length ps → (asked_at (slice_index_or ps i other)).token ≡ token
+    → IsAmong token (map asked_at ps)
+found_among ps i other token within same =
+    let b = slice_index_or ps i other in
+    (asked_at b, contains_at (map asked_at ps) i (asked_at b) (slice_get-map asked_at ps i ∙ ap (option_map asked_at) (slice_get-get_or ps i other within)), same)
+
+-- no place up to one more has the token
+pub unlike_more : (ps : List PendingHandle) (i : ℕ) (other : PendingHandle) (token : List ℕ) → i < length ps → (asked_at (slice_index_or ps i other)).token ≢ token
+    → ((j : ℕ) (r : Asked) → j < i → slice_get (map asked_at ps) j ≡ Some r → r.token ≡ token → ⊥)
+    → (j : ℕ) (r : Asked) → j < i + 1 → slice_get (map asked_at ps) j ≡ Some r → r.token ≡ token → ⊥
+unlike_more ps i other token within unlike before j r less there is = elim (cases_eq j i) [
+  | inl same ↦
+      let b = slice_index_or ps i other in
+      let found : Some r ≡ Some (asked_at b) =
+      sym there ∙ (ap (slice_get (map asked_at ps)) same ∙ (slice_get-map asked_at ps i ∙ ap (option_map asked_at) (slice_get-get_or ps i other within))) in
+      unlike (ap (λ (o : Option Asked). (unwrap_or o r).token) (sym found) ∙ is)
+  | inr not ↦ before j r (omega (arith, not, less)) there is
+]
+
+-- where no place has it, it is not among them
+pub none_among : (ps : List PendingHandle) (i : ℕ) (token : List ℕ) → length ps ≤ i
+    → ((j : ℕ) (r : Asked) → j < i → slice_get (map asked_at ps) j ≡ Some r → r.token ≡ token → ⊥) → IsAmong token (map asked_at ps) → ⊥
+none_among ps i token over unlike (r, (k, less, at), is) =
+    let within : k < length ps = subst (λ n. k < n) (length-map ps asked_at) less in
+    unlike k r (omega (arith, within, over)) (slice_get-get_or (map asked_at ps) k r less ∙ ap Some at) is
 
 -- its token is none of those before
 pub apart_more : (ps : List PendingHandle) (i : ℕ) (b : PendingHandle) → slice_get ps i ≡ Some b → TokensDiffer (map asked_at (take i ps))
     → (IsAmong (asked_at b).token (map asked_at (take i ps)) → ⊥) → TokensDiffer (map asked_at (take (i + 1) ps))
 apart_more ps i b there d new =
-    subst TokensDiffer (sym (ap (map asked_at) (more ps i b there) ∙ map-append asked_at (take i ps) (b ∷ []))) (differ_more (map asked_at (take i ps)) (asked_at b) d new)
+    subst TokensDiffer (sym (asked_more ps i b there)) (differ_more (map asked_at (take i ps)) (asked_at b) d new)
 
 -- its bytes are ones that a call may have written
 pub each_read : (ps : List PendingHandle) (i : ℕ) (b : PendingHandle) → slice_get ps i ≡ Some b → IsPending b → ((j : ℕ) (c : PendingHandle) → j < i → slice_get ps j ≡ Some c → IsPending c)

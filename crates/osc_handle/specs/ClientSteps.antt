@@ -1,6 +1,6 @@
 -- How the code is seen: what a call leaves in the bytes of a client, and in a datagram. h is a history, c the bytes, p what the client is
 -- made of, d the datagram as it came, new what was left of it.
-use Rattle.std.specs.Prelude.{◌≡◌, ℕ, List, Contains, Option}
+use Rattle.std.specs.Prelude.{◌≡◌, ℕ, List, Contains, Option, map, take}
 use Rattle.osc_protect.specs.Protection.{responses}
 use Rattle.osc_protect.specs.Stages.{Decrypts}
 use Rattle.osc_endpoint.specs.Agrees.{ClientParts}
@@ -11,8 +11,13 @@ use Rattle.osc_endpoint.specs.Views.{ClientShows}
 use Rattle.osc_endpoint.specs.declared.client_outcome.ClientOutcome.{ClientOutcome}
 use Rattle.osc_endpoint.specs.declared.decision.ClientDecision.{ClientDecision}
 use Rattle.osc_endpoint.specs.declared.decision.ClientDecision.TheVariants as decisions
-use Rattle.osc_handle.specs.ClientBytes.{Asks, asked_in}
+use Rattle.osc_handle.specs.ClientBytes.{Asks, asked_at, asked_in}
+use Rattle.osc_handle.specs.ContextBytes.{client_in}
 use Rattle.osc_handle.specs.declared.client_handle.ClientHandle.{ClientHandle}
+
+-- what the client is made of, but for the requests from a place on (how the code is seen)
+abbrev pub parts_with : ℕ → ClientHandle → ClientParts
+parts_with i c = record { context = client_in c.context; life_ms = c.life_ms; clock = c.clock; next = c.next; pending = map asked_at (take i c.pending) }
 
 -- the bytes say what the client came to; its context stays, and for how long a request is pending (how the code is seen)
 pub record Keeps (before after : ClientHandle) (p : ClientParts) : Type 0 where

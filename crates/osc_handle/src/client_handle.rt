@@ -3,7 +3,7 @@
 ghost use Rattle.std.specs.Prelude.{◌≡◌, ◌≢◌, ◌≤◌, ℕ, IfSome, IsSome, IsNone, OnErr, IfOk, IfErr, Option, Some, true, false, length, drop, map, take, slice_get};
 ghost use Rattle.osc_coap.specs.Inner.{InnerParts};
 ghost use Rattle.osc_coap.specs.Views.{parts_of};
-ghost use Rattle.osc_context.specs.Views.{number_of};
+ghost use Rattle.osc_context.specs.Views.{as_client, number_of};
 ghost use Rattle.osc_endpoint.specs.Agrees.{HasTokensApart, client_parts};
 ghost use Rattle.osc_endpoint.specs.ClientAnswer.{ClientAnswer, Delivers, IsAmong};
 ghost use Rattle.osc_endpoint.specs.ClientDeciding.{CanShow};
@@ -11,19 +11,15 @@ ghost use Rattle.osc_endpoint.specs.ClientHistory.{History, New, Then, Advance, 
 ghost use Rattle.osc_endpoint.specs.Views.{asked_of, client_delivery_of, request_entry};
 ghost use Rattle.osc_endpoint.specs.declared.client_outcome.RequestError.TheVariants.{KeeperFailed};
 ghost use Rattle.osc_handle.specs.ClientBytes.{ArePending, Asks, IsClient, IsPending, asked_at, asked_in, parts_in};
-ghost use Rattle.osc_handle.specs.ClientSteps.{ClientDecidesIn, ClientTakesIn, Keeps, LeavesIn};
+ghost use Rattle.osc_handle.specs.ClientSteps.{ClientDecidesIn, ClientTakesIn, Keeps, LeavesIn, parts_with};
 ghost use Rattle.osc_handle.specs.ContextBytes.{IsContext, client_in};
 ghost use Rattle.osc_handle.specs.declared.pending_handle.PendingHandle.{PendingHandle as PendingOf};
 
 use crate::context_handle::ContextHandle;
 use crate::pending_handle::PendingHandle;
-use arrayvec::ArrayVec;
-use osc_coap::{Message, one_datagram};
-use osc_context::Piv;
-use osc_endpoint::{
-    Client, ClientDecision, ClientOutcome, Pending, RequestError, read_client_decided,
-};
-use osc_protect::one_response;
+use osc_coap::Message;
+use osc_context::{Context, Piv};
+use osc_endpoint::{Client, ClientDecision, ClientOutcome, Pending, RequestError};
 
 /// A client of one context, with up to eight pending requests: the first `count` of the places, oldest first. Moments are
 /// milliseconds.
@@ -39,29 +35,27 @@ pub struct ClientHandle {
 }
 
 /// Whether a request with this token is among these.
-fn has_token(requests: &[Pending], token: &[u8]) -> bool
-    ensures yes { result ≡ true → IsAmong token.now (map asked_of requests.now) }
-    ensures no { result ≡ false → IsAmong token.now (map asked_of requests.now) → ⊥ }
+fn has_token(requests: &[PendingHandle], token: &[u8]) -> bool
+    ensures yes { result ≡ true → IsAmong token.now (map asked_at requests.now) }
+    ensures no { result ≡ false → IsAmong token.now (map asked_at requests.now) → ⊥ }
 {
     for place in 0..requests.len() {
-        if requests[place].token.as_slice() == token {
+        if requests[place].token() == token {
             return true;
         }
     }
     false
 }
 
-/// The places of these requests, and behind them places of none.
-fn places_of(requests: &[Pending]) -> [PendingHandle; 8]
+/// Writes these requests to the first of the places. What stands behind them stays.
+fn keep_requests(places: &mut [PendingHandle; 8], requests: &[Pending])
     requires { length requests.now ≤ 8 }
-    ensures made { map asked_at (take (length requests.now) result) ≡ map asked_of requests.now }
-    ensures each { (i : ℕ) (b : PendingOf) → slice_get (take (length requests.now) result) i ≡ Some b → IsPending b }
+    ensures made { map asked_at (take (length requests.now) places.new) ≡ map asked_of requests.now }
+    ensures each { (i : ℕ) (b : PendingOf) → slice_get (take (length requests.now) places.new) i ≡ Some b → IsPending b }
 {
-    let mut places = [PendingHandle::NONE; 8];
     for index in 0..requests.len() {
         places[index] = PendingHandle::of(&requests[index]);
     }
-    places
 }
 
 impl ClientHandle {
@@ -85,41 +79,24 @@ impl ClientHandle {
         })
     }
 
-    /// The pending requests, or None where no call can have written them.
-    fn requests(&self) -> Option<ArrayVec<Pending, 8>>
-        ensures made { IfSome result (λ requests. map asked_of requests.items ≡ asked_in self.now) }
-        ensures accepted { IsSome result → ArePending self.now }
-        ensures accepts { ArePending self.now → IsSome result }
+    /// Whether the pending requests are ones that calls may have written.
+    fn are_pending(&self) -> bool
+        ensures yes { result ≡ true → ArePending self.now }
+        ensures no { result ≡ false → ArePending self.now → ⊥ }
     {
         if self.count > 8 {
-            return None;
+            return false;
         }
-        let mut requests: ArrayVec<Pending, 8> = ArrayVec::new();
         for index in 0..self.count {
-            let Some(request) = self.pending[index].pending() else {
-                return None;
-            };
-            if has_token(requests.as_slice(), request.token.as_slice()) {
-                return None;
+            let request = &self.pending[index];
+            if !request.is_whole() {
+                return false;
             }
-            requests.push(request);
+            if has_token(&self.pending[..index], request.token()) {
+                return false;
+            }
         }
-        Some(requests)
-    }
-
-    /// The client that the bytes say, or None where no call can have written them.
-    fn client(&self) -> Option<Client<8>>
-        ensures made { IfSome result (λ c. client_parts c ≡ parts_in self.now) }
-        ensures accepted { IsSome result → IsClient self.now }
-        ensures accepts { IsClient self.now → IsSome result }
-    {
-        let Some(context) = self.context.context() else {
-            return None;
-        };
-        let Some(requests) = self.requests() else {
-            return None;
-        };
-        Client::resumed(context, self.life_ms, self.clock, self.next, requests)
+        true
     }
 
     /// Whether the bytes are ones that a call may have written.
@@ -127,7 +104,33 @@ impl ClientHandle {
         ensures yes { result ≡ true → IsClient self.now }
         ensures no { result ≡ false → IsClient self.now → ⊥ }
     {
-        self.context.is_whole() && self.next <= 1 << 40 && self.requests().is_some()
+        self.context.is_whole() && self.next <= 1 << 40 && self.are_pending()
+    }
+
+    /// The context, or None where no call can have written the client's bytes.
+    fn whole_context(&self) -> Option<Context>
+        ensures client { IfSome result (λ c. as_client c ≡ client_in self.now.context) }
+        ensures accepted { IsSome result → IsClient self.now }
+        ensures accepts { IsClient self.now → IsSome result }
+    {
+        if !self.is_whole() {
+            return None;
+        }
+        self.context.context()
+    }
+
+    /// Puts the pending requests into a client that has all else of these bytes.
+    fn recall(&self, client: &mut Client<8>)
+        requires whole { IsClient self.now }
+        requires begun { client_parts client.old ≡ parts_with 0 self.now }
+        ensures { client_parts client.new ≡ parts_in self.now }
+    {
+        for index in 0..self.count {
+            let Some(request) = self.pending[index].pending() else {
+                unreachable!();
+            };
+            client.remember(request);
+        }
     }
 
     /// Keeps what a client came to.
@@ -139,7 +142,7 @@ impl ClientHandle {
         self.clock = client.clock();
         self.next = client.next();
         self.count = requests.len();
-        self.pending = places_of(requests);
+        keep_requests(&mut self.pending, requests);
     }
 
     /// Drops every pending request, and goes on at a number. The clock stays. None where no call can have written the bytes.
@@ -150,9 +153,9 @@ impl ClientHandle {
         ensures accepts { IsClient self.old → IsSome result }
         ensures unchanged { IsNone result → self.new ≡ self.old }
     {
-        let Some(_) = self.client() else {
+        if !self.is_whole() {
             return None;
-        };
+        }
         self.next = next.number();
         self.count = 0;
         self.pending = [PendingHandle::NONE; 8];
@@ -169,9 +172,11 @@ impl ClientHandle {
         ensures accepts { IsClient self.old → IsSome result }
         ensures unchanged { IsNone result → self.new ≡ self.old }
     {
-        let Some(mut client) = self.client() else {
+        let Some(context) = self.whole_context() else {
             return None;
         };
+        let mut client = Client::resumed(context, self.life_ms, self.clock, Piv::new(self.next));
+        self.recall(&mut client);
         let was_pending = client.forget(token);
         self.keep(&client);
         Some(was_pending)
@@ -200,9 +205,11 @@ impl ClientHandle {
         ensures no_keeper_failed { IfSome result (λ r. IfErr r (λ e. e ≢ KeeperFailed)) }
         ensures unchanged { IsNone result → (self.new ≡ self.old) × (out.new ≡ out.old) }
     {
-        let Some(mut client) = self.client() else {
+        let Some(context) = self.whole_context() else {
             return None;
         };
+        let mut client = Client::resumed(context, self.life_ms, self.clock, Piv::new(self.next));
+        self.recall(&mut client);
         let asked = client.request(now, plain, out);
         self.keep(&client);
         Some(asked)
@@ -220,16 +227,18 @@ impl ClientHandle {
         ensures left { IfSome result (λ decision. LeavesIn (parts_in self.old) decision datagram.old datagram.new) }
         ensures unchanged { IsNone result → (self.new ≡ self.old) × (datagram.new ≡ datagram.old) }
     {
-        let Some(mut client) = self.client() else {
+        let Some(context) = self.whole_context() else {
             return None;
         };
+        let mut client = Client::resumed(context, self.life_ms, self.clock, Piv::new(self.next));
+        self.recall(&mut client);
         let decision = client.decide(now, datagram);
         self.keep(&client);
         Some(decision)
     }
 
-    /// Answers a datagram, where it lies (RFC 8613, 8.4), as `decide` and then `read_client_decided` do: those two say what the
-    /// datagram holds afterwards. None where no call can have written the bytes.
+    /// Answers a datagram, where it lies (RFC 8613, 8.4), as `decide` and then `read_client_decided` do, but reads the plaintext
+    /// once. Those two say what the datagram holds afterwards. None where no call can have written the bytes.
     pub fn take<'b>(&mut self, now: u64, datagram: &'b mut [u8]) -> Option<ClientOutcome<'b>>
         ensures answered { IfSome result (λ outcome. (h : History) → Asks self.old h
             → ClientTakesIn h now datagram.old outcome self.new) }
@@ -242,11 +251,13 @@ impl ClientHandle {
         ensures accepts { IsClient self.old → IsSome result }
         ensures unchanged { IsNone result → self.new ≡ self.old }
     {
-        one_datagram();
-        one_response();
-        let Some(decision) = self.decide(now, datagram) else {
+        let Some(context) = self.whole_context() else {
             return None;
         };
-        Some(read_client_decided(datagram, decision))
+        let mut client = Client::resumed(context, self.life_ms, self.clock, Piv::new(self.next));
+        self.recall(&mut client);
+        let outcome = client.take(now, datagram);
+        self.keep(&client);
+        Some(outcome)
     }
 }

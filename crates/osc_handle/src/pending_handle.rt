@@ -1,6 +1,6 @@
 //! A request that waits for its response, as bytes.
 
-ghost use Rattle.std.specs.Prelude.{◌≡◌, ◌≤◌, IfSome, IsSome, take};
+ghost use Rattle.std.specs.Prelude.{◌≡◌, ◌≤◌, IfSome, IsSome, take, true, false};
 ghost use Rattle.osc_endpoint.specs.Views.{asked_of};
 ghost use Rattle.osc_handle.specs.ClientBytes.{IsPending, asked_at};
 
@@ -53,6 +53,22 @@ impl PendingHandle {
             token,
             token_len,
         }
+    }
+
+    /// Whether the bytes are ones that a call may have written.
+    pub fn is_whole(&self) -> bool
+        ensures yes { result ≡ true → IsPending self.now }
+        ensures no { result ≡ false → IsPending self.now → ⊥ }
+    {
+        self.token_len <= 8 && self.number < 1 << 40
+    }
+
+    /// The token.
+    pub(crate) fn token(&self) -> &[u8]
+        ensures { result.now ≡ (asked_at self.now).token }
+    {
+        let len = usize::from(self.token_len);
+        &self.token[..len.min(8)]
     }
 
     /// The pending request that the bytes say, or None where no call can have written them.

@@ -1,18 +1,19 @@
 //! A server, as bytes.
 
-ghost use Rattle.std.specs.Prelude.{◌≡◌, ◌≢◌, ◌≤◌, ℕ, Ok, Err, IfOk, IfErr, IfSome, IsSome, OnErr, true, false, length, take, drop};
+ghost use Rattle.std.specs.Prelude.{◌≡◌, ◌≢◌, ◌≤◌, ℕ, List, Option, Ok, Err, IfOk, IfErr, IfSome, IsSome, OnErr, true, false, length, take, drop};
 ghost use Rattle.osc_coap.specs.Views.{parts_of};
 ghost use Rattle.osc_context.specs.Views.{number_of};
-ghost use Rattle.osc_endpoint.specs.Deciding.{CanShow};
+ghost use Rattle.osc_endpoint.specs.Deciding.{CanShow, Leaves};
 ghost use Rattle.osc_endpoint.specs.ServerAnswer.{ServerAnswer};
 ghost use Rattle.osc_endpoint.specs.ServerHistory.{Add, Begin, History, Restart, Then};
 ghost use Rattle.osc_endpoint.specs.Views.{added_entry, restarted_entry, values_of};
 ghost use Rattle.osc_endpoint.specs.declared.outcome.Outcome.TheVariants.{KeeperFailed as KeeperFailedOutcome};
 ghost use Rattle.osc_endpoint.specs.declared.server_error.ReplyError.TheVariants.{KeeperFailed};
+ghost use Rattle.osc_endpoint.specs.declared.slot.Slot.{Slot as SlotOf};
 ghost use Rattle.osc_handle.specs.ContextBytes.{IsContext, server_in};
 ghost use Rattle.osc_handle.specs.Noting.{Notes, NotesTicket};
 ghost use Rattle.osc_handle.specs.ServerBytes.{DecidesIn, IsSpent, RepliesIn, Serves, TakesIn, entry_of_reply};
-ghost use Rattle.osc_handle.specs.TableBytes.{IsTable};
+ghost use Rattle.osc_handle.specs.TableBytes.{IsTable, IsTableIn};
 ghost use Rattle.osc_handle.specs.TicketBytes.{IsTicket, ticket_in};
 ghost use Rattle.osc_handle.specs.declared.reply_refusal.ReplyRefusal.TheVariants.{BadHandle, TicketSpent, Refused};
 
@@ -144,6 +145,8 @@ impl ServerHandle {
             → DecidesIn h now fresh datagram.old decided.decision datagram.new (take decided.reply out.new) self.new) }
         ensures bytes { IfSome result (λ decided. IsTable self.new.contexts) }
         ensures shown { IfSome result (λ decided. CanShow decided.decision datagram.new) }
+        ensures left { IfSome result (λ decided. (slots : List (Option SlotOf)) → IsTableIn self.old.contexts slots
+            → Leaves slots decided.decision datagram.old datagram.new) }
         ensures within { IfSome result (λ decided. decided.reply ≤ 64) }
         ensures behind { IfSome result (λ decided. drop decided.reply out.new ≡ drop decided.reply out.old) }
         ensures unchanged { result ≡ None → (self.new ≡ self.old) × (datagram.new ≡ datagram.old) × (out.new ≡ out.old) }

@@ -158,7 +158,7 @@ impl SlotHandle {
             unreachable!();
         };
         Slot {
-            context: KeyedContext::new(context),
+            context: KeyedContext::for_one_message(context),
             size,
             gate,
             next: self.next,

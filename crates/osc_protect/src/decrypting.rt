@@ -31,7 +31,9 @@ pub fn decrypt_request(
     ensures unchanged { OnErr result (datagram.new ≡ datagram.old) }
 {
     one_head();
-    decrypt_request_forward(context.recipient(), datagram, sealed)
+    let schedule = context.recipient_schedule();
+    let recipient = Recipient::new(context.context(), schedule.get());
+    decrypt_request_forward(recipient, datagram, sealed)
 }
 
 /// Decrypts a response in its datagram. `sealed` is of the datagram's head. At Ok the payload is the plaintext, and behind it
@@ -51,7 +53,9 @@ pub fn decrypt_response(
     ensures unchanged { OnErr result (datagram.new ≡ datagram.old) }
 {
     one_head();
-    decrypt_response_forward(context.recipient(), request, datagram, sealed)
+    let schedule = context.recipient_schedule();
+    let recipient = Recipient::new(context.context(), schedule.get());
+    decrypt_response_forward(recipient, request, datagram, sealed)
 }
 
 /// Decrypts a request under the recipient's key.

@@ -1,16 +1,17 @@
-//! A security context that keeps the schedules of its two keys.
+//! A security context that keeps the schedules of its two keys, or makes each where it is used.
 
 ghost use Rattle.std.specs.Prelude.{◌≡◌, ◌≢◌, ◌≤◌, ℕ, List, Option, Some, length, take, drop, IfOk, IfErr, IsOk, IsOkAnd, IsErrOf, OnErr};
-ghost use Rattle.std.specs.Option.{option_map};
+ghost use Rattle.std.specs.Option.{ForSome, option_map};
 ghost use Rattle.osc_aes.specs.Keyed.{key_of};
 ghost use Rattle.osc_coap.specs.Inner.{InnerParts};
 ghost use Rattle.osc_coap.specs.Views.{parts_of};
 ghost use Rattle.osc_context.specs.Views.{as_client, as_server, number_of};
+ghost use Rattle.osc_protect.specs.Ends.{scheduled};
 ghost use Rattle.osc_protect.specs.declared.protect_error.ProtectError.{ProtectError};
 ghost use Rattle.osc_protect.specs.declared.unprotect_error.UnprotectError.{UnprotectError};
 ghost use Rattle.osc_protect.specs.declared.unprotect_error.UnprotectError.TheVariants.{WrongContext};
 
-use crate::ends::{Recipient, Sender};
+use crate::ends::{Recipient, Schedule, Sender};
 use crate::opened::Opened;
 use crate::opening::{open_request_by, open_response_by};
 use crate::protect_error::ProtectError;
@@ -22,15 +23,16 @@ use osc_coap::Message;
 use osc_context::{Context, Piv};
 use std::fmt;
 
-/// A security context and the schedules of its two keys, for an end that seals and opens more than one message. Its `Debug`
+/// A security context, and the schedules of its two keys for an end that seals and opens more than one message. Its `Debug`
 /// shows no key and no schedule.
 #[derive(Drop)]
 pub struct KeyedContext {
     context: Context,
-    sender: TableAes,
-    recipient: TableAes,
-    ghost sender_keyed: { key_of sender ≡ (as_client context).client_key },
-    ghost recipient_keyed: { key_of recipient ≡ (as_server context).client_key },
+    // Both are kept, or neither.
+    sender: Option<TableAes>,
+    recipient: Option<TableAes>,
+    ghost sender_keyed: { ForSome sender (λ schedule. key_of schedule ≡ (as_client context).client_key) },
+    ghost recipient_keyed: { ForSome recipient (λ schedule. key_of schedule ≡ (as_server context).client_key) },
 }
 
 impl KeyedContext {
@@ -41,14 +43,27 @@ impl KeyedContext {
     ghost use Rattle.osc_protect.specs.SealRefusals.{FitsToSeal, RefusesToSeal};
     ghost use Rattle.osc_protect.specs.Views.{context_of, message_of, opened_number, opened_requests, opened_responses, request_number, sealed_requests, sealed_responses};
 
-    /// Makes both schedules.
+    /// Makes both schedules, and keeps them.
     #[must_use]
     pub fn new(context: Context) -> KeyedContext
         ensures { context_of result ≡ context }
     {
         KeyedContext {
-            sender: Sender::schedule_of(&context),
-            recipient: Recipient::schedule_of(&context),
+            sender: Some(Sender::schedule_of(&context)),
+            recipient: Some(Recipient::schedule_of(&context)),
+            context,
+        }
+    }
+
+    /// Keeps no schedule: each call makes the one that it needs, as the calls over a `Context` do. For an end that is there for one
+    /// message.
+    #[must_use]
+    pub fn for_one_message(context: Context) -> KeyedContext
+        ensures { context_of result ≡ context }
+    {
+        KeyedContext {
+            sender: None,
+            recipient: None,
             context,
         }
     }
@@ -61,21 +76,27 @@ impl KeyedContext {
         &self.context
     }
 
-    /// What this end seals with.
-    fn sender(&self) -> Sender<'_>
-        ensures { result.context.now ≡ context_of self.now }
+    /// The schedule of what this end seals with.
+    fn sender_schedule(&self) -> Schedule<'_>
+        ensures { scheduled result ≡ (as_client (context_of self.now)).client_key }
     {
-        Sender::new(&self.context, &self.sender)
+        match &self.sender {
+            Some(schedule) => Schedule::Kept(schedule),
+            None => Schedule::Made(Sender::schedule_of(&self.context)),
+        }
     }
 
-    /// What this end opens with.
-    pub(crate) fn recipient(&self) -> Recipient<'_>
-        ensures { result.context.now ≡ context_of self.now }
+    /// The schedule of what this end opens with.
+    pub(crate) fn recipient_schedule(&self) -> Schedule<'_>
+        ensures { scheduled result ≡ (as_server (context_of self.now)).client_key }
     {
-        Recipient::new(&self.context, &self.recipient)
+        match &self.recipient {
+            Some(schedule) => Schedule::Kept(schedule),
+            None => Schedule::Made(Recipient::schedule_of(&self.context)),
+        }
     }
 
-    /// As [`crate::seal_request`], under the schedule that is kept.
+    /// As [`crate::seal_request`], under the schedule that is kept, or is made.
     pub fn seal_request(
         &self,
         number: Piv,
@@ -91,10 +112,12 @@ impl KeyedContext {
             → IsErrOf result e }
         ensures unchanged { OnErr result (out.new ≡ out.old) }
     {
-        seal_request_by(self.sender(), number, plain, out)
+        let schedule = self.sender_schedule();
+        let sender = Sender::new(&self.context, schedule.get());
+        seal_request_by(sender, number, plain, out)
     }
 
-    /// As [`crate::seal_response`], under the schedule that is kept.
+    /// As [`crate::seal_response`], under the schedule that is kept, or is made.
     pub fn seal_response(
         &self,
         request: &RequestRef,
@@ -114,10 +137,12 @@ impl KeyedContext {
             → IsErrOf result e }
         ensures unchanged { OnErr result (out.new ≡ out.old) }
     {
-        seal_response_by(self.sender(), request, own, plain, out)
+        let schedule = self.sender_schedule();
+        let sender = Sender::new(&self.context, schedule.get());
+        seal_response_by(sender, request, own, plain, out)
     }
 
-    /// As [`crate::open_request`], under the schedule that is kept.
+    /// As [`crate::open_request`], under the schedule that is kept, or is made.
     pub fn open_request<'b>(&self, datagram: &'b mut [u8]) -> Result<Opened<'b>, UnprotectError>
         ensures opened { IfOk result (λ o. Opens (opened_requests (context_of self.now)) datagram.old o) }
         ensures accepts { (n : ℕ) (m : InnerParts) → ProtectsRequest (as_server (context_of self.now)) n m datagram.old
@@ -125,10 +150,12 @@ impl KeyedContext {
         ensures refused { IfErr result (λ e. RefusesToOpen (opened_requests (context_of self.now)) datagram.old e) }
         ensures refuses { (e : UnprotectError) → RefusesToOpen (opened_requests (context_of self.now)) datagram.old e → IsErrOf result e }
     {
-        open_request_by(self.recipient(), datagram)
+        let schedule = self.recipient_schedule();
+        let recipient = Recipient::new(&self.context, schedule.get());
+        open_request_by(recipient, datagram)
     }
 
-    /// As [`crate::open_response`], under the schedule that is kept.
+    /// As [`crate::open_response`], under the schedule that is kept, or is made.
     pub fn open_response<'b>(
         &self,
         request: &RequestRef,
@@ -142,7 +169,9 @@ impl KeyedContext {
         ensures refuses { (e : UnprotectError) → RefusesToOpen (opened_responses (context_of self.now) request.now) datagram.old e → IsErrOf result e }
         ensures no_wrong_context { IfErr result (λ e. e ≢ WrongContext) }
     {
-        open_response_by(self.recipient(), request, datagram)
+        let schedule = self.recipient_schedule();
+        let recipient = Recipient::new(&self.context, schedule.get());
+        open_response_by(recipient, request, datagram)
     }
 }
 

@@ -10,15 +10,15 @@ use Rattle.osc_window.specs.SpentMask.{unspent_at, taken_by}
 -- ---- bits
 
 -- the low bits of a shifted mask are empty
-shifted_low : (mask k i : ℕ) → i < k → bit_at (mask * 2 ^ k) i ≡ 0
+pub shifted_low : (mask k i : ℕ) → i < k → bit_at (mask * 2 ^ k) i ≡ 0
 shifted_low mask k i h = ap (λ x. bit_at x i) (sym (add-zero (mask * 2 ^ k))) ∙ bit_at_cat_low mask k 0 i h ∙ bit_at-zero i
 
 -- its high bits are those of the mask
-shifted_high : (mask k i : ℕ) → k ≤ i → bit_at (mask * 2 ^ k) i ≡ bit_at mask (i - k)
+pub shifted_high : (mask k i : ℕ) → k ≤ i → bit_at (mask * 2 ^ k) i ≡ bit_at mask (i - k)
 shifted_high mask k i h = ap (λ x. bit_at x i) (sym (add-zero (mask * 2 ^ k))) ∙ bit_at_cat_high mask k 0 i (pow_pos k) h
 
 -- a word keeps the bits below 64
-kept_below : (x i : ℕ) → i < 64 → bit_at (x % 2 ^ 64) i ≡ bit_at x i
+pub kept_below : (x i : ℕ) → i < 64 → bit_at (x % 2 ^ 64) i ≡ bit_at x i
 kept_below x i h =
     ap (λ y. bit_at y i) (sym (and_mask x 64)) ∙ bit_at_and x (2 ^ 64 - 1) i
     ∙ omega (arith, bit_at_ones 64 i h, bit_at-lt x i)

@@ -1,6 +1,7 @@
 //! The figures of osc_endpoint: a server that takes the example request of RFC 8613 (C.4), under ascending numbers, once more,
 //! or with a bad tag, and runs over events.
 
+use crate::asking::PLAIN_RESPONSE;
 use crate::messages::{PLAIN, SEALED, SERVER, context_of};
 use crate::stopwatch::Stopwatch;
 use osc_coap::parse;
@@ -64,13 +65,24 @@ fn server_of(others: u8) -> Option<Server> {
     Some(server)
 }
 
-/// Requests that are delivered, at a server with as many other contexts.
+/// What becomes of a request that is delivered.
+#[derive(Clone, Copy, PartialEq, Eq)]
+enum End {
+    Kept,
+    Answered,
+}
+
+/// Requests that are delivered, and answered or not, at a server with as many other contexts.
 fn delivery<R: Clock + Print>(
     watch: &mut Stopwatch<'_, R>,
     name: &str,
     requests: &[Request],
     others: u8,
+    end: End,
 ) -> io::Result<()> {
+    let Ok(plain) = parse(&PLAIN_RESPONSE) else {
+        return Err(io::Error::other("the response was refused"));
+    };
     let mut server = Server::new();
     let mut rest: &[Request] = &[];
     let (mut datagram, mut out) = ([0; 36], [0; 64]);
@@ -82,10 +94,14 @@ fn delivery<R: Clock + Print>(
         let (request, tail) = rest.split_first()?;
         rest = tail;
         datagram.copy_from_slice(request);
-        match server.take(0, FRESH, &mut datagram, &mut out).outcome {
-            Outcome::Deliver(opened, _) => Some(opened.code),
-            _ => None,
+        let (code, ticket) = match server.take(0, FRESH, &mut datagram, &mut out).outcome {
+            Outcome::Deliver(opened, ticket) => (opened.code, ticket),
+            _ => return None,
+        };
+        if end == End::Answered {
+            server.reply(ticket, false, 0, &plain, &mut out).ok()?;
         }
+        Some(code)
     })
 }
 
@@ -148,14 +164,16 @@ fn run<R: Clock + Print>(
     })
 }
 
-/// Deliveries at a server of one context and of eight, a replay, a bad tag, and three runs.
+/// Deliveries at a server of one context and of eight, and with their replies, a replay, a bad tag, and three runs.
 pub(crate) fn serving<R: Clock + Print>(
     watch: &mut Stopwatch<'_, R>,
     alloc: Global,
 ) -> io::Result<()> {
     let requests = requests_of(alloc)?;
-    delivery(watch, "take-delivery", &requests, 0)?;
-    delivery(watch, "take-delivery-of-8", &requests, 7)?;
+    delivery(watch, "take-delivery", &requests, 0, End::Kept)?;
+    delivery(watch, "take-delivery-of-8", &requests, 7, End::Kept)?;
+    delivery(watch, "take-and-reply", &requests, 0, End::Answered)?;
+    delivery(watch, "take-and-reply-of-8", &requests, 7, End::Answered)?;
     refusals(watch)?;
     run(watch, alloc, "run_server-100", 100)?;
     run(watch, alloc, "run_server-1000", 1_000)?;

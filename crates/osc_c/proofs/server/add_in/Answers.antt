@@ -7,12 +7,12 @@ use Rattle.osc_c.proofs.server.add_in.Goals as goal
 pub returns-in-Some-Ok-clause-added : goal.returns-in-Some-Ok-clause-added
 returns-in-Some-Ok-clause-added c = (
   c.in-Some.number,
-  c.in-Some-size_given.size,
-  record { next_is = c.in-Some.ensures.made; places_are = c.in-Some-size_given.ensures.made },
-  λ h serves. added_so h c.add.new.self (server_in c.args.context.now) _ _ c.in-Some-size_given.size _ _ c.start_with.ensures c.in-Some-Ok.field-0-is (c.in-Some-Ok.ensures.answered h serves),
+  c.in-Some-size_with.size,
+  record { next_is = c.in-Some.ensures.made; places_are = c.in-Some-size_with.ensures.made },
+  λ h serves. added_so h c.add.new.self (server_in c.args.context.now) _ _ c.in-Some-size_with.size _ _ c.start_with.ensures c.in-Some-Ok.field-0-is (c.in-Some-Ok.ensures.answered h serves),
 )
 
 pub returns-in-Some-Err-clause-refused : goal.returns-in-Some-Err-clause-refused
 returns-in-Some-Err-clause-refused c =
-    refused (c.if-not-is_whole.ensures.yes refl) (c.if-not-is_whole-2.ensures.yes refl) c.in-Some.number c.in-Some-size_given.size (record { next_is = c.in-Some.ensures.made; places_are = c.in-Some-size_given.ensures.made }) c.in-Some-Err.error c.adding_status.ensures
-    (λ h serves. added_so h c.add.new.self (server_in c.args.context.now) _ _ c.in-Some-size_given.size _ _ c.start_with.ensures c.in-Some-Err.field-0-is (c.in-Some-Err.ensures.answered h serves))
+    refused (c.if-not-is_whole.ensures.yes refl) (c.if-not-is_whole-2.ensures.yes refl) c.in-Some.number c.in-Some-size_with.size (record { next_is = c.in-Some.ensures.made; places_are = c.in-Some-size_with.ensures.made }) c.in-Some-Err.error c.adding_status.ensures
+    (λ h serves. added_so h c.add.new.self (server_in c.args.context.now) _ _ c.in-Some-size_with.size _ _ c.start_with.ensures c.in-Some-Err.field-0-is (c.in-Some-Err.ensures.answered h serves))

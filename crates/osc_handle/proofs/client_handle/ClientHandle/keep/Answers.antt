@@ -9,7 +9,7 @@ returns-clause-kept c =
       life_ms = refl;
       clock = c.clock-self.ensures;
       next = c.next-self.ensures.value;
-      pending = c.places_of-self.ensures.made ∙ c.pending-requests.ensures.value;
+      pending = c.keep_requests.ensures.made ∙ c.pending-requests.ensures.value;
     }
 
 pub returns-clause-whole : goal.returns-clause-whole
@@ -18,7 +18,7 @@ returns-clause-whole c = λ w apart. record {
   next = c.next-self.ensures.most;
   requests = record {
     fits = c.pending-requests.ensures.most;
-    each = c.places_of-self.ensures.each;
-    differ = subst TokensDiffer (sym (c.places_of-self.ensures.made ∙ c.pending-requests.ensures.value)) apart;
+    each = c.keep_requests.ensures.each;
+    differ = subst TokensDiffer (sym (c.keep_requests.ensures.made ∙ c.pending-requests.ensures.value)) apart;
   };
 }

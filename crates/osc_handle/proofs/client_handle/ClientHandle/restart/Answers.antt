@@ -3,7 +3,7 @@ use Rattle.osc_handle.proofs.client_handle.ClientHandle.restart.Goals as goal
 
 pub returns-clause-whole : goal.returns-clause-whole
 returns-clause-whole c = λ _.
-    let w = c.in-Some.ensures.accepted refl in
+    let w = c.is_whole.ensures.yes c.if-not-is_whole.false in
     let below = c.number-self.ensures.in_range in
     record {
       context = w.context;

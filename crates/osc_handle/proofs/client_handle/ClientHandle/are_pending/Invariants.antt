@@ -1,13 +1,11 @@
-use Rattle.std.proofs.Common.{◌≡◌, ◌<◌, ℕ, Some, length, map, take}
+use Rattle.std.proofs.Common.{◌≡◌, ◌<◌, ℕ, Some, map, take}
 use Rattle.std.specs.Prelude.{slice_get}
 use Rattle.osc_endpoint.specs.Agrees.{TokensDiffer}
-use Rattle.osc_endpoint.specs.Views.{asked_of}
 use Rattle.osc_handle.specs.ClientBytes.{IsPending, asked_at}
 use Rattle.osc_handle.specs.declared.pending_handle.PendingHandle.{PendingHandle}
-use Rattle.osc_handle.proofs.client_handle.ClientHandle.requests.Given as goal
+use Rattle.osc_handle.proofs.client_handle.ClientHandle.are_pending.Given as goal
 
 abbrev pub invariant-loop-index : goal.invariant-loop-index
 invariant-loop-index l =
-    (length l.requests.items ≡ l.index) × (map asked_of l.requests.items ≡ map asked_at (take l.index l.self.pending))
-    × TokensDiffer (map asked_at (take l.index l.self.pending))
+    TokensDiffer (map asked_at (take l.index l.self.pending))
     × ((i : ℕ) (b : PendingHandle) → i < l.index → slice_get l.self.pending i ≡ Some b → IsPending b)

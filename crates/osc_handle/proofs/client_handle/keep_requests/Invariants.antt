@@ -3,7 +3,7 @@ use Rattle.std.specs.Prelude.{slice_get}
 use Rattle.osc_endpoint.specs.Views.{asked_of}
 use Rattle.osc_handle.specs.ClientBytes.{IsPending, asked_at}
 use Rattle.osc_handle.specs.declared.pending_handle.PendingHandle.{PendingHandle}
-use Rattle.osc_handle.proofs.client_handle.places_of.Given as goal
+use Rattle.osc_handle.proofs.client_handle.keep_requests.Given as goal
 
 abbrev pub invariant-loop-index : goal.invariant-loop-index
 invariant-loop-index l =

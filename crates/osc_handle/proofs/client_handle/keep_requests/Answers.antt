@@ -1,14 +1,16 @@
-use Rattle.std.proofs.Common.{◌≡◌, ◌<◌, ◌∙◌, sym, ap, subst, refl, arith, length, map, take}
+use Rattle.std.proofs.Common.{◌≡◌, ◌<◌, ◌∙◌, sym, ap, subst, refl, arith, rules, length, map, take}
 use Rattle.std.proofs.lemmas.List.{length-set}
 use Rattle.std.proofs.lemmas.Option.{slice_get_read}
 use Rattle.osc_endpoint.specs.Views.{asked_of}
 use Rattle.osc_handle.specs.ClientBytes.{asked_at}
 use Rattle.osc_handle.proofs.ClientPlaces.{each_placed, placed_more, take_all}
 use Rattle.osc_handle.proofs.Tables.{in_front}
-use Rattle.osc_handle.proofs.client_handle.places_of.Goals as goal
+use Rattle.osc_handle.proofs.client_handle.keep_requests.Goals as goal
 
 pub loop-index-init : goal.loop-index-init
-loop-index-init c = (refl, refl, λ i b less there. absurd (omega (arith, less)))
+loop-index-init c =
+    let long : length c.args.places.now ≡ 8 = search rules in
+    (long, refl, λ i b less there. absurd (omega (arith, less)))
 
 pub loop-index-preserved : goal.loop-index-preserved
 loop-index-preserved c =
