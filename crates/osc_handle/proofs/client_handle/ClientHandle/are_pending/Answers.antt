@@ -1,4 +1,4 @@
-use Rattle.std.proofs.Common.{◌≡◌, ◌<◌, ◌∙◌, sym, ap, subst, refl, arith, rules, length, map, take}
+use Rattle.std.proofs.Common.{◌≡◌, ◌<◌, sym, subst, arith, rules, length, map, take}
 use Rattle.std.proofs.lemmas.Option.{slice_get-get_or}
 use Rattle.osc_endpoint.specs.Agrees.{TokensDiffer}
 use Rattle.osc_endpoint.specs.ClientAnswer.{IsAmong}

@@ -1,7 +1,5 @@
-use Rattle.std.proofs.Common.{◌≡◌, ◌<◌, ◌∙◌, ap, arith, rules, length, []}
+use Rattle.std.proofs.Common.{◌≡◌, ◌<◌, ◌∙◌, ap, arith, rules, length}
 use Rattle.std.proofs.lemmas.Option.{slice_get-get_or}
-use Rattle.osc_endpoint.specs.Agrees.{ClientParts}
-use Rattle.osc_handle.specs.ContextBytes.{client_in}
 use Rattle.osc_handle.proofs.ClientHistories.{parts_more, read_few}
 use Rattle.osc_handle.specs.ClientSteps.{parts_with}
 use Rattle.osc_handle.proofs.ClientPlaces.{read_pending}

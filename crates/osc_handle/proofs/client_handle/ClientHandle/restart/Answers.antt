@@ -1,4 +1,4 @@
-use Rattle.std.proofs.Common.{refl, arith}
+use Rattle.std.proofs.Common.{arith}
 use Rattle.osc_handle.proofs.client_handle.ClientHandle.restart.Goals as goal
 
 pub returns-clause-whole : goal.returns-clause-whole
