@@ -1,6 +1,7 @@
 //! Calls of osc_endpoint: a client, step by step.
 
 use crate::answer::Answer;
+use crate::client_bytes::by_bytes;
 use crate::client_entry::show;
 use crate::client_steps::{events_of, is_event};
 use crate::fields::{Fields, NamedContext};
@@ -96,7 +97,7 @@ fn call<'a, const N: usize>(
 }
 
 /// What is left of each event: of a datagram its bytes, of a request whether nothing was written into its room.
-fn left(steps: &[Step<'_>], events: &[ClientEvent], answer: &mut Answer) {
+pub(crate) fn left(steps: &[Step<'_>], events: &[ClientEvent], answer: &mut Answer) {
     answer.word("left");
     let mut rest = events;
     for step in steps {
@@ -207,13 +208,22 @@ fn in_a_way(
         "0" => make(new::<0>(fields, contexts), steps, way, answer),
         "1" => make(new::<1>(fields, contexts), steps, way, answer),
         "2" => make(new::<2>(fields, contexts), steps, way, answer),
+        "8" => make(new::<8>(fields, contexts), steps, way, answer),
         "16" => make(new::<16>(fields, contexts), steps, way, answer),
         _ => fields.refuse(),
     }
 }
 
+/// Whether the bytes of a client, which have room for eight pending requests, answer as a client with the row's room does: that
+/// is eight too, or neither fills up.
+fn has_room_of_bytes(fields: &Fields<'_>, steps: &[Step<'_>]) -> bool {
+    let requests = steps.iter().filter(|step| step.verb == "request").count();
+    let room = fields.number(1);
+    room == 8 || requests as u64 <= room.min(8)
+}
+
 /// Makes the calls of a row's steps behind the first, `new`: by `take`, by its halves, and, where they are events alone, by
-/// both runs.
+/// both runs, and over the bytes of a client in both ways.
 pub(crate) fn steps(text: &str, contexts: &[NamedContext<'_>], answer: &mut Answer) {
     let (first, rest) = text.split_once(" ; ").unwrap_or((text, ""));
     let (verb, fields) = first.split_once(' ').unwrap_or((first, ""));
@@ -227,6 +237,12 @@ pub(crate) fn steps(text: &str, contexts: &[NamedContext<'_>], answer: &mut Answ
         in_a_way(&fields, &steps, contexts, Way::ByRun, answer);
         answer.again();
         in_a_way(&fields, &steps, contexts, Way::ByRunOn, answer);
+        if has_room_of_bytes(&fields, &steps) {
+            answer.again();
+            by_bytes(&fields, &steps, contexts, false, answer);
+            answer.again();
+            by_bytes(&fields, &steps, contexts, true, answer);
+        }
     }
     if verb != "new" || fields.is_bad() || steps.iter().any(|step| step.fields.is_bad()) {
         answer.is_whole = false;

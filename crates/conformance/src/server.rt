@@ -2,27 +2,35 @@
 
 use crate::answer::Answer;
 use crate::fields::{Fields, NamedContext};
+use crate::server_bytes::by_bytes;
 use crate::server_entry::show;
 use crate::server_steps::{events_of, index, is_event};
 use crate::steps::{FILLED_WITH, Step, number, steps_of};
 use osc_coap::parse;
+use osc_context::Context;
 use osc_endpoint::{
-    Answering, Arrival, Decided, Server, ServerEntry, ServerEvent, Start, Taken, Ticket, put_back,
-    read_decided, run_server, run_server_on, take_out,
+    AddError, Answering, Arrival, Decided, Server, ServerEntry, ServerEvent, Start, Taken, Ticket,
+    put_back, read_decided, run_server, run_server_on, take_out,
 };
 use osc_window::WindowSize;
 use std::alloc::Global;
 
+/// A context that is added, how it begins, and the size of its window.
+pub(crate) struct Addition {
+    pub(crate) context: Context,
+    pub(crate) start: Start,
+    pub(crate) size: WindowSize,
+}
+
 /// `add CONTEXT fresh|restarted NEXT SIZE`.
-fn add(
-    server: &mut Server,
+pub(crate) fn read_addition(
     fields: &Fields<'_>,
     contexts: &[NamedContext<'_>],
-    answer: &mut Answer,
-) {
+) -> Option<Addition> {
     fields.count(4);
     let Some(context) = fields.context(contexts) else {
-        return fields.refuse();
+        fields.refuse();
+        return None;
     };
     let next = number(fields, 2);
     let start = if fields.word(1) == "fresh" {
@@ -35,7 +43,16 @@ fn add(
     } else {
         WindowSize::Places64
     };
-    match server.add(context, start, size) {
+    Some(Addition {
+        context,
+        start,
+        size,
+    })
+}
+
+/// The index of a context that was added, or the refusal.
+pub(crate) fn show_added(added: Result<usize, AddError>, answer: &mut Answer) {
+    match added {
         Ok(index) => {
             answer.word("added");
             answer.print(index);
@@ -43,6 +60,25 @@ fn add(
         Err(refusal) => answer.refused(refusal),
     }
     answer.word(";");
+}
+
+/// Adds a context.
+fn add(
+    server: &mut Server,
+    fields: &Fields<'_>,
+    contexts: &[NamedContext<'_>],
+    answer: &mut Answer,
+) {
+    if let Some(
+        Addition {
+            context,
+            start,
+            size,
+        },
+    ) = read_addition(fields, contexts)
+    {
+        show_added(server.add(context, start, size), answer);
+    }
 }
 
 /// A datagram, by one call.
@@ -132,7 +168,7 @@ fn call<'a>(
 }
 
 /// What is left of each event: of a datagram its bytes, of a reply whether nothing was written into its room.
-fn left(steps: &[Step<'_>], events: &[ServerEvent], answer: &mut Answer) {
+pub(crate) fn left(steps: &[Step<'_>], events: &[ServerEvent], answer: &mut Answer) {
     answer.word("left");
     let mut rest = events;
     for step in steps {
@@ -230,13 +266,22 @@ fn run(
     }
 }
 
-/// Makes the calls of a row's steps: by `take`, by its halves, and, where the steps are contexts that are added and then
-/// events alone, by both runs.
+/// Makes the calls of a row's steps: by `take`, by its halves, where the steps are contexts that are added and events over the
+/// bytes of a server in both ways too, and where the contexts come first by both runs.
 pub(crate) fn steps(text: &str, contexts: &[NamedContext<'_>], answer: &mut Answer) {
     let steps = steps_of(text, answer);
     by_calls(&steps, contexts, false, answer);
     answer.again();
     by_calls(&steps, contexts, true, answer);
+    if steps
+        .iter()
+        .all(|step| step.verb == "add" || is_event(step))
+    {
+        answer.again();
+        by_bytes(&steps, contexts, false, answer);
+        answer.again();
+        by_bytes(&steps, contexts, true, answer);
+    }
     let added = steps.iter().take_while(|step| step.verb == "add").count();
     if steps.iter().skip(added).all(is_event) {
         answer.again();

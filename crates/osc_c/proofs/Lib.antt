@@ -2,3 +2,4 @@ mod Moved
 mod Names
 mod Taking
 mod Serving
+mod Read

@@ -1,18 +1,19 @@
--- To be believed: why a call of C on a client does nothing, or less, row by row in the order in which it is judged, and what it leaves. c
--- are the client's bytes before, new those after, plain the datagram of a plain message, room the length of the buffer, d a datagram.
-use Rattle.std.specs.Prelude.{◌≡◌, ℕ, false, List}
+-- To be believed: why a call of C on a client does nothing, or less, row by row in the order in which it is judged, and what it leaves; and what C
+-- reads of each answer. c are the client's bytes before, new those after, plain the datagram of a plain message, room the length of the buffer, d a
+-- datagram.
+use Rattle.std.specs.Prelude.{◌≡◌, ℕ, false, true, List}
 use Rattle.osc_coap.specs.Datagram.{Parts, IsDatagram}
 use Rattle.osc_coap.specs.Fault.{HasFault}
 use Rattle.osc_coap.specs.declared.format_error.Fault.{Fault}
 use Rattle.osc_endpoint.specs.ClientAnswer.{ClientAnswer}
-use Rattle.osc_endpoint.specs.ClientHistory.{Advance, Advanced, Answer, BadInner, BadTag, Datagram, Deliver, Forget, Forgot, History, Malformed, NotResponse, NotSent, Request, Then, Took, Undecodable as NoAnswer, UnknownToken as Unknown, Unprotected}
+use Rattle.osc_endpoint.specs.ClientHistory.{Advance, Advanced, Answer, BadInner, BadTag, Datagram, Deliver, Entry, Forget, Forgot, History, Malformed, NotResponse, NotSent, Request, Sent, Then, Took, Undecodable as NoAnswer, UnknownToken as Unknown, Unprotected}
 use Rattle.osc_endpoint.specs.declared.client_outcome.ClientOutcome.{ClientOutcome}
 use Rattle.osc_endpoint.specs.declared.client_outcome.ClientOutcome.TheVariants as outcomes
 use Rattle.osc_endpoint.specs.declared.client_outcome.RequestError.{RequestError}
 use Rattle.osc_endpoint.specs.declared.client_outcome.RequestError.TheVariants as requests
 use Rattle.osc_handle.specs.ClientBytes.{Asks, IsClient}
 use Rattle.osc_handle.specs.declared.client_handle.ClientHandle.{ClientHandle}
-use Rattle.osc_c.specs.Statuses.{format_status}
+use Rattle.osc_c.specs.Statuses.{code, format_status}
 use Rattle.osc_c.specs.declared.status.Status.{Status}
 use Rattle.osc_c.specs.declared.status.Status.TheVariants.{BadHandle, BadNumber, NotThatKind, UnknownToken, NoOscore, Undecodable, Tag, Inner, Unsupported, TokenInUse, PendingFull, SequenceExhausted, TooLong, NoRoom, NotPending}
 
@@ -78,3 +79,21 @@ pub data RefusesForgetting (c new : ClientHandle) (token : List ℕ) (status : S
   bad_handle : (IsClient c → ⊥) → new ≡ c → status ≡ BadHandle → RefusesForgetting c new token status
   not_pending : IsClient c → status ≡ NotPending
       → ((h : History) → Asks c h → ClientAnswer 8 h (Forget token) (Forgot false) × Asks new (Then h (Forget token) (Forgot false))) → RefusesForgetting c new token status
+
+-- what C reads of the answer to Request: 0 and the sealed text, or the number of the refusal's status and the detail (own rule)
+abbrev pub ReadsAsking : Entry → ℕ → ℕ → List ℕ → Type 0
+ReadsAsking (Sent bytes) result detail text = (result ≡ 0) × (text ≡ bytes)
+ReadsAsking (NotSent e) result detail text = (status : Status) × (result ≡ code status) × IsAskingStatus e status detail
+ReadsAsking entry result detail text = ⊥
+
+-- of the answer to a datagram: 0 and the request's number, or the number of its status and the detail (own rule)
+abbrev pub ReadsTaking : Entry → ℕ → ℕ → ℕ → Type 0
+ReadsTaking (Took (Deliver received n)) result detail request = (result ≡ 0) × (request ≡ n)
+ReadsTaking (Took answer) result detail request = (status : Status) × (result ≡ code status) × IsAnswerStatus answer status detail
+ReadsTaking entry result detail request = ⊥
+
+-- of the answer to Forget (own rule)
+abbrev pub ReadsForgetting : Entry → ℕ → Type 0
+ReadsForgetting (Forgot true) result = result ≡ 0
+ReadsForgetting (Forgot false) result = result ≡ code NotPending
+ReadsForgetting entry result = ⊥

@@ -1,5 +1,5 @@
--- To be believed: why a call of C on a server does nothing, or less, row by row in the order in which it is judged, and what it leaves. s are
--- the server's bytes before, new those after, c the bytes of a context, t those of a ticket, d a datagram.
+-- To be believed: why a call of C on a server does nothing, or less, row by row in the order in which it is judged, and what it leaves; and what C
+-- reads of each answer. s are the server's bytes before, new those after, c the bytes of a context, t those of a ticket, d a datagram.
 use Rattle.std.specs.Prelude.{◌≡◌, ℕ, ◌<◌, ◌^◌, ◌⊎◌, List, Bool, true, false}
 use Rattle.osc_coap.specs.Datagram.{Parts, IsDatagram}
 use Rattle.osc_coap.specs.Fault.{HasFault}
@@ -9,7 +9,7 @@ use Rattle.osc_context.specs.declared.partial_iv.Piv.{Piv}
 use Rattle.osc_window.specs.Views.{places_of}
 use Rattle.osc_window.specs.declared.window_size.WindowSize.{WindowSize}
 use Rattle.osc_endpoint.specs.ServerAnswer.{ServerAnswer}
-use Rattle.osc_endpoint.specs.ServerHistory.{Add, Answer, BadInner, BadTag, Challenge as Challenged, Datagram, Deliver, Entry, Event, History, Malformed, NoContext as NoSuchKid, NotAdded, NotReplied, NotRequest, NotRestarted, Plain, Replay as Replayed, Restart, SequenceExhausted as NoOwnLeft, Then, Took, Undecodable as NotDecoded}
+use Rattle.osc_endpoint.specs.ServerHistory.{Add, Added, Answer, BadInner, BadTag, Challenge as Challenged, Datagram, Deliver, Entry, Event, History, Malformed, NoContext as NoSuchKid, NotAdded, NotReplied, NotRequest, NotRestarted, Plain, Replay as Replayed, Replied, Restart, Restarted as LivesAnew, SequenceExhausted as NoOwnLeft, Then, TicketValues, Took, Undecodable as NotDecoded}
 use Rattle.osc_endpoint.specs.declared.outcome.Outcome.{Outcome}
 use Rattle.osc_endpoint.specs.declared.outcome.Outcome.TheVariants as outcomes
 use Rattle.osc_endpoint.specs.declared.server_error.AddError.{AddError}
@@ -27,7 +27,7 @@ use Rattle.osc_handle.specs.TicketBytes.{IsTicket, ticket_in}
 use Rattle.osc_handle.specs.declared.context_handle.ContextHandle.{ContextHandle}
 use Rattle.osc_handle.specs.declared.server_handle.ServerHandle.{ServerHandle}
 use Rattle.osc_handle.specs.declared.ticket_handle.TicketHandle.{TicketHandle}
-use Rattle.osc_c.specs.Statuses.{format_status}
+use Rattle.osc_c.specs.Statuses.{code, format_status}
 use Rattle.osc_c.specs.declared.status.Status.{Status}
 use Rattle.osc_c.specs.declared.status.Status.TheVariants.{BadHandle, BadNumber, NoSuchContext, LivesExhausted, Full, SameLookup, StaleTicket, TicketSpent, NotThatKind, NoOscore, Undecodable, NoContext, Replay, Tag, Inner, Challenge, Unsupported, SequenceExhausted, TooLong, NoRoom}
 
@@ -110,7 +110,7 @@ pub data RefusesAdding (s new : ServerHandle) (c : ContextHandle) (restarted : B
 pub data RefusesRestarting (s new : ServerHandle) (context next : ℕ) (status : Status) : Type 0 where
   bad_handle : (IsTable s.contexts → ⊥) → status ≡ BadHandle → RefusesRestarting s new context next status
   bad_number : IsTable s.contexts → (next < 2 ^ 40 → ⊥) → status ≡ BadNumber → RefusesRestarting s new context next status
-  refused : IsTable s.contexts → (e : RestartError) → status ≡ restart_status e → ((h : History) → Serves s h → AnswersIn h (Restart context next) (NotRestarted e) new) → RefusesRestarting s new context next status
+  refused : IsTable s.contexts → next < 2 ^ 40 → (e : RestartError) → status ≡ restart_status e → ((h : History) → Serves s h → AnswersIn h (Restart context next) (NotRestarted e) new) → RefusesRestarting s new context next status
 
 -- the answer to a datagram has this status and detail, and the bytes are as it says (RFC 8613, 8.2)
 pub record TakesBy (h : History) (new : ServerHandle) (now : ℕ) (echo : List ℕ) (mid : ℕ) (d reply : List ℕ) (status : Status) (detail : ℕ) : Type 0 where
@@ -130,3 +130,27 @@ pub data RefusesReplying (s new : ServerHandle) (t : TicketHandle) (own : Bool) 
   spent : IsTable s.contexts → IsTicket t → (p : Parts) → IsDatagram p plain → ((h : History) → Serves s h → IsSpent h (ticket_in t)) → status ≡ TicketSpent → detail ≡ 0 → RefusesReplying s new t own mid plain room status detail
   refused : IsTable s.contexts → IsTicket t → (p : Parts) → IsDatagram p plain → (e : ReplyError) → IsReplyStatus e status detail
       → ((h : History) → Serves s h → RepliesIn h (ticket_in t) own mid p room (NotReplied e) new) → RefusesReplying s new t own mid plain room status detail
+
+-- what C reads of the answer to Add: 0 and the index, or the number of the refusal's status (own rule)
+abbrev pub ReadsAdding : Entry → ℕ → ℕ → Type 0
+ReadsAdding (Added i) result index = (result ≡ 0) × (index ≡ i)
+ReadsAdding (NotAdded e) result index = result ≡ code (add_status e)
+ReadsAdding entry result index = ⊥
+
+-- of the answer to Restart (own rule)
+abbrev pub ReadsRestarting : Entry → ℕ → Type 0
+ReadsRestarting LivesAnew result = result ≡ 0
+ReadsRestarting (NotRestarted e) result = result ≡ code (restart_status e)
+ReadsRestarting entry result = ⊥
+
+-- of the answer to a datagram: 0 and the ticket, or the number of its status and the detail; and the reply (own rule)
+abbrev pub ReadsServing : Entry → ℕ → ℕ → TicketValues → List ℕ → Type 0
+ReadsServing (Took (Deliver received t) bytes) result detail ticket reply = (result ≡ 0) × (ticket ≡ t) × (reply ≡ bytes)
+ReadsServing (Took answer bytes) result detail ticket reply = (status : Status) × (result ≡ code status) × IsAnswerStatus answer status detail × (reply ≡ bytes)
+ReadsServing entry result detail ticket reply = ⊥
+
+-- of the answer to Reply: 0 and the sealed text, or the number of the refusal's status and the detail (own rule)
+abbrev pub ReadsReplying : Entry → ℕ → ℕ → List ℕ → Type 0
+ReadsReplying (Replied bytes) result detail text = (result ≡ 0) × (text ≡ bytes)
+ReadsReplying (NotReplied e) result detail text = (status : Status) × (result ≡ code status) × IsReplyStatus e status detail
+ReadsReplying entry result detail text = ⊥

@@ -2,27 +2,29 @@
 
 ghost use Rattle.std.specs.Prelude.{◌≡◌, ◌≢◌, ◌≤◌, ◌<◌, ◌^◌, ℕ, IfOk, IfErr, IsOk, OnErr, true, false, take, drop, map, length};
 ghost use Rattle.osc_coap.specs.Datagram.{Parts, IsDatagram};
+ghost use Rattle.osc_coap.specs.Fault.{HasFault};
+ghost use Rattle.osc_coap.specs.declared.format_error.Fault.{Fault as FaultOf};
 ghost use Rattle.osc_context.specs.Views.{number_of};
 ghost use Rattle.osc_protect.specs.Views.{message_of};
 ghost use Rattle.osc_protect.specs.declared.opened.Opened.{Opened as OpenedOf};
 ghost use Rattle.osc_endpoint.specs.ClientAnswer.{ClientAnswer};
-ghost use Rattle.osc_endpoint.specs.ClientHistory.{Datagram, Deliver, Forget, Forgot, History, New, Request, Restart, Restarted, Sent, Then, Took};
+ghost use Rattle.osc_endpoint.specs.ClientHistory.{Datagram, Deliver, Entry, Forget, Forgot, History, New, Request, Restart, Restarted, Sent, Then, Took};
 ghost use Rattle.osc_endpoint.specs.Views.{received_of};
 ghost use Rattle.osc_endpoint.specs.declared.client_outcome.ClientOutcome.TheVariants.{Deliver as Delivered};
 ghost use Rattle.osc_endpoint.specs.declared.client_outcome.RequestError.TheVariants.{KeeperFailed};
 ghost use Rattle.osc_handle.specs.ClientBytes.{Asks, IsClient};
 ghost use Rattle.osc_handle.specs.ContextBytes.{client_in, IsContext};
-ghost use Rattle.osc_c.specs.ClientCalls.{IsAskingStatus, IsOutcomeStatus, RefusesAsking, RefusesForgetting, RefusesNumber, RefusesTaking};
+ghost use Rattle.osc_c.specs.ClientCalls.{IsAskingStatus, IsOutcomeStatus, ReadsAsking, ReadsForgetting, ReadsTaking, RefusesAsking, RefusesForgetting, RefusesNumber, RefusesTaking};
 ghost use Rattle.osc_c.specs.Opened.{option_in, Shows};
-ghost use Rattle.osc_c.specs.Statuses.{code};
+ghost use Rattle.osc_c.specs.Statuses.{code, format_status};
 ghost use Rattle.osc_c.specs.declared.status.Status.{Status as StatusOf};
 ghost use Rattle.osc_c.specs.declared.status.Status.TheVariants.{BadHandle};
 
 use crate::opened_view::{OpenedView, OptionView, show};
 use crate::status::{DONE, Refusal, Status};
-use osc_coap::parse;
+use osc_coap::{one_datagram, parse};
 use osc_context::Piv;
-use osc_endpoint::{ClientOutcome, RequestError};
+use osc_endpoint::{ClientOutcome, RequestError, one_client_answer};
 use osc_handle::{ClientHandle, ContextHandle};
 use osc_protect::Opened;
 
@@ -84,7 +86,9 @@ pub extern "C" fn oscore_client_forget(client: &mut ClientHandle, token: &[u8]) 
     ensures whole { IsClient client.old → IsClient client.new }
     ensures refused { result ≢ 0 → (status : StatusOf) × (result ≡ code status) × RefusesForgetting client.old client.new token.now status }
     ensures refuses { (IsClient client.old → ⊥) → result ≡ code BadHandle }
+    ensures answers { (h : History) (entry : Entry) → Asks client.old h → ClientAnswer 8 h (Forget token.now) entry → ReadsForgetting entry result }
 {
+    one_client_answer();
     match client.forget(token) {
         Some(true) => DONE,
         Some(false) => Status::NotPending.code(),
@@ -166,8 +170,14 @@ pub extern "C" fn oscore_client_request(
     ensures whole { IsClient client.old → IsClient client.new }
     ensures refused { result ≢ 0 → (status : StatusOf) × (result ≡ code status) × RefusesAsking client.old client.new now plain.now (length out.old) status detail.new }
     ensures refuses { (IsClient client.old → ⊥) → result ≡ code BadHandle }
+    ensures malformed { IsClient client.old → (fault : FaultOf) (place : ℕ) → HasFault plain.now fault place
+        → (result ≡ code (format_status fault)) × (detail.new ≡ place) }
+    ensures answers { (p : Parts) → IsDatagram p plain.now → (h : History) (entry : Entry) → Asks client.old h
+        → ClientAnswer 8 h (Request now p (length out.old)) entry → ReadsAsking entry result detail.new (take out_len.new out.new) }
     ensures unchanged { result ≢ 0 → (out.new ≡ out.old) × (out_len.new ≡ out_len.old) }
 {
+    one_client_answer();
+    one_datagram();
     match request_in(client, now, plain, out) {
         Ok(len) => {
             *out_len = len;
@@ -242,8 +252,11 @@ pub extern "C" fn oscore_client_take<'b>(
     ensures whole { IsClient client.old → IsClient client.new }
     ensures refused { result ≢ 0 → (status : StatusOf) × (result ≡ code status) × RefusesTaking client.old client.new now datagram.old status detail.new }
     ensures refuses { (IsClient client.old → ⊥) → result ≡ code BadHandle }
+    ensures answers { (h : History) (entry : Entry) → Asks client.old h → ClientAnswer 8 h (Datagram now datagram.old) entry
+        → ReadsTaking entry result detail.new request.new }
     ensures unchanged { result ≢ 0 → (opened.new ≡ opened.old) × (options.new ≡ options.old) × (request.new ≡ request.old) }
 {
+    one_client_answer();
     match take_in(client, now, datagram) {
         Ok((message, number)) => {
             show(&message, options, opened);

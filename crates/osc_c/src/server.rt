@@ -1,14 +1,17 @@
 //! A server, for C: its bytes are the caller's, and each call does what the server does. A request is answered once, however often its
 //! ticket is copied.
 
-ghost use Rattle.std.specs.Prelude.{◌≡◌, ◌≢◌, ◌≤◌, ◌<◌, ◌^◌, IfOk, IfErr, IsOk, IsErrAnd, OnErr, true, false, take, drop, map, length, Err};
+ghost use Rattle.std.specs.Prelude.{◌≡◌, ◌≢◌, ◌≤◌, ◌<◌, ◌^◌, ℕ, IfOk, IfErr, IsOk, IsErrAnd, OnErr, true, false, take, drop, map, length, Err};
 ghost use Rattle.osc_coap.specs.Datagram.{Parts, IsDatagram};
+ghost use Rattle.osc_coap.specs.Fault.{HasFault};
+ghost use Rattle.osc_coap.specs.declared.format_error.Fault.{Fault as FaultOf};
 ghost use Rattle.osc_context.specs.Views.{number_of};
 ghost use Rattle.osc_context.specs.declared.partial_iv.Piv.{Piv as PivOf};
 ghost use Rattle.osc_window.specs.declared.window_size.WindowSize.{WindowSize as WindowSizeOf};
 ghost use Rattle.osc_protect.specs.Views.{message_of};
 ghost use Rattle.osc_protect.specs.declared.opened.Opened.{Opened as OpenedOf};
-ghost use Rattle.osc_endpoint.specs.ServerHistory.{Add, Added, Begin, Datagram, Deliver, History, Replied, Restart, Restarted, Took};
+ghost use Rattle.osc_endpoint.specs.ServerAnswer.{ServerAnswer};
+ghost use Rattle.osc_endpoint.specs.ServerHistory.{Add, Added, Begin, Datagram, Deliver, Entry, History, Replied, Reply, Restart, Restarted, Took};
 ghost use Rattle.osc_endpoint.specs.Views.{received_of, values_of};
 ghost use Rattle.osc_endpoint.specs.declared.outcome.Outcome.TheVariants.{Deliver as Delivered, KeeperFailed as KeeperFailedOutcome};
 ghost use Rattle.osc_endpoint.specs.declared.server_error.ReplyError.TheVariants.{KeeperFailed};
@@ -17,16 +20,18 @@ ghost use Rattle.osc_handle.specs.ServerBytes.{IsSpent, RepliesIn, Serves};
 ghost use Rattle.osc_handle.specs.TableBytes.{IsTable};
 ghost use Rattle.osc_handle.specs.TicketBytes.{IsTicket, ticket_in};
 ghost use Rattle.osc_c.specs.Opened.{option_in, Shows};
-ghost use Rattle.osc_c.specs.ServerCalls.{AnswersIn, AreAddable, AreGiven, IsOutcomeStatus, IsReplyStatus, RefusesAdding, RefusesReplying, RefusesRestarting, RefusesServing, add_status, restart_status, start_given};
-ghost use Rattle.osc_c.specs.Statuses.{code};
+ghost use Rattle.osc_c.specs.ServerCalls.{AnswersIn, AreAddable, AreGiven, IsOutcomeStatus, IsReplyStatus, ReadsAdding, ReadsReplying, ReadsRestarting, ReadsServing, RefusesAdding, RefusesReplying, RefusesRestarting, RefusesServing, add_status, restart_status, start_given};
+ghost use Rattle.osc_c.specs.Statuses.{code, format_status};
 ghost use Rattle.osc_c.specs.declared.status.Status.{Status as StatusOf};
-ghost use Rattle.osc_c.specs.declared.status.Status.TheVariants.{BadHandle, TicketSpent};
+ghost use Rattle.osc_c.specs.declared.status.Status.TheVariants.{BadHandle, BadNumber, TicketSpent};
 
 use crate::opened_view::{OpenedView, OptionView, show};
 use crate::status::{DONE, Refusal, Status};
-use osc_coap::parse;
+use osc_coap::{one_datagram, parse};
 use osc_context::Piv;
-use osc_endpoint::{AddError, Fresh, Outcome, ReplyError, RestartError, Start, Taken, Ticket};
+use osc_endpoint::{
+    AddError, Fresh, Outcome, ReplyError, RestartError, Start, Taken, Ticket, one_server_answer,
+};
 use osc_handle::{ContextHandle, ReplyRefusal, ServerHandle, TicketHandle, size_with};
 use osc_protect::Opened;
 
@@ -107,9 +112,14 @@ pub extern "C" fn oscore_server_add(
         × ((h : History) → Serves server.old h → AnswersIn h (Add (server_in context.now) (start_given restarted number) size) (Added index.new) server.new) }
     ensures refused { result ≢ 0 → (status : StatusOf) × (result ≡ code status) × RefusesAdding server.old server.new context.now restarted next window_places status }
     ensures refuses { (IsTable server.old.contexts → IsContext context.now → ⊥) → result ≡ code BadHandle }
+    ensures bad_number { IsTable server.old.contexts → IsContext context.now → (AreAddable next window_places → ⊥) → result ≡ code BadNumber }
+    ensures answers { IsTable server.old.contexts → IsContext context.now → (number : PivOf) (size : WindowSizeOf) → AreGiven next window_places number size
+        → (h : History) (entry : Entry) → Serves server.old h → ServerAnswer h (Add (server_in context.now) (start_given restarted number) size) entry
+        → ReadsAdding entry result index.new }
     ensures bytes { IsTable server.old.contexts → IsTable server.new.contexts }
     ensures unchanged { result ≢ 0 → (server.new ≡ server.old) × (index.new ≡ index.old) }
 {
+    one_server_answer();
     match add_in(server, context, restarted, next, window_places) {
         Ok(added) => {
             *index = added;
@@ -132,7 +142,7 @@ fn restarting_status(error: RestartError) -> Status
 /// Begins a new life of a context of a server.
 fn restart_in(server: &mut ServerHandle, context: usize, next: u64) -> Result<(), Status>
     ensures restarted { IsOk result → (h : History) → Serves server.old h → AnswersIn h (Restart context next) Restarted server.new }
-    ensures accepted { IsOk result → IsTable server.old.contexts }
+    ensures accepted { IsOk result → IsTable server.old.contexts × (next < 2 ^ 40) }
     ensures refused { IfErr result (λ status. RefusesRestarting server.old server.new context next status) }
     ensures bytes { IsTable server.old.contexts → IsTable server.new.contexts }
     ensures unchanged { OnErr result (server.new ≡ server.old) }
@@ -158,9 +168,13 @@ pub extern "C" fn oscore_server_restart(server: &mut ServerHandle, context: usiz
     ensures restarted { result ≡ 0 → (h : History) → Serves server.old h → AnswersIn h (Restart context next) Restarted server.new }
     ensures refused { result ≢ 0 → (status : StatusOf) × (result ≡ code status) × RefusesRestarting server.old server.new context next status }
     ensures refuses { (IsTable server.old.contexts → ⊥) → result ≡ code BadHandle }
+    ensures bad_number { IsTable server.old.contexts → (next < 2 ^ 40 → ⊥) → result ≡ code BadNumber }
+    ensures answers { IsTable server.old.contexts → next < 2 ^ 40 → (h : History) (entry : Entry) → Serves server.old h
+        → ServerAnswer h (Restart context next) entry → ReadsRestarting entry result }
     ensures bytes { IsTable server.old.contexts → IsTable server.new.contexts }
     ensures unchanged { result ≢ 0 → server.new ≡ server.old }
 {
+    one_server_answer();
     match restart_in(server, context, next) {
         Ok(()) => DONE,
         Err(status) => status.code(),
@@ -249,11 +263,14 @@ pub extern "C" fn oscore_server_take<'b>(
     ensures refused { result ≢ 0 → (status : StatusOf) × (result ≡ code status)
         × RefusesServing server.old server.new now echo.now mid datagram.old (take out_len.new out.new) status detail.new }
     ensures refuses { (IsTable server.old.contexts → ⊥) → result ≡ code BadHandle }
+    ensures answers { IsTable server.old.contexts → (h : History) (entry : Entry) → Serves server.old h
+        → ServerAnswer h (Datagram now echo.now mid datagram.old) entry → ReadsServing entry result detail.new (ticket_in ticket.new) (take out_len.new out.new) }
     ensures bytes { IsTable server.old.contexts → IsTable server.new.contexts }
     ensures within { out_len.new ≤ 64 }
     ensures behind { drop out_len.new out.new ≡ drop out_len.new out.old }
     ensures unchanged { result ≢ 0 → (opened.new ≡ opened.old) × (options.new ≡ options.old) × (ticket.new ≡ ticket.old) }
 {
+    one_server_answer();
     let fresh = Fresh { echo: *echo, mid };
     match take_in(server, now, fresh, datagram, out, out_len) {
         Ok((message, right)) => {
@@ -344,6 +361,11 @@ pub extern "C" fn oscore_server_reply(
     ensures refused { result ≢ 0 → (status : StatusOf) × (result ≡ code status)
         × RefusesReplying server.old server.new ticket.now own mid plain.now (length out.old) status detail.new }
     ensures refuses { (IsTable server.old.contexts → IsTicket ticket.now → ⊥) → result ≡ code BadHandle }
+    ensures malformed { IsTable server.old.contexts → IsTicket ticket.now → (fault : FaultOf) (place : ℕ) → HasFault plain.now fault place
+        → (result ≡ code (format_status fault)) × (detail.new ≡ place) }
+    ensures answers { IsTable server.old.contexts → IsTicket ticket.now → (p : Parts) → IsDatagram p plain.now
+        → (h : History) (entry : Entry) → Serves server.old h → (IsSpent h (ticket_in ticket.now) → ⊥)
+        → ServerAnswer h (Reply (ticket_in ticket.now) own mid p (length out.old)) entry → ReadsReplying entry result detail.new (take out_len.new out.new) }
     ensures once { (p : Parts) → IsDatagram p plain.now → IsTable server.old.contexts → IsTicket ticket.now → (h : History) → Serves server.old h
         → IsSpent h (ticket_in ticket.now) → result ≡ code TicketSpent }
     ensures bytes { IsTable server.old.contexts → IsTable server.new.contexts }
@@ -351,6 +373,8 @@ pub extern "C" fn oscore_server_reply(
     ensures behind { result ≡ 0 → drop out_len.new out.new ≡ drop out_len.new out.old }
     ensures unchanged { result ≢ 0 → (server.new ≡ server.old) × (out.new ≡ out.old) × (out_len.new ≡ out_len.old) }
 {
+    one_server_answer();
+    one_datagram();
     match reply_in(server, ticket, own, mid, plain, out) {
         Ok(len) => {
             *out_len = len;

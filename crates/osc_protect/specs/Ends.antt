@@ -1,10 +1,8 @@
 -- For the proofs: which end of a security context an end is (RFC 8613, 3.1). s is a security context.
-use Rattle.std.specs.Prelude.{◌≡◌, ℕ, List}
+use Rattle.std.specs.Prelude.{◌≡◌}
 use Rattle.osc_aes.specs.Keyed.{key_of}
 use Rattle.osc_context.specs.SecurityContext.{SecurityContext}
 use Rattle.osc_protect.specs.declared.ends.End.{End}
-use Rattle.osc_protect.specs.declared.ends.Schedule.{Schedule}
-use Rattle.osc_protect.specs.declared.ends.Schedule.TheVariants.{Kept, Made}
 
 -- the end is the client: identifier and key are its (RFC 8613, 3.1)
 abbrev pub IsClientOf : SecurityContext → End → Type 0
@@ -13,8 +11,3 @@ IsClientOf s end = (end.kid.now ≡ s.client) × (key_of end.schedule.now ≡ s.
 -- the end is the server: identifier and key are its (RFC 8613, 3.1)
 abbrev pub IsServerOf : SecurityContext → End → Type 0
 IsServerOf s end = (end.kid.now ≡ s.server) × (key_of end.schedule.now ≡ s.server_key)
-
--- the key of a schedule, wherever it lies (how the code is seen)
-abbrev pub scheduled : Schedule → List ℕ
-scheduled (Kept schedule) = key_of schedule.now
-scheduled (Made schedule) = key_of schedule

@@ -31,9 +31,7 @@ pub fn decrypt_request(
     ensures unchanged { OnErr result (datagram.new ≡ datagram.old) }
 {
     one_head();
-    let schedule = context.recipient_schedule();
-    let recipient = Recipient::new(context.context(), schedule.get());
-    decrypt_request_forward(recipient, datagram, sealed)
+    decrypt_request_either(context, datagram, sealed)
 }
 
 /// Decrypts a response in its datagram. `sealed` is of the datagram's head. At Ok the payload is the plaintext, and behind it
@@ -53,9 +51,27 @@ pub fn decrypt_response(
     ensures unchanged { OnErr result (datagram.new ≡ datagram.old) }
 {
     one_head();
-    let schedule = context.recipient_schedule();
-    let recipient = Recipient::new(context.context(), schedule.get());
-    decrypt_response_forward(recipient, request, datagram, sealed)
+    decrypt_response_either(context, request, datagram, sealed)
+}
+
+/// Decrypts a request under the schedule that is kept, or is made.
+fn decrypt_request_either(
+    context: &KeyedContext,
+    datagram: &mut [u8],
+    sealed: SealedRequest,
+) -> Result<DecryptedRequest, BadTag>
+    requires { IsSealedRequest (opened_requests (context_of context.now)) datagram.old sealed }
+    ensures decrypted { IfOk result (λ x. DecryptsRequest (opened_requests (context_of context.now)) datagram.old x datagram.new) }
+    ensures placed { IfOk result (λ x. FitsRequest datagram.new x) }
+    ensures refused { OnErr result (RefusesTag (opened_requests (context_of context.now)) datagram.old) }
+    ensures unchanged { OnErr result (datagram.new ≡ datagram.old) }
+{
+    if let Some(recipient) = context.kept_recipient() {
+        return decrypt_request_forward(recipient, datagram, sealed);
+    }
+    let schedule = Recipient::schedule_of(context.context());
+    let recipient = Recipient::new(context.context(), &schedule);
+    decrypt_request_forward(recipient, datagram, sealed)
 }
 
 /// Decrypts a request under the recipient's key.
@@ -76,6 +92,27 @@ pub(crate) fn decrypt_request_forward(
         Some(len) => Ok(DecryptedRequest { number, len }),
         None => Err(BadTag),
     }
+}
+
+/// Decrypts a response under the schedule that is kept, or is made.
+fn decrypt_response_either(
+    context: &KeyedContext,
+    request: &RequestRef,
+    datagram: &mut [u8],
+    sealed: SealedResponse,
+) -> Result<DecryptedResponse, BadTag>
+    requires { IsSealedResponse (opened_responses (context_of context.now) request.now) datagram.old sealed }
+    ensures decrypted { IfOk result (λ x. DecryptsResponse (opened_responses (context_of context.now) request.now) datagram.old x datagram.new) }
+    ensures placed { IfOk result (λ x. FitsResponse datagram.new x) }
+    ensures refused { OnErr result (RefusesTag (opened_responses (context_of context.now) request.now) datagram.old) }
+    ensures unchanged { OnErr result (datagram.new ≡ datagram.old) }
+{
+    if let Some(recipient) = context.kept_recipient() {
+        return decrypt_response_forward(recipient, request, datagram, sealed);
+    }
+    let schedule = Recipient::schedule_of(context.context());
+    let recipient = Recipient::new(context.context(), &schedule);
+    decrypt_response_forward(recipient, request, datagram, sealed)
 }
 
 /// Decrypts a response under the recipient's key.

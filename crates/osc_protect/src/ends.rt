@@ -4,7 +4,6 @@
 ghost use Rattle.std.specs.Prelude.{◌≡◌};
 ghost use Rattle.osc_aes.specs.Keyed.{key_of};
 ghost use Rattle.osc_context.specs.Views.{as_client, as_server};
-ghost use Rattle.osc_protect.specs.Ends.{scheduled};
 
 use osc_aes::TableAes;
 use osc_context::{Context, Kid};
@@ -14,25 +13,6 @@ use osc_context::{Context, Kid};
 pub(crate) struct End<'a> {
     pub(crate) kid: &'a Kid,
     pub(crate) schedule: &'a TableAes,
-}
-
-/// The schedule of a key: one that is kept, or one that is made for a single message.
-#[derive(Drop)]
-pub(crate) enum Schedule<'a> {
-    Kept(&'a TableAes),
-    Made(TableAes),
-}
-
-impl Schedule<'_> {
-    /// The schedule.
-    pub(crate) fn get(&self) -> &TableAes
-        ensures { key_of result.now ≡ scheduled self.now }
-    {
-        match self {
-            Schedule::Kept(schedule) => schedule,
-            Schedule::Made(schedule) => schedule,
-        }
-    }
 }
 
 /// A context with the schedule of the sender's key: what this end seals with.

@@ -6,17 +6,16 @@ ghost use Rattle.osc_aes.specs.Keyed.{key_of};
 ghost use Rattle.osc_coap.specs.Inner.{InnerParts};
 ghost use Rattle.osc_coap.specs.Views.{parts_of};
 ghost use Rattle.osc_context.specs.Views.{as_client, as_server, number_of};
-ghost use Rattle.osc_protect.specs.Ends.{scheduled};
 ghost use Rattle.osc_protect.specs.declared.protect_error.ProtectError.{ProtectError};
 ghost use Rattle.osc_protect.specs.declared.unprotect_error.UnprotectError.{UnprotectError};
 ghost use Rattle.osc_protect.specs.declared.unprotect_error.UnprotectError.TheVariants.{WrongContext};
 
-use crate::ends::{Recipient, Schedule, Sender};
+use crate::ends::{Recipient, Sender};
 use crate::opened::Opened;
-use crate::opening::{open_request_by, open_response_by};
+use crate::opening::{open_request, open_request_by, open_response, open_response_by};
 use crate::protect_error::ProtectError;
 use crate::request_ref::RequestRef;
-use crate::sealing::{seal_request_by, seal_response_by};
+use crate::sealing::{seal_request, seal_request_by, seal_response, seal_response_by};
 use crate::unprotect_error::UnprotectError;
 use osc_aes::TableAes;
 use osc_coap::Message;
@@ -76,23 +75,23 @@ impl KeyedContext {
         &self.context
     }
 
-    /// The schedule of what this end seals with.
-    fn sender_schedule(&self) -> Schedule<'_>
-        ensures { scheduled result ≡ (as_client (context_of self.now)).client_key }
+    /// What this end seals with, where its schedule is kept.
+    fn kept_sender(&self) -> Option<Sender<'_>>
+        ensures { ForSome result (λ sender. sender.context.now ≡ context_of self.now) }
     {
         match &self.sender {
-            Some(schedule) => Schedule::Kept(schedule),
-            None => Schedule::Made(Sender::schedule_of(&self.context)),
+            Some(schedule) => Some(Sender::new(&self.context, schedule)),
+            None => None,
         }
     }
 
-    /// The schedule of what this end opens with.
-    pub(crate) fn recipient_schedule(&self) -> Schedule<'_>
-        ensures { scheduled result ≡ (as_server (context_of self.now)).client_key }
+    /// What this end opens with, where its schedule is kept.
+    pub(crate) fn kept_recipient(&self) -> Option<Recipient<'_>>
+        ensures { ForSome result (λ recipient. recipient.context.now ≡ context_of self.now) }
     {
         match &self.recipient {
-            Some(schedule) => Schedule::Kept(schedule),
-            None => Schedule::Made(Recipient::schedule_of(&self.context)),
+            Some(schedule) => Some(Recipient::new(&self.context, schedule)),
+            None => None,
         }
     }
 
@@ -112,9 +111,10 @@ impl KeyedContext {
             → IsErrOf result e }
         ensures unchanged { OnErr result (out.new ≡ out.old) }
     {
-        let schedule = self.sender_schedule();
-        let sender = Sender::new(&self.context, schedule.get());
-        seal_request_by(sender, number, plain, out)
+        match self.kept_sender() {
+            Some(sender) => seal_request_by(sender, number, plain, out),
+            None => seal_request(&self.context, number, plain, out),
+        }
     }
 
     /// As [`crate::seal_response`], under the schedule that is kept, or is made.
@@ -137,9 +137,10 @@ impl KeyedContext {
             → IsErrOf result e }
         ensures unchanged { OnErr result (out.new ≡ out.old) }
     {
-        let schedule = self.sender_schedule();
-        let sender = Sender::new(&self.context, schedule.get());
-        seal_response_by(sender, request, own, plain, out)
+        match self.kept_sender() {
+            Some(sender) => seal_response_by(sender, request, own, plain, out),
+            None => seal_response(&self.context, request, own, plain, out),
+        }
     }
 
     /// As [`crate::open_request`], under the schedule that is kept, or is made.
@@ -150,9 +151,10 @@ impl KeyedContext {
         ensures refused { IfErr result (λ e. RefusesToOpen (opened_requests (context_of self.now)) datagram.old e) }
         ensures refuses { (e : UnprotectError) → RefusesToOpen (opened_requests (context_of self.now)) datagram.old e → IsErrOf result e }
     {
-        let schedule = self.recipient_schedule();
-        let recipient = Recipient::new(&self.context, schedule.get());
-        open_request_by(recipient, datagram)
+        match self.kept_recipient() {
+            Some(recipient) => open_request_by(recipient, datagram),
+            None => open_request(&self.context, datagram),
+        }
     }
 
     /// As [`crate::open_response`], under the schedule that is kept, or is made.
@@ -169,9 +171,10 @@ impl KeyedContext {
         ensures refuses { (e : UnprotectError) → RefusesToOpen (opened_responses (context_of self.now) request.now) datagram.old e → IsErrOf result e }
         ensures no_wrong_context { IfErr result (λ e. e ≢ WrongContext) }
     {
-        let schedule = self.recipient_schedule();
-        let recipient = Recipient::new(&self.context, schedule.get());
-        open_response_by(recipient, request, datagram)
+        match self.kept_recipient() {
+            Some(recipient) => open_response_by(recipient, request, datagram),
+            None => open_response(&self.context, request, datagram),
+        }
     }
 }
 

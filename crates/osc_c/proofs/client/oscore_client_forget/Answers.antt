@@ -2,8 +2,10 @@ use Rattle.std.proofs.Common.{◌≡◌, Bool, refl, rules, subst, true, false}
 use Rattle.osc_endpoint.specs.ClientAnswer.{ClientAnswer}
 use Rattle.osc_endpoint.specs.ClientHistory.{Forget, Forgot, Then}
 use Rattle.osc_handle.specs.ClientBytes.{Asks}
+use Rattle.osc_c.specs.ClientCalls.{ReadsForgetting}
 use Rattle.osc_c.specs.ClientCalls.RefusesForgetting.{bad_handle, not_pending}
 use Rattle.osc_c.specs.declared.status.Status.TheVariants.{BadHandle, NotPending}
+use Rattle.osc_c.proofs.Read.{carried_too}
 use Rattle.osc_c.proofs.client.oscore_client_forget.Goals as goal
 
 pub returns-in-Some-false-clause-refused : goal.returns-in-Some-false-clause-refused
@@ -20,3 +22,18 @@ returns-in-Some-false-clause-refused c = λ _.
 pub returns-in-None-clause-refused : goal.returns-in-None-clause-refused
 returns-in-None-clause-refused c = λ _.
     (BadHandle, search rules, bad_handle (λ is. let f : false ≡ true = c.in-None.ensures.accepts is in absurd (cc)) (c.in-None.ensures.unchanged refl) refl)
+
+pub returns-in-Some-true-clause-answers : goal.returns-in-Some-true-clause-answers
+returns-in-Some-true-clause-answers c = λ h entry held y.
+    let is : c.in-Some-true.field-0 ≡ true = search rules in
+    let row = subst (λ (was : Bool). ClientAnswer 8 h (Forget c.args.token.now) (Forgot was)) is (c.in-Some-true.ensures.answered h held) in
+    carried_too c.one_client_answer.ensures (λ e. ReadsForgetting e 0) h (Forget c.args.token.now) (Forgot true) entry held.answers row y refl
+
+pub returns-in-Some-false-clause-answers : goal.returns-in-Some-false-clause-answers
+returns-in-Some-false-clause-answers c = λ h entry held y.
+    let is : c.in-Some-false.field-0 ≡ false = search rules in
+    let row = subst (λ (was : Bool). ClientAnswer 8 h (Forget c.args.token.now) (Forgot was)) is (c.in-Some-false.ensures.answered h held) in
+    carried_too c.one_client_answer.ensures (λ e. ReadsForgetting e c.code.result) h (Forget c.args.token.now) (Forgot false) entry held.answers row y c.code.ensures
+
+pub returns-in-None-clause-answers : goal.returns-in-None-clause-answers
+returns-in-None-clause-answers c = λ h entry held y. let f : false ≡ true = c.in-None.ensures.accepts held.whole in absurd (cc)

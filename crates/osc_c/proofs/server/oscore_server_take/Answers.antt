@@ -1,7 +1,9 @@
-use Rattle.std.proofs.Common.{sym, subst, take}
+use Rattle.std.proofs.Common.{refl, sym, subst, take}
 use Rattle.osc_endpoint.specs.ServerHistory.{Datagram, Deliver, Took}
-use Rattle.osc_endpoint.specs.Views.{received_of}
-use Rattle.osc_c.specs.ServerCalls.{AnswersIn}
+use Rattle.osc_endpoint.specs.Views.{received_of, values_of}
+use Rattle.osc_handle.specs.TicketBytes.{ticket_in}
+use Rattle.osc_c.specs.ServerCalls.{AnswersIn, ReadsServing}
+use Rattle.osc_c.proofs.Read.{carried, serving_read}
 use Rattle.osc_c.proofs.server.oscore_server_take.Goals as goal
 
 pub returns-in-Ok-clause-opened : goal.returns-in-Ok-clause-opened
@@ -14,3 +16,13 @@ returns-in-Ok-clause-opened c = λ done. (
       subst (λ t. AnswersIn h (Datagram c.args.now c.args.echo.now c.args.mid c.args.datagram.now) (Took (Deliver (received_of c.in-Ok.message) t) (take c.take_in.new.out_len c.take_in.new.out)) c.take_in.new.server)
       (sym c.of.ensures.ticket) (c.in-Ok.ensures.opened h serves),
 )
+
+pub returns-in-Ok-clause-answers : goal.returns-in-Ok-clause-answers
+returns-in-Ok-clause-answers c = λ table h entry held y.
+    let reply = take c.take_in.new.out_len c.take_in.new.out in
+    carried c.one_server_answer.ensures (λ e. ReadsServing e 0 c.args.detail.now (ticket_in c.of.result) reply) h (Datagram c.args.now c.args.echo.now c.args.mid c.args.datagram.now)
+    (Took (Deliver (received_of c.in-Ok.message) (values_of c.in-Ok.right)) reply) entry held.answers (c.in-Ok.ensures.opened h held).0 y (refl, c.of.ensures.ticket, refl)
+
+pub returns-in-Err-clause-answers : goal.returns-in-Err-clause-answers
+returns-in-Err-clause-answers c = serving_read c.one_server_answer.ensures c.args.server.now c.take_in.new.server c.args.now c.args.mid c.args.echo.now c.args.datagram.now (take c.take_in.new.out_len c.take_in.new.out)
+    c.in-Err.refusal.status c.code.result c.in-Err.refusal.detail (ticket_in c.args.ticket.now) c.in-Err.ensures.refused c.code.ensures

@@ -1,0 +1,97 @@
+//! Calls of osc_handle: a client as bytes, step by step.
+
+use crate::answer::Answer;
+use crate::client::{left, sent};
+use crate::client_entry::show;
+use crate::client_steps::events_of;
+use crate::fields::{Fields, NamedContext};
+use crate::steps::{Step, number};
+use osc_coap::parse;
+use osc_endpoint::{ClientEntry, ClientEvent, read_client_decided};
+use osc_handle::{ClientHandle, ContextHandle};
+
+/// `CONTEXT ROOM NEXT LIFE`: a client, whose room is that for eight pending requests.
+fn begin(fields: &Fields<'_>, contexts: &[NamedContext<'_>]) -> Option<ClientHandle> {
+    let context = fields.context(contexts)?;
+    ClientHandle::begin(
+        &ContextHandle::of(&context),
+        number(fields, 2),
+        fields.number(3),
+    )
+}
+
+/// A request.
+fn request<'a>(
+    client: &mut ClientHandle,
+    now: u64,
+    plain: &[u8],
+    out: &'a mut [u8],
+    answer: &mut Answer,
+) -> Option<ClientEntry<'a>> {
+    let message = match parse(plain) {
+        Ok(message) => message,
+        Err(fault) => return Some(ClientEntry::BadPlain(fault)),
+    };
+    match client.request(now, &message, out)? {
+        Ok(len) => Some(sent(&out[..len], answer)),
+        Err(refusal) => Some(ClientEntry::NotSent(refusal)),
+    }
+}
+
+/// A datagram, by one call or by its two halves.
+fn take<'a>(
+    client: &mut ClientHandle,
+    now: u64,
+    bytes: &'a mut [u8],
+    in_halves: bool,
+) -> Option<ClientEntry<'a>> {
+    if in_halves {
+        let decision = client.decide(now, bytes)?;
+        Some(ClientEntry::Took(read_client_decided(bytes, decision)))
+    } else {
+        let outcome = client.take(now, bytes)?;
+        Some(ClientEntry::Took(outcome))
+    }
+}
+
+/// An event, by calls.
+fn call<'a>(
+    client: &mut ClientHandle,
+    event: &'a mut ClientEvent,
+    in_halves: bool,
+    answer: &mut Answer,
+) -> Option<ClientEntry<'a>> {
+    match event {
+        ClientEvent::Request { now, plain, out } => request(client, *now, plain, out, answer),
+        ClientEvent::Datagram { now, bytes } => take(client, *now, bytes, in_halves),
+        ClientEvent::Forget { token } => {
+            let was_pending = client.forget(token)?;
+            Some(ClientEntry::Forgot(was_pending))
+        }
+        ClientEvent::Restart { next } => {
+            client.restart(*next)?;
+            Some(ClientEntry::Restarted)
+        }
+    }
+}
+
+/// The steps behind the first, which are events, one call each.
+pub(crate) fn by_bytes(
+    fields: &Fields<'_>,
+    steps: &[Step<'_>],
+    contexts: &[NamedContext<'_>],
+    in_halves: bool,
+    answer: &mut Answer,
+) {
+    let Some(mut client) = begin(fields, contexts) else {
+        return fields.refuse();
+    };
+    let mut events = events_of(steps, answer);
+    for event in &mut events {
+        let Some(entry) = call(&mut client, event, in_halves, answer) else {
+            return fields.refuse();
+        };
+        show(&entry, answer);
+    }
+    left(steps, &events, answer);
+}
