@@ -24,7 +24,7 @@ static const uint8_t LOCK[] = {1}, KEY[] = {2};
 
 static const char *state = "shut";
 
-static void stop(const char *why) {
+static _Noreturn void stop(const char *why) {
     puts(why);
     exit(1);
 }

@@ -33,17 +33,29 @@ key() {
     (cd "$work" && timeout 20 ./key "$port" "$@") | sed 's/^/key: /'
 }
 
+# Sends a datagram once more, as somebody who overheard it and has no key can. All that is read of the reply is its code: 2.04 where it
+# is protected (RFC 8613, 4.2).
+replay() {
+    local code
+    echo "-- replay $1"
+    exec 4<> "/dev/udp/127.0.0.1/$port"
+    cat "$work/$1" >&4
+    code=$(timeout 20 dd bs=1500 count=1 status=none <&4 | od -An -tu1 -j 1 -N 1)
+    exec 4>&-
+    printf 'overheard: %u.%02u\n' "$((code >> 5))" "$((code & 31))"
+}
+
 says() {
     begin 3
     key 0 shut
     key 1 open sent
-    key 1 replay sent.1
+    replay sent.1
     finish
     # The number that a lock must not fall behind is all that is carried over.
     begin 4 restarted "$(sed -n 's/^next own number //p' "$work/last")"
-    key 1 replay sent.1
+    replay sent.1
     key 2 shut sent
-    key 1 replay sent.1
+    replay sent.1
     finish
 }
 
