@@ -9,9 +9,9 @@ use crate::server_steps::{answering, arrival};
 use crate::steps::Step;
 use osc_coap::parse;
 use osc_context::Context;
+use osc_endpoint::siblings::{put_back, take_out};
 use osc_endpoint::{
-    Answering, Arrival, Decided, Outcome, ServerEntry, Taken, Ticket, put_back, read_decided,
-    take_out,
+    Answering, Arrival, Decided, Outcome, ServerEntry, Taken, Ticket, read_decided,
 };
 use osc_kept::{
     KeptError, KeptServer, KeptServerEntry, KeptServerEvent, run_kept_server, run_kept_server_on,

@@ -8,9 +8,10 @@ use crate::server_steps::{events_of, index, is_event};
 use crate::steps::{FILLED_WITH, Step, number, steps_of};
 use osc_coap::parse;
 use osc_context::Context;
+use osc_endpoint::siblings::{put_back, take_out};
 use osc_endpoint::{
     AddError, Answering, Arrival, Decided, Server, ServerEntry, ServerEvent, Start, Taken, Ticket,
-    put_back, read_decided, run_server, run_server_on, take_out,
+    read_decided, run_server, run_server_on,
 };
 use osc_window::WindowSize;
 use std::alloc::Global;

@@ -1,4 +1,4 @@
--- For the proofs: the bytes of a draft, as private functions write them.
+-- How the code is seen: the bytes of a draft, as private functions write them.
 use Rattle.std.specs.Prelude.{◌≡◌, ℕ, ◌≤◌, List, [], ◌∷◌, ◌++◌, length}
 use Rattle.osc_coap.specs.OptionSpelling.{AreBytes, Spells, marked}
 use Rattle.osc_coap.specs.Datagram.{head}

@@ -1,4 +1,4 @@
--- For the proofs: what a writer's fields say of what it holds, and of an option or a payload.
+-- How the code is seen: what a writer's fields say of what it holds, and of an option or a payload.
 use Rattle.std.specs.Prelude.{◌≡◌, ◌≢◌, ℕ, ◌+◌, ◌-◌, ◌<◌, ◌≤◌, ◌⊎◌, min, List, [], take, drop, length}
 use Rattle.osc_coap.specs.declared.writer.Writer.{Writer}
 use Rattle.osc_coap.specs.declared.writer.Stage.{Stage}

@@ -12,11 +12,11 @@ pub mod Writing
 pub mod Laws
 -- how the code is seen
 pub mod Views
-pub mod Writer
--- for the proofs
 pub mod Reading
+pub mod Writer
+pub mod Held
+pub mod Drafts
+-- for the proofs
 pub mod Seen
 pub mod Ends
 pub mod OptionText
-pub mod Drafts
-pub mod Held

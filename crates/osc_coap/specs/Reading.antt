@@ -1,6 +1,6 @@
--- For the proofs: how private functions read options from left to right. Public clauses speak of
--- OptionSpelling.antt, Datagram.antt, Inner.antt and Fault.antt instead; what is read here is proved to be
--- what is spelled there. d is the number of the option before.
+-- How the code is seen: how options are read from left to right, for the views of what was read. What a message or a fault is, public
+-- clauses say by OptionSpelling.antt, Datagram.antt, Inner.antt and Fault.antt; what is read here is proved to be what is
+-- spelled there. d is the number of the option before.
 use Rattle.std.specs.Prelude.{◌≡◌, ℕ, zero, suc, ◌+◌, ◌*◌, ◌/◌, ◌%◌, List, [], ◌∷◌, length, take, drop, Option, Some, None, option_and_then, Result, Ok, Err, nat_lt, ◌==◌, ◌||◌, if◌then◌else◌}
 use Rattle.osc_coap.specs.declared.format_error.Fault.{Fault}
 use Rattle.osc_coap.specs.declared.format_error.Fault.TheVariants.{Nibble15, OptionCut, NumberTooLarge}

@@ -1,6 +1,6 @@
 -- What a client delivers, exactly.
 use Rattle.std.proofs.Common.{◌≡◌, ℕ, ◌∙◌, sym, ap, subst, refl, Option, Some, None, List}
-use Rattle.std.specs.Prelude.{max}
+use Rattle.std.specs.Prelude.{max, unwrap_or}
 use Rattle.osc_coap.specs.Datagram.{Parts}
 use Rattle.osc_coap.specs.Inner.{InnerParts}
 use Rattle.osc_coap.specs.Laws.{DatagramIsOneMessage}
@@ -12,7 +12,7 @@ use Rattle.osc_protect.specs.declared.unprotect_error.UnprotectError.TheVariants
 use Rattle.osc_endpoint.specs.declared.client_outcome.ClientOutcome.{ClientOutcome}
 use Rattle.osc_endpoint.specs.declared.client_outcome.ClientOutcome.TheVariants as outcomes
 use Rattle.osc_endpoint.specs.Agrees.{TokensDiffer}
-use Rattle.osc_endpoint.specs.ClientAnswer.{Delivers, IsAnswerTo, TakeAnswer}
+use Rattle.osc_endpoint.specs.ClientAnswer.{Delivers, IsAnswerTo, ResponseAnswer}
 use Rattle.osc_endpoint.specs.ClientHistory as client
 use Rattle.osc_endpoint.specs.Received.{Received}
 use Rattle.osc_endpoint.specs.Views.{ClientShows, client_delivery_of}
@@ -43,9 +43,39 @@ same_request h now d r q one differ ((p, datagram, response, token), has) ((k, t
     one_of_token (client.pending_at h (max (client.clock h) now)) r q (differ_later h now differ) has found
     (sym token ∙ ap (λ (x : Parts). x.token) (one p k d datagram there) ∙ name)
 
+-- what one delivery says
+abbrev Told : Type 0
+Told = ℕ × Option ℕ × InnerParts
+
+same_told : (x y : Told) → Some x ≡ Some y → (x.0 ≡ y.0) × (x.1 ≡ y.1) × (x.2 ≡ y.2)
+same_told x y e = (ap (λ (o : Option Told). (unwrap_or o x).0) e, ap (λ (o : Option Told). (unwrap_or o x).1) e, ap (λ (o : Option Told). (unwrap_or o x).2) e)
+
+-- a delivery is one of the definition
+pub row_delivers : (h : client.History) (now n : ℕ) (d : List ℕ) (answer : client.Answer) (own : Option ℕ) (m : InnerParts)
+    → ResponseAnswer h (max (client.clock h) now) d answer → delivered answer ≡ Some (n, own, m) → Delivers h now d n own m
+row_delivers h now n d (client.Deliver received k) own m (r, at, (k_is, mine, receives)) e =
+    let same = same_told (k, received.number, received.message) (n, own, m) e in
+    let number_is : r.number ≡ n = sym k_is ∙ same.0 in
+    let own_is : mine ≡ own = sym receives.number ∙ same.1 in
+    let message_is : received.message ≡ m = same.2 in
+    record {
+      to = r;
+      number_is = number_is;
+      answers = at;
+      protects = subst (λ x. ProtectsResponse (client.context h) x own m d) number_is (subst (λ x. ProtectsResponse (client.context h) r.number x m d) own_is
+          (subst (λ x. ProtectsResponse (client.context h) r.number mine x d) message_is receives.protects));
+    }
+row_delivers h now n d (client.Malformed fault place) own m row e = cc
+row_delivers h now n d client.NotResponse own m row e = cc
+row_delivers h now n d client.UnknownToken own m row e = cc
+row_delivers h now n d client.Unprotected own m row e = cc
+row_delivers h now n d client.Undecodable own m row e = cc
+row_delivers h now n d client.BadTag own m row e = cc
+row_delivers h now n d client.BadInner own m row e = cc
+
 -- what is to be delivered is
 pub delivers_row : (h : client.History) (now n : ℕ) (d : List ℕ) (answer : client.Answer) (own : Option ℕ) (m : InnerParts)
-    → DatagramIsOneMessage → OneResponse → TokensDiffer (client.pending h) → TakeAnswer h (max (client.clock h) now) d answer → Delivers h now d n own m
+    → DatagramIsOneMessage → OneResponse → TokensDiffer (client.pending h) → ResponseAnswer h (max (client.clock h) now) d answer → Delivers h now d n own m
     → delivered answer ≡ Some (n, own, m)
 delivers_row h now n d (client.Malformed fault place) own m one laws differ row is =
     absurd ((laws (client.context h) n).never_both d own m (Format (record { fault = fault; place = place })) is.protects row)

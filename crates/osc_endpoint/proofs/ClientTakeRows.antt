@@ -14,7 +14,7 @@ use Rattle.osc_protect.specs.declared.unprotect_error.UnprotectError.{UnprotectE
 use Rattle.osc_protect.specs.declared.unprotect_error.UnprotectError.TheVariants as opens
 use Rattle.osc_endpoint.specs.Agrees.{TokensDiffer}
 use Rattle.osc_endpoint.specs.AnswerLaws.{ClientAnswerLaws}
-use Rattle.osc_endpoint.specs.ClientAnswer.{AskedAnswer, IsAmong, IsResponseWith, PendingAnswer, TakeAnswer}
+use Rattle.osc_endpoint.specs.ClientAnswer.{AskedAnswer, IsAmong, IsResponseWith, PendingAnswer, ResponseAnswer}
 use Rattle.osc_endpoint.specs.ClientHistory.{Answer, Asked, History, BadInner, BadTag, Deliver, Malformed, NotResponse, Undecodable, UnknownToken, Unprotected, clock, context, pending, pending_at}
 use Rattle.osc_endpoint.specs.Received.{Received, Receives}
 use Rattle.osc_endpoint.proofs.ClientDeliveries.{same_request}
@@ -94,7 +94,7 @@ record IsUnknown (h : History) (moment : ℕ) (d : List ℕ) (answer : Answer) :
 
 module _ (laws : ClientAnswerLaws) (h : History) (now : ℕ) (d : List ℕ) where
   -- each row is one of these three
-  sort_of : (x : Answer) → TakeAnswer h (max (clock h) now) d x → IsNoResponse d x ⊎ (IsUnknown h (max (clock h) now) d x ⊎ PendingAnswer h (max (clock h) now) d x)
+  sort_of : (x : Answer) → ResponseAnswer h (max (clock h) now) d x → IsNoResponse d x ⊎ (IsUnknown h (max (clock h) now) d x ⊎ PendingAnswer h (max (clock h) now) d x)
   sort_of (Malformed fault place) row = inl (record {
     refusal = heads.Format (record { fault = fault; place = place });
     refuses = row;
@@ -121,7 +121,7 @@ module _ (laws : ClientAnswerLaws) (h : History) (now : ℕ) (d : List ℕ) wher
       (subst (λ (z : Asked). AskedAnswer (context h) z d y) (same_request h now d q r laws.one differ there at) other)
 
   -- the three don't overlap, and each fixes its answer
-  pub one_take_answer : (x y : Answer) → TokensDiffer (pending h) → TakeAnswer h (max (clock h) now) d x → TakeAnswer h (max (clock h) now) d y → x ≡ y
+  pub one_take_answer : (x y : Answer) → TokensDiffer (pending h) → ResponseAnswer h (max (clock h) now) d x → ResponseAnswer h (max (clock h) now) d y → x ≡ y
   one_take_answer x y differ row other = elim (sort_of x row) [
     | inl a ↦ elim (sort_of y other) [
       | inl b ↦ a.answer_is ∙ ap no_answer (laws.head.refusal d a.refusal b.refusal a.refuses b.refuses) ∙ sym b.answer_is

@@ -29,10 +29,10 @@ use Rattle.osc_endpoint.specs.declared.start.Fresh.{Fresh}
 use Rattle.osc_endpoint.specs.Agrees.{Agrees, HoldsLife, PlaceAgrees, TableAgrees}
 use Rattle.osc_endpoint.specs.Deciding.{Decides, DecidesTo}
 use Rattle.osc_endpoint.specs.Heads.{head_answer, HeadReply}
-use Rattle.osc_endpoint.specs.Judging.{IsAskerOf, IsNamed, IsNamedAt}
+use Rattle.osc_endpoint.specs.Judging.{IsAskerOf, IsNamed, IsNamedAt, NamedAnswer}
 use Rattle.osc_endpoint.specs.Life.{Life, marked}
 use Rattle.osc_endpoint.specs.Replies.{as_reply, error_message, no_context}
-use Rattle.osc_endpoint.specs.ServerAnswer.{Arrival, NamedAnswer, TakeAnswer}
+use Rattle.osc_endpoint.specs.ServerAnswer.{Arrival, SaysChallenge, TakeAnswer, arrival}
 use Rattle.osc_endpoint.specs.ServerHistory as server
 use Rattle.osc_endpoint.specs.Table.{LooksUp, TableJudges}
 use Rattle.osc_endpoint.proofs.Judgments.{says_error}
@@ -45,17 +45,18 @@ refill_same xs ws h = ap (λ n. take n (ws ++ drop (length ws) xs)) (sym h) ∙ 
 
 -- a row of the life is a row of the table
 pub row_answers : (h : server.History) (a : Arrival) (answer : server.Answer) (reply : List ℕ) → NamedAnswer h a answer reply → TakeAnswer h a answer reply
-row_answers h a (server.Malformed fault place) reply r = absurd r.4
-row_answers h a server.NotRequest reply r = absurd r.4
-row_answers h a server.Plain reply r = absurd r.4
-row_answers h a server.Undecodable reply r = absurd r.4
-row_answers h a server.NoContext reply r = absurd r.4
-row_answers h a server.Replay reply r = r
-row_answers h a server.BadTag reply r = r
-row_answers h a (server.BadInner i n) reply r = r
-row_answers h a (server.Challenge i n echo issued) reply r = r
-row_answers h a server.SequenceExhausted reply r = r
-row_answers h a (server.Deliver received ticket) reply r = r
+row_answers h a (server.Malformed fault place) reply r = absurd r.4.0
+row_answers h a server.NotRequest reply r = absurd r.4.0
+row_answers h a server.Plain reply r = absurd r.4.0
+row_answers h a server.Undecodable reply r = absurd r.4.0
+row_answers h a server.NoContext reply r = absurd r.4.0
+row_answers h a server.Replay reply (i, n, of, request, (meets, says)) = ((i, n, of, request, meets), says)
+row_answers h a server.BadTag reply (i, n, of, request, (meets, says)) = ((i, n, of, request, meets), says)
+row_answers h a (server.BadInner j k) reply (i, n, of, request, (meets, says)) = ((i, n, of, request, meets), says)
+row_answers h a (server.Challenge j k echo issued) reply (i, n, of, request, (meets, says)) =
+    ((i, n, of, request, meets), (of, ap (server.life h) meets.3 ∙ request.life_is, says))
+row_answers h a server.SequenceExhausted reply (i, n, of, request, (meets, says)) = ((i, n, of, request, meets), says)
+row_answers h a (server.Deliver received ticket) reply (i, n, of, request, (meets, says)) = ((i, n, of, request, meets), says)
 
 -- the server after an answer
 pub agrees_took : (old new : Server) (h : server.History) (now mid : ℕ) (echo d reply : List ℕ) (answer : server.Answer)
@@ -93,7 +94,7 @@ pub headless : (old new : Server) (h : server.History) (now : ℕ) (fresh : Fres
 headless old new h now fresh d reply result p e a clock slots datagram refuses decides says =
     record {
       answer = head_answer e;
-      row = head_row h (record { clock = max (server.clock h) now; echo = fresh.echo; mid = fresh.mid; bytes = d }) p e reply datagram refuses says;
+      row = head_row h (arrival h now fresh.echo fresh.mid d) p e reply datagram refuses says;
       decides = decides;
       agrees = agrees_took old new h now fresh.mid fresh.echo d reply (head_answer e) a clock (ap (λ s. length s.items) slots)
           (unmarked new.slots.items (server.life h) (head_answer e) (head_marks e) (subst (λ s. TableAgrees s.items (server.life h)) (sym slots) a.places));

@@ -34,10 +34,10 @@ still_among fresh (Challenged echo issued) marks n h = h
 still_among fresh Answered marks n h = h
 
 -- a number that is admitted isn't spent
-unspent : (of : Life) (clock n : ℕ) (m : InnerParts) → Admits of clock n m → All (λ k. k ≢ n) (spent of.fresh of.marks)
+unspent : (of : Life) (clock n : ℕ) (m : InnerParts) → Admits of clock n m → All (λ k. k ≢ n) (spent of.open_at_birth of.marks)
 unspent of clock n m admits = elim (cases_Bool (is_open of)) [
   | inl is ↦ (admits.0 is).unspent
-  | inr shut ↦ subst (All (λ k. k ≢ n)) (sym (closed_bare of.fresh of.marks shut).spent_is) (All-nil (λ k. k ≢ n))
+  | inr shut ↦ subst (All (λ k. k ≢ n)) (sym (closed_bare of.open_at_birth of.marks shut).spent_is) (All-nil (λ k. k ≢ n))
 ]
 
 -- ---- tickets of spent numbers
@@ -45,7 +45,7 @@ unspent of clock n m admits = elim (cases_Bool (is_open of)) [
 -- the ticket is of an earlier life, or its number is spent in the present one
 abbrev pub IsSpentIn : Option Life → TicketValues → Type 0
 IsSpentIn None t = ⊥
-IsSpentIn (Some of) t = (t.life ≤ of.count) × (t.life ≡ of.count → IsAmong (spent of.fresh of.marks) t.number)
+IsSpentIn (Some of) t = (t.life ≤ of.count) × (t.life ≡ of.count → IsAmong (spent of.open_at_birth of.marks) t.number)
 
 -- no ticket is of a context that isn't there
 no_ticket : (o : Option Life) (t : TicketValues) → o ≡ None → IsSpentIn o t → ⊥
@@ -55,7 +55,7 @@ no_ticket o t none before = subst (λ p. IsSpentIn p t) none before
 spent_marked : (o : Option Life) (m : Option Mark) (t : TicketValues) → IsSpentIn o t → IsSpentIn (option_map (marked m) o) t
 spent_marked None m t h = h
 spent_marked (Some of) None t h = h
-spent_marked (Some of) (Some mark) t h = (h.0, λ e. still_among of.fresh mark of.marks t.number (h.1 e))
+spent_marked (Some of) (Some mark) t h = (h.0, λ e. still_among of.open_at_birth mark of.marks t.number (h.1 e))
 
 spent_renewed : (o : Option Life) (next : ℕ) (t : TicketValues) → IsSpentIn o t → IsSpentIn (option_map (renewed next) o) t
 spent_renewed None next t h = h
@@ -64,7 +64,7 @@ spent_renewed (Some of) next t h = (omega (arith, h.0), λ e. absurd (omega (ari
 -- a delivery spends its number
 spent_now : (o : Option Life) (of : Life) (b : Bool) (t : TicketValues) → o ≡ Some of → b ≡ true → t.life ≡ of.count
     → IsSpentIn (option_map (marked (if b then Some (Delivered t.number) else None)) o) t
-spent_now o of b t there here count = rw (there, here) (omega (arith, count), λ e. among_front t.number (spent of.fresh of.marks))
+spent_now o of b t there here count = rw (there, here) (omega (arith, count), λ e. among_front t.number (spent of.open_at_birth of.marks))
 
 -- ---- indices
 
@@ -109,7 +109,7 @@ apart_from : (h : History) (of : Life) (clock : ℕ) (m : InnerParts) (ticket t 
     → life h ticket.context ≡ Some of → ticket.life ≡ of.count → Admits of clock ticket.number m → IsSpentIn (life h t.context) t → AreApart ticket t
 apart_from h of clock m ticket t there count admits before context_is life_is number_is =
     let now : IsSpentIn (Some of) t = subst (λ o. IsSpentIn o t) (ap (life h) (sym context_is) ∙ there) before in
-    now.1 (sym life_is ∙ count) (subst (λ n. All (λ k. k ≢ n) (spent of.fresh of.marks)) number_is (unspent of clock ticket.number m admits))
+    now.1 (sym life_is ∙ count) (subst (λ n. All (λ k. k ≢ n) (spent of.open_at_birth of.marks)) number_is (unspent of clock ticket.number m admits))
 
 -- the ticket's number is spent in the later history, and isn't one of those before
 pub record IsFirst (h g : History) (ticket : TicketValues) : Type 0 where
@@ -122,7 +122,7 @@ restart_takes_none (Some of) answer reply row = row
 
 pub first_delivery : (h : History) (event : Event) (received : Received) (ticket : TicketValues) (reply : List ℕ)
     → ServerAnswer h event (Took (Deliver received ticket) reply) → IsFirst h (Then h event (Took (Deliver received ticket) reply)) ticket
-first_delivery h (Datagram now echo mid d) received ticket reply (i, n, of, request, (receives, admits, values, none)) =
+first_delivery h (Datagram now echo mid d) received ticket reply ((i, n, of, request, (receives, admits, values)), none) =
     let there : life h ticket.context ≡ Some of = ap (λ (v : TicketValues). life h v.context) values ∙ request.life_is in
     let count : ticket.life ≡ of.count = ap (λ (v : TicketValues). v.life) values in
     let number : ticket.number ≡ n = ap (λ (v : TicketValues). v.number) values in

@@ -10,7 +10,7 @@ use Rattle.osc_endpoint.specs.declared.outcome.Outcome.{Outcome}
 use Rattle.osc_endpoint.specs.declared.outcome.Outcome.TheVariants as outcomes
 use Rattle.osc_endpoint.specs.Agrees.{OneEach}
 use Rattle.osc_endpoint.specs.Life.{Life, Admits, Carries, IsNewIn, is_open, in_force}
-use Rattle.osc_endpoint.specs.ServerAnswer.{IsRequestOf, TakeAnswer, WantsEcho, Delivers}
+use Rattle.osc_endpoint.specs.ServerAnswer.{IsRequestOf, MeetsRow, WantsEcho, Delivers, arrival}
 use Rattle.osc_endpoint.specs.ServerHistory as server
 use Rattle.osc_protect.specs.Views.{message_of}
 use Rattle.osc_endpoint.specs.Received.{Received}
@@ -46,10 +46,10 @@ same_told : (x y : Told) → Some x ≡ Some y → (x.0 ≡ y.0) × (x.1 ≡ y.1
 same_told x y e = (ap (λ (o : Option Told). (unwrap_or o x).0) e, ap (λ (o : Option Told). (unwrap_or o x).1) e, ap (λ (o : Option Told). (unwrap_or o x).2) e)
 
 -- a delivery is one of the definition
-pub row_delivers : (h : server.History) (now mid : ℕ) (echo d reply : List ℕ) (answer : server.Answer) (i n : ℕ) (m : InnerParts)
-    → TakeAnswer h (record { clock = max (server.clock h) now; echo = echo; mid = mid; bytes = d }) answer reply
+pub row_delivers : (h : server.History) (now mid : ℕ) (echo d : List ℕ) (answer : server.Answer) (i n : ℕ) (m : InnerParts)
+    → MeetsRow h (arrival h now echo mid d) answer
     → delivered answer ≡ Some (i, n, m) → Delivers h now d i n m
-row_delivers h now mid echo d reply (server.Deliver received ticket) i n m (index, number, of, request, (receives, admits, values, none)) e =
+row_delivers h now mid echo d (server.Deliver received ticket) i n m (index, number, of, request, (receives, admits, values)) e =
     let told : server.TicketValues → Option Told = λ x. Some (x.context, x.number, received.message) in
     let same = same_told (index, number, received.message) (i, n, m) (ap told (sym values) ∙ e) in
     let index_is : index ≡ i = same.0 in
@@ -61,16 +61,16 @@ row_delivers h now mid echo d reply (server.Deliver received ticket) i n m (inde
       protects = subst (λ x. ProtectsRequest of.context x m d) number_is (subst (λ x. ProtectsRequest of.context number x d) message_is receives.protects);
       admits = subst (λ x. Admits of (max (server.clock h) now) x m) number_is (subst (λ x. Admits of (max (server.clock h) now) number x) message_is admits);
     }
-row_delivers h now mid echo d reply (server.Malformed fault place) i n m row e = cc
-row_delivers h now mid echo d reply server.NotRequest i n m row e = cc
-row_delivers h now mid echo d reply server.Plain i n m row e = cc
-row_delivers h now mid echo d reply server.Undecodable i n m row e = cc
-row_delivers h now mid echo d reply server.NoContext i n m row e = cc
-row_delivers h now mid echo d reply server.Replay i n m row e = cc
-row_delivers h now mid echo d reply server.BadTag i n m row e = cc
-row_delivers h now mid echo d reply (server.BadInner k l) i n m row e = cc
-row_delivers h now mid echo d reply (server.Challenge k l given issued) i n m row e = cc
-row_delivers h now mid echo d reply server.SequenceExhausted i n m row e = cc
+row_delivers h now mid echo d (server.Malformed fault place) i n m row e = cc
+row_delivers h now mid echo d server.NotRequest i n m row e = cc
+row_delivers h now mid echo d server.Plain i n m row e = cc
+row_delivers h now mid echo d server.Undecodable i n m row e = cc
+row_delivers h now mid echo d server.NoContext i n m row e = cc
+row_delivers h now mid echo d server.Replay i n m row e = cc
+row_delivers h now mid echo d server.BadTag i n m row e = cc
+row_delivers h now mid echo d (server.BadInner k l) i n m row e = cc
+row_delivers h now mid echo d (server.Challenge k l given issued) i n m row e = cc
+row_delivers h now mid echo d server.SequenceExhausted i n m row e = cc
 
 -- the context and number of a datagram that protects a message are those that its head names
 pub record IsSame (i j n k : ℕ) (of other : Life) : Type 0 where
@@ -104,34 +104,34 @@ no_want of other n k clock d m laws same (closed, l, protects, carries) by admit
     carries (subst (λ x. Carries (in_force x clock) l) (sym same) carried)
 
 -- what is to be delivered is
-pub delivers_row : (h : server.History) (now mid : ℕ) (echo d reply : List ℕ) (answer : server.Answer) (i n : ℕ) (m : InnerParts)
+pub delivers_row : (h : server.History) (now mid : ℕ) (echo d : List ℕ) (answer : server.Answer) (i n : ℕ) (m : InnerParts)
     → OneRequestReading → OneRequest → OneEach h
-    → TakeAnswer h (record { clock = max (server.clock h) now; echo = echo; mid = mid; bytes = d }) answer reply
+    → MeetsRow h (arrival h now echo mid d) answer
     → Delivers h now d i n m → delivered answer ≡ Some (i, n, m)
-delivers_row h now mid echo d reply (server.Malformed fault place) i n m one laws each row is =
-    absurd ((laws is.of.context).never_both d n m (Format (record { fault = fault; place = place })) is.protects row.0)
-delivers_row h now mid echo d reply server.NotRequest i n m one laws each row is = absurd ((laws is.of.context).never_both d n m NotThatKind is.protects row.0)
-delivers_row h now mid echo d reply server.Plain i n m one laws each row is = absurd ((laws is.of.context).never_both d n m NoOscore is.protects row.0)
-delivers_row h now mid echo d reply server.Undecodable i n m one laws each row is = absurd ((laws is.of.context).never_both d n m BadHead is.protects row.0)
-delivers_row h now mid echo d reply server.NoContext i n m one laws each (none, says) is =
+delivers_row h now mid echo d (server.Malformed fault place) i n m one laws each row is =
+    absurd ((laws is.of.context).never_both d n m (Format (record { fault = fault; place = place })) is.protects row)
+delivers_row h now mid echo d server.NotRequest i n m one laws each row is = absurd ((laws is.of.context).never_both d n m NotThatKind is.protects row)
+delivers_row h now mid echo d server.Plain i n m one laws each row is = absurd ((laws is.of.context).never_both d n m NoOscore is.protects row)
+delivers_row h now mid echo d server.Undecodable i n m one laws each row is = absurd ((laws is.of.context).never_both d n m BadHead is.protects row)
+delivers_row h now mid echo d server.NoContext i n m one laws each none is =
     absurd ((laws is.of.context).never_both d n m WrongContext is.protects (none.0, none.1, λ k names. none.2 i is.of is.life_is k names))
-delivers_row h now mid echo d reply server.Replay i n m one laws each (j, k, of, request, (replay, says)) is =
+delivers_row h now mid echo d server.Replay i n m one laws each (j, k, of, request, replay) is =
     let s = same_place h d j i k n of is.of m one each request is.life_is is.protects in
     let opened : is_open is.of ≡ true = ap is_open (sym s.life) ∙ replay.0 in
     absurd (replay.1 (subst (λ x. IsNewIn x k) (sym s.life) (subst (IsNewIn is.of) (sym s.number) (is.admits.0 opened))))
-delivers_row h now mid echo d reply server.BadTag i n m one laws each (j, k, of, request, (passes, refuses, says)) is =
+delivers_row h now mid echo d server.BadTag i n m one laws each (j, k, of, request, (passes, refuses)) is =
     let s = same_place h d j i k n of is.of m one each request is.life_is is.protects in
     absurd ((laws is.of.context).never_both d n m Tag is.protects (subst (λ (x : Life). RefusesTag (requests x.context) d) s.life refuses))
-delivers_row h now mid echo d reply (server.BadInner a b) i n m one laws each (j, k, of, request, (passes, refuses, index, number, none)) is =
+delivers_row h now mid echo d (server.BadInner a b) i n m one laws each (j, k, of, request, (passes, refuses, index, number)) is =
     let s = same_place h d j i k n of is.of m one each request is.life_is is.protects in
     absurd ((laws is.of.context).never_both d n m Inner is.protects (subst (λ (x : Life). RefusesPlaintext (requests x.context) d) s.life refuses))
-delivers_row h now mid echo d reply (server.Challenge a b given issued) i n m one laws each (j, k, of, request, row) is =
+delivers_row h now mid echo d (server.Challenge a b given issued) i n m one laws each (j, k, of, request, row) is =
     let s = same_place h d j i k n of is.of m one each request is.life_is is.protects in
     absurd (no_want of is.of k n _ d m laws s.life row.0 is.protects is.admits)
-delivers_row h now mid echo d reply server.SequenceExhausted i n m one laws each (j, k, of, request, row) is =
+delivers_row h now mid echo d server.SequenceExhausted i n m one laws each (j, k, of, request, row) is =
     let s = same_place h d j i k n of is.of m one each request is.life_is is.protects in
     absurd (no_want of is.of k n _ d m laws s.life row.0 is.protects is.admits)
-delivers_row h now mid echo d reply (server.Deliver received ticket) i n m one laws each (j, k, of, request, (receives, admits, values, none)) is =
+delivers_row h now mid echo d (server.Deliver received ticket) i n m one laws each (j, k, of, request, (receives, admits, values)) is =
     let s = same_place h d j i k n of is.of m one each request is.life_is is.protects in
     let there = subst (λ (x : Life). ProtectsRequest x.context k received.message d) s.life receives.protects in
     let message : received.message ≡ m = (laws is.of.context).message d k n received.message m there is.protects in

@@ -105,7 +105,7 @@ pub exhausted : (l : Life) (r : Named) (d new : List ℕ) (slot : Slot) → Slot
 exhausted l r d new slot a wants full =
     record {
       answer = server.SequenceExhausted;
-      row = (wants, (λ has. omega (arith, has, a.next, full)), refl);
+      row = ((wants, (λ has. omega (arith, has, a.next, full))), refl);
       decides = tt;
       agrees = a;
     }
@@ -128,7 +128,7 @@ pub challenged : (l : Life) (r : Named) (d new reply echo : List ℕ) (issued ow
 challenged l r d new reply echo issued own len old slot a wants asker is less given sealed agrees =
     record {
       answer = server.Challenge r.index (number_of r.number) echo issued;
-      row = (wants, omega (arith, less, is, a.next), given, refl, refl, says_challenge l old r.asker (number_of r.number) own r.fresh.mid d echo reply a is asker sealed);
+      row = ((wants, omega (arith, less, is, a.next), given, refl, refl), says_challenge l old r.asker (number_of r.number) own r.fresh.mid d echo reply a is asker sealed);
       decides = (refl, refl);
       agrees = marked_here slot l r.index (Challenged echo issued) agrees;
     }
@@ -141,7 +141,7 @@ spoiled l r d new x old slot a passes decrypts refuses agrees =
     let refused : RefusesPlaintext (requests (as_server (context_of old.context))) d = refuses (as_server (context_of old.context)) d decrypts in
     record {
       answer = server.BadInner r.index (number_of r.number);
-      row = (gate_passes old.gate l (number_of r.number) a.gate passes, subst (λ s. RefusesPlaintext (requests s) d) a.context refused, refl, refl, refl);
+      row = ((gate_passes old.gate l (number_of r.number) a.gate passes, subst (λ s. RefusesPlaintext (requests s) d) a.context refused, refl, refl), refl);
       decides = tt;
       agrees = marked_here slot l r.index (Spoiled (number_of r.number)) agrees;
     }
@@ -166,9 +166,11 @@ delivered l r d new x o life old slot one laws a passes named asker decrypts ope
     record {
       answer = server.Deliver (received_of o) (record { context = r.index; life = life; number = number_of r.number; kind = r.asker.kind; message_id = r.asker.message_id; token = r.asker.token.items });
       row = (
-        subst (λ s. Receives (requests s) (number_of r.number) d (received_of o)) a.context got,
-        (gate_passes old.gate l (number_of r.number) a.gate passes, carries),
-        (let k = got.kind in let i = got.message_id in let t = got.token in let p = asker.2 in let q = asker.3 in let u = asker.4 in let c : life ≡ l.count = same ∙ a.life in cc),
+        (
+          subst (λ s. Receives (requests s) (number_of r.number) d (received_of o)) a.context got,
+          (gate_passes old.gate l (number_of r.number) a.gate passes, carries),
+          (let k = got.kind in let i = got.message_id in let t = got.token in let p = asker.2 in let q = asker.3 in let u = asker.4 in let c : life ≡ l.count = same ∙ a.life in cc),
+        ),
         refl,
       );
       decides = ((λ q h. opens_alike (as_server (context_of old.context)) d o q laws (opens (as_server (context_of old.context)) d decrypts) (h (as_server (context_of old.context)) d decrypts)), refl);
@@ -193,7 +195,7 @@ pub untagged : (l : Life) (r : Named) (d new reply : List ℕ) (len : ℕ) (slot
 untagged l r d new reply len slot a passes asker refused written =
     record {
       answer = server.BadTag;
-      row = (gate_passes slot.gate l (number_of r.number) a.gate passes, subst (λ s. RefusesTag (requests s) d) a.context refused, says_error r.asker d r.fresh.mid bad_tag reply asker written);
+      row = ((gate_passes slot.gate l (number_of r.number) a.gate passes, subst (λ s. RefusesTag (requests s) d) a.context refused), says_error r.asker d r.fresh.mid bad_tag reply asker written);
       decides = tt;
       agrees = a;
     }

@@ -28,5 +28,7 @@ pub mod OneReceived
 pub mod ClientRequestRows
 pub mod ClientTakeRows
 pub mod OneClientAnswers
+pub mod EntriesStand
+pub mod ClientEntriesStand
 pub mod RequestNumbers
 pub mod Waiting

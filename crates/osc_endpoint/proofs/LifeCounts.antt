@@ -12,7 +12,7 @@ use Rattle.osc_endpoint.specs.declared.server_error.RestartError.{RestartError}
 use Rattle.osc_endpoint.specs.declared.start.Start.{Start}
 use Rattle.osc_endpoint.specs.declared.start.Start.TheVariants as starts
 use Rattle.osc_endpoint.specs.Laws.{Text, HasOwnNumber, texts, text_in, answered}
-use Rattle.osc_endpoint.specs.Life.{Mark, Delivered, Spoiled, Challenged, Answered, Life, own_count, next_own, marked, born, renewed}
+use Rattle.osc_endpoint.specs.Life.{HasOwn, Mark, Delivered, Spoiled, Challenged, Answered, Life, own_count, next_own, marked, born, renewed}
 use Rattle.osc_endpoint.specs.ServerAnswer.{IsContext, LifeRestart, ServerAnswer}
 use Rattle.osc_endpoint.specs.ServerHistory.{History, Then, Event, Entry, TicketValues, Add, Datagram, Reply, Restart, Advance, BadInner, Challenge, Deliver, Added, NotAdded, Took, Replied, NotReplied, Restarted, NotRestarted, Advanced, added, life}
 
@@ -221,8 +221,8 @@ steps shows h (Add s start size) (Added index) (context, (room, free, is)) = Add
 })
 steps shows h (Add s start size) (NotAdded e) row = same (image h)
 steps shows h (Add s start size) entry row = absurd row.1
-steps shows h (Datagram now echo mid d) (Took (Challenge i n given issued) reply) (j, m, of, request, (wants, has, given_is, index, number, says)) =
-    let is : life h i ≡ Some of = ap (life h) index ∙ request.life_is in
+steps shows h (Datagram now echo mid d) (Took (Challenge i n given issued) reply) ((j, m, l, request, (wants, has, given_is, index, number)), (of, is, says)) =
+    let same_life : l ≡ of = let e : Some l ≡ Some of = sym request.life_is ∙ ap (life h) (sym index) ∙ is in cc in
     let text : Text = record { context = i; life = of.count; keys = of.context; request = n; own = Some (next_own of); bytes = reply } in
     Numbers (record {
       index = i;
@@ -230,8 +230,8 @@ steps shows h (Datagram now echo mid d) (Took (Challenge i n given issued) reply
       was = ap (option_map kept) is;
       text = text;
       of = record { context = refl; life = refl; keys = refl };
-      own = numbered shows text of.context m (next_own of) _ refl says.2;
-      less = has;
+      own = numbered shows text of.context n (next_own of) _ refl says.2;
+      less = subst HasOwn same_life has;
       added = refl;
       changes = λ k. kept_here (k == i) (Challenged given issued) (life h k) of (λ e. ap (life h) (eqb-true k i e) ∙ is) tt;
       texts = text_at h i n true of reply is;

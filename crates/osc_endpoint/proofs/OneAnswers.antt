@@ -1,6 +1,5 @@
 -- That a server has one answer to an event.
 use Rattle.std.proofs.Common.{◌≡◌, ℕ, ◌⊎◌, ◌∙◌, sym, ap, subst, refl, arith, Bool, Option, Some, None, List, [], inl, inr}
-use Rattle.std.specs.Prelude.{max}
 use Rattle.osc_coap.specs.Datagram.{Parts}
 use Rattle.osc_context.specs.SecurityContext.{SecurityContext}
 use Rattle.osc_protect.specs.Head.{Head, HasNoRequestHead, HasRequestHead}
@@ -15,12 +14,12 @@ use Rattle.osc_endpoint.specs.Agrees.{OneEach}
 use Rattle.osc_endpoint.specs.AnswerLaws.{AnswerLaws}
 use Rattle.osc_endpoint.specs.Laws.{OneServerAnswer}
 use Rattle.osc_endpoint.specs.Life.{Life}
-use Rattle.osc_endpoint.specs.Replies.{SaysError, as_reply, no_context, undecodable}
-use Rattle.osc_endpoint.specs.ServerAnswer.{AddAnswer, Arrival, IsPresent, IsRequestOf, LifeAnswer, LifeReply, LifeRestart, NamedAnswer, NamesNone, OfTicket, ReplyAnswer, ServerAnswer, TakeAnswer}
-use Rattle.osc_endpoint.specs.ServerHistory.{Add, Added, Advance, Advanced, Answer, Datagram, Entry, Event, History, Malformed, NoContext, NotAdded, NotReplied, NotRequest, NotRestarted, Plain, Reply, Restart, Restarted, TicketValues, Took, Undecodable, clock, life}
+use Rattle.osc_endpoint.specs.Replies.{as_reply, bad_tag, no_context, replay, undecodable}
+use Rattle.osc_endpoint.specs.ServerAnswer.{AddAnswer, Arrival, IsPresent, IsRequestOf, LifeReply, LifeRestart, MeetsLifeRow, MeetsNamedRow, MeetsRow, NamesNone, OfTicket, ReplyAnswer, SaysChallenge, SaysReply, ServerAnswer, TakeAnswer, arrival}
+use Rattle.osc_endpoint.specs.ServerHistory.{Add, Added, Advance, Advanced, Answer, BadTag, Challenge, Datagram, Entry, Event, History, Malformed, NoContext, NotAdded, NotReplied, NotRequest, NotRestarted, Plain, Replay, Reply, Restart, Restarted, TicketValues, Took, Undecodable, life}
 use Rattle.osc_endpoint.proofs.Deliveries.{IsSame, same_named}
 use Rattle.osc_endpoint.proofs.KeptContexts.{contexts_differ}
-use Rattle.osc_endpoint.proofs.LifeAnswers.{one_error, one_life_answer}
+use Rattle.osc_endpoint.proofs.LifeAnswers.{one_challenge, one_error, one_life_row}
 use Rattle.osc_endpoint.proofs.LifeReplies.{one_life_reply}
 
 -- ---- additions and restarts
@@ -85,60 +84,32 @@ refused_answer heads.NotThatKind = NotRequest
 refused_answer heads.NoOscore = Plain
 refused_answer heads.Undecodable = Undecodable
 
--- the reply to it
-abbrev RefusedReply : HeadError → Arrival → List ℕ → Type 0
-RefusedReply (heads.Format e) a reply = reply ≡ []
-RefusedReply heads.NotThatKind a reply = reply ≡ []
-RefusedReply heads.NoOscore a reply = reply ≡ []
-RefusedReply heads.Undecodable a reply = SaysError a.bytes a.mid undecodable reply
-
 -- the datagram has no head of a request
-record HasRefusal (a : Arrival) (answer : Answer) (reply : List ℕ) : Type 0 where
+record HasRefusal (a : Arrival) (answer : Answer) : Type 0 where
   pub refusal : HeadError
   pub refuses : HasNoRequestHead a.bytes refusal
   pub answer_is : answer ≡ refused_answer refusal
-  pub replies : RefusedReply refusal a reply
 
 -- its head names no context
-record IsUnnamed (h : History) (a : Arrival) (answer : Answer) (reply : List ℕ) : Type 0 where
+record IsUnnamed (h : History) (a : Arrival) (answer : Answer) : Type 0 where
   pub names_none : NamesNone h a.bytes
   pub answer_is : answer ≡ NoContext
-  pub replies : SaysError a.bytes a.mid no_context reply
-
-one_refused_reply : AnswerLaws → (e : HeadError) (a : Arrival) (r s : List ℕ) → RefusedReply e a r → RefusedReply e a s → r ≡ s
-one_refused_reply laws (heads.Format e) a r s x y = x ∙ sym y
-one_refused_reply laws heads.NotThatKind a r s x y = x ∙ sym y
-one_refused_reply laws heads.NoOscore a r s x y = x ∙ sym y
-one_refused_reply laws heads.Undecodable a r s x y = one_error laws a.bytes a.mid undecodable r s x y
 
 module _ (laws : AnswerLaws) (h : History) (a : Arrival) where
   -- each row is one of these three
-  sort_of : (x : Answer) (r : List ℕ) → TakeAnswer h a x r → HasRefusal a x r ⊎ (IsUnnamed h a x r ⊎ NamedAnswer h a x r)
-  sort_of (Malformed fault place) r row = inl (record { refusal = heads.Format (record { fault = fault; place = place }); refuses = row.0; answer_is = refl; replies = row.1 })
-  sort_of NotRequest r row = inl (record { refusal = heads.NotThatKind; refuses = row.0; answer_is = refl; replies = row.1 })
-  sort_of Plain r row = inl (record { refusal = heads.NoOscore; refuses = row.0; answer_is = refl; replies = row.1 })
-  sort_of Undecodable r row = inl (record { refusal = heads.Undecodable; refuses = row.0; answer_is = refl; replies = row.1 })
-  sort_of NoContext r row = inr (inl (record { names_none = row.0; answer_is = refl; replies = row.1 }))
-  sort_of x r row = inr (inr row)
+  sort_of : (x : Answer) → MeetsRow h a x → HasRefusal a x ⊎ (IsUnnamed h a x ⊎ MeetsNamedRow h a x)
+  sort_of (Malformed fault place) row = inl (record { refusal = heads.Format (record { fault = fault; place = place }); refuses = row; answer_is = refl })
+  sort_of NotRequest row = inl (record { refusal = heads.NotThatKind; refuses = row; answer_is = refl })
+  sort_of Plain row = inl (record { refusal = heads.NoOscore; refuses = row; answer_is = refl })
+  sort_of Undecodable row = inl (record { refusal = heads.Undecodable; refuses = row; answer_is = refl })
+  sort_of NoContext row = inr (inl (record { names_none = row; answer_is = refl }))
+  sort_of x row = inr (inr row)
 
-  one_refused : (x y : Answer) (r s : List ℕ) → HasRefusal a x r → HasRefusal a y s → Took x r ≡ Took y s
-  one_refused x y r s b c =
-      let same : b.refusal ≡ c.refusal = laws.head.refusal a.bytes b.refusal c.refusal b.refuses c.refuses in
-      let answers : x ≡ y = b.answer_is ∙ ap refused_answer same ∙ sym c.answer_is in
-      let bytes : r ≡ s = one_refused_reply laws c.refusal a r s (subst (λ e. RefusedReply e a r) same b.replies) c.replies in
-      cc
+  no_head : (x : Answer) (head : Head) → HasRefusal a x → HasRequestHead a.bytes head → ⊥
+  no_head x head b has = laws.head.never_both a.bytes head b.refusal has b.refuses
 
-  one_unnamed : (x y : Answer) (r s : List ℕ) → IsUnnamed h a x r → IsUnnamed h a y s → Took x r ≡ Took y s
-  one_unnamed x y r s b c =
-      let answers : x ≡ y = b.answer_is ∙ sym c.answer_is in
-      let bytes : r ≡ s = one_error laws a.bytes a.mid no_context r s b.replies c.replies in
-      cc
-
-  no_head : (x : Answer) (r : List ℕ) (head : Head) → HasRefusal a x r → HasRequestHead a.bytes head → ⊥
-  no_head x r head b has = laws.head.never_both a.bytes head b.refusal has b.refuses
-
-  no_name : (x y : Answer) (r s : List ℕ) → IsUnnamed h a x r → NamedAnswer h a y s → ⊥
-  no_name x y r s b (i, n, of, request, row) =
+  no_name : (x y : Answer) → IsUnnamed h a x → MeetsNamedRow h a y → ⊥
+  no_name x y b (i, n, of, request, row) =
       let same : request.head ≡ b.names_none.0 = laws.head.head a.bytes request.head b.names_none.0 request.has_head b.names_none.1 in
       b.names_none.2 i of request.life_is n (subst (λ k. Names (requests of.context) k n) same request.names)
 
@@ -149,46 +120,63 @@ module _ (laws : AnswerLaws) (h : History) (a : Arrival) where
       let parts : (requests of.context).parts n ≡ (requests other.context).parts k = sym x.names ∙ ap (λ (head : Head). head.parts) heads_are ∙ y.names in
       same_named h i j n k of other each x.life_is y.life_is parts
 
-  one_named : (x y : Answer) (r s : List ℕ) → OneEach h → NamedAnswer h a x r → NamedAnswer h a y s → Took x r ≡ Took y s
-  one_named x y r s each (i, n, of, request, row) (j, k, other, asked, again) =
+  one_named : (x y : Answer) → OneEach h → MeetsNamedRow h a x → MeetsNamedRow h a y → x ≡ y
+  one_named x y each (i, n, of, request, row) (j, k, other, asked, again) =
       let same = same_request j i k n other of each asked request in
-      one_life_answer laws of i n a x y r s row
-      (subst (λ z. LifeAnswer z i n a y s) same.life (subst (λ z. LifeAnswer other z n a y s) same.index (subst (λ z. LifeAnswer other j z a y s) same.number again)))
+      one_life_row laws of i n a x y row
+      (subst (λ z. MeetsLifeRow z i n a y) same.life (subst (λ z. MeetsLifeRow other z n a y) same.index (subst (λ z. MeetsLifeRow other j z a y) same.number again)))
 
-  -- the three don't overlap, and each fixes its answer and bytes
-  pub one_take : (x y : Answer) (r s : List ℕ) → OneEach h → TakeAnswer h a x r → TakeAnswer h a y s → Took x r ≡ Took y s
-  one_take x y r s each row other = elim (sort_of x r row) [
-    | inl b ↦ elim (sort_of y s other) [
-      | inl c ↦ one_refused x y r s b c
+  -- the rows exclude each other, and each fixes its answer
+  pub one_row : (x y : Answer) → OneEach h → MeetsRow h a x → MeetsRow h a y → x ≡ y
+  one_row x y each row other = elim (sort_of x row) [
+    | inl b ↦ elim (sort_of y other) [
+      | inl c ↦ b.answer_is ∙ ap refused_answer (laws.head.refusal a.bytes b.refusal c.refusal b.refuses c.refuses) ∙ sym c.answer_is
       | inr d ↦ elim d [
-        | inl c ↦ absurd (no_head x r c.names_none.0 b c.names_none.1)
-        | inr c ↦ absurd (no_head x r c.3.head b c.3.has_head)
+        | inl c ↦ absurd (no_head x c.names_none.0 b c.names_none.1)
+        | inr c ↦ absurd (no_head x c.3.head b c.3.has_head)
       ]
     ]
     | inr e ↦ elim e [
-      | inl b ↦ elim (sort_of y s other) [
-        | inl c ↦ absurd (no_head y s b.names_none.0 c b.names_none.1)
+      | inl b ↦ elim (sort_of y other) [
+        | inl c ↦ absurd (no_head y b.names_none.0 c b.names_none.1)
         | inr d ↦ elim d [
-          | inl c ↦ one_unnamed x y r s b c
-          | inr c ↦ absurd (no_name x y r s b c)
+          | inl c ↦ b.answer_is ∙ sym c.answer_is
+          | inr c ↦ absurd (no_name x y b c)
         ]
       ]
-      | inr b ↦ elim (sort_of y s other) [
-        | inl c ↦ absurd (no_head y s b.3.head c b.3.has_head)
+      | inr b ↦ elim (sort_of y other) [
+        | inl c ↦ absurd (no_head y b.3.head c b.3.has_head)
         | inr d ↦ elim d [
-          | inl c ↦ absurd (no_name y x s r c b)
-          | inr c ↦ one_named x y r s each b c
+          | inl c ↦ absurd (no_name y x c b)
+          | inr c ↦ one_named x y each b c
         ]
       ]
     ]
   ]
+
+  -- a row has one reply
+  one_take_reply : (x : Answer) (r s : List ℕ) → SaysReply h a x r → SaysReply h a x s → r ≡ s
+  one_take_reply Undecodable r s x y = one_error laws a.bytes a.mid undecodable r s x y
+  one_take_reply NoContext r s x y = one_error laws a.bytes a.mid no_context r s x y
+  one_take_reply Replay r s x y = one_error laws a.bytes a.mid replay r s x y
+  one_take_reply BadTag r s x y = one_error laws a.bytes a.mid bad_tag r s x y
+  one_take_reply (Challenge i n given issued) r s (of, life_is, x) (other, is, y) =
+      let same : other ≡ of = let e : Some other ≡ Some of = sym is ∙ life_is in cc in
+      one_challenge laws of n a.bytes a.mid given r s x (subst (λ z. SaysChallenge z n a.bytes a.mid given s) same y)
+  one_take_reply answer r s x y = x ∙ sym y
+
+  one_take : (x y : Answer) (r s : List ℕ) → OneEach h → TakeAnswer h a x r → TakeAnswer h a y s → Took x r ≡ Took y s
+  one_take x y r s each row other =
+      let answers : x ≡ y = one_row x y each row.0 other.0 in
+      let bytes : r ≡ s = one_take_reply y r s (subst (λ z. SaysReply h a z r) answers row.1) other.1 in
+      cc
 
 -- ---- events
 
 one_answer : AnswerLaws → (h : History) (event : Event) (x y : Entry) → OneEach h → ServerAnswer h event x → ServerAnswer h event y → x ≡ y
 one_answer laws h (Add s start size) x y each row other = one_add h s x y row.1 other.1
 one_answer laws h (Datagram now echo mid d) (Took x r) (Took y s) each row other =
-    one_take laws h (record { clock = max (clock h) now; echo = echo; mid = mid; bytes = d }) x y r s each row other
+    one_take laws h (arrival h now echo mid d) x y r s each row other
 one_answer laws h (Datagram now echo mid d) (Took x r) y each row other = absurd other
 one_answer laws h (Datagram now echo mid d) x y each row other = absurd row
 one_answer laws h (Reply t own mid plain room) x y each row other = one_reply laws h t own (as_reply t.kind t.message_id t.token mid plain) room x y row other

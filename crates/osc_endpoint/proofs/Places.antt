@@ -9,9 +9,9 @@ use Rattle.osc_endpoint.specs.declared.decision.Decided.{Decided}
 use Rattle.osc_endpoint.specs.declared.judging.Named.{Named}
 use Rattle.osc_endpoint.specs.declared.slot.Slot.{Slot}
 use Rattle.osc_endpoint.specs.Agrees.{HoldsLife, PlaceAgrees, TableAgrees}
-use Rattle.osc_endpoint.specs.Judging.{JudgesTo}
+use Rattle.osc_endpoint.specs.Judging.{JudgesTo, arrival_of}
 use Rattle.osc_endpoint.specs.Life.{Life, Mark, marked}
-use Rattle.osc_endpoint.specs.ServerAnswer.{Arrival, LifeAnswer}
+use Rattle.osc_endpoint.specs.ServerAnswer.{Arrival, MeetsLifeRow}
 use Rattle.osc_endpoint.specs.ServerHistory.{Answer, Malformed, NotRequest, Plain, Undecodable, NoContext, Replay, BadTag, BadInner, Challenge, SequenceExhausted, Deliver, mark_at, TicketValues}
 use Rattle.osc_endpoint.specs.Table.{TableJudges}
 
@@ -53,18 +53,18 @@ cond_none : (b : Bool) (m : Mark) → b ≡ false → (if b then Some m else Non
 cond_none true m h = cc
 cond_none false m h = refl
 
-pub other_mark : (l : Life) (i n : ℕ) (a : Arrival) (answer : Answer) (reply : List ℕ) (j : ℕ) → LifeAnswer l i n a answer reply → j ≢ i → mark_at j answer ≡ None
-other_mark l i n a (BadInner k m) reply j row h = cond_none (j == k) _ (ne_eqb j k (λ e. h (e ∙ row.2)))
-other_mark l i n a (Challenge k m echo issued) reply j row h = cond_none (j == k) _ (ne_eqb j k (λ e. h (e ∙ row.3)))
-other_mark l i n a (Deliver received ticket) reply j row h = cond_none (j == ticket.context) _ (ne_eqb j ticket.context (λ e. h (e ∙ ap (λ (t : TicketValues). t.context) row.2)))
-other_mark l i n a (Malformed fault place) reply j row h = absurd row
-other_mark l i n a NotRequest reply j row h = refl
-other_mark l i n a Plain reply j row h = refl
-other_mark l i n a Undecodable reply j row h = refl
-other_mark l i n a NoContext reply j row h = refl
-other_mark l i n a Replay reply j row h = refl
-other_mark l i n a BadTag reply j row h = refl
-other_mark l i n a SequenceExhausted reply j row h = refl
+pub other_mark : (l : Life) (i n : ℕ) (a : Arrival) (answer : Answer) (j : ℕ) → MeetsLifeRow l i n a answer → j ≢ i → mark_at j answer ≡ None
+other_mark l i n a (BadInner k m) j row h = cond_none (j == k) _ (ne_eqb j k (λ e. h (e ∙ row.2)))
+other_mark l i n a (Challenge k m echo issued) j row h = cond_none (j == k) _ (ne_eqb j k (λ e. h (e ∙ row.3)))
+other_mark l i n a (Deliver received ticket) j row h = cond_none (j == ticket.context) _ (ne_eqb j ticket.context (λ e. h (e ∙ ap (λ (t : TicketValues). t.context) row.2)))
+other_mark l i n a (Malformed fault place) j row h = absurd row
+other_mark l i n a NotRequest j row h = refl
+other_mark l i n a Plain j row h = refl
+other_mark l i n a Undecodable j row h = refl
+other_mark l i n a NoContext j row h = refl
+other_mark l i n a Replay j row h = refl
+other_mark l i n a BadTag j row h = refl
+other_mark l i n a SequenceExhausted j row h = refl
 
 pub same_life : (o : Option Life) (m : Option Mark) → m ≡ None → option_map (marked m) o ≡ o
 same_life None m h = refl
@@ -92,7 +92,7 @@ table_judges slots lives r d result new reply s t h e judges =
               j.agrees
           | inr other ↦
               place_from _ _ _ _ (slice_get-set_other slots r.index i t other)
-              (same_life (lives i) _ (other_mark k.0 r.index (number_of r.number) _ j.answer reply i j.row other))
+              (same_life (lives i) _ (other_mark k.0 r.index (number_of r.number) (arrival_of r d) j.answer i j.row.0 other))
               (h.at i)
         ];
       };

@@ -8,7 +8,7 @@ use Rattle.osc_endpoint.specs.declared.server_event.ServerEntry.{ServerEntry}
 use Rattle.osc_endpoint.specs.declared.server_event.ServerEntry.TheVariants as entries
 use Rattle.osc_endpoint.specs.Laws.{AreLeft, IsTakenOut, TakesTickets}
 use Rattle.osc_endpoint.specs.ServerHistory.{History, Then, Answer, Datagram, Deliver, Replied, Reply, TicketValues, Took}
-use Rattle.osc_endpoint.specs.ServerRun.{Run, RunStep, ReplyStep, ticket_at, ticket_of}
+use Rattle.osc_endpoint.specs.ServerRun.{Run, ServerRunStep, ReplyStep, ticket_at, ticket_of}
 
 -- the ticket at a place, if there is one
 abbrev one_of : Option TicketValues → List TicketValues
@@ -71,7 +71,7 @@ replied h g ts us zs of mid own plain room x step left = absurd step
 
 -- what an event leaves
 served : (h g : History) (ts us : List (Option TicketValues)) (zs : List TicketValues) (e : ServerEvent) (x : ServerEntry)
-    → RunStep h ts e x g us → AreLeft h (left_in ts ++ zs) → AreLeft g (left_in us ++ zs)
+    → ServerRunStep h ts e x g us → AreLeft h (left_in ts ++ zs) → AreLeft g (left_in us ++ zs)
 served h g ts us zs (events.Datagram a) (entries.Took seen reply) (answer, logs, (answers, goes), is) left =
     subst (λ k. AreLeft k (left_in us ++ zs)) (sym goes) (took h a.now a.fresh.mid a.fresh.echo a.bytes.items answer reply.now ts us zs is left)
 served h g ts us zs (events.Reply r) x (ts', step, is) left =

@@ -10,7 +10,7 @@ use Rattle.osc_endpoint.specs.declared.server_event.ServerEntry.{ServerEntry}
 use Rattle.osc_endpoint.specs.declared.server_event.ServerEntry.TheVariants as entries
 use Rattle.osc_endpoint.specs.Agrees.{Agrees}
 use Rattle.osc_endpoint.specs.ServerHistory.{History, TicketValues}
-use Rattle.osc_endpoint.specs.ServerRun.{Run, RunStep, ticket_at, values_in}
+use Rattle.osc_endpoint.specs.ServerRun.{Run, ServerRunStep, ticket_at, values_in}
 use Rattle.osc_endpoint.specs.Serving.{Serves}
 use Rattle.osc_endpoint.specs.Views.{values_of}
 
@@ -43,7 +43,7 @@ values_more (x ∷ ts) t = ap (λ xs. option_map values_of x ∷ xs) (values_mor
 
 -- a step with the place that it adds
 pub step_more : (h g : History) (ts us : List (Option TicketValues)) (e : ServerEvent) (x : ServerEntry) (o : Option TicketValues)
-    → Serves h ts e x o g us → RunStep h ts e x g (us ++ o ∷ [])
+    → Serves h ts e x o g us → ServerRunStep h ts e x g (us ++ o ∷ [])
 step_more h g ts us (events.Datagram a) (entries.Took seen reply) o (answer, logs, goes, is, same) = (answer, logs, goes, rw (is, same) refl)
 step_more h g ts us (events.Reply answering) x o (step, is) = (us, step, rw is refl)
 step_more h g ts us (events.Restart context next) (entries.Restarted (Ok y)) o (goes, is, same) = (goes, rw (is, same) refl)
@@ -52,8 +52,8 @@ step_more h g ts us e x o s = absurd s
 
 -- a run goes on by one event
 pub run_more : (h mid g : History) (ts vs us : List (Option TicketValues)) (es : List ServerEvent) (xs : List ServerEntry) (e : ServerEvent) (x : ServerEntry)
-    → Run h ts es xs mid vs → RunStep mid vs e x g us → Run h ts (es ++ e ∷ []) (xs ++ x ∷ []) g us
-run_more h mid g ts vs us [] [] e x r s = (g, us, subst (λ k. RunStep k ts e x g us) r.0 (subst (λ t. RunStep mid t e x g us) r.1 s), (refl, refl))
+    → Run h ts es xs mid vs → ServerRunStep mid vs e x g us → Run h ts (es ++ e ∷ []) (xs ++ x ∷ []) g us
+run_more h mid g ts vs us [] [] e x r s = (g, us, subst (λ k. ServerRunStep k ts e x g us) r.0 (subst (λ t. ServerRunStep mid t e x g us) r.1 s), (refl, refl))
 run_more h mid g ts vs us [] (y ∷ ys) e x r s = absurd r
 run_more h mid g ts vs us (d ∷ ds) [] e x r s = absurd r
 run_more h mid g ts vs us (d ∷ ds) (y ∷ ys) e x r s = (r.0, r.1, r.2, run_more r.0 mid g r.1 vs us ds ys e x r.3 s)

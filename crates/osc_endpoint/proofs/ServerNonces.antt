@@ -233,7 +233,7 @@ no_restart (Some l) answer reply row = row
 
 pub all_for : ValueNumberInRange → (h : History) → AllAnswers h → AllByRecursion IsFor (delivered h)
 all_for range Begin a = tt
-all_for range (Then h (Datagram now echo mid d) (Took (Deliver received ticket) reply)) (before, (i, n, of, request, (receives, admits, values, none))) =
+all_for range (Then h (Datagram now echo mid d) (Took (Deliver received ticket) reply)) (before, ((i, n, of, request, (receives, admits, values)), none)) =
     (subst IsFor (sym values) (range ((requests of.context).parts n) receives.protects.value receives.protects.reads), all_for range h before)
 all_for range (Then h (Add s start size) (Took (Deliver received ticket) reply)) a = absurd a.1.1
 all_for range (Then h (Reply t own mid plain room) (Took (Deliver received ticket) reply)) a = absurd a.1.2

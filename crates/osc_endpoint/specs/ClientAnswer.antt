@@ -45,11 +45,11 @@ abbrev pub PendingAnswer : History → ℕ → List ℕ → Answer → Type 0
 PendingAnswer h clock d answer = (r : Asked) × IsAnswerTo h clock d r × AskedAnswer (context h) r d answer
 
 -- the answer to a datagram, row by row (RFC 8613, 8.4; own rule: the order)
-abbrev pub TakeAnswer : History → ℕ → List ℕ → Answer → Type 0
-TakeAnswer h clock d (Malformed fault place) = HasFault d fault place
-TakeAnswer h clock d NotResponse = HasNoResponseHead d heads.NotThatKind
-TakeAnswer h clock d UnknownToken = (token : List ℕ) × IsResponseWith d token × (IsAmong token (pending_at h clock) → ⊥)
-TakeAnswer h clock d answer = PendingAnswer h clock d answer
+abbrev pub ResponseAnswer : History → ℕ → List ℕ → Answer → Type 0
+ResponseAnswer h clock d (Malformed fault place) = HasFault d fault place
+ResponseAnswer h clock d NotResponse = HasNoResponseHead d heads.NotThatKind
+ResponseAnswer h clock d UnknownToken = (token : List ℕ) × IsResponseWith d token × (IsAmong token (pending_at h clock) → ⊥)
+ResponseAnswer h clock d answer = PendingAnswer h clock d answer
 
 -- a request that can be sealed, and whose token isn't pending (RFC 7252, 5.3.1)
 abbrev pub IsNewRequest : History → ℕ → Parts → Type 0
@@ -74,7 +74,7 @@ RequestAnswer n h clock p room entry = ⊥
 -- the entry is the answer to the event, of a client with room for n pending requests (RFC 8613, 8.1 and 8.4)
 abbrev pub ClientAnswer : ℕ → History → Event → Entry → Type 0
 ClientAnswer n h (Request now p room) entry = RequestAnswer n h (max (clock h) now) p room entry
-ClientAnswer n h (Datagram now d) (Took answer) = TakeAnswer h (max (clock h) now) d answer
+ClientAnswer n h (Datagram now d) (Took answer) = ResponseAnswer h (max (clock h) now) d answer
 ClientAnswer n h (Forget token) (Forgot was_pending) = (was_pending ≡ true) ↔ IsAmong token (pending h)
 ClientAnswer n h (Restart first) Restarted = Unit {0}
 ClientAnswer n h (Advance now) Advanced = Unit {0}

@@ -17,7 +17,7 @@ abbrev pub AllClientAnswers : ℕ → History → Type 0
 AllClientAnswers n (New s first ms) = Unit {0}
 AllClientAnswers n (Then h event entry) = AllClientAnswers n h × ClientAnswer n h event entry
 
--- a client has one answer to an event at most after each history (own rule)
+-- after each history of answers a client has one answer to an event at most (own rule)
 abbrev pub OneClientAnswer : Type 0
 OneClientAnswer = (n : ℕ) (h : History) (event : Event) (x y : Entry) → AllClientAnswers n h → ClientAnswer n h event x → ClientAnswer n h event y → x ≡ y
 

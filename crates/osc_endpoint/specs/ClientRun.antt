@@ -25,17 +25,17 @@ RequestStep n h now plain room (entries.BadPlain e) g = HasFault plain e.fault e
 RequestStep n h now plain room entry g = ⊥
 
 -- one event, its entry, and the history behind it (own rule)
-abbrev pub RunStep : ℕ → History → ClientEvent → ClientEntry → History → Type 0
-RunStep n h (events.Request now plain out) entry g = RequestStep n h now plain.items (length out.items) entry g
-RunStep n h (events.Datagram now bytes) (entries.Took outcome) g =
+abbrev pub ClientRunStep : ℕ → History → ClientEvent → ClientEntry → History → Type 0
+ClientRunStep n h (events.Request now plain out) entry g = RequestStep n h now plain.items (length out.items) entry g
+ClientRunStep n h (events.Datagram now bytes) (entries.Took outcome) g =
     (answer : Answer) × ClientShows outcome answer × GoesOn n h (Datagram now bytes.items) (Took answer) g
-RunStep n h (events.Forget token) (entries.Forgot was_pending) g = GoesOn n h (Forget token.items) (Forgot was_pending) g
-RunStep n h (events.Restart first) entries.Restarted g = GoesOn n h (Restart (number_of first)) Restarted g
-RunStep n h event entry g = ⊥
+ClientRunStep n h (events.Forget token) (entries.Forgot was_pending) g = GoesOn n h (Forget token.items) (Forgot was_pending) g
+ClientRunStep n h (events.Restart first) entries.Restarted g = GoesOn n h (Restart (number_of first)) Restarted g
+ClientRunStep n h event entry g = ⊥
 
 -- the log of these events, one entry each, from this history on (own rule)
 abbrev pub Run : ℕ → History → List ClientEvent → List ClientEntry → History → Type 0
 Run n h [] [] g = g ≡ h
 Run n h [] (entry ∷ log) g = ⊥
 Run n h (event ∷ events) [] g = ⊥
-Run n h (event ∷ events) (entry ∷ log) g = (mid : History) × RunStep n h event entry mid × Run n mid events log g
+Run n h (event ∷ events) (entry ∷ log) g = (mid : History) × ClientRunStep n h event entry mid × Run n mid events log g

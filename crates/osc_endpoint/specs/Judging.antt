@@ -1,6 +1,6 @@
 -- For the proofs: what a context of a server answers to a request that names it. s is a security context, n the request's number, l
 -- the context's present life, r the request, d the datagram as it came, new what was left of it.
-use Rattle.std.specs.Prelude.{◌≡◌, ℕ, List, Option, Some, None, IsTrue, false}
+use Rattle.std.specs.Prelude.{◌≡◌, ℕ, List, [], Option, Some, None, IsTrue, false}
 use Rattle.osc_coap.specs.Datagram.{Parts, IsDatagram}
 use Rattle.osc_context.specs.SecurityContext.{SecurityContext}
 use Rattle.osc_context.specs.Views.{as_server, number_of}
@@ -19,8 +19,24 @@ use Rattle.osc_endpoint.specs.declared.slot.Slot.{Slot}
 use Rattle.osc_endpoint.specs.Agrees.{HoldsLife}
 use Rattle.osc_endpoint.specs.Deciding.{Decides}
 use Rattle.osc_endpoint.specs.Life.{Life, marked}
-use Rattle.osc_endpoint.specs.ServerAnswer.{Arrival, LifeAnswer, WantsEcho}
+use Rattle.osc_endpoint.specs.Replies.{SaysError, bad_tag, replay}
+use Rattle.osc_endpoint.specs.ServerAnswer.{Arrival, IsRequestOf, MeetsLifeRow, SaysChallenge, WantsEcho}
 use Rattle.osc_endpoint.specs.ServerHistory as server
+
+-- the reply of a row of the life that the head names (RFC 8613, 7.4, 8.2 and B.1.2)
+abbrev pub LifeSays : Life → Arrival → server.Answer → List ℕ → Type 0
+LifeSays of a server.Replay reply = SaysError a.bytes a.mid replay reply
+LifeSays of a server.BadTag reply = SaysError a.bytes a.mid bad_tag reply
+LifeSays of a (server.Challenge j k given issued) reply = SaysChallenge of k a.bytes a.mid given reply
+LifeSays of a answer reply = reply ≡ []
+
+-- a row of that life, and its reply (RFC 8613, 7.4, 8.2 and B.1.2)
+abbrev pub LifeAnswer : Life → ℕ → ℕ → Arrival → server.Answer → List ℕ → Type 0
+LifeAnswer of i n a answer reply = MeetsLifeRow of i n a answer × LifeSays of a answer reply
+
+-- the same, and the life is the one that the head names (RFC 8613, 8.2)
+abbrev pub NamedAnswer : server.History → Arrival → server.Answer → List ℕ → Type 0
+NamedAnswer h a answer reply = (i : ℕ) × (n : ℕ) × (of : Life) × IsRequestOf h a.bytes i n of × LifeAnswer of i n a answer reply
 
 -- the head that a reply goes to is that of the datagram (RFC 7252, 5.3.2)
 abbrev pub IsAskerOf : Asker → List ℕ → Type 0

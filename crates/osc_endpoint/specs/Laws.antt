@@ -18,7 +18,7 @@ abbrev pub AllAnswers : History → Type 0
 AllAnswers Begin = Unit {0}
 AllAnswers (Then h event entry) = AllAnswers h × ServerAnswer h event entry
 
--- a server has one answer to an event at most after each history (own rule)
+-- after each history of answers a server has one answer to an event at most (own rule)
 abbrev pub OneServerAnswer : Type 0
 OneServerAnswer = (h : History) (event : Event) (x y : Entry) → AllAnswers h → ServerAnswer h event x → ServerAnswer h event y → x ≡ y
 

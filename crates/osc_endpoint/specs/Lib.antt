@@ -11,6 +11,8 @@ pub mod ClientRun
 pub mod Laws
 pub mod Waiting
 pub mod ClientLaws
+pub mod Headline
+pub mod ClientHeadline
 pub mod Text
 -- how the code is seen
 pub mod Views

@@ -1,6 +1,6 @@
 -- To be believed: one life of a server's context, from the moment at which it was added or restarted (RFC 8613, 7.4 and B.1.2): by what was
--- answered in it. l is a life, marks what its answers left, newest first, fresh whether it was added fresh and never
--- restarted, n the number of a request, m the message that it protects. Moments are milliseconds.
+-- answered in it. l is a life, marks what its answers left, newest first, from_birth whether it is open at its birth, n the number
+-- of a request, m the message that it protects. Moments are milliseconds.
 use Rattle.std.specs.Prelude.{◌≡◌, ℕ, ◌+◌, ◌<◌, ◌^◌, List, [], ◌∷◌, Bool, true, false, Option, Some, None, unwrap_or, if◌then◌else◌}
 use Rattle.osc_coap.specs.Inner.{InnerParts}
 use Rattle.osc_context.specs.SecurityContext.{SecurityContext}
@@ -21,22 +21,23 @@ pub data Mark : Type 0 where
   Challenged : (echo : List ℕ) (issued : ℕ) → Mark
   Answered : Mark
 
--- a life: its context and window size, how many lives were before it, its first own number, and its marks (RFC 8613, 3.1)
+-- a life: its context and window size, how many lives were before it, whether it is open at its birth, as one that was added fresh, its
+-- first own number, and its marks (RFC 8613, 3.1)
 pub record Life : Type 0 where
   pub context : SecurityContext
   pub size : WindowSize
   pub count : ℕ
-  pub fresh : Bool
+  pub open_at_birth : Bool
   pub first : ℕ
   pub marks : List Mark
 
 -- it was added fresh and never restarted, or a request was delivered in it (RFC 8613, B.1.2)
 abbrev pub opened : Bool → List Mark → Bool
-opened fresh [] = fresh
-opened fresh (Delivered n ∷ marks) = true
-opened fresh (Spoiled n ∷ marks) = opened fresh marks
-opened fresh (Challenged echo issued ∷ marks) = opened fresh marks
-opened fresh (Answered ∷ marks) = opened fresh marks
+opened from_birth [] = from_birth
+opened from_birth (Delivered n ∷ marks) = true
+opened from_birth (Spoiled n ∷ marks) = opened from_birth marks
+opened from_birth (Challenged echo issued ∷ marks) = opened from_birth marks
+opened from_birth (Answered ∷ marks) = opened from_birth marks
 
 -- the number of the first request that was delivered (RFC 8613, B.1.2)
 abbrev pub first_delivered : List Mark → Option ℕ
@@ -48,15 +49,15 @@ first_delivered (Answered ∷ marks) = first_delivered marks
 
 -- the least number that can be new: that of the first delivery after a restart, else 0 (RFC 8613, B.1.2)
 abbrev pub floor : Bool → List Mark → ℕ
-floor fresh marks = if fresh then 0 else unwrap_or (first_delivered marks) 0
+floor from_birth marks = if from_birth then 0 else unwrap_or (first_delivered marks) 0
 
 -- the numbers of what was delivered, and of bad plaintexts that came while it was open (RFC 8613, 7.4)
 abbrev pub spent : Bool → List Mark → List ℕ
-spent fresh [] = []
-spent fresh (Delivered n ∷ marks) = n ∷ spent fresh marks
-spent fresh (Spoiled n ∷ marks) = if opened fresh marks then n ∷ spent fresh marks else spent fresh marks
-spent fresh (Challenged echo issued ∷ marks) = spent fresh marks
-spent fresh (Answered ∷ marks) = spent fresh marks
+spent from_birth [] = []
+spent from_birth (Delivered n ∷ marks) = n ∷ spent from_birth marks
+spent from_birth (Spoiled n ∷ marks) = if opened from_birth marks then n ∷ spent from_birth marks else spent from_birth marks
+spent from_birth (Challenged echo issued ∷ marks) = spent from_birth marks
+spent from_birth (Answered ∷ marks) = spent from_birth marks
 
 -- the value of the last challenge, and when it was issued (RFC 9175, 2.3)
 abbrev pub challenge : List Mark → Option (List ℕ × ℕ)
@@ -76,7 +77,7 @@ own_count (Answered ∷ marks) = own_count marks + 1
 
 -- requests are judged by their number (RFC 8613, B.1.2)
 abbrev pub is_open : Life → Bool
-is_open l = opened l.fresh l.marks
+is_open l = opened l.open_at_birth l.marks
 
 -- the life is there, and open (RFC 8613, B.1.2)
 abbrev pub is_open_life : Option Life → Bool
@@ -93,7 +94,7 @@ HasOwn l = next_own l < 2 ^ 40
 
 -- a number that is new in this life, while it is open (RFC 8613, 7.4)
 abbrev pub IsNewIn : Life → ℕ → Type 0
-IsNewIn l n = IsNew (places_of l.size) (floor l.fresh l.marks) (spent l.fresh l.marks) n
+IsNewIn l n = IsNew (places_of l.size) (floor l.open_at_birth l.marks) (spent l.open_at_birth l.marks) n
 
 -- the challenge that is in force at this moment; none once the life is open (RFC 9175, 2.3; own rule: the time)
 abbrev pub in_force : Life → ℕ → Option (List ℕ × ℕ)
@@ -119,9 +120,9 @@ marked (Some mark) l = record l { marks = mark ∷ l.marks }
 
 -- the life of a context that is added (RFC 8613, B.1)
 abbrev pub born : SecurityContext → Start → WindowSize → Life
-born context (Fresh next) size = record { context = context; size = size; count = 0; fresh = true; first = number_of next; marks = [] }
-born context (Restarted next) size = record { context = context; size = size; count = 0; fresh = false; first = number_of next; marks = [] }
+born context (Fresh next) size = record { context = context; size = size; count = 0; open_at_birth = true; first = number_of next; marks = [] }
+born context (Restarted next) size = record { context = context; size = size; count = 0; open_at_birth = false; first = number_of next; marks = [] }
 
 -- the life that a restart begins (RFC 8613, B.1)
 abbrev pub renewed : ℕ → Life → Life
-renewed next l = record { context = l.context; size = l.size; count = l.count + 1; fresh = false; first = next; marks = [] }
+renewed next l = record { context = l.context; size = l.size; count = l.count + 1; open_at_birth = false; first = next; marks = [] }

@@ -62,6 +62,10 @@ pub record Arrival : Type 0 where
   pub mid : ℕ
   pub bytes : List ℕ
 
+-- a datagram that comes after a history (own rule)
+abbrev pub arrival : History → ℕ → List ℕ → ℕ → List ℕ → Arrival
+arrival h now echo mid d = record { clock = max (clock h) now; echo = echo; mid = mid; bytes = d }
+
 -- the life is open, and the number isn't new (RFC 8613, 7.4)
 abbrev pub IsReplay : Life → ℕ → Type 0
 IsReplay of n = (is_open of ≡ true) × (IsNewIn of n → ⊥)
@@ -79,33 +83,44 @@ abbrev pub SaysChallenge : Life → ℕ → List ℕ → ℕ → List ℕ → Li
 SaysChallenge of n d mid echo reply = (p : Parts) × IsDatagram p d
     × SealsResponse of.context n (Some (next_own of)) (as_reply p.kind p.message_id p.token mid (challenge_message echo)) reply
 
--- the answer of the life that the head names, and its reply, row by row from the window on (RFC 8613, 7.4, 8.2 and B.1.2)
-abbrev pub LifeAnswer : Life → ℕ → ℕ → Arrival → Answer → List ℕ → Type 0
-LifeAnswer of i n a Replay reply = IsReplay of n × SaysError a.bytes a.mid replay reply
-LifeAnswer of i n a BadTag reply = Passes of n × RefusesTag (requests of.context) a.bytes × SaysError a.bytes a.mid bad_tag reply
-LifeAnswer of i n a (BadInner j k) reply = Passes of n × RefusesPlaintext (requests of.context) a.bytes × (j ≡ i) × (k ≡ n) × (reply ≡ [])
-LifeAnswer of i n a (Challenge j k given issued) reply =
+-- the condition of each row of the life that the head names, from the window on (RFC 8613, 7.4, 8.2 and B.1.2)
+abbrev pub MeetsLifeRow : Life → ℕ → ℕ → Arrival → Answer → Type 0
+MeetsLifeRow of i n a Replay = IsReplay of n
+MeetsLifeRow of i n a BadTag = Passes of n × RefusesTag (requests of.context) a.bytes
+MeetsLifeRow of i n a (BadInner j k) = Passes of n × RefusesPlaintext (requests of.context) a.bytes × (j ≡ i) × (k ≡ n)
+MeetsLifeRow of i n a (Challenge j k given issued) =
     WantsEcho of n a.clock a.bytes × HasOwn of × ((given, issued) ≡ challenge_given of a.clock a.echo) × (j ≡ i) × (k ≡ n)
-    × SaysChallenge of n a.bytes a.mid given reply
-LifeAnswer of i n a SequenceExhausted reply = WantsEcho of n a.clock a.bytes × (HasOwn of → ⊥) × (reply ≡ [])
-LifeAnswer of i n a (Deliver received ticket) reply =
+MeetsLifeRow of i n a SequenceExhausted = WantsEcho of n a.clock a.bytes × (HasOwn of → ⊥)
+MeetsLifeRow of i n a (Deliver received ticket) =
     Receives (requests of.context) n a.bytes received × Admits of a.clock n received.message
     × (ticket ≡ record { context = i; life = of.count; number = n; kind = received.kind; message_id = received.message_id; token = received.token })
-    × (reply ≡ [])
-LifeAnswer of i n a answer reply = ⊥
+MeetsLifeRow of i n a answer = ⊥
 
 -- a row of the life that the head names (RFC 8613, 8.2)
-abbrev pub NamedAnswer : History → Arrival → Answer → List ℕ → Type 0
-NamedAnswer h a answer reply = (i : ℕ) × (n : ℕ) × (of : Life) × IsRequestOf h a.bytes i n of × LifeAnswer of i n a answer reply
+abbrev pub MeetsNamedRow : History → Arrival → Answer → Type 0
+MeetsNamedRow h a answer = (i : ℕ) × (n : ℕ) × (of : Life) × IsRequestOf h a.bytes i n of × MeetsLifeRow of i n a answer
 
--- the answer to a datagram, and its reply, row by row (RFC 8613, 8.2 and B.1.2; own rule: the order)
+-- the condition of each row, whatever is replied (RFC 8613, 8.2 and B.1.2; own rule: the order)
+abbrev pub MeetsRow : History → Arrival → Answer → Type 0
+MeetsRow h a (Malformed fault place) = HasFault a.bytes fault place
+MeetsRow h a NotRequest = HasNoRequestHead a.bytes heads.NotThatKind
+MeetsRow h a Plain = HasNoRequestHead a.bytes heads.NoOscore
+MeetsRow h a Undecodable = HasNoRequestHead a.bytes heads.Undecodable
+MeetsRow h a NoContext = NamesNone h a.bytes
+MeetsRow h a answer = MeetsNamedRow h a answer
+
+-- the reply of each row: an error, a challenge, or none (RFC 8613, 8.2 and B.1.2; own rule: which)
+abbrev pub SaysReply : History → Arrival → Answer → List ℕ → Type 0
+SaysReply h a Undecodable reply = SaysError a.bytes a.mid undecodable reply
+SaysReply h a NoContext reply = SaysError a.bytes a.mid no_context reply
+SaysReply h a Replay reply = SaysError a.bytes a.mid replay reply
+SaysReply h a BadTag reply = SaysError a.bytes a.mid bad_tag reply
+SaysReply h a (Challenge i n given issued) reply = (of : Life) × (life h i ≡ Some of) × SaysChallenge of n a.bytes a.mid given reply
+SaysReply h a answer reply = reply ≡ []
+
+-- the answer to a datagram, and its reply (RFC 8613, 8.2 and B.1.2)
 abbrev pub TakeAnswer : History → Arrival → Answer → List ℕ → Type 0
-TakeAnswer h a (Malformed fault place) reply = HasFault a.bytes fault place × (reply ≡ [])
-TakeAnswer h a NotRequest reply = HasNoRequestHead a.bytes heads.NotThatKind × (reply ≡ [])
-TakeAnswer h a Plain reply = HasNoRequestHead a.bytes heads.NoOscore × (reply ≡ [])
-TakeAnswer h a Undecodable reply = HasNoRequestHead a.bytes heads.Undecodable × SaysError a.bytes a.mid undecodable reply
-TakeAnswer h a NoContext reply = NamesNone h a.bytes × SaysError a.bytes a.mid no_context reply
-TakeAnswer h a answer reply = NamedAnswer h a answer reply
+TakeAnswer h a answer reply = MeetsRow h a answer × SaysReply h a answer reply
 
 -- the ticket is of the present life of a context that is there (own rule)
 abbrev pub IsPresent : History → TicketValues → Life → Type 0
@@ -148,7 +163,7 @@ LifeRestart of entry = ⊥
 -- the entry is the server's answer to the event after this history (RFC 8613, 8.2 and 8.3)
 abbrev pub ServerAnswer : History → Event → Entry → Type 0
 ServerAnswer h (Add s start size) entry = IsContext s × AddAnswer h s entry
-ServerAnswer h (Datagram now echo mid d) (Took answer reply) = TakeAnswer h (record { clock = max (clock h) now; echo = echo; mid = mid; bytes = d }) answer reply
+ServerAnswer h (Datagram now echo mid d) (Took answer reply) = TakeAnswer h (arrival h now echo mid d) answer reply
 ServerAnswer h (Reply t own mid plain room) entry = ReplyAnswer h t own (as_reply t.kind t.message_id t.token mid plain) room entry
 ServerAnswer h (Restart i next) entry = LifeRestart (life h i) entry
 ServerAnswer h (Advance now) Advanced = Unit {0}

@@ -58,15 +58,15 @@ ReplyStep h ts of own mid plain room (entries.Replied (Err e)) g us =
 ReplyStep h ts of own mid plain room entry g us = ⊥
 
 -- one event, its entry, the history behind it, and the tickets, with a place more (own rule)
-abbrev pub RunStep : History → List (Option TicketValues) → ServerEvent → ServerEntry → History → List (Option TicketValues) → Type 0
-RunStep h ts (events.Datagram a) (entries.Took x reply) g us =
+abbrev pub ServerRunStep : History → List (Option TicketValues) → ServerEvent → ServerEntry → History → List (Option TicketValues) → Type 0
+ServerRunStep h ts (events.Datagram a) (entries.Took x reply) g us =
     (answer : Answer) × Logs x answer
     × GoesOn h (Datagram a.now a.fresh.echo a.fresh.mid a.bytes.items) (Took answer reply.now) g × (us ≡ ts ++ ticket_of answer ∷ [])
-RunStep h ts (events.Reply r) entry g us =
+ServerRunStep h ts (events.Reply r) entry g us =
     (left : List (Option TicketValues)) × ReplyStep h ts r.of r.own r.mid r.plain.items (length r.out.items) entry g left × (us ≡ left ++ None ∷ [])
-RunStep h ts (events.Restart context next) (entries.Restarted (Ok x)) g us = GoesOn h (Restart context (number_of next)) Restarted g × (us ≡ ts ++ None ∷ [])
-RunStep h ts (events.Restart context next) (entries.Restarted (Err e)) g us = GoesOn h (Restart context (number_of next)) (NotRestarted e) g × (us ≡ ts ++ None ∷ [])
-RunStep h ts event entry g us = ⊥
+ServerRunStep h ts (events.Restart context next) (entries.Restarted (Ok x)) g us = GoesOn h (Restart context (number_of next)) Restarted g × (us ≡ ts ++ None ∷ [])
+ServerRunStep h ts (events.Restart context next) (entries.Restarted (Err e)) g us = GoesOn h (Restart context (number_of next)) (NotRestarted e) g × (us ≡ ts ++ None ∷ [])
+ServerRunStep h ts event entry g us = ⊥
 
 -- the log of these events, one entry each, from this history on (own rule)
 abbrev pub Run : History → List (Option TicketValues) → List ServerEvent → List ServerEntry → History → List (Option TicketValues) → Type 0
@@ -74,7 +74,7 @@ Run h ts [] [] g us = (g ≡ h) × (us ≡ ts)
 Run h ts [] (entry ∷ log) g us = ⊥
 Run h ts (event ∷ events) [] g us = ⊥
 Run h ts (event ∷ events) (entry ∷ log) g us =
-    (mid : History) × (vs : List (Option TicketValues)) × RunStep h ts event entry mid vs × Run mid vs events log g us
+    (mid : History) × (vs : List (Option TicketValues)) × ServerRunStep h ts event entry mid vs × Run mid vs events log g us
 
 -- the tickets of a run, as the definitions see them (how the code is seen)
 abbrev pub values_in : List (Option Ticket) → List (Option TicketValues)

@@ -11,9 +11,8 @@ use Rattle.osc_endpoint.specs.declared.judging.Named.{Named}
 use Rattle.osc_endpoint.specs.declared.slot.Slot.{Slot}
 use Rattle.osc_endpoint.specs.Agrees.{TableAgrees}
 use Rattle.osc_endpoint.specs.Deciding.{Decides}
-use Rattle.osc_endpoint.specs.Judging.{arrival_of, IsNamed}
+use Rattle.osc_endpoint.specs.Judging.{arrival_of, IsNamed, LifeAnswer}
 use Rattle.osc_endpoint.specs.Life.{Life, marked}
-use Rattle.osc_endpoint.specs.ServerAnswer.{LifeAnswer}
 use Rattle.osc_endpoint.specs.ServerHistory as server
 
 -- a place with a context of this kid, and of this kid context or none (RFC 8613, 8.2)

@@ -14,6 +14,8 @@ use Rattle.osc_endpoint.specs.declared.outcome.Outcome.TheVariants as outcomes
 use Rattle.osc_endpoint.specs.declared.server_error.AddError.{AddError}
 use Rattle.osc_endpoint.specs.declared.server_error.ReplyError.{ReplyError}
 use Rattle.osc_endpoint.specs.declared.server_error.RestartError.{RestartError}
+use Rattle.osc_endpoint.specs.declared.server_event.Seen.{Seen}
+use Rattle.osc_endpoint.specs.declared.server_event.Seen.TheVariants as seen
 use Rattle.osc_endpoint.specs.Received.{Received}
 use Rattle.osc_endpoint.specs.ServerHistory as server
 use Rattle.osc_endpoint.specs.ClientHistory as client
@@ -45,6 +47,11 @@ Shows outcome answer = ⊥
 abbrev pub delivery_of : Outcome → Option (ℕ × ℕ × InnerParts)
 delivery_of (outcomes.Deliver o t) = Some (t.context, number_of t.number, message_of o)
 delivery_of outcome = None
+
+-- the same of what a log shows of an answer (how the code is seen)
+abbrev pub seen_delivery : Seen → Option (ℕ × ℕ × InnerParts)
+seen_delivery (seen.Deliver opened context number) = Some (context, number_of number, message_of opened)
+seen_delivery x = None
 
 -- the entry of an Add (how the code is seen)
 abbrev pub added_entry : Result ℕ AddError → server.Entry

@@ -16,6 +16,7 @@ impl<const N: usize> Client<N> {
 
     /// The client that has these values and nothing pending, without a next number where none is left. It keeps no key schedule: each
     /// call makes the one that it needs.
+    #[doc(hidden)]
     #[must_use]
     pub fn resumed(context: Context, life_ms: u64, clock: u64, next: Option<Piv>) -> Client<N>
         ensures { client_parts result ≡ record { context = as_client context; life_ms = life_ms; clock = clock; next = next_of next; pending = [] } }
@@ -33,6 +34,7 @@ impl<const N: usize> Client<N> {
     }
 
     /// Puts a request that was sealed before at the end of the table. No request of its token may be there.
+    #[doc(hidden)]
     pub fn remember(&mut self, request: Pending)
         requires { length (client_parts self.old).pending < N }
         ensures { client_parts self.new ≡ record (client_parts self.old) { pending = (client_parts self.old).pending ++ asked_of request ∷ [] } }
@@ -41,6 +43,7 @@ impl<const N: usize> Client<N> {
     }
 
     /// The clock: the greatest moment so far, in milliseconds.
+    #[doc(hidden)]
     #[must_use]
     pub fn clock(&self) -> u64
         ensures { result ≡ (client_parts self.now).clock }
@@ -49,6 +52,7 @@ impl<const N: usize> Client<N> {
     }
 
     /// The number of the next request, or the limit, 2^40, where none is left.
+    #[doc(hidden)]
     #[must_use]
     pub fn next(&self) -> u64
         ensures value { result ≡ (client_parts self.now).next }
@@ -58,6 +62,7 @@ impl<const N: usize> Client<N> {
     }
 
     /// The requests in the table, oldest first.
+    #[doc(hidden)]
     #[must_use]
     pub fn pending(&self) -> &[Pending]
         ensures value { map asked_of result.now ≡ (client_parts self.now).pending }

@@ -3,7 +3,7 @@
 ghost use Rattle.std.specs.Prelude.{◌≡◌, ◌<◌, [], length, take, drop, vec_len, OnOk, OnErr};
 ghost use Rattle.osc_endpoint.specs.Agrees.{ClientAgrees};
 ghost use Rattle.osc_endpoint.specs.ClientHistory.{History};
-ghost use Rattle.osc_endpoint.specs.ClientRun.{RequestStep, Run, RunStep};
+ghost use Rattle.osc_endpoint.specs.ClientRun.{RequestStep, Run, ClientRunStep};
 
 use crate::client::Client;
 use crate::client_event::{ClientEntry, ClientEvent};
@@ -43,7 +43,7 @@ fn run_event<'a, const N: usize>(
     event: &'a mut ClientEvent,
 ) -> ClientEntry<'a>
     ensures { (h : History) → ClientAgrees client.old h
-        → (g : History) × RunStep N h event.old result g × ClientAgrees client.new g }
+        → (g : History) × ClientRunStep N h event.old result g × ClientAgrees client.new g }
 {
     match event {
         ClientEvent::Request { now, plain, out } => run_request(client, *now, plain, out),

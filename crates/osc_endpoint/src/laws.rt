@@ -9,8 +9,8 @@ use osc_coap::{one_datagram, one_text};
 use osc_context::{one_nonce, one_option_value};
 use osc_protect::{one_head, one_request, one_response, one_sealed, protections_show_heads};
 
-/// After each history an event has one answer at most: the rows of the table don't overlap, and each fixes its bytes
-/// (RFC 8613, 8.2 and 8.3).
+/// After each history of answers an event has one answer at most: the rows of the table don't overlap, and each fixes its
+/// bytes (RFC 8613, 8.2 and 8.3).
 pub fn one_server_answer()
     ensures { OneServerAnswer }
 {

@@ -14,6 +14,7 @@ mod contexts;
 mod decision;
 mod echo;
 mod error_reply;
+mod headlines;
 mod judging;
 mod laws;
 mod outcome;
@@ -32,27 +33,35 @@ mod table;
 mod ticket;
 mod ticket_places;
 
-pub use asker::Asker;
 pub use client::Client;
 pub use client_event::{ClientEntry, ClientEvent};
 pub use client_outcome::{ClientOutcome, RequestError};
 pub use client_run::{run_client, run_client_on};
 pub use client_take::read_client_decided;
-pub use contexts::Contexts;
 pub use decision::{ClientDecision, Decided, Decision};
-pub use judging::{Named, is_replay, refuse_replay};
+pub use headlines::{client_headline, client_rows, server_headline, server_rows};
 pub use laws::{
     answered_once, delivered_once, nonces_once, one_client_answer, one_server_answer,
     own_numbers_once, ticket_once,
 };
 pub use outcome::{Outcome, Taken};
-pub use pending::Pending;
 pub use server::Server;
 pub use server_error::{AddError, ReplyError, RestartError};
 pub use server_event::{Answering, Arrival, Seen, ServerEntry, ServerEvent};
 pub use server_run::{run_server, run_server_on};
-pub use server_take::{decide_over, read_decided};
-pub use slot::Slot;
+pub use server_take::read_decided;
 pub use start::{Fresh, Start};
 pub use ticket::Ticket;
-pub use ticket_places::{put_back, take_out};
+
+/// What the crates that keep an end elsewhere build on: a server's table, its contexts and a client's requests as values, and the
+/// tickets of a run. Whoever has a server or a client needs none of it.
+#[doc(hidden)]
+pub mod siblings {
+    pub use crate::asker::Asker;
+    pub use crate::contexts::Contexts;
+    pub use crate::judging::{Named, is_replay, refuse_replay};
+    pub use crate::pending::Pending;
+    pub use crate::server_take::decide_over;
+    pub use crate::slot::Slot;
+    pub use crate::ticket_places::{put_back, take_out};
+}

@@ -41,7 +41,7 @@ all_before P fresh Answered marks h = h
 
 life_marked : (u : UnansweredHandle) (of : Life) (m : Option Mark) (w : ℕ → Bool) → RemembersLife u of w → RemembersLife u (marked m of) w
 life_marked u of None w r = r
-life_marked u of (Some mark) w r = record { held = r.held; reach = λ bound some all. r.reach bound some (all_before (λ m. m < bound) of.fresh mark of.marks all) }
+life_marked u of (Some mark) w r = record { held = r.held; reach = λ bound some all. r.reach bound some (all_before (λ m. m < bound) of.open_at_birth mark of.marks all) }
 
 marked_count : (m : Option Mark) (of : Life) → (marked m of).count ≡ of.count
 marked_count None of = refl
@@ -56,12 +56,12 @@ at_same u None w x same r = tt
 at_same u (Some of) w x same r = record { held = λ n. r.held n ∙ same of.count n; reach = r.reach }
 
 -- a number that is admitted is less than 64 below those that were spent
-admitted_near : (of : Life) (clock n : ℕ) (m : InnerParts) → Admits of clock n m → All (λ k. k < n + 64) (spent of.fresh of.marks)
+admitted_near : (of : Life) (clock n : ℕ) (m : InnerParts) → Admits of clock n m → All (λ k. k < n + 64) (spent of.open_at_birth of.marks)
 admitted_near of clock n m admits = elim (cases_Bool (is_open of)) [
   | inl is ↦
       let most = places_most of.size in
-      All-weaker (λ k. k < n + places_of of.size) (λ k. k < n + 64) (λ k less. omega (arith, less, most)) (spent of.fresh of.marks) (admits.0 is).within
-  | inr shut ↦ subst (All (λ k. k < n + 64)) (sym (closed_bare of.fresh of.marks shut).spent_is) (All-nil (λ k. k < n + 64))
+      All-weaker (λ k. k < n + places_of of.size) (λ k. k < n + 64) (λ k less. omega (arith, less, most)) (spent of.open_at_birth of.marks) (admits.0 is).within
+  | inr shut ↦ subst (All (λ k. k < n + 64)) (sym (closed_bare of.open_at_birth of.marks shut).spent_is) (All-nil (λ k. k < n + 64))
 ]
 
 -- ---- tickets to a request of one context
@@ -99,14 +99,14 @@ and_not x true e = absurd (both_ways true e refl)
 
 -- ---- a delivery
 
-delivered_here : (u v : UnansweredHandle) (of : Life) (t : server.TicketValues) (w x : ℕ → Bool) → RemembersLife u of w → AddsNumber u v t.number → All (λ k. k < t.number + 64) (spent of.fresh of.marks)
+delivered_here : (u v : UnansweredHandle) (of : Life) (t : server.TicketValues) (w x : ℕ → Bool) → RemembersLife u of w → AddsNumber u v t.number → All (λ k. k < t.number + 64) (spent of.open_at_birth of.marks)
     → ((n : ℕ) → x n ≡ ((n == t.number) || (w n && not (nat_le (n + 64) t.number)))) → RemembersLife v (marked (Some (Delivered t.number)) of) x
 delivered_here u v of t w x r adds near is =
     record {
       held = λ n. adds.held (r.reach (t.number + 64) (omega arith) near) n ∙ (ap (λ b. (n == t.number) || (b && not (nat_le (n + 64) t.number))) (r.held n) ∙ sym (is n));
       reach = λ bound some all.
-          let below = All-head (λ m. m < bound) t.number (spent of.fresh of.marks) all in
-          let old = r.reach bound some (All-tail (λ m. m < bound) t.number (spent of.fresh of.marks) all) in
+          let below = All-head (λ m. m < bound) t.number (spent of.open_at_birth of.marks) all in
+          let old = r.reach bound some (All-tail (λ m. m < bound) t.number (spent of.open_at_birth of.marks) all) in
           subst (λ n. n < bound) (sym adds.highest) (max_below u.highest t.number bound old below);
     } where
       max_below : (a b bound : ℕ) → a < bound → b < bound → max a b < bound
@@ -115,12 +115,12 @@ delivered_here u v of t w x r adds near is =
 remembers_delivery : (us vs : List UnansweredHandle) (h : server.History) (now mid : ℕ) (echo d : List ℕ) (received : Received) (t : server.TicketValues) (reply : List ℕ)
     → ServerAnswer h (server.Datagram now echo mid d) (server.Took (server.Deliver received t) reply) → NotesTicket us vs t → Remembers us h
     → Remembers vs (server.Then h (server.Datagram now echo mid d) (server.Took (server.Deliver received t) reply))
-remembers_delivery us vs h now mid echo d received t reply (i, n, of, request, (receives, admits, values, none)) notes r =
+remembers_delivery us vs h now mid echo d received t reply ((i, n, of, request, (receives, admits, values)), none) notes r =
     let g = server.Then h (server.Datagram now echo mid d) (server.Took (server.Deliver received t) reply) in
     let there : server.life h t.context ≡ Some of = ap (λ (v : server.TicketValues). server.life h v.context) values ∙ request.life_is in
     let count : t.life ≡ of.count = ap (λ (v : server.TicketValues). v.life) values in
     let number : t.number ≡ n = ap (λ (v : server.TicketValues). v.number) values in
-    let near : All (λ k. k < t.number + 64) (spent of.fresh of.marks) = subst (λ m. All (λ k. k < m + 64) (spent of.fresh of.marks)) (sym number) (admitted_near of (max (server.clock h) now) n received.message admits) in
+    let near : All (λ k. k < t.number + 64) (spent of.open_at_birth of.marks) = subst (λ m. All (λ k. k < m + 64) (spent of.open_at_birth of.marks)) (sym number) (admitted_near of (max (server.clock h) now) n received.message admits) in
     record {
       at = λ j v e. elim (cases_eq j t.context) [
         | inl same ↦

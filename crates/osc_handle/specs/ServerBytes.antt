@@ -24,7 +24,7 @@ use Rattle.osc_handle.specs.declared.unanswered_handle.UnansweredHandle.{Unanswe
 -- the bytes hold exactly the numbers that wait in this life, and none above those that were spent in it (RFC 8613, 8.3)
 pub record RemembersLife (u : UnansweredHandle) (of : Life) (waiting : ℕ → Bool) : Type 0 where
   pub held : (n : ℕ) → holds u n ≡ waiting n
-  pub reach : (bound : ℕ) → 0 < bound → All (λ m. m < bound) (spent of.fresh of.marks) → u.highest < bound
+  pub reach : (bound : ℕ) → 0 < bound → All (λ m. m < bound) (spent of.open_at_birth of.marks) → u.highest < bound
 
 -- the same of the present life of a context, if it is there; waiting takes the count of its lives before (RFC 8613, 8.3)
 abbrev pub RemembersAt : UnansweredHandle → Option Life → (ℕ → ℕ → Bool) → Type 0

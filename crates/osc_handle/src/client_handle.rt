@@ -19,7 +19,8 @@ use crate::context_handle::ContextHandle;
 use crate::pending_handle::PendingHandle;
 use osc_coap::Message;
 use osc_context::{Context, Piv};
-use osc_endpoint::{Client, ClientDecision, ClientOutcome, Pending, RequestError};
+use osc_endpoint::siblings::Pending;
+use osc_endpoint::{Client, ClientDecision, ClientOutcome, RequestError};
 
 /// A client of one context, with up to eight pending requests: the first `count` of the places, oldest first. Moments are
 /// milliseconds.

@@ -24,10 +24,8 @@ use crate::context_handle::ContextHandle;
 use crate::slot_handle::SlotHandle;
 use osc_coap::Message;
 use osc_context::Piv;
-use osc_endpoint::{
-    AddError, Asker, Contexts, Decided, Named, ReplyError, RestartError, Slot, Start, is_replay,
-    refuse_replay,
-};
+use osc_endpoint::siblings::{Asker, Contexts, Named, Slot, is_replay, refuse_replay};
+use osc_endpoint::{AddError, Decided, ReplyError, RestartError, Start};
 use osc_window::WindowSize;
 
 /// The contexts of a server: the first `count` of the places.

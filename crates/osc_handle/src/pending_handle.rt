@@ -7,7 +7,7 @@ ghost use Rattle.osc_handle.specs.ClientBytes.{IsPending, asked_at};
 use crate::context_handle::padded;
 use osc_coap::Token;
 use osc_context::Piv;
-use osc_endpoint::Pending;
+use osc_endpoint::siblings::Pending;
 
 /// A request that waits for its response: its number, the clock when it was sealed in milliseconds, and its token.
 #[repr(C)]

@@ -24,9 +24,10 @@ use crate::ticket_handle::TicketHandle;
 use crate::unanswered_handle::UnansweredHandle;
 use osc_coap::Message;
 use osc_context::Piv;
+use osc_endpoint::siblings::decide_over;
 use osc_endpoint::{
     AddError, Decided, Decision, Fresh, ReplyError, RestartError, Start, Taken, Ticket,
-    answered_once, decide_over, read_decided,
+    answered_once, read_decided,
 };
 use osc_window::WindowSize;
 

@@ -19,7 +19,8 @@ ghost use Rattle.osc_endpoint.specs.declared.slot.Slot.{Slot as SlotOf};
 use crate::context_handle::ContextHandle;
 use osc_coap::Message;
 use osc_context::Piv;
-use osc_endpoint::{Asker, ReplyError, Slot};
+use osc_endpoint::ReplyError;
+use osc_endpoint::siblings::{Asker, Slot};
 use osc_protect::KeyedContext;
 use osc_window::{Gate, Window, WindowParts, WindowSize};
 

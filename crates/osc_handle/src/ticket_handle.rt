@@ -8,7 +8,8 @@ ghost use Rattle.osc_handle.specs.TicketBytes.{IsTicket, kind_in, ticket_in};
 
 use osc_coap::{Kind, Token};
 use osc_context::Piv;
-use osc_endpoint::{Asker, Ticket};
+use osc_endpoint::Ticket;
+use osc_endpoint::siblings::Asker;
 
 /// The ticket of a request that was delivered.
 #[repr(C)]

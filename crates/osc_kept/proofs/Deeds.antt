@@ -47,7 +47,7 @@ replied (Some own) l = with_mark Answered l
 
 -- the present life of the server; one without a request, as long as none began
 abbrev pub life_in : SecurityContext → List Deed → Life
-life_in s [] = record { context = s; size = Places32; count = 0; fresh = false; first = 0; marks = [] }
+life_in s [] = record { context = s; size = Places32; count = 0; open_at_birth = false; first = 0; marks = [] }
 life_in s (Begins start size ∷ ds) = born s start size
 life_in s (Renews next ∷ ds) = renewed next (life_in s ds)
 life_in s (Spoils n ∷ ds) = with_mark (Spoiled n) (life_in s ds)
@@ -275,7 +275,7 @@ replied_first : (own : Option ℕ) (l : Life) → first_delivered (replied own l
 replied_first None l = refl
 replied_first (Some o) l = refl
 
-pub replied_fresh : (own : Option ℕ) (l : Life) → (replied own l).fresh ≡ l.fresh
+pub replied_fresh : (own : Option ℕ) (l : Life) → (replied own l).open_at_birth ≡ l.open_at_birth
 replied_fresh None l = refl
 replied_fresh (Some o) l = refl
 
@@ -288,7 +288,7 @@ first_step n f q None i j e = subst (λ x. q.number < x) e (j refl)
 first_step n f q (Some g) i j e = subst (λ x. q.number < x) e (i g refl)
 
 -- the floor of a restarted life is above all that was sent before it
-first : (s : SecurityContext) (ds : List Deed) (f : ℕ) → AllFit s ds → (life_in s ds).fresh ≡ false → first_delivered (life_in s ds).marks ≡ Some f → Above ds f
+first : (s : SecurityContext) (ds : List Deed) (f : ℕ) → AllFit s ds → (life_in s ds).open_at_birth ≡ false → first_delivered (life_in s ds).marks ≡ Some f → Above ds f
 first s (Begins start size ∷ ds) f a r e q h = let g : None ≡ Some f = sym (born_first s start size) ∙ e in cc
 first s (Renews next ∷ ds) f a r e q h = let g : None ≡ Some f = e in cc
 first s (Delivers t m ∷ ds) f a r e q h =
@@ -302,7 +302,7 @@ first s (d ∷ ds) f a r e q h = first s ds f a.0 r e q h
 first s [] f a r e q h = absurd h
 
 -- a fresh life is the first in which anything is delivered
-fresh_here : (s : SecurityContext) (ds : List Deed) (n : ℕ) → AllFit s ds → (life_in s ds).fresh ≡ true → Has n (delivers ds) → Has n (here (life_in s ds).marks)
+fresh_here : (s : SecurityContext) (ds : List Deed) (n : ℕ) → AllFit s ds → (life_in s ds).open_at_birth ≡ true → Has n (delivers ds) → Has n (here (life_in s ds).marks)
 fresh_here s (Begins (starts.Fresh first) size ∷ ds) n a r h = absurd (a.1 n h)
 fresh_here s (Begins (starts.Restarted first) size ∷ ds) n a r h = let f : false ≡ true = r in cc
 fresh_here s (Renews next ∷ ds) n a r h = let f : false ≡ true = r in cc
@@ -315,21 +315,21 @@ fresh_here s [] n a r h = absurd h
 -- ---- at most once
 
 in_this_life : (l : Life) (n : ℕ) → Passes l n → is_open l ≡ true → Has n (here l.marks) → ⊥
-in_this_life l n p o h = all_has (λ m. m ≢ n) (spent l.fresh l.marks) n (p o).unspent (here_spent l.fresh l.marks n h) refl
+in_this_life l n p o h = all_has (λ m. m ≢ n) (spent l.open_at_birth l.marks) n (p o).unspent (here_spent l.open_at_birth l.marks n h) refl
 
 -- its number is at least the floor of the restarted life, so it isn't one that was sent before
-not_early : (s : SecurityContext) (ds : List Deed) (n : ℕ) → AllFit s ds → Passes (life_in s ds) n → (life_in s ds).fresh ≡ false → is_open (life_in s ds) ≡ true → IsEarly ds n → ⊥
+not_early : (s : SecurityContext) (ds : List Deed) (n : ℕ) → AllFit s ds → Passes (life_in s ds) n → (life_in s ds).open_at_birth ≡ false → is_open (life_in s ds) ≡ true → IsEarly ds n → ⊥
 not_early s ds n a p r o k =
     let l = life_in s ds in
     elim (cases_option (first_delivered l.marks)) [
       | inl e ↦
-          let c : opened l.fresh l.marks ≡ false = ap (λ b. opened b l.marks) r ∙ none_closed l.marks e in
+          let c : opened l.open_at_birth l.marks ≡ false = ap (λ b. opened b l.marks) r ∙ none_closed l.marks e in
           let f : true ≡ false = sym o ∙ c in
           cc
       | inr x ↦
           let above : k.0.number < x.0 = first s ds x.0 a r x.1 k.0 k.1 in
-          let least : floor l.fresh l.marks ≤ n = (p o).above in
-          let g : floor l.fresh l.marks ≡ x.0 = ap (λ b. cond b 0 (unwrap_or (first_delivered l.marks) 0)) r ∙ ap (λ y. unwrap_or y 0) x.1 in
+          let least : floor l.open_at_birth l.marks ≤ n = (p o).above in
+          let g : floor l.open_at_birth l.marks ≡ x.0 = ap (λ b. cond b 0 (unwrap_or (first_delivered l.marks) 0)) r ∙ ap (λ y. unwrap_or y 0) x.1 in
           let e : k.0.number ≡ n = k.2 in
           absurd (omega (arith, above, least, g, e))
     ]
@@ -339,7 +339,7 @@ pub never_again : (s : SecurityContext) (ds : List Deed) (n : ℕ) (m : InnerPar
 never_again s ds n m a passes may sent h =
     let l = life_in s ds in
     elim (cases_Bool (is_open l)) [
-      | inl open' ↦ elim (cases_Bool l.fresh) [
+      | inl open' ↦ elim (cases_Bool l.open_at_birth) [
         | inl r ↦ in_this_life l n passes open' (fresh_here s ds n a r h)
         | inr r ↦ elim (earlier s ds n a h) [
           | inl k ↦ in_this_life l n passes open' k
@@ -347,7 +347,7 @@ never_again s ds n m a passes may sent h =
         ]
       ]
       | inr closed ↦ elim (earlier s ds n a h) [
-        | inl k ↦ absurd (closed_here l.fresh l.marks n closed k)
+        | inl k ↦ absurd (closed_here l.open_at_birth l.marks n closed k)
         | inr k ↦
             let above : k.0.number < n = passes_above s ds n m a (may closed) sent k.0 k.1 in
             let e : k.0.number ≡ n = k.2 in

@@ -103,17 +103,15 @@ challenged_seals : (n : ℕ) (s : SecurityContext) (w : World) (k own : ℕ) (ec
     → server.life h 0 ≡ Some l → l.context ≡ s → next_own l ≡ own → Answers n s w (AtServer (server.Datagram 0 echo 0 d) (server.Took (server.Challenge 0 k echo 0) reply))
     → SealsChallenge s k own echo reply
 challenged_seals n s w k own echo d reply h l e there c f x =
-    let y = x.2 in
     let same : x.0 ≡ h = some_is (sym x.1 ∙ e) in
-    let of : y.2 ≡ l = some_is (sym y.3.life_is ∙ ap (server.life x.0) (sym y.4.3) ∙ ap (λ z. server.life z 0) same ∙ there) in
-    let says = y.4.5 in
-    let reply_is : ℕ → SecurityContext → ℕ → Type 0 = λ i z o. SealsResponse z i (Some o) (as_reply says.0.kind says.0.message_id says.0.token 0 (challenge_message echo)) reply in
+    let (life_in, is, says) = x.2.1 in
+    let of : life_in ≡ l = some_is (sym is ∙ ap (λ z. server.life z 0) same ∙ there) in
+    let reply_is : SecurityContext → ℕ → Type 0 = λ z o. SealsResponse z k (Some o) (as_reply says.0.kind says.0.message_id says.0.token 0 (challenge_message echo)) reply in
     record {
       head = says.0;
       seals =
-          subst (λ i. reply_is i s own) (sym y.4.4)
-          (subst (λ z. reply_is y.1 z own) (ap (λ (z : Life). z.context) of ∙ c)
-          (subst (λ o. reply_is y.1 y.2.context o) (ap next_own of ∙ f) says.2));
+          subst (λ z. reply_is z own) (ap (λ (z : Life). z.context) of ∙ c)
+          (subst (λ o. reply_is life_in.context o) (ap next_own of ∙ f) says.2);
     }
 
 -- ---- none can be left out

@@ -169,7 +169,7 @@ opened_in laws n s w d k m of usable forges e p =
 fits_delivery : LawsBelow → (n : ℕ) (s : SecurityContext) (w : World) (now mid : ℕ) (echo d reply : List ℕ) (received : Received) (t : server.TicketValues)
     → At n s w (server.Datagram now echo mid d) (server.Took (server.Deliver received t) reply) → Fits s (digest s w) (Delivers t received.message)
 fits_delivery laws n s w now mid echo d reply received t i =
-    let x = i.answer.2 in
+    let x = i.answer.2.0 in
     let l : Life = life_in s (digest s w) in
     let clock : ℕ = max (server.clock i.answer.0) now in
     let e : x.2 ≡ l = same_life s (digest s w) i.answer.0 x.0 x.2 (at_stands n s w _ _ i) x.3.life_is in
@@ -182,7 +182,7 @@ pub fits_challenge : LawsBelow → (n : ℕ) (s : SecurityContext) (w : World) (
     → At n s w (server.Datagram now echo mid d) (server.Took (server.Challenge i k value issued) reply)
     → Fits s (digest s w) (server_deed (Some (life_in s (digest s w))) (server.Datagram now echo mid d) (server.Took (server.Challenge i k value issued) reply))
 fits_challenge laws n s w now mid i k issued echo d value reply y =
-    let x = y.answer.2 in
+    let x = y.answer.2.0 in
     let h : server.History = y.answer.0 in
     let stood : Stands s (digest s w) h = at_stands n s w _ _ y in
     let l : Life = life_in s (digest s w) in

@@ -74,7 +74,7 @@ fresh_value (Some x) echo given clock issued e f = cc
 value_is : (s : SecurityContext) (w : World) (h : server.History) (now mid i k issued : ℕ) (echo d given reply : List ℕ) (g : server.History) (of : Life) → server_history s w ≡ Some h
     → ((j : ℕ) (l : Life) → server.life h j ≡ Some l → j ≡ 0) → ServerAnswer h (server.Datagram now echo mid d) (server.Took (server.Challenge i k given issued) reply) → server_history s w ≡ Some g
     → server.life g i ≡ Some of → in_force of (max (server.clock g) now) ≡ None → given ≡ echo
-value_is s w h now mid i k issued echo d given reply g of e only a f life none =
+value_is s w h now mid i k issued echo d given reply g of e only (a, says) f life none =
     let same : h ≡ g = some_is (sym e ∙ f) in
     let there : server.life h i ≡ Some of = subst (λ x. server.life x i ≡ Some of) (sym same) life in
     let place : a.0 ≡ i = only a.0 a.2 a.3.life_is ∙ sym (only i of there) in

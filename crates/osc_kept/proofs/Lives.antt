@@ -8,7 +8,7 @@ use Rattle.osc_window.specs.declared.window_size.WindowSize.{WindowSize}
 use Rattle.osc_endpoint.specs.declared.start.Start.{Start}
 use Rattle.osc_endpoint.specs.Laws.{AllAnswers, delivered, answered}
 use Rattle.osc_endpoint.specs.Life.{Life, Mark, Spoiled, Challenged, Delivered, Answered, born, marked, next_own, renewed}
-use Rattle.osc_endpoint.specs.ServerAnswer.{ServerAnswer, LifeRestart, NamedAnswer, Arrival, own_number}
+use Rattle.osc_endpoint.specs.ServerAnswer.{ServerAnswer, LifeRestart, TakeAnswer, Arrival, own_number}
 use Rattle.osc_endpoint.specs.ClientHistory as client
 use Rattle.osc_endpoint.specs.Received.{Received}
 use Rattle.osc_endpoint.specs.ServerHistory as server
@@ -51,15 +51,15 @@ only_born s start size i of e = eqb-true i 0 (is_chosen (i == 0) (born s start s
 
 -- ---- which context an answer names
 
-pub spoiled_first : (h : server.History) (a : Arrival) (i n : ℕ) (reply : List ℕ) → OnlyFirst h → NamedAnswer h a (server.BadInner i n) reply → i ≡ 0
-spoiled_first h a i n reply z x = x.4.2 ∙ z x.0 x.2 x.3.life_is
+pub spoiled_first : (h : server.History) (a : Arrival) (i n : ℕ) (reply : List ℕ) → OnlyFirst h → TakeAnswer h a (server.BadInner i n) reply → i ≡ 0
+spoiled_first h a i n reply z x = x.0.4.2 ∙ z x.0.0 x.0.2 x.0.3.life_is
 
-pub challenged_first : (h : server.History) (a : Arrival) (i n issued : ℕ) (echo reply : List ℕ) → OnlyFirst h → NamedAnswer h a (server.Challenge i n echo issued) reply → i ≡ 0
-challenged_first h a i n issued echo reply z x = x.4.3 ∙ z x.0 x.2 x.3.life_is
+pub challenged_first : (h : server.History) (a : Arrival) (i n issued : ℕ) (echo reply : List ℕ) → OnlyFirst h → TakeAnswer h a (server.Challenge i n echo issued) reply → i ≡ 0
+challenged_first h a i n issued echo reply z x = x.0.4.3 ∙ z x.0.0 x.0.2 x.0.3.life_is
 
 pub delivered_first : (h : server.History) (a : Arrival) (received : Received) (ticket : server.TicketValues) (reply : List ℕ) → OnlyFirst h
-    → NamedAnswer h a (server.Deliver received ticket) reply → ticket.context ≡ 0
-delivered_first h a received ticket reply z x = ap (λ (t : server.TicketValues). t.context) x.4.2 ∙ z x.0 x.2 x.3.life_is
+    → TakeAnswer h a (server.Deliver received ticket) reply → ticket.context ≡ 0
+delivered_first h a received ticket reply z x = ap (λ (t : server.TicketValues). t.context) x.0.4.2 ∙ z x.0.0 x.0.2 x.0.3.life_is
 
 -- ---- the present life
 

@@ -79,14 +79,14 @@ saved_before : (n : ℕ) (s : SecurityContext) (w : World) (now mid : ℕ) (echo
     → ((k : ℕ) → Has k (delivered w) → 0 < (numbers Server s w).floor) → 0 < (numbers Server s w).floor
 saved_before n s w now mid echo d reply received t (a, k, f) earlier =
     let h : server.History = a.1.0 in
-    let x = a.1.2 in
+    let x = a.1.2.0 in
     let ds : List Deed = digest s w in
     let l : Life = life_in s ds in
     let stood : Stands s ds h = stands n s w h a.0 a.1.1 in
     let clock : ℕ = max (server.clock h) now in
     let e : x.2 ≡ l = same_life s ds h x.0 x.2 stood x.3.life_is in
     let admits : Admits l clock x.1 received.message = subst (λ y. Admits y clock x.1 received.message) e x.4.1 in
-    elim (cases_Bool l.fresh) [
+    elim (cases_Bool l.open_at_birth) [
       | inl fresh ↦ f.1 l (life_known s w h l a.1.1 stood.present) fresh
       | inr older ↦ elim (cases_Bool (is_open l)) [
         | inl open' ↦

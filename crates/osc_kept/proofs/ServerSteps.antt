@@ -130,7 +130,7 @@ pub took_challenge : (s t : Server) (h : History) (now : ℕ) (echo : List ℕ) 
     → Draws (not (is_open_life (life h 0))) old mid → ((k : ℕ) → mid.hand ≡ Some k → k + 1 ≡ mid.next) → ((k : ℕ) → new ≡ after (Use k) mid)
     → KeptStep h (Datagram now echo m d) (Took (Challenge i n given issued) reply) old new t
 took_challenge s t h now echo m d i n given issued reply old mid new k row a drawn last used =
-    let (j, _, of, names, answer) = row in
+    let ((j, _, of, names, answer), says) = row in
     let first : j ≡ 0 = only_first s h j of k.agrees k.one names.life_is in
     let zero_is : i ≡ 0 = answer.3 ∙ first in
     let is : life h 0 ≡ Some of = subst (λ x. life h x ≡ Some of) first names.life_is in

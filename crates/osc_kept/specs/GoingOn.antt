@@ -72,7 +72,7 @@ ClientBegins = (s : SecurityContext) (w : World) (loaded life_ms floor : ℕ) (o
 -- a server starts fresh at 0 alone, and then a number is saved before it takes a datagram: KeptServer sees to it (RFC 8613, B.1.1 and B.1.2)
 abbrev pub SavesFirst : SecurityContext → World → Event → Type 0
 SavesFirst s w (ServerStarts (starts.Fresh first) size) = number_of first ≡ 0
-SavesFirst s w (AtServer (server.Datagram now echo mid d) entry) = (of : Life) → server_life s w ≡ Some of → of.fresh ≡ true → 0 < (numbers Server s w).floor
+SavesFirst s w (AtServer (server.Datagram now echo mid d) entry) = (of : Life) → server_life s w ≡ Some of → of.open_at_birth ≡ true → 0 < (numbers Server s w).floor
 SavesFirst s w event = Unit {0}
 
 -- so it starts fresh only while nothing was delivered (RFC 8613, B.1.2)

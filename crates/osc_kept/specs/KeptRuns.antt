@@ -122,7 +122,7 @@ ClientNumbers s t = (event : client.Event) × (entry : client.Entry) × (t.histo
 
 -- as in the run of a client, with the numbers (RFC 8613, 8.1 and 8.4)
 abbrev pub Asks : {K : Type 0} {k : keeper.Ghosts K} → ℕ → ClientState k → ClientEvent → ClientEntry → ClientState k → Type 0
-Asks n s event entry t = client_run.RunStep n s.history event entry t.history × ClientNumbers s t
+Asks n s event entry t = client_run.ClientRunStep n s.history event entry t.history × ClientNumbers s t
 
 -- a request's entry; where the keeper failed, the clock alone moved (own rule)
 abbrev pub RequestStep : {K : Type 0} {k : keeper.Ghosts K} → ℕ → ClientState k → ℕ → List ℕ → ℕ → ClientEntry → ClientState k → Type 0

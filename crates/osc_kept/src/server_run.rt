@@ -14,9 +14,8 @@ use crate::kept_event::{KeptServerEntry, KeptServerEvent};
 use crate::kept_server::KeptServer;
 use osc_coap::parse;
 use osc_context::Keeper;
-use osc_endpoint::{
-    Answering, Arrival, Outcome, Seen, ServerEntry, Taken, Ticket, put_back, take_out,
-};
+use osc_endpoint::siblings::{put_back, take_out};
+use osc_endpoint::{Answering, Arrival, Outcome, Seen, ServerEntry, Taken, Ticket};
 use std::alloc::{AllocError, Global};
 use std::mem;
 

@@ -11,7 +11,7 @@ use Rattle.osc_endpoint.specs.declared.server_event.ServerEntry.{ServerEntry}
 use Rattle.osc_endpoint.specs.declared.server_event.ServerEntry.TheVariants as entries
 use Rattle.osc_endpoint.specs.ServerHistory.{History, Answer, TicketValues, Malformed, NotRequest, Plain, Undecodable, NoContext, Replay, BadTag, BadInner, Challenge, SequenceExhausted, Deliver, NotReplied, NotRestarted, Replied, Reply, Restart, Restarted}
 use Rattle.osc_endpoint.specs.Received.{Received}
-use Rattle.osc_endpoint.specs.ServerRun.{GoesOn, Logs, ReplyStep, Run, RunStep}
+use Rattle.osc_endpoint.specs.ServerRun.{GoesOn, Logs, ReplyStep, Run, ServerRunStep}
 use Rattle.osc_text.specs.EntryLines.{entry_line}
 use Rattle.osc_text.specs.InputEvents.{InputEvent}
 use Rattle.osc_text.specs.InputText.{EventLines}
@@ -50,7 +50,7 @@ reply_is h k ts us of own mid plain room (entries.Replied (Err e)) is (t, at, p,
 reply_is h k ts us of own mid plain room x is s = absurd s
 
 -- a step of the code is one of the lines
-step_is : (h k : History) (ts us : List (Option TicketValues)) (e : ServerEvent) (x : ServerEntry) → IsOfRun e → RunStep h ts e x k us → EventLine h ts (event_seen e) (log_line x) k us
+step_is : (h k : History) (ts us : List (Option TicketValues)) (e : ServerEvent) (x : ServerEntry) → IsOfRun e → ServerRunStep h ts e x k us → EventLine h ts (event_seen e) (log_line x) k us
 step_is h k ts us (events.Datagram a) (entries.Took x reply) is (answer, logs, goes, after) =
     (answer, reply.now, goes, after, ap (λ (text : List ℕ). entry_line (text ++ reply_text reply.now)) (seen_is x answer logs))
 step_is h k ts us (events.Reply r) x is (left, step, after) = (left, reply_is h k ts left r.of r.own r.mid r.plain.items (length r.out.items) x is step, after)

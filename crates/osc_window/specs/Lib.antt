@@ -5,5 +5,4 @@ pub mod Laws
 pub mod Gate
 -- how the code is seen
 pub mod Views
--- for the proofs
 pub mod SpentMask

@@ -1,4 +1,4 @@
--- For the proofs: what the fields of a window stand for. Bit i of the mask stands for the number that lies i below the
+-- How the code is seen: what the fields of a window stand for. Bit i of the mask stands for the number that lies i below the
 -- highest one, and w is the number of places.
 use Rattle.std.specs.Prelude.{ℕ, ◌-◌, ◌==◌, ◌||◌, ◌&&◌, Bool, true, Option, Some, None, nat_lt}
 use Rattle.std.specs.Int.{bit_at}
