@@ -2,7 +2,10 @@
 //!
 //! The next number of a sender, over all runs of a program that calls this:
 //!
-//!     fn next_number<R: Files + Alloc>(rt: &R) -> Result<Piv, NumbersError> {
+//!     fn next_number<R: Files + Alloc>(rt: &R) -> Result<Piv, NumbersError>
+//!     where
+//!         R::File: TryLock,
+//!     {
 //!         let mut keeper = FileKeeper::new(rt, "numbers");
 //!         let mut numbers = Numbers::start(&mut keeper)?;
 //!         numbers.next(&mut keeper) // 0, and the file holds 64; in the next run 64
@@ -10,6 +13,10 @@
 #![tactic(auto)]
 
 mod file_keeper;
+mod held;
+mod lock;
 mod number_text;
+mod replacing;
 
 pub use file_keeper::FileKeeper;
+pub use lock::TryLock;

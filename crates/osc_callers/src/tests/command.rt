@@ -2,9 +2,11 @@
 
 use super::folder::{begin, end};
 use osc_command::command;
+use osc_context::Keeper;
 use osc_file::FileKeeper;
 use std::alloc::{AllocError, Global};
 use std::fs;
+use std::rt::Files;
 
 // RFC 8613, C.1: the client, and the plain request of C.4.
 const CLIENT: &str =
@@ -110,23 +112,28 @@ fn contents(rt: HostRuntime) {
     end(&rt, "command_contents");
 }
 
-// A folder of the name; and one that stands where a save makes its file, so that it can't be written.
+// A folder of the name; one that stands where a save makes its file, so that it can't be written; a symbolic link; and a file that
+// another run uses.
 #[test]
-fn folders(rt: HostRuntime) {
-    begin(&rt, "command_folders");
-    let folders = [
-        "command_folders/number",
-        "command_folders/client.new",
-        "command_folders/server.new",
-    ];
-    for folder in folders {
+fn refused_files(rt: HostRuntime) {
+    begin(&rt, "command_files");
+    for folder in [
+        "command_files/number",
+        "command_files/client.new",
+        "command_files/server.new",
+    ] {
         fs::create_dir(&rt, folder).expect(&rt, "a new folder");
     }
+    rt.symlink("none", "command_files/link")
+        .expect(&rt, "a new link");
+    let mut other = FileKeeper::new(&rt, "command_files/used");
     let rows = [
-        (CLIENT, "command_folders/number", REQUEST, 2),
+        (CLIENT, "command_files/number", REQUEST, 2),
         // The client starts, and its request is refused; the server can't start, since it saves first.
-        (CLIENT, "command_folders/client", REQUEST, 0),
-        (SERVER, "command_folders/server", TAKE, 2),
+        (CLIENT, "command_files/client", REQUEST, 0),
+        (SERVER, "command_files/server", TAKE, 2),
+        (CLIENT, "command_files/link", REQUEST, 2),
+        (CLIENT, "command_files/used", REQUEST, 2),
     ];
     for (words, file, input, status) in rows {
         let (answered, text) = call(&rt, words, file, input).expect(&rt, "memory");
@@ -136,5 +143,6 @@ fn folders(rt: HostRuntime) {
             "{file}"
         );
     }
-    end(&rt, "command_folders");
+    assert_eq!(rt; other.load(), Ok(0));
+    end(&rt, "command_files");
 }

@@ -4,13 +4,17 @@ mod refusing;
 
 use super::folder::{begin, end};
 use osc_context::{Keeper, KeeperError, Numbers, NumbersError};
-use osc_file::FileKeeper;
+use osc_file::{FileKeeper, TryLock};
 use refusing::{Refusing, Step};
 use std::fs;
+use std::process::Abort;
 use std::rt::Files;
 
 /// The first number of a sender over this file.
-fn first_number<R: Files + Alloc>(rt: &R, name: &str) -> Result<u64, NumbersError> {
+fn first_number<R: Files + Alloc>(rt: &R, name: &str) -> Result<u64, NumbersError>
+where
+    R::File: TryLock,
+{
     let mut keeper = FileKeeper::new(rt, name);
     let mut numbers = Numbers::start(&mut keeper)?;
     Ok(numbers.next(&mut keeper)?.number())
@@ -65,39 +69,97 @@ fn contents(rt: HostRuntime) {
 fn folders(rt: HostRuntime) {
     begin(&rt, "folders");
     fs::create_dir(&rt, "folders/number").expect(&rt, "a new folder");
-    for (name, number) in [("folders/number", None), ("folders/none/number", Some(0))] {
+    for name in ["folders/number", "folders/none/number"] {
         let mut keeper = FileKeeper::new(&rt, name);
-        assert_eq!(rt; keeper.load(), number.ok_or(KeeperError), "{name}");
+        assert_eq!(rt; keeper.load(), Err(KeeperError), "{name}");
         assert_eq!(rt; keeper.save(64), Err(KeeperError), "{name}");
     }
     end(&rt, "folders");
 }
 
-// A file that is lost or set back is a failure for the keeper that saved, and not for the next one.
+/// Makes the file hold this text, or removes it.
+fn put(rt: &(impl Files + Alloc + Abort), name: &str, text: &str) {
+    if text.is_empty() {
+        let _ = fs::remove_file(rt, name);
+    } else {
+        fs::write(rt, name, text).expect(rt, "a file");
+    }
+}
+
+/// What the file holds, or no text where it is missing.
+fn text_of<R: Files + Alloc>(rt: &R, name: &str) -> String<R::A> {
+    fs::read_to_string(rt, name).unwrap_or(String::new(rt.alloc()))
+}
+
+// A file that another program changes, makes or removes: each load and each save fails and leaves it, until it holds what the keeper
+// found or saved. An empty text is no file.
 #[test]
 fn a_file_that_changes(rt: HostRuntime) {
+    let rows = [
+        ("", 0, "0\n"),
+        ("", 0, "64\n"),
+        ("0\n", 0, ""),
+        ("64\n", 64, ""),
+        ("64\n", 64, "0\n"),
+        ("64\n", 64, "128\n"),
+        ("64\n", 64, "64"),
+    ];
     begin(&rt, "changes");
-    let mut keeper = FileKeeper::new(&rt, "changes/number");
-    assert_eq!(rt; keeper.load(), Ok(0));
-    assert_eq!(rt; keeper.save(128), Ok(()));
-    assert_eq!(rt; keeper.load(), Ok(128));
-    fs::write(&rt, "changes/number", "64\n").expect(&rt, "a file");
-    assert_eq!(rt; keeper.load(), Err(KeeperError));
-    fs::write(&rt, "changes/number", "192\n").expect(&rt, "a file");
-    assert_eq!(rt; keeper.load(), Ok(192));
-    fs::remove_file(&rt, "changes/number").expect(&rt, "a file");
-    assert_eq!(rt; keeper.load(), Err(KeeperError));
-    assert_eq!(rt; FileKeeper::new(&rt, "changes/number").load(), Ok(0));
+    let name = "changes/number";
+    for (found, number, changed) in rows {
+        put(&rt, name, found);
+        let mut keeper = FileKeeper::new(&rt, name);
+        for (kept, number) in [(found, number), ("192\n", 192)] {
+            assert_eq!(rt; keeper.load(), Ok(number), "{found:?}");
+            put(&rt, name, changed);
+            assert_eq!(rt; keeper.load(), Err(KeeperError), "{found:?} {changed:?}");
+            assert_eq!(rt; keeper.save(256), Err(KeeperError), "{found:?} {changed:?}");
+            assert_eq!(rt; text_of(&rt, name).as_str(), changed);
+            put(&rt, name, kept);
+            assert_eq!(rt; keeper.save(192), Ok(()), "{found:?} {changed:?}");
+        }
+    }
     end(&rt, "changes");
 }
 
-// Own rule: a keeper that saved 0 has saved. The file stands in the working folder.
+// Own rule: a name is one keeper's. Where its lock is taken away, the one that saves second finds what it didn't read.
 #[test]
-fn a_lost_zero(rt: HostRuntime) {
-    let mut keeper = FileKeeper::new(&rt, "zero");
-    assert_eq!(rt; keeper.save(0), Ok(()));
-    fs::remove_file(&rt, "zero").expect(&rt, "a file");
-    assert_eq!(rt; keeper.load(), Err(KeeperError));
+fn two_keepers(rt: HostRuntime) {
+    begin(&rt, "two");
+    let mut first = FileKeeper::new(&rt, "two/number");
+    assert_eq!(rt; first.load(), Ok(0));
+    let mut refused = FileKeeper::new(&rt, "two/number");
+    assert_eq!(rt;
+        (refused.load(), refused.save(64)),
+        (Err(KeeperError), Err(KeeperError))
+    );
+    fs::remove_file(&rt, "two/number.lock").expect(&rt, "a file");
+    let mut second = FileKeeper::new(&rt, "two/number");
+    assert_eq!(rt; second.load(), Ok(0));
+    assert_eq!(rt;
+        (first.save(64), second.save(64)),
+        (Ok(()), Err(KeeperError))
+    );
+    end(&rt, "two");
+}
+
+// Own rule: a symbolic link is no file of a number, and no lock; one where a save makes its file is removed. What they lead to stays.
+#[test]
+fn links(rt: HostRuntime) {
+    begin(&rt, "links");
+    fs::write(&rt, "links/other", "64\n").expect(&rt, "a file");
+    let rows = [
+        ("links/a", "links/a", Err(KeeperError)),
+        ("links/b", "links/b.lock", Err(KeeperError)),
+        ("links/c", "links/c.new", Ok(())),
+    ];
+    for (name, link, saved) in rows {
+        rt.symlink("other", link).expect(&rt, "a new link");
+        assert_eq!(rt; FileKeeper::new(&rt, name).save(128), saved, "{link}");
+        assert_eq!(rt; text_of(&rt, "links/other").as_str(), "64\n", "{link}");
+    }
+    assert_eq!(rt; first_number(&rt, "links/c"), Ok(128));
+    end(&rt, "links");
 }
 
 // A save of 128 over 64 that stops: what NAME and NAME.new hold then, and what the next run loads, whose save writes over NAME.new.
@@ -123,39 +185,41 @@ fn stops_of_a_save(rt: HostRuntime) {
     end(&rt, "stops");
 }
 
-// Each step of a save refused in turn: it fails, and the next run loads the old number up to the rename, and then the new one.
+// Each step of a load and of a save refused in turn, for a name in a folder and one in the working folder: what the load answers; the
+// save fails, and the next run loads the old number up to the rename, and then the new one.
 #[test]
 fn refused_steps(rt: HostRuntime) {
     let rows = [
-        (Step::Create, 64),
-        (Step::Write, 64),
-        (Step::SyncFile, 64),
-        (Step::Rename, 64),
-        (Step::Open, 128),
-        (Step::SyncFolder, 128),
+        (Step::Look, Err(KeeperError), 64),
+        (Step::Lock, Err(KeeperError), 64),
+        (Step::Open, Err(KeeperError), 64),
+        (Step::OpenFolder, Ok(64), 64),
+        (Step::Remove, Ok(64), 64),
+        (Step::Create, Ok(64), 64),
+        (Step::Write, Ok(64), 64),
+        (Step::SyncFile, Ok(64), 64),
+        (Step::Rename, Ok(64), 64),
+        (Step::SyncFolder, Ok(64), 128),
     ];
     begin(&rt, "steps");
-    for (refused, number) in rows {
-        fs::write(&rt, "steps/number", "64\n").expect(&rt, "a file");
-        let refusing = Refusing { rt: &rt, refused };
-        let saved = FileKeeper::new(&refusing, "steps/number").save(128);
-        assert_eq!(rt; saved, Err(KeeperError), "{refused:?}");
-        let loaded = FileKeeper::new(&rt, "steps/number").load();
-        assert_eq!(rt; loaded, Ok(number), "{refused:?}");
+    for (folder, name) in [("steps", "steps/number"), (".", "steps_number")] {
+        for (refused, loaded, number) in rows {
+            fs::write(&rt, name, "64\n").expect(&rt, "a file");
+            let refusing = Refusing {
+                rt: &rt,
+                folder,
+                refused,
+            };
+            let mut keeper = FileKeeper::new(&refusing, name);
+            assert_eq!(rt; keeper.load(), loaded, "{name} {refused:?}");
+            assert_eq!(rt; keeper.save(128), Err(KeeperError), "{name} {refused:?}");
+            drop(keeper);
+            let next = FileKeeper::new(&rt, name).load();
+            assert_eq!(rt; next, Ok(number), "{name} {refused:?}");
+        }
+    }
+    for left in ["steps_number", "steps_number.lock"] {
+        fs::remove_file(&rt, left).expect(&rt, "a file");
     }
     end(&rt, "steps");
-}
-
-// No right to read.
-#[test]
-fn a_refused_load(rt: HostRuntime) {
-    begin(&rt, "refused");
-    fs::write(&rt, "refused/number", "64\n").expect(&rt, "a file");
-    let refusing = Refusing {
-        rt: &rt,
-        refused: Step::Open,
-    };
-    let loaded = FileKeeper::new(&refusing, "refused/number").load();
-    assert_eq!(rt; loaded, Err(KeeperError));
-    end(&rt, "refused");
 }

@@ -1,5 +1,6 @@
 //! A runtime that refuses one step of a load or of a save.
 
+use osc_file::TryLock;
 use std::alloc::{Allocator, Global};
 use std::fs::{File, Metadata, OpenFile, OpenOptions};
 use std::io::{self, ErrorKind, Read, Seek, SeekFrom, Write};
@@ -7,24 +8,31 @@ use std::rt::Files;
 
 #[derive(Clone, Copy, Debug, PartialEq, Eq)]
 pub enum Step {
+    /// Whether a name is a link's.
+    Look,
+    Lock,
+    Open,
+    OpenFolder,
+    Remove,
     Create,
     Write,
     SyncFile,
     Rename,
-    /// Of a load the file, of a save the folder.
-    Open,
     SyncFolder,
 }
 
+/// The folder is the one that holds the file; another one is none of these steps.
 #[derive(Drop)]
 pub struct Refusing<'a> {
     pub rt: &'a HostRuntime,
+    pub folder: &'a str,
     pub refused: Step,
 }
 
 #[derive(Drop)]
 pub struct RefusingFile {
     file: File,
+    refuses_lock: bool,
     refuses_write: bool,
     refuses_sync: bool,
 }
@@ -57,12 +65,16 @@ impl Files for Refusing<'_> {
     fn open_file(&self, how: &OpenOptions, path: &str) -> io::Result<RefusingFile> {
         let (open, sync) = if how.asks_write() {
             (Step::Create, Step::SyncFile)
+        } else if path == self.folder {
+            (Step::OpenFolder, Step::SyncFolder)
         } else {
-            (Step::Open, Step::SyncFolder)
+            (Step::Open, Step::SyncFile)
         };
-        unless(self.refused == open)?;
+        // A lock is opened to be written too, but not as a new file.
+        unless(self.refused == open && !how.asks_create())?;
         Ok(RefusingFile {
             file: how.open(self.rt, path)?,
+            refuses_lock: self.refused == Step::Lock,
             refuses_write: self.refused == Step::Write,
             refuses_sync: self.refused == sync,
         })
@@ -81,16 +93,18 @@ impl Files for Refusing<'_> {
         unsupported()
     }
 
-    fn symlink_metadata(&self, _path: &str) -> io::Result<Metadata> {
-        unsupported()
+    fn symlink_metadata(&self, path: &str) -> io::Result<Metadata> {
+        unless(self.refused == Step::Look)?;
+        self.rt.symlink_metadata(path)
     }
 
     fn copy(&self, _from: &str, _to: &str) -> io::Result<u64> {
         unsupported()
     }
 
-    fn remove_file(&self, _path: &str) -> io::Result<()> {
-        unsupported()
+    fn remove_file(&self, path: &str) -> io::Result<()> {
+        unless(self.refused == Step::Remove)?;
+        self.rt.remove_file(path)
     }
 
     fn create_dir(&self, _path: &str) -> io::Result<()> {
@@ -123,6 +137,13 @@ impl OpenFile for RefusingFile {
     fn sync_data(&self) -> io::Result<()> {
         unless(self.refuses_sync)?;
         self.file.sync_data()
+    }
+}
+
+impl TryLock for RefusingFile {
+    fn try_lock(&self) -> io::Result<()> {
+        unless(self.refuses_lock)?;
+        TryLock::try_lock(&self.file)
     }
 }
 

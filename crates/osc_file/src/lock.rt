@@ -1,0 +1,45 @@
+//! The lock of a number's file: a file beside it, which one open at a time has locked.
+
+use std::fs::{self, File, OpenOptions};
+use std::io::{self, ErrorKind};
+use std::rt::Files;
+
+/// An open file of which one open at a time has the lock, until it is closed: at the latest when its program ends, however it does.
+pub trait TryLock {
+    /// Takes the lock, or fails where another open of the file has it. It never waits.
+    fn try_lock(&self) -> io::Result<()>;
+}
+
+impl TryLock for File {
+    fn try_lock(&self) -> io::Result<()> {
+        Ok(File::try_lock(self)?)
+    }
+}
+
+/// Whether the name is a symbolic link's.
+pub(crate) fn is_link<R: Files>(rt: &R, name: &str) -> io::Result<bool> {
+    match fs::symlink_metadata(rt, name) {
+        Ok(found) => Ok(found.is_symlink()),
+        Err(error) if error.kind() == ErrorKind::NotFound => Ok(false),
+        Err(error) => Err(error),
+    }
+}
+
+/// Opens the file NAME.lock, which is made where it is missing and never written, and locks it.
+// NAME itself is another file after each save, so a lock on it would be lost. NAME.lock stays: were it removed, a run that opened it
+// before would lock a file that the next run doesn't find.
+pub(crate) fn locked<R: Files + Alloc>(rt: &R, name: &str) -> io::Result<R::File>
+where
+    R::File: TryLock,
+{
+    let lock_name = format!(in rt.alloc(); "{name}.lock")?;
+    if is_link(rt, lock_name.as_str())? {
+        return Err(io::Error::from(ErrorKind::PermissionDenied));
+    }
+    let file = OpenOptions::new()
+        .write(true)
+        .create(true)
+        .open(rt, lock_name.as_str())?;
+    file.try_lock()?;
+    Ok(file)
+}
