@@ -13,3 +13,4 @@ pub mod Saving
 pub mod GoingOn
 pub mod InWorld
 pub mod Examples
+pub mod CallsInWorld

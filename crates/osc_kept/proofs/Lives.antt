@@ -79,7 +79,7 @@ restart_there : (o : Option Life) → LifeRestart o server.Restarted → (x : Li
 restart_there None a = absurd a
 restart_there (Some x) a = (x, refl)
 
-no_took : (o : Option Life) (answer : server.Answer) (reply : List ℕ) → LifeRestart o (server.Took answer reply) → ⊥
+pub no_took : (o : Option Life) (answer : server.Answer) (reply : List ℕ) → LifeRestart o (server.Took answer reply) → ⊥
 no_took None answer reply a = a
 no_took (Some x) answer reply a = a
 

@@ -29,7 +29,7 @@ floor_rises Reserve o ns a i =
     omega (arith, covered, above)
 floor_rises e o ns a i = omega arith
 
-saved_still : (s : SecurityContext) (w : World) (event : Event) → AtEach (NumbersAreKept s) (Then w event) → 0 < (numbers Server s w).floor → 0 < (numbers Server s (Then w event)).floor
+pub saved_still : (s : SecurityContext) (w : World) (event : Event) → AtEach (NumbersAreKept s) (Then w event) → 0 < (numbers Server s w).floor → 0 < (numbers Server s (Then w event)).floor
 saved_still s w event k f =
     let r : (numbers Server s w).floor ≤ (numbers Server s (Then w event)).floor = floor_rises (effect Server s w event) (numbers Server s w) (used Server s w) k.1.server (own_inv Server s w k.0) in
     omega (arith, r, f)

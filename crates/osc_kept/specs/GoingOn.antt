@@ -1,6 +1,6 @@
 -- To be believed: how the calls of kept ends go a world on (RFC 8613, 7.2.1 and B.1.1): zero or one draw of a number, and then one event. w is the world
 -- before, v the one after, s the security context, old and new are the numbers of the end.
-use Rattle.std.specs.Prelude.{◌≡◌, ◌⊎◌, ℕ, ◌<◌, ◌≤◌, ◌^◌, true, Some}
+use Rattle.std.specs.Prelude.{◌≡◌, ◌⊎◌, ℕ, ◌<◌, ◌≤◌, true, Some}
 use Rattle.osc_context.specs.SecurityContext.{SecurityContext}
 use Rattle.osc_context.specs.Views.{number_of}
 use Rattle.osc_window.specs.declared.window_size.WindowSize.{WindowSize}
@@ -12,30 +12,36 @@ use Rattle.osc_endpoint.specs.ServerHistory as server
 use Rattle.osc_kept.specs.KeptAsking as asking
 use Rattle.osc_kept.specs.KeptServing as serving
 use Rattle.osc_kept.specs.KeptServing.{IsStart, started}
-use Rattle.osc_kept.specs.Numbering.{Own, Goes, Load, Steps, nothing_drawn}
-use Rattle.osc_kept.specs.Premises.{Answers, AtEach, FreshWhileNothingDelivered, NumbersAreKept}
-use Rattle.osc_kept.specs.World.{World, Event, Then, End, Client, Server, ServerStarts, Draws, Reserves, AtClient, AtServer, client_history, server_history, server_life, numbers}
+use Rattle.osc_kept.specs.Numbering.{Own, AreAlike, Allowed, Goes, Load, Steps, nothing_drawn}
+use Rattle.osc_kept.specs.Premises.{Answers, AtEach, FreshWhileNothingDelivered, LoadsNoneBelow, NumbersAreKept}
+use Rattle.osc_kept.specs.World.{World, Event, Then, End, Client, Server, ClientStarts, ServerStarts, Draws, Reserves, AtClient, AtServer, client_history, server_history, server_life, numbers}
 
--- an end that runs, by its history and its numbers (own rule)
+-- an end that runs, by its history and its numbers; the floor that its keeper knows may be another one (own rule)
 pub record ServerRuns (s : SecurityContext) (w : World) (h : server.History) (own : Own) : Type 0 where
   pub history_is : server_history s w ≡ Some h
-  pub numbers_are : numbers Server s w ≡ own
+  pub numbers_are : AreAlike (numbers Server s w) own
 
 -- the same of a client (own rule)
 pub record ClientRuns (s : SecurityContext) (w : World) (h : client.History) (own : Own) : Type 0 where
   pub history_is : client_history s w ≡ Some h
-  pub numbers_are : numbers Client s w ≡ own
+  pub numbers_are : AreAlike (numbers Client s w) own
+
+-- the keeper of an end knows a floor that isn't below what was saved, as one does that is there over all lives (own rule)
+abbrev pub KnowsFloor : End → SecurityContext → World → Own → Type 0
+KnowsFloor of s w own = (numbers of s w).floor ≤ own.floor
 
 -- an end draws a number, or doesn't (own rule)
 abbrev pub IsDrawn : End → World → World → Type 0
 IsDrawn of w v = (v ≡ w) ⊎ ((v ≡ Then w (Draws of)) ⊎ (v ≡ Then w (Reserves of)))
 
--- zero or one draw, and then this event, all of them with kept numbers (RFC 8613, B.1.1)
-pub record GoesOn (of : End) (s : SecurityContext) (w : World) (event : Event) (v : World) : Type 0 where
+-- zero or one draw, and then this event, all of them with kept numbers where no life begins below the floor; a keeper that knows the floor sees to
+-- that, and knows it still (RFC 8613, B.1.1)
+pub record GoesOn (of : End) (s : SecurityContext) (w : World) (event : Event) (v : World) (old new : Own) : Type 0 where
   pub between : World
   pub drawn : IsDrawn of w between
   pub ends : v ≡ Then between event
-  pub kept : AtEach (NumbersAreKept s) w → AtEach (NumbersAreKept s) v
+  pub kept : AtEach (NumbersAreKept s) w → LoadsNoneBelow of s w event → AtEach (NumbersAreKept s) v
+  pub knows : KnowsFloor of s w old → LoadsNoneBelow of s w event × KnowsFloor of s v new
 
 -- what an event does to the numbers of a kept server: a restart loads one, else one is drawn where it is asked for, and then used where the server seals
 -- (RFC 8613, 7.2.1 and B.1.1)
@@ -51,29 +57,45 @@ ClientMoves h event entry old new = Steps (asking.draws event) (asking.uses h ev
 -- an event of a kept server goes the world on, and the server runs on in it (RFC 8613, B.1.1)
 abbrev pub ServerGoesOn : Type 0
 ServerGoesOn = (s : SecurityContext) (w : World) (h : server.History) (event : server.Event) (entry : server.Entry) (old new : Own) → ServerRuns s w h old
-    → ServerMoves h event entry old new → (v : World) × GoesOn Server s w (AtServer event entry) v × ServerRuns s v (server.Then h event entry) new
+    → ServerMoves h event entry old new → (v : World) × GoesOn Server s w (AtServer event entry) v old new × ServerRuns s v (server.Then h event entry) new
 
 -- an event of a kept client does (RFC 8613, B.1.1)
 abbrev pub ClientGoesOn : Type 0
 ClientGoesOn = (s : SecurityContext) (w : World) (h : client.History) (event : client.Event) (entry : client.Entry) (old new : Own) → ClientRuns s w h old
-    → ClientMoves h event entry old new → (v : World) × GoesOn Client s w (AtClient event entry) v × ClientRuns s v (client.Then h event entry) new
+    → ClientMoves h event entry old new → (v : World) × GoesOn Client s w (AtClient event entry) v old new × ClientRuns s v (client.Then h event entry) new
 
--- a kept server starts at the number that was loaded, which isn't below the floor, and runs (RFC 8613, B.1.1 and B.1.2)
+-- behind all that happened before, a kept server starts, and draws its first number where it starts fresh (RFC 8613, B.1.1)
+abbrev pub server_started : Start → WindowSize → World → World
+server_started (starts.Fresh first) size w = Then (Then w (ServerStarts (starts.Fresh first) size)) (Reserves Server)
+server_started (starts.Restarted first) size w = Then w (ServerStarts (starts.Restarted first) size)
+
+-- it does so with kept numbers where what was loaded isn't below what was saved before, in whatever process; a keeper that knows the floor sees to
+-- that, and knows it still (RFC 8613, B.1.1)
+pub record StartsOn (of : End) (s : SecurityContext) (w : World) (loaded : ℕ) (v : World) (floor : ℕ) (new : Own) : Type 0 where
+  pub kept : AtEach (NumbersAreKept s) w → (numbers of s w).floor ≤ loaded → AtEach (NumbersAreKept s) v
+  pub knows : (numbers of s w).floor ≤ floor → ((numbers of s w).floor ≤ loaded) × KnowsFloor of s v new
+
+-- a kept server starts at the number that was loaded, and runs; its keeper has any floor that isn't above that number (RFC 8613, B.1.1 and B.1.2)
 abbrev pub ServerBegins : Type 0
-ServerBegins = (s : SecurityContext) (w : World) (start : Start) (size : WindowSize) (loaded floor : ℕ) → IsStart start loaded → (numbers Server s w).floor ≡ floor → floor ≤ loaded → loaded < 2 ^ 40
-    → (v : World) × (AtEach (NumbersAreKept s) w → AtEach (NumbersAreKept s) v)
-    × ServerRuns s v (server.Then server.Begin (server.Add s start size) (server.Added 0)) (started start loaded (nothing_drawn floor))
+ServerBegins = (s : SecurityContext) (w : World) (start : Start) (size : WindowSize) (loaded floor : ℕ) → IsStart start loaded → Allowed (Load loaded) (nothing_drawn floor)
+    → StartsOn Server s w loaded (server_started start size w) floor (started start loaded (nothing_drawn floor))
+    × ServerRuns s (server_started start size w) (server.Then server.Begin (server.Add s start size) (server.Added 0)) (started start loaded (nothing_drawn floor))
 
 -- the same of a kept client (RFC 8613, B.1.1)
 abbrev pub ClientBegins : Type 0
-ClientBegins = (s : SecurityContext) (w : World) (loaded life_ms floor : ℕ) (own : Own) → (numbers Client s w).floor ≡ floor → Goes (Load loaded) (nothing_drawn floor) own
-    → (v : World) × (AtEach (NumbersAreKept s) w → AtEach (NumbersAreKept s) v) × ClientRuns s v (client.New s loaded life_ms) own
+ClientBegins = (s : SecurityContext) (w : World) (loaded life_ms floor : ℕ) (own : Own) → Goes (Load loaded) (nothing_drawn floor) own
+    → StartsOn Client s w loaded (Then w (ClientStarts loaded life_ms)) floor own × ClientRuns s (Then w (ClientStarts loaded life_ms)) (client.New s loaded life_ms) own
 
 -- a server starts fresh at 0 alone, and then a number is saved before it takes a datagram: KeptServer sees to it (RFC 8613, B.1.1 and B.1.2)
 abbrev pub SavesFirst : SecurityContext → World → Event → Type 0
 SavesFirst s w (ServerStarts (starts.Fresh first) size) = number_of first ≡ 0
 SavesFirst s w (AtServer (server.Datagram now echo mid d) entry) = (of : Life) → server_life s w ≡ Some of → of.open_at_birth ≡ true → 0 < (numbers Server s w).floor
 SavesFirst s w event = Unit {0}
+
+-- each server of the list did so, and the one that runs, if its life is fresh, has saved a number (RFC 8613, B.1.1)
+pub record HasSavedFirst (s : SecurityContext) (w : World) : Type 0 where
+  pub each : AtEach (SavesFirst s) w
+  pub last : (of : Life) → server_life s w ≡ Some of → of.fresh ≡ true → 0 < (numbers Server s w).floor
 
 -- so it starts fresh only while nothing was delivered (RFC 8613, B.1.2)
 abbrev pub FreshBySaving : Type 0

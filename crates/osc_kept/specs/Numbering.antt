@@ -40,6 +40,12 @@ after (Use n) o = record { floor = o.floor; next = o.next; limit = o.limit; hand
 abbrev pub nothing_drawn : ℕ → Own
 nothing_drawn floor = record { floor = floor; next = 0; limit = 0; hand = None }
 
+-- the same numbers, whatever the floors: the keeper of a later process needn't know what was saved before (own rule)
+pub record AreAlike (o p : Own) : Type 0 where
+  pub next_is : o.next ≡ p.next
+  pub limit_is : o.limit ≡ p.limit
+  pub hand_is : o.hand ≡ p.hand
+
 -- it can happen, and did (RFC 8613, B.1.1)
 abbrev pub Goes : Effect → Own → Own → Type 0
 Goes e old new = Allowed e old × (new ≡ after e old)

@@ -1,7 +1,7 @@
 -- To be believed: what a world has to meet, at each event over what stands before it (RFC 8613, 7.2.1, 7.4, 8 and B.1; RFC 9175, 2.3). Each premise is a
 -- record or a definition of its own, with who has to see to it. w is the world before the event, s the security context, n for how many pending
 -- requests the client has room.
-use Rattle.std.specs.Prelude.{◌≡◌, ℕ, List, [], Option, Some, None, Contains, max}
+use Rattle.std.specs.Prelude.{◌≡◌, ℕ, ◌≤◌, List, [], Option, Some, None, Contains, max}
 use Rattle.osc_coap.specs.Inner.{InnerParts}
 use Rattle.osc_coap.specs.OptionNumbers as options
 use Rattle.osc_coap.specs.Search.{first_of, values_at}
@@ -15,8 +15,8 @@ use Rattle.osc_endpoint.specs.Laws.{TakesTickets}
 use Rattle.osc_endpoint.specs.Life.{Life, in_force}
 use Rattle.osc_endpoint.specs.ServerAnswer.{ServerAnswer}
 use Rattle.osc_endpoint.specs.ServerHistory as server
-use Rattle.osc_kept.specs.Numbering.{Allowed}
-use Rattle.osc_kept.specs.World.{World, Event, Begin, Then, Client, Server, ServerStarts, AtClient, AtServer, Has, Request, Response, client_history, server_history, effect, numbers, sent, answered, delivered}
+use Rattle.osc_kept.specs.Numbering.{Allowed, Load}
+use Rattle.osc_kept.specs.World.{World, Event, Begin, Then, End, Client, Server, ServerStarts, AtClient, AtServer, Has, Request, Response, client_history, server_history, effect, numbers, sent, answered, delivered}
 
 -- a fact of each event, over the world before it (own rule)
 abbrev pub AtEach : (World → Event → Type 0) → World → Type 0
@@ -92,6 +92,10 @@ EchoIsNew s w event = Unit {0}
 pub record NumbersAreKept (s : SecurityContext) (w : World) (event : Event) : Type 0 where
   pub client : Allowed (effect Client s w event) (numbers Client s w)
   pub server : Allowed (effect Server s w event) (numbers Server s w)
+
+-- no life of an end begins below the floor: what a load gives is no less than what was saved before, in whatever process (RFC 8613, B.1.1)
+abbrev pub LoadsNoneBelow : End → SecurityContext → World → Event → Type 0
+LoadsNoneBelow of s w event = (n : ℕ) → effect of s w event ≡ Load n → (numbers of s w).floor ≤ n
 
 -- ---- KeptServer sees to it, or whoever says how a Server starts
 

@@ -14,7 +14,7 @@ ghost use Rattle.osc_endpoint.specs.declared.server_error.RestartError.TheVarian
 ghost use Rattle.osc_endpoint.specs.declared.start.Start.{Start as StartOf};
 ghost use Rattle.osc_kept.specs.declared.kept_error.KeptError.TheVariants.{LivesExhausted};
 ghost use Rattle.osc_kept.specs.KeptServing.{IsKept, IsStart, KeptDecides, KeptStep, KeptTakes, started};
-ghost use Rattle.osc_kept.specs.Numbering.{Goes, Load, nothing_drawn, upcoming};
+ghost use Rattle.osc_kept.specs.Numbering.{Allowed, Goes, Load, nothing_drawn, upcoming};
 ghost use Rattle.osc_kept.specs.Owning.{own_in};
 ghost use Rattle.osc_kept.specs.Refusals.{Loaded, RefusesAt};
 ghost use Rattle.osc_kept.specs.Views.{upcoming_of};
@@ -50,7 +50,8 @@ impl<K: Keeper> KeptServer<K> {
         ensures begins { IfOk result (λ s. (loaded : ℕ) × (mid : K) × (start : StartOf)
             × Loaded K.loads K.failures keeper loaded mid × IsStart start loaded
             × (own_in s.source ≡ started start loaded (nothing_drawn (K.floor keeper))) × (K.failures s.source.keeper ≡ K.failures keeper)
-            × IsKept s.server (upcoming (own_in s.source)) (Then Begin (Add (as_server context) start size) (Added 0))) }
+            × IsKept s.server (upcoming (own_in s.source)) (Then Begin (Add (as_server context) start size) (Added 0))
+            × Allowed (Load loaded) (nothing_drawn (K.floor keeper))) }
         ensures refused { IfErr result (λ e. RefusesAt K.loads K.failures keeper e.0 e.1) }
         ensures floor_stays { IfErr result (λ e. K.floor e.1 ≡ K.floor keeper) }
         ensures no_lives_exhausted { IfErr result (λ e. e.0 ≢ LivesExhausted) }

@@ -1,20 +1,14 @@
 //! What holds of both ends of a security context over all their lives (RFC 8613, 5.2, 7.2.1, 7.4 and 8.4), and how the calls
 //! of the kept ends add to such a list. All functions but the last are there for their contracts alone.
 
-ghost use Rattle.std.specs.Prelude.{◌≢◌, ℕ, take};
-ghost use Rattle.osc_context.specs.SecurityContext.{SecurityContext};
-ghost use Rattle.osc_endpoint.specs.declared.outcome.Outcome.TheVariants as outcomes;
 ghost use Rattle.osc_kept.specs.Claims.{TwoEnds};
 ghost use Rattle.osc_kept.specs.Examples.{NoneCanBeLeftOut, PremisesCanBeMet};
 ghost use Rattle.osc_kept.specs.GoingOn.{ClientBegins, ClientGoesOn, FreshBySaving, ServerBegins, ServerGoesOn};
-ghost use Rattle.osc_kept.specs.InWorld.{IsUnseen, RunsIn, TakesInWorld};
-ghost use Rattle.osc_kept.specs.Premises.{IsLawful, NobodyForgesRequests};
-ghost use Rattle.osc_kept.specs.World.{World};
+ghost use Rattle.osc_kept.specs.InWorld.{ClientInWorld, ClientStartsInWorld, ServerInWorld, ServerStartsInWorld};
 
-use crate::kept_server::KeptServer;
 use osc_coap::one_datagram;
-use osc_context::{Keeper, one_nonce, one_option_value};
-use osc_endpoint::{Fresh, Taken, ticket_once};
+use osc_context::{one_nonce, one_option_value};
+use osc_endpoint::ticket_once;
 use osc_protect::{one_cipher_input, sealed_opens};
 
 /// Over each list of what happens at both ends and between them, restarts and lost memory of either among it: a request is
@@ -68,21 +62,13 @@ pub fn premises_are_needed()
     sealed_opens();
 }
 
-/// `KeptServer::take`, within the list of what happened at both ends: where that list meets the premises, this server runs in
-/// it, nobody forged the datagram, and no request carries the fresh Echo value yet, the list with this call meets them too, and
-/// all of it is as `both_ends` says. Nothing else is done here.
-pub fn take_in_world<'b, K: Keeper>(
-    server: &mut KeptServer<K>,
-    now: u64,
-    fresh: Fresh,
-    datagram: &'b mut [u8],
-    out: &mut [u8; 64],
-) -> Taken<'b>
-    ensures answered { result.outcome ≢ outcomes.KeeperFailed → (n : ℕ) (s : SecurityContext) (w : World) → IsLawful n s w → RunsIn s w server.old
-        → NobodyForgesRequests s w datagram.old → IsUnseen s w fresh.echo
-        → TakesInWorld n s w now fresh datagram.old result.outcome (take result.reply out.new) server.new }
+/// Each answer of a kept end, and each start, adds to a list that meets the premises: the longer one meets them too, and all of it is
+/// as `both_ends` says, where others see to what is theirs (`ServerTrusts`, `ClientTrusts`).
+pub fn kept_ends_in_world()
+    ensures server { ServerInWorld }
+    ensures client { ClientInWorld }
+    ensures server_starts { ServerStartsInWorld }
+    ensures client_starts { ClientStartsInWorld }
 {
     both_ends();
-    kept_ends_go_on();
-    server.take(now, fresh, datagram, out)
 }

@@ -22,6 +22,7 @@ returns-then-number-gt0-clause-begins g c =
       ap own_in same ∙ c.in-Ok.ensures.begins.1.1,
       ap (λ s. g.K.Keeper.failures s.keeper) same ∙ c.in-Ok.ensures.begins.0.1,
       subst (λ s. IsKept c.begin.result.server (upcoming (own_in s)) (Then Begin (Add (as_server c.args.context) (starts.Restarted c.in-Ok.started.1) c.args.size) (Added 0))) (sym same) c.begin.ensures.kept,
+      c.in-Ok.ensures.begins.1.0,
     )
 
 pub returns-clause-begins : goal.returns-clause-begins
@@ -40,4 +41,5 @@ returns-clause-begins g c =
       ap own_in same ∙ drawn,
       ap (λ s. g.K.Keeper.failures s.keeper) same ∙ c.in-Ok-draw.ensures.worked refl ∙ c.in-Ok.ensures.begins.0.1,
       subst (λ s. IsKept c.begin-2.result.server (upcoming (own_in s)) (Then Begin (Add (as_server c.args.context) (starts.Fresh c.in-Ok.started.1) c.args.size) (Added 0))) (sym same) c.begin-2.ensures.kept,
+      c.in-Ok.ensures.begins.1.0,
     )

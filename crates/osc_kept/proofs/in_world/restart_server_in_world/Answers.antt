@@ -1,0 +1,20 @@
+use Rattle.osc_kept.proofs.CallsInWorld.{no_less, on_err, runs_still}
+use Rattle.osc_kept.proofs.in_world.restart_server_in_world.Goals as goal
+
+pub returns-clause-begins : goal.returns-clause-begins
+returns-clause-begins g c = λ ok.
+    let begun = c.restart.ensures.begins ok in (
+      begun.0,
+      begun.1,
+      λ n s w lawful runs. (
+        (λ knows. no_less _ _ _ knows begun.2.0.0),
+        (λ least.
+            let step = begun.3 runs.0 runs.2 in
+            let on = c.kept_ends_in_world.ensures.server n s w runs.0 _ _ _ _ lawful runs.1 tt step.0 begun.2 least in
+            (on.0, on.1, on.2, (_, on.3, step.1), on.4)),
+      ),
+    )
+
+pub returns-clause-unchanged : goal.returns-clause-unchanged
+returns-clause-unchanged g c =
+    on_err c.restart.result (λ same s w runs. runs_still s w c.args.server.now c.restart.new.self same.0 same.1 runs) c.restart.ensures.unchanged

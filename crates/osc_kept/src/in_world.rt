@@ -1,0 +1,203 @@
+//! The calls of kept ends within the list of what happened at both ends (RFC 8613, 7.4, 8.1 to 8.4 and B.1). Each is the call that it is
+//! named for, with a contract on that list: where the list meets the premises and this end runs in it, the call adds to it, the
+//! longer list meets the premises too, and all of it is as `both_ends` says. Nothing else is done here.
+
+ghost use Rattle.std.specs.Prelude.{◌≡◌, ◌≢◌, ◌≤◌, ℕ, IsErr, IsOk, IfErr, IfOk, IsErrOf, OnErr, length, take};
+ghost use Rattle.osc_coap.specs.Views.{parts_of};
+ghost use Rattle.osc_context.specs.SecurityContext.{SecurityContext};
+ghost use Rattle.osc_context.specs.Views.{as_client, as_server};
+ghost use Rattle.osc_endpoint.specs.ClientHistory as asked;
+ghost use Rattle.osc_endpoint.specs.ServerHistory as served;
+ghost use Rattle.osc_endpoint.specs.Views.{request_entry, server_entry, values_of};
+ghost use Rattle.osc_endpoint.specs.declared.client_outcome.RequestError.TheVariants as requests;
+ghost use Rattle.osc_endpoint.specs.declared.outcome.Outcome.TheVariants as outcomes;
+ghost use Rattle.osc_endpoint.specs.declared.server_error.ReplyError.TheVariants as replies;
+ghost use Rattle.osc_endpoint.specs.declared.start.Start.{Start as StartOf};
+ghost use Rattle.osc_kept.specs.CallsInWorld.{ClientAfter, ClientDecidesInWorld, ClientRestartsInWorld, ClientRunsIn, ClientStartsInWorld, ClientTakesInWorld, DecidesInWorld, HoldsTicket, NobodyForgesTo, RestartsInWorld, RunsIn, ServerAfter, StartsInWorld, TakesInWorld};
+ghost use Rattle.osc_kept.specs.GoingOn.{HasSavedFirst};
+ghost use Rattle.osc_kept.specs.InWorld.{IsUnseen};
+ghost use Rattle.osc_kept.specs.KeptServing.{IsStart};
+ghost use Rattle.osc_kept.specs.Premises.{IsLawful, NobodyForgesRequests};
+ghost use Rattle.osc_kept.specs.Refusals.{Loaded};
+ghost use Rattle.osc_kept.specs.World.{World, Client as ClientEnd, Server as ServerEnd, numbers};
+
+use crate::kept_client::KeptClient;
+use crate::kept_error::KeptError;
+use crate::kept_server::KeptServer;
+use crate::laws::kept_ends_in_world;
+use osc_coap::Message;
+use osc_context::{Context, Keeper, KeeperError};
+use osc_endpoint::{
+    ClientDecision, ClientOutcome, Decided, Fresh, ReplyError, RequestError, Taken, Ticket,
+};
+use osc_window::WindowSize;
+
+/// `KeptServer::start`, over a keeper that needn't know the floor of that list, as one of a later process doesn't: where the number
+/// that it loads isn't below that floor.
+pub fn start_server_in_world<K: Keeper>(
+    context: Context,
+    keeper: K,
+    size: WindowSize,
+) -> Result<KeptServer<K>, (KeptError, K)>
+    ensures begins { IfOk result (λ new. (loaded : ℕ) × (mid : K) × (start : StartOf) × Loaded K.loads K.failures keeper loaded mid
+        × (K.floor keeper ≤ loaded) × IsStart start loaded
+        × ((n : ℕ) (w : World) → IsLawful n (as_server context) w → HasSavedFirst (as_server context) w
+        → (numbers ServerEnd (as_server context) w).floor ≤ loaded → StartsInWorld n (as_server context) w start size new)) }
+{
+    kept_ends_in_world();
+    KeptServer::start(context, keeper, size)
+}
+
+/// `KeptServer::restart`, where the number that the keeper loads isn't below the floor of that list.
+pub fn restart_server_in_world<K: Keeper>(server: &mut KeptServer<K>) -> Result<(), KeptError>
+    ensures begins { IsOk result → (loaded : ℕ) × Loaded K.loads K.failures server.old.source.keeper loaded server.new.source.keeper
+        × ((n : ℕ) (s : SecurityContext) (w : World) → IsLawful n s w → RunsIn s w server.old → RestartsInWorld n s w loaded server.old server.new) }
+    ensures unchanged { OnErr result ((s : SecurityContext) (w : World) → RunsIn s w server.old → RunsIn s w server.new) }
+{
+    kept_ends_in_world();
+    server.restart()
+}
+
+/// `KeptServer::decide`, where nobody forged the datagram, and no request carries the fresh Echo value yet.
+pub fn decide_in_world<K: Keeper>(
+    server: &mut KeptServer<K>,
+    now: u64,
+    fresh: Fresh,
+    datagram: &mut [u8],
+    out: &mut [u8; 64],
+) -> Result<Decided, KeeperError>
+    ensures answered { IfOk result (λ d. (n : ℕ) (s : SecurityContext) (w : World) → IsLawful n s w → RunsIn s w server.old
+        → NobodyForgesRequests s w datagram.old → IsUnseen s w fresh.echo
+        → DecidesInWorld n s w now fresh datagram.old d.decision datagram.new (take d.reply out.new) server.old server.new) }
+    ensures clock_alone { IsErr result → (n : ℕ) (s : SecurityContext) (w : World) → IsLawful n s w → RunsIn s w server.old
+        → ServerAfter n s w (served.Advance now) served.Advanced server.old server.new }
+{
+    kept_ends_in_world();
+    server.decide(now, fresh, datagram, out)
+}
+
+/// `KeptServer::take`, where nobody forged the datagram, and no request carries the fresh Echo value yet.
+pub fn take_in_world<'b, K: Keeper>(
+    server: &mut KeptServer<K>,
+    now: u64,
+    fresh: Fresh,
+    datagram: &'b mut [u8],
+    out: &mut [u8; 64],
+) -> Taken<'b>
+    ensures answered { result.outcome ≢ outcomes.KeeperFailed → (n : ℕ) (s : SecurityContext) (w : World) → IsLawful n s w → RunsIn s w server.old
+        → NobodyForgesRequests s w datagram.old → IsUnseen s w fresh.echo
+        → TakesInWorld n s w now fresh datagram.old result.outcome (take result.reply out.new) server.old server.new }
+    ensures clock_alone { result.outcome ≡ outcomes.KeeperFailed → (n : ℕ) (s : SecurityContext) (w : World) → IsLawful n s w → RunsIn s w server.old
+        → ServerAfter n s w (served.Advance now) served.Advanced server.old server.new }
+{
+    kept_ends_in_world();
+    server.take(now, fresh, datagram, out)
+}
+
+/// `KeptServer::reply`, with a ticket that a delivery gave and no reply took.
+pub fn reply_in_world<K: Keeper>(
+    server: &mut KeptServer<K>,
+    ticket: Ticket,
+    own: bool,
+    mid: u16,
+    plain: &Message<'_>,
+    out: &mut [u8],
+) -> Result<usize, (ReplyError, Ticket)>
+    ensures answered { IfErr result (λ e. e.0 ≢ replies.KeeperFailed) → (n : ℕ) (s : SecurityContext) (w : World) → IsLawful n s w → RunsIn s w server.old
+        → HoldsTicket s w (values_of ticket)
+        → ServerAfter n s w (served.Reply (values_of ticket) own mid (parts_of plain.now) (length out.old)) (server_entry result out.new) server.old server.new }
+    ensures unchanged { IfErr result (λ e. e.0 ≡ replies.KeeperFailed → (s : SecurityContext) (w : World) → RunsIn s w server.old → RunsIn s w server.new) }
+{
+    kept_ends_in_world();
+    server.reply(ticket, own, mid, plain, out)
+}
+
+/// `KeptClient::start`, over a keeper that needn't know the floor of that list, as one of a later process doesn't: where the number
+/// that it loads isn't below that floor.
+pub fn start_client_in_world<K: Keeper, const N: usize>(
+    context: Context,
+    keeper: K,
+    life_ms: u64,
+) -> Result<KeptClient<K, N>, (KeptError, K)>
+    ensures begins { IfOk result (λ new. (loaded : ℕ) × Loaded K.loads K.failures keeper loaded new.source.keeper × (K.floor keeper ≤ loaded)
+        × ((w : World) → IsLawful N (as_client context) w → (numbers ClientEnd (as_client context) w).floor ≤ loaded
+        → ClientStartsInWorld (as_client context) w loaded life_ms new)) }
+{
+    kept_ends_in_world();
+    KeptClient::start(context, keeper, life_ms)
+}
+
+/// `KeptClient::restart`, where the number that the keeper loads isn't below the floor of that list.
+pub fn restart_client_in_world<K: Keeper, const N: usize>(
+    client: &mut KeptClient<K, N>,
+) -> Result<(), KeptError>
+    ensures begins { IsOk result → (loaded : ℕ) × Loaded K.loads K.failures client.old.source.keeper loaded client.new.source.keeper
+        × ((s : SecurityContext) (w : World) → IsLawful N s w → ClientRunsIn s w client.old → ClientRestartsInWorld s w loaded client.old client.new) }
+    ensures unchanged { OnErr result ((s : SecurityContext) (w : World) → ClientRunsIn s w client.old → ClientRunsIn s w client.new) }
+{
+    kept_ends_in_world();
+    client.restart()
+}
+
+/// `KeptClient::request`.
+pub fn request_in_world<K: Keeper, const N: usize>(
+    client: &mut KeptClient<K, N>,
+    now: u64,
+    plain: &Message<'_>,
+    out: &mut [u8],
+) -> Result<usize, RequestError>
+    ensures answered { (IsErrOf result requests.KeeperFailed → ⊥) → (s : SecurityContext) (w : World) → IsLawful N s w → ClientRunsIn s w client.old
+        → ClientAfter s w (asked.Request now (parts_of plain.now) (length out.old)) (request_entry result out.new) client.old client.new }
+    ensures clock_alone { IsErrOf result requests.KeeperFailed → (s : SecurityContext) (w : World) → IsLawful N s w → ClientRunsIn s w client.old
+        → ClientAfter s w (asked.Advance now) asked.Advanced client.old client.new }
+{
+    kept_ends_in_world();
+    client.request(now, plain, out)
+}
+
+/// `KeptClient::decide`, where nobody forged the datagram.
+pub fn decide_response_in_world<K: Keeper, const N: usize>(
+    client: &mut KeptClient<K, N>,
+    now: u64,
+    datagram: &mut [u8],
+) -> ClientDecision
+    ensures answered { (s : SecurityContext) (w : World) → IsLawful N s w → ClientRunsIn s w client.old → NobodyForgesTo s w now datagram.old
+        → ClientDecidesInWorld s w now datagram.old result datagram.new client.old client.new }
+{
+    kept_ends_in_world();
+    client.decide(now, datagram)
+}
+
+/// `KeptClient::take`, where nobody forged the datagram.
+pub fn take_response_in_world<'b, K: Keeper, const N: usize>(
+    client: &mut KeptClient<K, N>,
+    now: u64,
+    datagram: &'b mut [u8],
+) -> ClientOutcome<'b>
+    ensures answered { (s : SecurityContext) (w : World) → IsLawful N s w → ClientRunsIn s w client.old → NobodyForgesTo s w now datagram.old
+        → ClientTakesInWorld s w now datagram.old result client.old client.new }
+{
+    kept_ends_in_world();
+    client.take(now, datagram)
+}
+
+/// `KeptClient::forget`.
+pub fn forget_in_world<K: Keeper, const N: usize>(
+    client: &mut KeptClient<K, N>,
+    token: &[u8],
+) -> bool
+    ensures answered { (s : SecurityContext) (w : World) → IsLawful N s w → ClientRunsIn s w client.old
+        → ClientAfter s w (asked.Forget token.now) (asked.Forgot result) client.old client.new }
+{
+    kept_ends_in_world();
+    client.forget(token)
+}
+
+/// `KeptClient::advance`.
+pub fn advance_in_world<K: Keeper, const N: usize>(client: &mut KeptClient<K, N>, now: u64)
+    ensures advanced { (s : SecurityContext) (w : World) → IsLawful N s w → ClientRunsIn s w client.old
+        → ClientAfter s w (asked.Advance now) asked.Advanced client.old client.new }
+{
+    kept_ends_in_world();
+    client.advance(now);
+}
