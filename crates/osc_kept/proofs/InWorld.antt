@@ -151,19 +151,19 @@ responses_still s w v pending d e f r own m is p =
 
 -- ---- a number was saved before
 
-fresh_marked : (m : Option Mark) (o : Option Life) (y : Life) → option_map (marked m) o ≡ Some y → y.fresh ≡ true → (x : Life) × (o ≡ Some x) × (x.fresh ≡ true)
+fresh_marked : (m : Option Mark) (o : Option Life) (y : Life) → option_map (marked m) o ≡ Some y → y.open_at_birth ≡ true → (x : Life) × (o ≡ Some x) × (x.open_at_birth ≡ true)
 fresh_marked m None y e f = let g : None ≡ Some y = e in cc
-fresh_marked None (Some x) y e f = (x, refl, ap (λ (l : Life). l.fresh) (some_is e) ∙ f)
-fresh_marked (Some k) (Some x) y e f = (x, refl, ap (λ (l : Life). l.fresh) (some_is e) ∙ f)
+fresh_marked None (Some x) y e f = (x, refl, ap (λ (l : Life). l.open_at_birth) (some_is e) ∙ f)
+fresh_marked (Some k) (Some x) y e f = (x, refl, ap (λ (l : Life). l.open_at_birth) (some_is e) ∙ f)
 
-fresh_renewed : (b : Bool) (next : ℕ) (o : Option Life) (y : Life) → (if b then option_map (renewed next) o else o) ≡ Some y → y.fresh ≡ true
-    → (x : Life) × (o ≡ Some x) × (x.fresh ≡ true)
+fresh_renewed : (b : Bool) (next : ℕ) (o : Option Life) (y : Life) → (if b then option_map (renewed next) o else o) ≡ Some y → y.open_at_birth ≡ true
+    → (x : Life) × (o ≡ Some x) × (x.open_at_birth ≡ true)
 fresh_renewed true next None y e f = let g : None ≡ Some y = e in cc
-fresh_renewed true next (Some x) y e f = let g : false ≡ true = ap (λ (l : Life). l.fresh) (some_is e) ∙ f in cc
+fresh_renewed true next (Some x) y e f = let g : false ≡ true = ap (λ (l : Life). l.open_at_birth) (some_is e) ∙ f in cc
 fresh_renewed false next o y e f = (y, e, f)
 
 fresh_before : (h : server.History) (event : server.Event) (entry : server.Entry) (i : ℕ) (of : Life) → IsNoAdd event → server.life (server.Then h event entry) i ≡ Some of
-    → of.fresh ≡ true → (x : Life) × (server.life h i ≡ Some x) × (x.fresh ≡ true)
+    → of.open_at_birth ≡ true → (x : Life) × (server.life h i ≡ Some x) × (x.open_at_birth ≡ true)
 fresh_before h (server.Add context start size) entry i of a e f = absurd a
 fresh_before h (server.Datagram now echo mid d) (server.Took answer reply) i of a e f = fresh_marked (server.mark_at i answer) (server.life h i) of e f
 fresh_before h (server.Reply t own mid p room) (server.Replied bytes) i of a e f = fresh_marked (server.reply_mark_at i t own) (server.life h i) of e f
@@ -346,7 +346,7 @@ later_in claims n s w first size i x k =
     record {
       lawful = lawful;
       claims = claims n s (server_started (starts.Restarted first) size w) lawful;
-      saved = λ y. record { each = (y.each, tt); last = λ of is f. let g : false ≡ true = ap (λ (l : Life). l.fresh) (some_is is) ∙ f in absurd (cc) };
+      saved = λ y. record { each = (y.each, tt); last = λ of is f. let g : false ≡ true = ap (λ (l : Life). l.open_at_birth) (some_is is) ∙ f in absurd (cc) };
     }
 
 pub server_starts : ((n : ℕ) (s : SecurityContext) (w : World) → IsLawful n s w → BothEnds s w) → ServerStartsInWorld

@@ -95,7 +95,7 @@ SavesFirst s w event = Unit {0}
 -- each server of the list did so, and the one that runs, if its life is fresh, has saved a number (RFC 8613, B.1.1)
 pub record HasSavedFirst (s : SecurityContext) (w : World) : Type 0 where
   pub each : AtEach (SavesFirst s) w
-  pub last : (of : Life) → server_life s w ≡ Some of → of.fresh ≡ true → 0 < (numbers Server s w).floor
+  pub last : (of : Life) → server_life s w ≡ Some of → of.open_at_birth ≡ true → 0 < (numbers Server s w).floor
 
 -- so it starts fresh only while nothing was delivered (RFC 8613, B.1.2)
 abbrev pub FreshBySaving : Type 0
