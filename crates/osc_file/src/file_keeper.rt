@@ -50,6 +50,18 @@ where
         }
     }
 
+    /// The floor: the number that the file held when this keeper was made, 0 where there was none or it couldn't be read; and then the
+    /// number that was saved last.
+    #[must_use]
+    pub fn floor(&self) -> u64
+        ensures { result ≡ ⟦<FileKeeper<'a, R> as Keeper>⟧.floor self.now }
+    {
+        match self.held {
+            Held::Number(number) => number,
+            Held::Nothing | Held::Unknown => 0,
+        }
+    }
+
     /// The name and the number that the file held when this keeper was made or saved last, where it holds that still.
     fn unchanged(&self) -> Option<(&str, u64)>
         ensures name { IfSome result (λ found. IsNamed found.0.now self.now) }

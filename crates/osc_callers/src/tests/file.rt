@@ -10,6 +10,18 @@ use std::fs;
 use std::process::Abort;
 use std::rt::Files;
 
+/// Saves a number that isn't below the floor.
+fn save<R: Files + Alloc>(keeper: &mut FileKeeper<'_, R>, next: u64) -> Result<(), KeeperError>
+where
+    R::File: TryLock,
+{
+    if keeper.floor() <= next {
+        keeper.save(next)
+    } else {
+        Err(KeeperError)
+    }
+}
+
 /// The first number of a sender over this file.
 fn first_number<R: Files + Alloc>(rt: &R, name: &str) -> Result<u64, NumbersError>
 where
@@ -72,7 +84,7 @@ fn folders(rt: HostRuntime) {
     for name in ["folders/number", "folders/none/number"] {
         let mut keeper = FileKeeper::new(&rt, name);
         assert_eq!(rt; keeper.load(), Err(KeeperError), "{name}");
-        assert_eq!(rt; keeper.save(64), Err(KeeperError), "{name}");
+        assert_eq!(rt; save(&mut keeper, 64), Err(KeeperError), "{name}");
     }
     end(&rt, "folders");
 }
@@ -86,13 +98,26 @@ fn put(rt: &(impl Files + Alloc + Abort), name: &str, text: &str) {
     }
 }
 
-/// What the file holds, or no text where it is missing.
-fn text_of<R: Files + Alloc>(rt: &R, name: &str) -> String<R::A> {
-    fs::read_to_string(rt, name).unwrap_or(String::new(rt.alloc()))
+/// Whether the file holds this text, or is missing where the text is empty.
+fn holds(rt: &(impl Files + Alloc), name: &str, text: &str) -> bool {
+    match fs::read_to_string(rt, name) {
+        Ok(found) => found.as_str() == text,
+        Err(_) => text.is_empty(),
+    }
 }
 
-// A file that another program changes, makes or removes: each load and each save fails and leaves it, until it holds what the keeper
-// found or saved. An empty text is no file.
+/// While the file is another, each call of its keeper fails and leaves it; when it is as before, it can be saved.
+fn insists(rt: &HostRuntime, keeper: &mut FileKeeper<'_, HostRuntime>, kept: &str, changed: &str) {
+    let name = "changes/number";
+    put(rt, name, changed);
+    assert_eq!(rt; keeper.load(), Err(KeeperError), "{changed:?}");
+    assert_eq!(rt; save(keeper, 256), Err(KeeperError), "{changed:?}");
+    assert!(rt; holds(rt, name, changed), "{changed:?}");
+    put(rt, name, kept);
+    assert_eq!(rt; save(keeper, 192), Ok(()), "{changed:?}");
+}
+
+// A file that another program changes, makes or removes. An empty text is no file.
 #[test]
 fn a_file_that_changes(rt: HostRuntime) {
     let rows = [
@@ -105,19 +130,13 @@ fn a_file_that_changes(rt: HostRuntime) {
         ("64\n", 64, "64"),
     ];
     begin(&rt, "changes");
-    let name = "changes/number";
     for (found, number, changed) in rows {
-        put(&rt, name, found);
-        let mut keeper = FileKeeper::new(&rt, name);
-        for (kept, number) in [(found, number), ("192\n", 192)] {
-            assert_eq!(rt; keeper.load(), Ok(number), "{found:?}");
-            put(&rt, name, changed);
-            assert_eq!(rt; keeper.load(), Err(KeeperError), "{found:?} {changed:?}");
-            assert_eq!(rt; keeper.save(256), Err(KeeperError), "{found:?} {changed:?}");
-            assert_eq!(rt; text_of(&rt, name).as_str(), changed);
-            put(&rt, name, kept);
-            assert_eq!(rt; keeper.save(192), Ok(()), "{found:?} {changed:?}");
-        }
+        put(&rt, "changes/number", found);
+        let mut keeper = FileKeeper::new(&rt, "changes/number");
+        assert_eq!(rt; keeper.load(), Ok(number), "{found:?}");
+        insists(&rt, &mut keeper, found, changed);
+        assert_eq!(rt; keeper.load(), Ok(192), "{found:?}");
+        insists(&rt, &mut keeper, "192\n", changed);
     }
     end(&rt, "changes");
 }
@@ -130,14 +149,14 @@ fn two_keepers(rt: HostRuntime) {
     assert_eq!(rt; first.load(), Ok(0));
     let mut refused = FileKeeper::new(&rt, "two/number");
     assert_eq!(rt;
-        (refused.load(), refused.save(64)),
+        (refused.load(), save(&mut refused, 64)),
         (Err(KeeperError), Err(KeeperError))
     );
     fs::remove_file(&rt, "two/number.lock").expect(&rt, "a file");
     let mut second = FileKeeper::new(&rt, "two/number");
     assert_eq!(rt; second.load(), Ok(0));
     assert_eq!(rt;
-        (first.save(64), second.save(64)),
+        (save(&mut first, 64), save(&mut second, 64)),
         (Ok(()), Err(KeeperError))
     );
     end(&rt, "two");
@@ -155,8 +174,8 @@ fn links(rt: HostRuntime) {
     ];
     for (name, link, saved) in rows {
         rt.symlink("other", link).expect(&rt, "a new link");
-        assert_eq!(rt; FileKeeper::new(&rt, name).save(128), saved, "{link}");
-        assert_eq!(rt; text_of(&rt, "links/other").as_str(), "64\n", "{link}");
+        assert_eq!(rt; save(&mut FileKeeper::new(&rt, name), 128), saved, "{link}");
+        assert!(rt; holds(&rt, "links/other", "64\n"), "{link}");
     }
     assert_eq!(rt; first_number(&rt, "links/c"), Ok(128));
     end(&rt, "links");
@@ -212,7 +231,11 @@ fn refused_steps(rt: HostRuntime) {
             };
             let mut keeper = FileKeeper::new(&refusing, name);
             assert_eq!(rt; keeper.load(), loaded, "{name} {refused:?}");
-            assert_eq!(rt; keeper.save(128), Err(KeeperError), "{name} {refused:?}");
+            assert_eq!(rt;
+                save(&mut keeper, 128),
+                Err(KeeperError),
+                "{name} {refused:?}"
+            );
             drop(keeper);
             let next = FileKeeper::new(&rt, name).load();
             assert_eq!(rt; next, Ok(number), "{name} {refused:?}");
