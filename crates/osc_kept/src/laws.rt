@@ -1,5 +1,5 @@
 //! What holds of both ends of a security context over all their lives (RFC 8613, 5.2, 7.2.1, 7.4 and 8.4), and how the calls
-//! of the kept ends add to such a list. All functions but the last are there for their contracts alone.
+//! of the kept ends add to such a list. They are there for their contracts alone.
 
 ghost use Rattle.osc_kept.specs.Claims.{TwoEnds};
 ghost use Rattle.osc_kept.specs.Examples.{NoneCanBeLeftOut, PremisesCanBeMet};
