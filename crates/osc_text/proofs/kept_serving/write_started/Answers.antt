@@ -21,7 +21,7 @@ returns-in-Ok g c =
     let bytes = c.args.input.now in
     let keeper = c.args.keeper in
     let k = g.K.Keeper in
-    let (loaded, mid, start, was, is_start, numbers, worked, kept) = c.in-Ok.ensures.begins in
+    let (loaded, mid, start, was, is_start, numbers, worked, kept, fits) = c.in-Ok.ensures.begins in
     let s = server_state (Then Begin (Add context start size) (Added 0)) c.in-Ok.server.source [] in
     let starts : Starts k context size keeper s = (loaded, mid, start, was, is_start, numbers, worked, refl, refl) in
     told_as g.W.Write.contents (StartText k context size keeper (λ t. InputText SpellsKept KeptLine t bytes)) (StartText k context size keeper (λ t. FrontText SpellsKept KeptLine t bytes))
