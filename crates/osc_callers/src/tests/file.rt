@@ -107,7 +107,15 @@ fn holds(rt: &(impl Files + Alloc), name: &str, text: &str) -> bool {
 }
 
 /// While the file is another, each call of its keeper fails and leaves it; when it is as before, it can be saved.
-fn insists(rt: &HostRuntime, keeper: &mut FileKeeper<'_, HostRuntime>, kept: &str, changed: &str) {
+fn insists<R: Files + Alloc + Abort>(
+    rt: &R,
+    keeper: &mut FileKeeper<'_, R>,
+    kept: &str,
+    changed: &str,
+)
+where
+    R::File: TryLock,
+{
     let name = "changes/number";
     put(rt, name, changed);
     assert_eq!(rt; keeper.load(), Err(KeeperError), "{changed:?}");
