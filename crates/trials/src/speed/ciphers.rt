@@ -1,0 +1,174 @@
+//! The figures of osc_aes and osc_ccm. A key or a nonce that is new each time is made of the last answer, so that nothing
+//! of a call can be done once for all.
+
+use crate::speed::stopwatch::Stopwatch;
+use osc_aes::{BlockCipher, TableAes};
+use osc_ccm::{TAG_LEN, open, seal};
+use std::io;
+use std::rt::Clock;
+
+// What seals RFC 8613's example request (C.4): key, nonce, additional data.
+const KEY: [u8; 16] = [
+    0xf0, 0x91, 0x0e, 0xd7, 0x29, 0x5e, 0x6a, 0xd4, 0xb5, 0x4f, 0xc7, 0x93, 0x15, 0x43, 0x02, 0xff,
+];
+
+const NONCE: [u8; 13] = [
+    0x46, 0x22, 0xd4, 0xdd, 0x6d, 0x94, 0x41, 0x68, 0xee, 0xfb, 0x54, 0x98, 0x68,
+];
+
+const AAD: [u8; 20] = [
+    0x83, 0x68, 0x45, 0x6e, 0x63, 0x72, 0x79, 0x70, 0x74, 0x30, 0x40, 0x48, 0x85, 0x01, 0x81, 0x0a,
+    0x40, 0x41, 0x14, 0x40,
+];
+
+/// The longest plaintext that is measured.
+const LONGEST: usize = 1_024;
+
+/// A key's schedule.
+pub(crate) fn schedule<R: Clock + Print>(watch: &mut Stopwatch<'_, R>) -> io::Result<()> {
+    let mut key = KEY;
+    let mut cipher = TableAes::new(&key);
+    watch.figure("schedule", || {
+        key[0] = key[0].wrapping_add(1);
+        cipher = TableAes::new(&key);
+        Some(key[0])
+    })?;
+    // The last schedule has to be there.
+    cipher.encrypt(&mut key);
+    watch.keep(key[0]);
+    Ok(())
+}
+
+/// A block.
+pub(crate) fn block<R: Clock + Print>(watch: &mut Stopwatch<'_, R>) -> io::Result<()> {
+    let cipher = TableAes::new(&KEY);
+    let mut block = [0u8; 16];
+    watch.figure("block", || {
+        cipher.encrypt(&mut block);
+        Some(block[0])
+    })
+}
+
+/// Seals and opens of four lengths, with 20 bytes of additional data.
+pub(crate) fn ccm<R: Clock + Print>(watch: &mut Stopwatch<'_, R>) -> io::Result<()> {
+    seal_new_key(watch, "seal-5-new-key", 5)?;
+    seal_kept_key(watch, "seal-5-kept-key", 5)?;
+    open_new_key(watch, "open-5-new-key", 5)?;
+    open_kept_key(watch, "open-5-kept-key", 5)?;
+    seal_new_key(watch, "seal-13-new-key", 13)?;
+    seal_kept_key(watch, "seal-13-kept-key", 13)?;
+    open_new_key(watch, "open-13-new-key", 13)?;
+    open_kept_key(watch, "open-13-kept-key", 13)?;
+    seal_new_key(watch, "seal-64-new-key", 64)?;
+    seal_kept_key(watch, "seal-64-kept-key", 64)?;
+    open_new_key(watch, "open-64-new-key", 64)?;
+    open_kept_key(watch, "open-64-kept-key", 64)?;
+    seal_new_key(watch, "seal-1024-new-key", 1_024)?;
+    seal_kept_key(watch, "seal-1024-kept-key", 1_024)?;
+    open_new_key(watch, "open-1024-new-key", 1_024)?;
+    open_kept_key(watch, "open-1024-kept-key", 1_024)
+}
+
+/// What is sealed or opened, and with what, beside the cipher.
+#[derive(Drop)]
+struct Call {
+    nonce: [u8; 13],
+    aad: [u8; 20],
+    len: usize,
+    buf: [u8; LONGEST + TAG_LEN],
+}
+
+impl Call {
+    /// A plaintext of `len` zeros.
+    fn new(len: usize) -> Call {
+        Call {
+            nonce: NONCE,
+            aad: AAD,
+            len: len.min(LONGEST),
+            buf: [0; LONGEST + TAG_LEN],
+        }
+    }
+
+    /// Seals what stands in the buffer, and answers its first byte.
+    fn seal(&mut self, cipher: &TableAes) -> Option<u8> {
+        let len = self.len.min(LONGEST);
+        seal(cipher, &self.nonce, &self.aad, &mut self.buf, len).ok()?;
+        Some(self.buf[0])
+    }
+
+    /// Copies sealed bytes into the buffer, opens them, and answers the plaintext's first byte.
+    fn open(&mut self, cipher: &TableAes, sealed: &[u8; LONGEST + TAG_LEN]) -> Option<u8> {
+        let end = self.len.min(LONGEST) + TAG_LEN;
+        let buf = &mut self.buf[..];
+        buf[..end].copy_from_slice(&sealed[..end]);
+        open(cipher, &self.nonce, &self.aad, &mut buf[..end]).ok()?;
+        Some(self.buf[0])
+    }
+}
+
+/// A seal with a schedule of its own.
+fn seal_new_key<R: Clock + Print>(
+    watch: &mut Stopwatch<'_, R>,
+    name: &str,
+    len: usize,
+) -> io::Result<()> {
+    let mut call = Call::new(len);
+    let mut key = KEY;
+    watch.figure(name, || {
+        key[0] = call.buf[0];
+        call.nonce[12] = call.buf[0];
+        call.seal(&TableAes::new(&key))
+    })
+}
+
+/// A seal with a schedule that was there.
+fn seal_kept_key<R: Clock + Print>(
+    watch: &mut Stopwatch<'_, R>,
+    name: &str,
+    len: usize,
+) -> io::Result<()> {
+    let mut call = Call::new(len);
+    let cipher = TableAes::new(&KEY);
+    watch.figure(name, || {
+        call.nonce[12] = call.buf[0];
+        call.seal(&cipher)
+    })
+}
+
+/// An open with a schedule of its own, and the copy of the bytes that it opens.
+fn open_new_key<R: Clock + Print>(
+    watch: &mut Stopwatch<'_, R>,
+    name: &str,
+    len: usize,
+) -> io::Result<()> {
+    let mut call = Call::new(len);
+    let mut key = KEY;
+    let _byte = call.seal(&TableAes::new(&key));
+    let sealed = call.buf;
+    // The plaintext's first byte is zero, so key and nonce stay; but no compiler knows that.
+    let mut zero = 0;
+    watch.figure(name, || {
+        key[0] ^= zero;
+        call.nonce[12] ^= zero;
+        zero = call.open(&TableAes::new(&key), &sealed)?;
+        Some(zero)
+    })
+}
+
+/// An open with a schedule that was there, and the copy of the bytes that it opens.
+fn open_kept_key<R: Clock + Print>(
+    watch: &mut Stopwatch<'_, R>,
+    name: &str,
+    len: usize,
+) -> io::Result<()> {
+    let mut call = Call::new(len);
+    let cipher = TableAes::new(&KEY);
+    let _byte = call.seal(&cipher);
+    let sealed = call.buf;
+    let mut zero = 0;
+    watch.figure(name, || {
+        call.nonce[12] ^= zero;
+        zero = call.open(&cipher, &sealed)?;
+        Some(zero)
+    })
+}

@@ -1,0 +1,102 @@
+//! The figures of osc_protect and osc_coap: the example request of RFC 8613 (C.4), at the client, which seals it, and at the
+//! server, which opens it.
+
+use crate::example::{SERVER, params};
+use crate::speed::stopwatch::Stopwatch;
+use osc_coap::{Message, parse};
+use osc_context::{Context, ContextError, Piv};
+use osc_protect::{KeyedContext, open_request, seal_request};
+use std::io;
+use std::rt::Clock;
+
+const NUMBER: u64 = 20;
+
+/// The request before it is sealed.
+pub(crate) const PLAIN: [u8; 22] = [
+    0x44, 0x01, 0x5d, 0x1f, 0x00, 0x00, 0x39, 0x74, 0x39, 0x6c, 0x6f, 0x63, 0x61, 0x6c, 0x68, 0x6f,
+    0x73, 0x74, 0x83, 0x74, 0x76, 0x31,
+];
+
+/// The request as it is sent.
+pub(crate) const SEALED: [u8; 35] = [
+    0x44, 0x02, 0x5d, 0x1f, 0x00, 0x00, 0x39, 0x74, 0x39, 0x6c, 0x6f, 0x63, 0x61, 0x6c, 0x68, 0x6f,
+    0x73, 0x74, 0x62, 0x09, 0x14, 0xff, 0x61, 0x2f, 0x10, 0x92, 0xf1, 0x77, 0x6f, 0x1c, 0x16, 0x68,
+    0xb3, 0x82, 0x5e,
+];
+
+/// The context of one end.
+pub(crate) fn context_of<'a>(
+    sender: &'a [u8],
+    recipient: &'a [u8],
+) -> Result<Context, ContextError> {
+    Context::derive(params(sender, recipient))
+}
+
+/// A request that is sealed, and the same that is opened.
+pub(crate) fn message<R: Clock + Print>(watch: &mut Stopwatch<'_, R>) -> io::Result<()> {
+    let Ok(client) = context_of(&[], SERVER) else {
+        return Err(io::Error::other("the client's context was refused"));
+    };
+    let Ok(server) = context_of(SERVER, &[]) else {
+        return Err(io::Error::other("the server's context was refused"));
+    };
+    let Ok(plain) = parse(&PLAIN) else {
+        return Err(io::Error::other("the plain request was refused"));
+    };
+    by_context(watch, &client, &server, &plain)?;
+    let client = KeyedContext::new(client);
+    let server = KeyedContext::new(server);
+    by_keyed_context(watch, &client, &server, &plain)
+}
+
+/// The calls over a context, with a schedule each time.
+fn by_context<R: Clock + Print>(
+    watch: &mut Stopwatch<'_, R>,
+    client: &Context,
+    server: &Context,
+    plain: &Message<'_>,
+) -> io::Result<()> {
+    let mut out = SEALED;
+    watch.figure("seal_request", || {
+        let number = Piv::new(NUMBER)?;
+        seal_request(client, number, plain, &mut out).ok()?;
+        Some(out[34])
+    })?;
+    let mut datagram = SEALED;
+    watch.figure("open_request", || {
+        datagram.copy_from_slice(&SEALED);
+        let opened = open_request(server, &mut datagram).ok()?;
+        Some(opened.code)
+    })
+}
+
+/// The calls over a context that keeps its schedules.
+fn by_keyed_context<R: Clock + Print>(
+    watch: &mut Stopwatch<'_, R>,
+    client: &KeyedContext,
+    server: &KeyedContext,
+    plain: &Message<'_>,
+) -> io::Result<()> {
+    let mut out = SEALED;
+    watch.figure("seal_request-kept-keys", || {
+        let number = Piv::new(NUMBER)?;
+        client.seal_request(number, plain, &mut out).ok()?;
+        Some(out[34])
+    })?;
+    let mut datagram = SEALED;
+    watch.figure("open_request-kept-keys", || {
+        datagram.copy_from_slice(&SEALED);
+        let opened = server.open_request(&mut datagram).ok()?;
+        Some(opened.code)
+    })
+}
+
+/// A datagram that is read. The first byte of its message ID is another one each time.
+pub(crate) fn parsing<R: Clock + Print>(watch: &mut Stopwatch<'_, R>) -> io::Result<()> {
+    let mut datagram = SEALED;
+    watch.figure("parse", || {
+        datagram[2] = datagram[2].wrapping_add(1);
+        let message = parse(&datagram).ok()?;
+        Some(message.message_id.to_be_bytes()[0] ^ message.code)
+    })
+}

@@ -1,0 +1,182 @@
+//! The figures of osc_endpoint: a server that takes the example request of RFC 8613 (C.4), under ascending numbers, once more,
+//! or with a bad tag, and runs over events.
+
+use crate::example::SERVER;
+use crate::speed::asking::PLAIN_RESPONSE;
+use crate::speed::messages::{PLAIN, SEALED, context_of};
+use crate::speed::stopwatch::Stopwatch;
+use osc_coap::parse;
+use osc_context::Piv;
+use osc_endpoint::{Arrival, Fresh, Outcome, Server, ServerEntry, ServerEvent, Start, run_server};
+use osc_protect::KeyedContext;
+use osc_window::WindowSize;
+use std::alloc::Global;
+use std::io;
+use std::rt::Clock;
+
+/// The first number of the requests: its Partial IV has two bytes.
+const FIRST: u64 = 256;
+
+/// How many requests there are. When all are taken, a new server takes them.
+const REQUESTS: u64 = 4_096;
+
+/// A request with such a number.
+type Request = [u8; 36];
+
+/// What is drawn anew for each datagram.
+const FRESH: Fresh = Fresh {
+    echo: [1, 2, 3, 4, 5, 6, 7, 8],
+    mid: 1,
+};
+
+/// The requests, as the client seals them.
+fn requests_of(alloc: Global) -> io::Result<Vec<Request>> {
+    let (Ok(client), Ok(plain)) = (context_of(&[], SERVER), parse(&PLAIN)) else {
+        return Err(io::Error::other("the client was refused"));
+    };
+    let client = KeyedContext::new(client);
+    let mut requests = Vec::new(alloc);
+    for number in FIRST..FIRST + REQUESTS {
+        let mut request = [0; 36];
+        let Some(number) = Piv::new(number) else {
+            return Err(io::Error::other("a number was refused"));
+        };
+        if client.seal_request(number, &plain, &mut request).is_err() {
+            return Err(io::Error::other("a request was refused"));
+        }
+        requests.push(request)?;
+    }
+    Ok(requests)
+}
+
+/// Adds the context of the client with this identifier.
+fn add(server: &mut Server, client: &[u8]) -> Option<usize> {
+    let context = context_of(SERVER, client).ok()?;
+    let start = Start::Fresh(Piv::new(0)?);
+    server.add(context, start, WindowSize::default()).ok()
+}
+
+/// A server with as many contexts of others before the client's.
+fn server_of(others: u8) -> Option<Server> {
+    let mut server = Server::new();
+    for other in 0..others {
+        add(&mut server, &[1, other])?;
+    }
+    add(&mut server, &[])?;
+    Some(server)
+}
+
+/// What becomes of a request that is delivered.
+#[derive(Clone, Copy, PartialEq, Eq)]
+enum End {
+    Kept,
+    Answered,
+}
+
+/// Requests that are delivered, and answered or not, at a server with as many other contexts.
+fn delivery<R: Clock + Print>(
+    watch: &mut Stopwatch<'_, R>,
+    name: &str,
+    requests: &[Request],
+    others: u8,
+    end: End,
+) -> io::Result<()> {
+    let Ok(plain) = parse(&PLAIN_RESPONSE) else {
+        return Err(io::Error::other("the response was refused"));
+    };
+    let mut server = Server::new();
+    let mut rest: &[Request] = &[];
+    let (mut datagram, mut out) = ([0; 36], [0; 64]);
+    watch.figure(name, || {
+        if rest.is_empty() {
+            server = server_of(others)?;
+            rest = requests;
+        }
+        let (request, tail) = rest.split_first()?;
+        rest = tail;
+        datagram.copy_from_slice(request);
+        let (code, ticket) = match server.take(0, FRESH, &mut datagram, &mut out).outcome {
+            Outcome::Deliver(opened, ticket) => (opened.code, ticket),
+            _ => return None,
+        };
+        if end == End::Answered {
+            server.reply(ticket, false, 0, &plain, &mut out).ok()?;
+        }
+        Some(code)
+    })
+}
+
+/// A datagram that is answered by an error.
+fn refusal<R: Clock + Print>(
+    watch: &mut Stopwatch<'_, R>,
+    name: &str,
+    server: &mut Server,
+    datagram: [u8; 35],
+) -> io::Result<()> {
+    let (mut buffer, mut out) = (datagram, [0; 64]);
+    watch.figure(name, || {
+        buffer.copy_from_slice(&datagram);
+        let reply = server.take(0, FRESH, &mut buffer, &mut out).reply;
+        if reply == 0 { None } else { Some(out[1]) }
+    })
+}
+
+/// A turned tag, and then the example request, delivered and come again.
+fn refusals<R: Clock + Print>(watch: &mut Stopwatch<'_, R>) -> io::Result<()> {
+    let Some(opened) = server_of(0) else {
+        return Err(io::Error::other("the server was refused"));
+    };
+    let mut server = opened;
+    let mut turned = SEALED;
+    turned[34] ^= 1;
+    refusal(watch, "take-bad-tag", &mut server, turned)?;
+    let (mut first, mut out) = (SEALED, [0; 64]);
+    let _ = server.take(0, FRESH, &mut first, &mut out);
+    refusal(watch, "take-replay", &mut server, SEALED)
+}
+
+/// A run over as many copies of the example request: one delivery, and replays.
+fn run<R: Clock + Print>(
+    watch: &mut Stopwatch<'_, R>,
+    alloc: Global,
+    name: &str,
+    count: usize,
+) -> io::Result<()> {
+    let Some(opened) = server_of(0) else {
+        return Err(io::Error::other("the server was refused"));
+    };
+    let mut server = opened;
+    let mut events = Vec::new(alloc);
+    for _ in 0..count {
+        events.push(ServerEvent::Datagram(Arrival {
+            now: 0,
+            fresh: FRESH,
+            bytes: SEALED.to_vec(alloc)?,
+            out: [0; 64],
+        }))?;
+    }
+    watch.figure(name, || {
+        let mut log = Vec::new(alloc);
+        run_server(alloc, &mut server, &mut events, &mut log).ok()?;
+        match log.last() {
+            Some(ServerEntry::Took { reply, .. }) => reply.first().copied(),
+            _ => None,
+        }
+    })
+}
+
+/// Deliveries at a server of one context and of eight, and with their replies, a replay, a bad tag, and three runs.
+pub(crate) fn serving<R: Clock + Print>(
+    watch: &mut Stopwatch<'_, R>,
+    alloc: Global,
+) -> io::Result<()> {
+    let requests = requests_of(alloc)?;
+    delivery(watch, "take-delivery", &requests, 0, End::Kept)?;
+    delivery(watch, "take-delivery-of-8", &requests, 7, End::Kept)?;
+    delivery(watch, "take-and-reply", &requests, 0, End::Answered)?;
+    delivery(watch, "take-and-reply-of-8", &requests, 7, End::Answered)?;
+    refusals(watch)?;
+    run(watch, alloc, "run_server-100", 100)?;
+    run(watch, alloc, "run_server-1000", 1_000)?;
+    run(watch, alloc, "run_server-10000", 10_000)
+}
