@@ -2,7 +2,7 @@
 //! named for, with a contract on that list: where the list meets the premises and this end runs in it, the call adds to it, the
 //! longer list meets the premises too, and all of it is as `both_ends` says. Nothing else is done here.
 
-ghost use Rattle.std.specs.Prelude.{◌≡◌, ◌≢◌, ◌≤◌, ℕ, IsErr, IsOk, IfErr, IfOk, IsErrOf, OnErr, length, take};
+ghost use Rattle.std.specs.Prelude.{◌≡◌, ◌≢◌, ◌≤◌, ◌+◌, ℕ, Err, IsErr, IsOk, IfErr, IfOk, IsErrOf, OnErr, length, take};
 ghost use Rattle.osc_coap.specs.Views.{parts_of};
 ghost use Rattle.osc_context.specs.SecurityContext.{SecurityContext};
 ghost use Rattle.osc_context.specs.Views.{as_client, as_server};
@@ -18,7 +18,8 @@ ghost use Rattle.osc_kept.specs.GoingOn.{HasSavedFirst};
 ghost use Rattle.osc_kept.specs.InWorld.{IsUnseen};
 ghost use Rattle.osc_kept.specs.KeptServing.{IsStart};
 ghost use Rattle.osc_kept.specs.Premises.{IsLawful, NobodyForgesRequests};
-ghost use Rattle.osc_kept.specs.Refusals.{Loaded};
+ghost use Rattle.osc_kept.specs.Refusals.{Loaded, RefusesAt};
+ghost use Rattle.osc_kept.specs.declared.kept_error.KeptError.TheVariants.{LivesExhausted};
 ghost use Rattle.osc_kept.specs.World.{World, Client as ClientEnd, Server as ServerEnd, numbers};
 
 use crate::kept_client::KeptClient;
@@ -43,6 +44,8 @@ pub fn start_server_in_world<K: Keeper>(
         × (K.floor keeper ≤ loaded) × IsStart start loaded
         × ((n : ℕ) (w : World) → IsLawful n (as_server context) w → HasSavedFirst (as_server context) w
         → (numbers ServerEnd (as_server context) w).floor ≤ loaded → StartsInWorld n (as_server context) w start size new)) }
+    ensures refused { IfErr result (λ e. RefusesAt K.loads K.failures keeper e.0 e.1) }
+    ensures no_lives_exhausted { IfErr result (λ e. e.0 ≢ LivesExhausted) }
 {
     kept_ends_in_world();
     KeptServer::start(context, keeper, size)
@@ -52,6 +55,7 @@ pub fn start_server_in_world<K: Keeper>(
 pub fn restart_server_in_world<K: Keeper>(server: &mut KeptServer<K>) -> Result<(), KeptError>
     ensures begins { IsOk result → (loaded : ℕ) × Loaded K.loads K.failures server.old.source.keeper loaded server.new.source.keeper
         × ((n : ℕ) (s : SecurityContext) (w : World) → IsLawful n s w → RunsIn s w server.old → RestartsInWorld n s w loaded server.old server.new) }
+    ensures refused { IfErr result (λ e. RefusesAt K.loads K.failures server.old.source.keeper e server.new.source.keeper) }
     ensures unchanged { OnErr result ((s : SecurityContext) (w : World) → RunsIn s w server.old → RunsIn s w server.new) }
 {
     kept_ends_in_world();
@@ -71,6 +75,8 @@ pub fn decide_in_world<K: Keeper>(
         → DecidesInWorld n s w now fresh datagram.old d.decision datagram.new (take d.reply out.new) server.old server.new) }
     ensures clock_alone { IsErr result → (n : ℕ) (s : SecurityContext) (w : World) → IsLawful n s w → RunsIn s w server.old
         → ServerAfter n s w (served.Advance now) served.Advanced server.old server.new }
+    ensures failed { IsErr result → K.failures server.new.source.keeper ≡ K.failures server.old.source.keeper + 1 }
+    ensures worked { IsOk result → K.failures server.new.source.keeper ≡ K.failures server.old.source.keeper }
 {
     kept_ends_in_world();
     server.decide(now, fresh, datagram, out)
@@ -89,6 +95,8 @@ pub fn take_in_world<'b, K: Keeper>(
         → TakesInWorld n s w now fresh datagram.old result.outcome (take result.reply out.new) server.old server.new }
     ensures clock_alone { result.outcome ≡ outcomes.KeeperFailed → (n : ℕ) (s : SecurityContext) (w : World) → IsLawful n s w → RunsIn s w server.old
         → ServerAfter n s w (served.Advance now) served.Advanced server.old server.new }
+    ensures failed { result.outcome ≡ outcomes.KeeperFailed → K.failures server.new.source.keeper ≡ K.failures server.old.source.keeper + 1 }
+    ensures worked { result.outcome ≢ outcomes.KeeperFailed → K.failures server.new.source.keeper ≡ K.failures server.old.source.keeper }
 {
     kept_ends_in_world();
     server.take(now, fresh, datagram, out)
@@ -107,6 +115,8 @@ pub fn reply_in_world<K: Keeper>(
         → HoldsTicket s w (values_of ticket)
         → ServerAfter n s w (served.Reply (values_of ticket) own mid (parts_of plain.now) (length out.old)) (server_entry result out.new) server.old server.new }
     ensures unchanged { IfErr result (λ e. e.0 ≡ replies.KeeperFailed → (s : SecurityContext) (w : World) → RunsIn s w server.old → RunsIn s w server.new) }
+    ensures failed { IfErr result (λ e. e.0 ≡ replies.KeeperFailed → K.failures server.new.source.keeper ≡ K.failures server.old.source.keeper + 1) }
+    ensures worked { IfErr result (λ e. e.0 ≢ replies.KeeperFailed) → K.failures server.new.source.keeper ≡ K.failures server.old.source.keeper }
 {
     kept_ends_in_world();
     server.reply(ticket, own, mid, plain, out)
@@ -122,6 +132,8 @@ pub fn start_client_in_world<K: Keeper, const N: usize>(
     ensures begins { IfOk result (λ new. (loaded : ℕ) × Loaded K.loads K.failures keeper loaded new.source.keeper × (K.floor keeper ≤ loaded)
         × ((w : World) → IsLawful N (as_client context) w → (numbers ClientEnd (as_client context) w).floor ≤ loaded
         → ClientStartsInWorld (as_client context) w loaded life_ms new)) }
+    ensures refused { IfErr result (λ e. RefusesAt K.loads K.failures keeper e.0 e.1) }
+    ensures no_lives_exhausted { IfErr result (λ e. e.0 ≢ LivesExhausted) }
 {
     kept_ends_in_world();
     KeptClient::start(context, keeper, life_ms)
@@ -133,6 +145,8 @@ pub fn restart_client_in_world<K: Keeper, const N: usize>(
 ) -> Result<(), KeptError>
     ensures begins { IsOk result → (loaded : ℕ) × Loaded K.loads K.failures client.old.source.keeper loaded client.new.source.keeper
         × ((s : SecurityContext) (w : World) → IsLawful N s w → ClientRunsIn s w client.old → ClientRestartsInWorld s w loaded client.old client.new) }
+    ensures refused { IfErr result (λ e. RefusesAt K.loads K.failures client.old.source.keeper e client.new.source.keeper) }
+    ensures no_lives_exhausted { result ≢ Err LivesExhausted }
     ensures unchanged { OnErr result ((s : SecurityContext) (w : World) → ClientRunsIn s w client.old → ClientRunsIn s w client.new) }
 {
     kept_ends_in_world();
@@ -150,6 +164,8 @@ pub fn request_in_world<K: Keeper, const N: usize>(
         → ClientAfter s w (asked.Request now (parts_of plain.now) (length out.old)) (request_entry result out.new) client.old client.new }
     ensures clock_alone { IsErrOf result requests.KeeperFailed → (s : SecurityContext) (w : World) → IsLawful N s w → ClientRunsIn s w client.old
         → ClientAfter s w (asked.Advance now) asked.Advanced client.old client.new }
+    ensures failed { IsErrOf result requests.KeeperFailed → K.failures client.new.source.keeper ≡ K.failures client.old.source.keeper + 1 }
+    ensures worked { (IsErrOf result requests.KeeperFailed → ⊥) → K.failures client.new.source.keeper ≡ K.failures client.old.source.keeper }
 {
     kept_ends_in_world();
     client.request(now, plain, out)

@@ -12,4 +12,6 @@ returns g c = record {
   clock_alone = λ bad n s w lawful runs.
       let on = c.kept_ends_in_world.ensures.server n s w runs.0 (server.Advance _) server.Advanced _ _ lawful runs.1 tt tt (_, refl, (tt, (c.decide.ensures.unchanged bad).0)) tt in
       (on.0, on.1, on.2, (_, on.3, c.decide.ensures.clock_alone bad runs.0 runs.2), on.4);
+  failed = c.decide.ensures.failed;
+  worked = c.decide.ensures.worked;
 }

@@ -12,4 +12,6 @@ returns g c = record {
       let failed = c.request.ensures.failed bad in
       let on = c.kept_ends_in_world.ensures.client _ s w runs.0 (client.Advance _) client.Advanced _ _ lawful runs.1 tt (_, refl, (tt, failed.0)) tt in
       (on.0, on.1, on.2, (_, on.3, failed.2 runs.0 runs.2), on.4);
+  failed = λ bad. (c.request.ensures.failed bad).1;
+  worked = c.request.ensures.worked;
 }

@@ -11,4 +11,6 @@ returns g c = record {
         let on = c.kept_ends_in_world.ensures.client_starts _ _ w begun.0 _ _ _ lawful begun.2 least in
         (on.0, (_, on.2, begun.3), on.1),
   )) c.start.ensures.begins;
+  refused = c.start.ensures.refused;
+  no_lives_exhausted = c.start.ensures.no_lives_exhausted;
 }

@@ -16,4 +16,6 @@ returns g c = record {
         let on = c.kept_ends_in_world.ensures.server_starts n _ w begun.2 _ begun.0 _ lawful saved begun.4 begun.8 least in
         (on.0, (_, subst (ServerRuns _ _ _) (sym begun.5) on.2, begun.7), on.1),
   )) c.start.ensures.begins;
+  refused = c.start.ensures.refused;
+  no_lives_exhausted = c.start.ensures.no_lives_exhausted;
 }

@@ -11,4 +11,6 @@ returns g c = record {
   clock_alone = λ bad n s w lawful runs.
       let on = c.kept_ends_in_world.ensures.server n s w runs.0 (server.Advance _) server.Advanced _ _ lawful runs.1 tt tt (_, refl, (tt, (c.take.ensures.unchanged bad).0)) tt in
       (on.0, on.1, on.2, (_, on.3, c.take.ensures.clock_alone bad runs.0 runs.2), on.4);
+  failed = c.take.ensures.failed;
+  worked = c.take.ensures.worked;
 }
