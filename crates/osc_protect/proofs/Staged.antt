@@ -1,5 +1,5 @@
 -- The stages of opening together: what is read after decrypting is what the datagram protects.
-use Rattle.std.proofs.Common.{◌≡◌, ℕ, List, true, false, ◌++◌, length, take, drop, refl, sym, ap, subst, ◌∙◌, option_map, Option, Result, Ok, Err, IfOk, IfErr, IsErr, IsOk, IsOkAnd, IsErrOf, OnErr}
+use Rattle.std.proofs.Common.{◌≡◌, ℕ, List, true, false, ◌++◌, length, take, drop, refl, sym, ap, subst, ◌∙◌, option_map, Option, Result, Ok, Err, IfOk, IfErr, IsErr, IsOk, IsOkAnd, IsErrOf, OnErr, OnOk}
 use Rattle.std.proofs.lemmas.List.{take_at}
 use Rattle.osc_coap.specs.Datagram.{Parts, IsDatagram}
 use Rattle.osc_coap.specs.Inner.{InnerParts, IsInner}
@@ -82,6 +82,10 @@ pub when_ok : {X E : Type 0} {P Q : X → Type 0} (r : Result X E) → ((x : X) 
 when_ok (Ok x) f h = f x h
 when_ok (Err e) f h = h
 
+pub when_accepted : {X E : Type 0} {P Q : Type 0} (r : Result X E) → (P → Q) → OnOk r P → OnOk r Q
+when_accepted (Ok x) f h = f h
+when_accepted (Err e) f h = h
+
 pub when_err : {X E : Type 0} {P Q : Type 0} (r : Result X E) → (P → Q) → OnErr r P → OnErr r Q
 when_err (Ok x) f h = h
 when_err (Err e) f h = f h
@@ -117,6 +121,6 @@ module _ {I : Type 0} (f : Protection I) (laws : OneMessage f) (d : List ℕ) wh
   accepts_read (Ok x) k i m y = refl
   accepts_read (Err e) k i m y = absurd (laws.never_both d i m Inner y k)
 
-  pub refuses_read : {X : Type 0} (r : Result X BadInner) → IfOk r (λ x. (i : I) × (m : InnerParts) × Protects f i m d) → RefusesPlaintext f d → IsErr r
+  pub refuses_read : {X : Type 0} (r : Result X BadInner) → OnOk r ((i : I) × (m : InnerParts) × Protects f i m d) → RefusesPlaintext f d → IsErr r
   refuses_read (Ok x) h y = absurd (laws.never_both d (h.0) (h.1) Inner h.2 y)
   refuses_read (Err e) h y = refl

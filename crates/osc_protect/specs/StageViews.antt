@@ -2,9 +2,10 @@
 -- old and new are datagrams, o is what was opened.
 use Rattle.std.specs.Prelude.{◌≡◌, ℕ, List, Option}
 use Rattle.std.specs.Option.{option_map}
+use Rattle.osc_coap.specs.Inner.{InnerParts}
 use Rattle.osc_context.specs.SecurityContext.{SecurityContext}
 use Rattle.osc_context.specs.Views.{number_of}
-use Rattle.osc_protect.specs.Protection.{Protection, requests, responses}
+use Rattle.osc_protect.specs.Protection.{Protection, ProtectsRequest, ProtectsResponse, requests, responses}
 use Rattle.osc_protect.specs.Refusals.{RefusesPlaintext}
 use Rattle.osc_protect.specs.Opening.{Opens}
 use Rattle.osc_protect.specs.Stages.{Decrypts, HasPayloadOf, HasPlaintext, HasSealed}
@@ -45,6 +46,10 @@ FitsResponse d x = HasPayloadOf d x.len
 abbrev pub OpensRequestAfter : List ℕ → DecryptedRequest → Opened → Type 0
 OpensRequestAfter new x o = (s : SecurityContext) (old : List ℕ) → DecryptsRequest (requests s) old x new → Opens (requests s) old o
 
+-- each datagram that was decrypted to this one, as a request, protects a message (RFC 8613, 8.2)
+abbrev pub AcceptsRequestAfter : List ℕ → DecryptedRequest → Type 0
+AcceptsRequestAfter new x = (s : SecurityContext) (old : List ℕ) → DecryptsRequest (requests s) old x new → (n : ℕ) × (m : InnerParts) × ProtectsRequest s n m old
+
 -- each datagram that was decrypted to this one, as a request, protects a bad plaintext (RFC 8613, 8.2)
 abbrev pub RefusesRequestAfter : List ℕ → DecryptedRequest → Type 0
 RefusesRequestAfter new x = (s : SecurityContext) (old : List ℕ) → DecryptsRequest (requests s) old x new → RefusesPlaintext (requests s) old
@@ -52,6 +57,11 @@ RefusesRequestAfter new x = (s : SecurityContext) (old : List ℕ) → DecryptsR
 -- each datagram that was decrypted to this one, as a response, protects what was read of it (RFC 8613, 8.4)
 abbrev pub OpensResponseAfter : List ℕ → DecryptedResponse → Opened → Type 0
 OpensResponseAfter new x o = (s : SecurityContext) (n : ℕ) (old : List ℕ) → DecryptsResponse (responses s n) old x new → Opens (responses s n) old o
+
+-- each datagram that was decrypted to this one, as a response, protects a message (RFC 8613, 8.4)
+abbrev pub AcceptsResponseAfter : List ℕ → DecryptedResponse → Type 0
+AcceptsResponseAfter new x = (s : SecurityContext) (n : ℕ) (old : List ℕ) → DecryptsResponse (responses s n) old x new
+    → (own : Option ℕ) × (m : InnerParts) × ProtectsResponse s n own m old
 
 -- each datagram that was decrypted to this one, as a response, protects a bad plaintext (RFC 8613, 8.4)
 abbrev pub RefusesResponseAfter : List ℕ → DecryptedResponse → Type 0

@@ -1,7 +1,7 @@
 //! The last stage of opening: the plaintext of a datagram that was decrypted is read, and slices of the datagram are lent
 //! (RFC 8613, 8.2 and 8.4). A bad plaintext is the one refusal.
 
-ghost use Rattle.std.specs.Prelude.{◌≡◌, ℕ, List, Option, Some, IfOk, IsErr, IsOk, IsOkAnd, OnErr};
+ghost use Rattle.std.specs.Prelude.{◌≡◌, ℕ, List, Option, Some, IfOk, IsErr, IsOk, IsOkAnd, OnErr, OnOk};
 ghost use Rattle.osc_coap.specs.Inner.{InnerParts};
 ghost use Rattle.osc_context.specs.SecurityContext.{SecurityContext};
 ghost use Rattle.osc_context.specs.Views.{number_of};
@@ -9,7 +9,7 @@ ghost use Rattle.osc_protect.specs.Halves.{ReadsInner, RefusesInner};
 ghost use Rattle.osc_protect.specs.Protection.{ProtectsRequest, ProtectsResponse, requests, responses};
 ghost use Rattle.osc_protect.specs.Refusals.{RefusesPlaintext};
 ghost use Rattle.osc_protect.specs.Stages.{HasPayloadOf, HasPlaintext};
-ghost use Rattle.osc_protect.specs.StageViews.{DecryptsRequest, DecryptsResponse, FitsRequest, FitsResponse, OpensRequestAfter, OpensResponseAfter, RefusesRequestAfter, RefusesResponseAfter, CanLendRequest, CanLendResponse};
+ghost use Rattle.osc_protect.specs.StageViews.{AcceptsRequestAfter, AcceptsResponseAfter, DecryptsRequest, DecryptsResponse, FitsRequest, FitsResponse, OpensRequestAfter, OpensResponseAfter, RefusesRequestAfter, RefusesResponseAfter, CanLendRequest, CanLendResponse};
 ghost use Rattle.osc_protect.specs.Views.{message_of, opened_number};
 
 use crate::laws::{one_request, one_response};
@@ -30,14 +30,14 @@ pub fn inspect_request(
     decrypted: DecryptedRequest,
 ) -> Result<ReadRequest, BadInner>
     requires { FitsRequest datagram.now decrypted }
-    ensures accepted { IfOk result (λ x. CanLendRequest datagram.now decrypted x) }
+    ensures placed { IfOk result (λ x. CanLendRequest datagram.now decrypted x) }
+    ensures accepted { OnOk result (AcceptsRequestAfter datagram.now decrypted) }
     ensures accepts { (s : SecurityContext) (old : List ℕ) (n : ℕ) (m : InnerParts) → DecryptsRequest (requests s) old decrypted datagram.now
         → ProtectsRequest s n m old → IsOk result }
     ensures refused { OnErr result (RefusesRequestAfter datagram.now decrypted) }
     ensures refuses { (s : SecurityContext) (old : List ℕ) → DecryptsRequest (requests s) old decrypted datagram.now
         → RefusesPlaintext (requests s) old → IsErr result }
 {
-    one_datagram();
     one_request();
     inspect_request_forward(datagram, decrypted)
 }
@@ -48,7 +48,8 @@ fn inspect_request_forward(
     decrypted: DecryptedRequest,
 ) -> Result<ReadRequest, BadInner>
     requires { FitsRequest datagram.now decrypted }
-    ensures accepted { IfOk result (λ x. CanLendRequest datagram.now decrypted x) }
+    ensures placed { IfOk result (λ x. CanLendRequest datagram.now decrypted x) }
+    ensures accepted { OnOk result (AcceptsRequestAfter datagram.now decrypted) }
     ensures refused { OnErr result (RefusesRequestAfter datagram.now decrypted) }
 {
     one_datagram();
@@ -112,14 +113,14 @@ pub fn inspect_response(
     decrypted: DecryptedResponse,
 ) -> Result<ReadResponse, BadInner>
     requires { FitsResponse datagram.now decrypted }
-    ensures accepted { IfOk result (λ x. CanLendResponse datagram.now decrypted x) }
+    ensures placed { IfOk result (λ x. CanLendResponse datagram.now decrypted x) }
+    ensures accepted { OnOk result (AcceptsResponseAfter datagram.now decrypted) }
     ensures accepts { (s : SecurityContext) (n : ℕ) (old : List ℕ) (own : Option ℕ) (m : InnerParts) → DecryptsResponse (responses s n) old decrypted datagram.now
         → ProtectsResponse s n own m old → IsOk result }
     ensures refused { OnErr result (RefusesResponseAfter datagram.now decrypted) }
     ensures refuses { (s : SecurityContext) (n : ℕ) (old : List ℕ) → DecryptsResponse (responses s n) old decrypted datagram.now
         → RefusesPlaintext (responses s n) old → IsErr result }
 {
-    one_datagram();
     one_response();
     inspect_response_forward(datagram, decrypted)
 }
@@ -130,7 +131,8 @@ fn inspect_response_forward(
     decrypted: DecryptedResponse,
 ) -> Result<ReadResponse, BadInner>
     requires { FitsResponse datagram.now decrypted }
-    ensures accepted { IfOk result (λ x. CanLendResponse datagram.now decrypted x) }
+    ensures placed { IfOk result (λ x. CanLendResponse datagram.now decrypted x) }
+    ensures accepted { OnOk result (AcceptsResponseAfter datagram.now decrypted) }
     ensures refused { OnErr result (RefusesResponseAfter datagram.now decrypted) }
 {
     one_datagram();
