@@ -16,3 +16,4 @@ pub mod OptionTexts
 pub mod Drafts
 pub mod Refusals
 pub mod Grown
+pub mod Parted

@@ -11,7 +11,7 @@ use Rattle.osc_coap.proofs.OneReading.{body_one, body_never_item}
 use Rattle.osc_coap.proofs.OneFault.{Divides, divided_one}
 
 -- the first byte is the code
-inner_code : (p : InnerParts) (bytes : List ℕ) → IsInner p bytes → get_or bytes 0 0 ≡ p.code
+pub inner_code : (p : InnerParts) (bytes : List ℕ) → IsInner p bytes → get_or bytes 0 0 ≡ p.code
 inner_code p bytes h = ap (λ (y : List ℕ). get_or y 0 0) h.whole
 
 -- the others are options and a payload

@@ -132,7 +132,7 @@ datagram_says p bytes h =
     rw h.whole (record { long = omega arith; first = refl; code = refl; high = refl; low = refl; rest = rest; after = refl; body = record { spelled = h.spelled; spells = h.spells; whole = refl } })
 
 -- a kind takes two bits
-kind_small : (k : Kind) → kind_number k < 4
+pub kind_small : (k : Kind) → kind_number k < 4
 kind_small Con = omega arith
 kind_small Non = omega arith
 kind_small Ack = omega arith
@@ -179,7 +179,7 @@ never_both p bytes EmptyPayload place h k = body_never_item _ _ _ EmptyPayload k
 -- ---- one datagram, one fault
 
 -- two bits name one kind alone
-kind_one : (j k : Kind) → kind_number j ≡ kind_number k → j ≡ k
+pub kind_one : (j k : Kind) → kind_number j ≡ kind_number k → j ≡ k
 kind_one Con Con e = refl
 kind_one Con Non e = absurd (omega arith)
 kind_one Con Ack e = absurd (omega arith)

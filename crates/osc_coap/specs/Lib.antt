@@ -20,3 +20,4 @@ pub mod Drafts
 pub mod Seen
 pub mod Ends
 pub mod OptionText
+pub mod PayloadLength

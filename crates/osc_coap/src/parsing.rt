@@ -16,10 +16,10 @@ use crate::inner::Inner;
 use crate::message::{Message, Token};
 
 /// The bytes in front of a plaintext's options.
-const CODE_LEN: usize = 1;
+pub(crate) const CODE_LEN: usize = 1;
 
 /// A copy of the token's bytes.
-fn token_of(bytes: &[u8]) -> Token
+pub(crate) fn token_of(bytes: &[u8]) -> Token
     requires { length bytes.now ≤ 8 }
     ensures { result.items ≡ bytes.now }
 {

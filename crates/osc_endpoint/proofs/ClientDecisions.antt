@@ -8,23 +8,22 @@ use Rattle.osc_coap.specs.Laws.{DatagramIsOneMessage}
 use Rattle.osc_context.specs.SecurityContext.{SecurityContext}
 use Rattle.osc_context.specs.Views.{as_client, number_of}
 use Rattle.osc_context.specs.declared.partial_iv.Piv.{Piv}
-use Rattle.osc_protect.specs.Laws.{OneResponseReading}
-use Rattle.osc_protect.specs.Opening.{Opens}
+use Rattle.osc_protect.specs.Laws.{OneResponse}
 use Rattle.osc_protect.specs.Protection.{Protection, responses}
-use Rattle.osc_protect.specs.StageViews.{DecryptsResponse, OpensResponseAfter}
+use Rattle.osc_protect.specs.StageViews.{AcceptsResponseAfter, CanLendResponse, DecryptsResponse}
 use Rattle.osc_protect.specs.Views.{context_of}
-use Rattle.osc_protect.specs.declared.opened.Opened.{Opened}
 use Rattle.osc_protect.specs.declared.stages.DecryptedResponse.{DecryptedResponse}
+use Rattle.osc_protect.specs.declared.stages.ReadResponse.{ReadResponse}
 use Rattle.osc_endpoint.specs.declared.client.Client.{Client}
-use Rattle.osc_endpoint.specs.declared.client_outcome.ClientOutcome.TheVariants as outcomes
 use Rattle.osc_endpoint.specs.declared.decision.ClientDecision.TheVariants as decisions
 use Rattle.osc_endpoint.specs.declared.pending.Pending.{Pending}
 use Rattle.osc_endpoint.specs.Agrees.{ClientAgrees, TokensDiffer}
 use Rattle.osc_endpoint.specs.ClientAnswer.{IsAmong, IsAnswerTo}
-use Rattle.osc_endpoint.specs.ClientDeciding.{ClientDecidesTo, ClientTakes, IsDecryptedFor, IsOpenedBy}
+use Rattle.osc_endpoint.specs.ClientDeciding.{ClientDecidesTo, IsDecryptedFor, IsOpenedBy}
 use Rattle.osc_endpoint.specs.ClientHistory.{Advance, Advanced, Asked, Datagram, Deliver, History, Then, Took, alive, asked, clock, context, life_ms, pending_at, without}
-use Rattle.osc_endpoint.specs.Received.{Receives}
-use Rattle.osc_endpoint.specs.Views.{asked_of, received_of}
+use Rattle.osc_endpoint.specs.Received.{Received, Receives}
+use Rattle.osc_endpoint.specs.Views.{asked_of}
+use Rattle.osc_endpoint.proofs.Receiving.{said, receives_said, opened_said}
 use Rattle.osc_endpoint.proofs.Asking.{contains_at, contains_filter, differ_filter, ended, removed}
 
 -- a fact of the client's context and a request's number, in the words of the history
@@ -47,49 +46,22 @@ pub answers : {N : ℕ} (c : Client N) (h : History) (now : ℕ) (d : List ℕ) 
     → IsDatagram p d → is_response p.kind p.code ≡ true → r.token ≡ p.token → Contains (map asked_of c.pending.items) r → IsAnswerTo h (max (clock h) now) d r
 answers c h now d p r a datagram response token has = ((p, datagram, response, sym token), subst (λ xs. Contains xs r) a.table has)
 
--- what is opened of one datagram is one thing
-opens_alike : (s : SecurityContext) (n : ℕ) (d : List ℕ) (o x : Opened) → OneResponseReading → Opens (responses s n) d o → Opens (responses s n) d x → received_of x ≡ received_of o
-opens_alike s n d o x laws a b =
-    let one = laws.opened s n in
-    let kind = one.kind d x o b a in
-    let message_id = one.message_id d x o b a in
-    let token = one.token d x o b a in
-    let uri_host = one.uri_host d x o b a in
-    let uri_port = one.uri_port d x o b a in
-    let number = one.number d x o b a in
-    let message = one.message d x o b a in
-    cc
-
--- what was opened is received
-receives : (s : SecurityContext) (n : ℕ) (d : List ℕ) (o : Opened) (a : Opens (responses s n) d o) → Receives (responses s n) a.number d (received_of o)
-receives s n d o a = record {
-  number = a.number_is;
-  protects = a.protects;
-  outer = a.outer;
-  datagram = a.datagram;
-  kind = a.shows.kind;
-  message_id = a.shows.message_id;
-  token = a.shows.token;
-  uri_host = a.shows.uri_host;
-  uri_port = a.shows.uri_port;
-}
-
-module _ {N : ℕ} (c after : Client N) (h : History) (now place : ℕ) (d new : List ℕ) (x : DecryptedResponse) (o : Opened) (piv : Piv) where
+module _ {N : ℕ} (c after : Client N) (h : History) (now place : ℕ) (d new : List ℕ) (x : DecryptedResponse) (y : ReadResponse) (piv : Piv) where
   -- a delivery ends the request that it answers
-  ends : DatagramIsOneMessage → IsDecryptedFor h now d x place (number_of piv) new c → OpensResponseAfter new x o
+  ends : (received : Received) (own : Option ℕ) → DatagramIsOneMessage → (was : IsDecryptedFor h now d x place (number_of piv) new c)
+      → Receives (responses (context h) was.to.number) own d received
       → after.context ≡ c.context → after.life_ms ≡ c.life_ms → after.clock ≡ c.clock → after.next ≡ c.next
       → after.pending.items ≡ remove c.pending.items place
-      → ClientAgrees after (Then h (Datagram now d) (Took (Deliver (received_of o) (number_of piv))))
-  ends one was opens same_context same_life same_clock same_next items =
+      → ClientAgrees after (Then h (Datagram now d) (Took (Deliver received (number_of piv))))
+  ends received own one was got same_context same_life same_clock same_next items =
       let a = was.agrees in
       let r = was.to in
       let (p, datagram, response, named) = was.answers.0 in
-      let said = receives (context h) r.number d o (opens (context h) r.number d was.decrypts) in
-      let head : r.token ≡ (received_of o).token = sym named ∙ sym (said.token ∙ ap (λ (q : Parts). q.token) (one said.outer p d said.datagram datagram)) in
+      let head : r.token ≡ received.token = sym named ∙ sym (got.token ∙ ap (λ (q : Parts). q.token) (one got.outer p d got.datagram datagram)) in
       let table = removed c.pending.items place r r.token (subst TokensDiffer (sym a.table) a.differ) was.at_place refl in
       let left = ended h (max (clock h) now) r.token ∙ ap (λ t. alive (max (clock h) now) (life_ms h) (without t (asked h))) head in
       record {
-        context_is = ap (λ y. as_client (context_of y)) same_context ∙ a.context_is;
+        context_is = ap (λ z. as_client (context_of z)) same_context ∙ a.context_is;
         life_is = same_life ∙ a.life_is;
         clock_is = same_clock ∙ a.clock_is;
         next_is = same_next ∙ a.next_is;
@@ -97,36 +69,22 @@ module _ {N : ℕ} (c after : Client N) (h : History) (now place : ℕ) (d new :
         differ = subst TokensDiffer left (differ_filter (λ q. not (bytes_eq q.token r.token)) (pending_at h (max (clock h) now)) a.differ);
       }
 
-  -- what was decrypted and can be read is delivered
-  pub delivered : DatagramIsOneMessage → OneResponseReading → IsDecryptedFor h now d x place (number_of piv) new c → OpensResponseAfter new x o
+  -- what was decrypted and read is delivered
+  pub delivered : DatagramIsOneMessage → OneResponse → IsDecryptedFor h now d x place (number_of piv) new c → CanLendResponse new x y → AcceptsResponseAfter new x
       → after.context ≡ c.context → after.life_ms ≡ c.life_ms → after.clock ≡ c.clock → after.next ≡ c.next
       → after.pending.items ≡ remove c.pending.items place
-      → ClientDecidesTo h now d (decisions.Deliver x piv) new after
-  delivered one laws was opens same_context same_life same_clock same_next items =
+      → ClientDecidesTo h now d (decisions.Deliver y piv) new after
+  delivered one one_message was can accepts same_context same_life same_clock same_next items =
       let s = context h in
       let n = was.to.number in
-      let got = opens s n d was.decrypts in
+      let (own, m, protects) = accepts s n d was.decrypts in
+      let received = said (responses s n) own m d protects in
+      let got = receives_said (responses s n) own m d protects in
       record {
-        answer = Deliver (received_of o) (number_of piv);
-        row = (was.to, was.answers, (sym was.number_is, got.number, receives s n d o got));
-        decides = ((λ y q. opens_alike s n d o y laws got (q s n d was.decrypts)), refl);
-        agrees = ends one was opens same_context same_life same_clock same_next items;
-      }
-
-  -- the same, read at once
-  pub delivered_at_once : DatagramIsOneMessage → IsDecryptedFor h now d x place (number_of piv) new c → OpensResponseAfter new x o
-      → after.context ≡ c.context → after.life_ms ≡ c.life_ms → after.clock ≡ c.clock → after.next ≡ c.next
-      → after.pending.items ≡ remove c.pending.items place
-      → ClientTakes h now d (outcomes.Deliver o piv) after
-  delivered_at_once one was opens same_context same_life same_clock same_next items =
-      let s = context h in
-      let n = was.to.number in
-      let got = opens s n d was.decrypts in
-      record {
-        answer = Deliver (received_of o) (number_of piv);
-        row = (was.to, was.answers, (sym was.number_is, got.number, receives s n d o got));
-        shows = (refl, refl);
-        agrees = ends one was opens same_context same_life same_clock same_next items;
+        answer = Deliver received (number_of piv);
+        row = (was.to, was.answers, (sym was.number_is, own, got));
+        decides = ((x, can, (λ q opens. opened_said (responses s n) own m d protects one (one_message s n) q (opens s n d was.decrypts))), refl);
+        agrees = ends received own one was got same_context same_life same_clock same_next items;
       }
 
 -- what decryption leaves; old is the client before those were dropped whose time has passed

@@ -10,28 +10,27 @@ use Rattle.osc_context.specs.Views.{as_server, number_of}
 use Rattle.osc_window.specs.declared.gate.Gate.{Gate}
 use Rattle.osc_window.specs.declared.gate.Gate.TheVariants as gates
 use Rattle.osc_window.specs.Views.{takes}
-use Rattle.osc_protect.specs.Laws.{OneRequestReading}
-use Rattle.osc_protect.specs.Opening.{Opens}
-use Rattle.osc_protect.specs.StageViews.{DecryptsRequest, OpensRequestAfter, RefusesRequestAfter}
+use Rattle.osc_protect.specs.Laws.{OneRequest, OneRequestReading}
+use Rattle.osc_protect.specs.StageViews.{AcceptsRequestAfter, CanLendRequest, DecryptsRequest, RefusesRequestAfter}
 use Rattle.osc_protect.specs.Protection.{Protects, ProtectsRequest, requests}
 use Rattle.osc_protect.specs.Refusals.{RefusesPlaintext, RefusesTag}
 use Rattle.osc_protect.specs.Sealed.{SealsResponse}
-use Rattle.osc_protect.specs.Views.{context_of, message_of}
-use Rattle.osc_protect.specs.declared.opened.Opened.{Opened}
+use Rattle.osc_protect.specs.Views.{context_of}
 use Rattle.osc_protect.specs.declared.stages.DecryptedRequest.{DecryptedRequest}
+use Rattle.osc_protect.specs.declared.stages.ReadRequest.{ReadRequest}
 use Rattle.osc_endpoint.specs.declared.asker.Asker.{Asker}
 use Rattle.osc_endpoint.specs.declared.decision.Decision.TheVariants as decisions
 use Rattle.osc_endpoint.specs.declared.judging.Named.{Named}
 use Rattle.osc_endpoint.specs.declared.slot.Slot.{Slot}
 use Rattle.osc_endpoint.specs.Agrees.{GateAgrees, SlotAgrees}
-use Rattle.osc_endpoint.specs.Deciding.{IsOpenedIn, WasDecrypted}
-use Rattle.osc_endpoint.specs.Judging.{IsAskerOf, IsNamed, GatePasses, GateRefuses, JudgesTo, RefusesEcho}
+use Rattle.osc_endpoint.specs.Deciding.{IsOpenedIn}
+use Rattle.osc_endpoint.specs.Judging.{IsAskerOf, IsNamed, GatePasses, GateRefuses, JudgesTo, OfWhatWasRead, RefusesEcho}
 use Rattle.osc_endpoint.specs.Life.{Life, Mark, Delivered, Spoiled, Challenged, Passes, Carries, is_open, in_force, marked}
 use Rattle.osc_endpoint.specs.Received.{Receives}
 use Rattle.osc_endpoint.specs.Replies.{ErrorText, SaysError, as_reply, error_message, challenge_message, replay, bad_tag}
 use Rattle.osc_endpoint.specs.ServerAnswer.{IsReplay, SaysChallenge, challenge_given}
 use Rattle.osc_endpoint.specs.ServerHistory as server
-use Rattle.osc_endpoint.specs.Views.{received_of}
+use Rattle.osc_endpoint.proofs.Receiving.{said, receives_said, opened_said}
 
 -- the mark stands in the life of the very context
 pub marked_here : (s : Slot) (l : Life) (i : ℕ) (m : Mark) → SlotAgrees s (marked (Some m) l) → SlotAgrees s (marked (if i == i then Some m else None) l)
@@ -59,44 +58,17 @@ same_parts s t n k m d laws (head, has, names) protects = laws.named s t d head 
 pub named_number : (s : SecurityContext) (n k : ℕ) (m : InnerParts) (d : List ℕ) → OneRequestReading → IsNamed s n d → ProtectsRequest s k m d → k ≡ n
 named_number s n k m d laws named protects = sym (ap (λ v. unwrap_or v.piv 0) (same_parts s s n k m d laws named protects))
 
--- what is opened of one datagram is one thing
-pub opens_alike : (s : SecurityContext) (d : List ℕ) (o x : Opened) → OneRequestReading → Opens (requests s) d o → Opens (requests s) d x → received_of x ≡ received_of o
-opens_alike s d o x laws a b =
-    let one = laws.opened s in
-    let kind = one.kind d x o b a in
-    let message_id = one.message_id d x o b a in
-    let token = one.token d x o b a in
-    let uri_host = one.uri_host d x o b a in
-    let uri_port = one.uri_port d x o b a in
-    let number = one.number d x o b a in
-    let message = one.message d x o b a in
-    cc
-
--- what is read of a decrypted datagram is the message that it protects by the number that its head names
-pub receives : (s : SecurityContext) (n : ℕ) (d new : List ℕ) (x : DecryptedRequest) (o : Opened) → OneRequestReading
-    → IsNamed s n d → DecryptsRequest (requests s) d x new → OpensRequestAfter new x o → Receives (requests s) n d (received_of o)
-receives s n d new x o laws named decrypts opens =
-    let a = opens s d decrypts in
-    let same : a.number ≡ n = named_number s n a.number (message_of o) d laws named a.protects in
-    record {
-      number = a.number_is ∙ ap (λ k. ((requests s).parts k).piv) same;
-      protects = subst (λ k. Protects (requests s) k (message_of o) d) same a.protects;
-      outer = a.outer;
-      datagram = a.datagram;
-      kind = a.shows.kind;
-      message_id = a.shows.message_id;
-      token = a.shows.token;
-      uri_host = a.shows.uri_host;
-      uri_port = a.shows.uri_port;
-    }
+-- the message that a decrypted datagram protects, by the number that its head names
+pub protected : (s : SecurityContext) (n : ℕ) (d new : List ℕ) (x : DecryptedRequest) → OneRequestReading
+    → IsNamed s n d → DecryptsRequest (requests s) d x new → AcceptsRequestAfter new x → (m : InnerParts) × ProtectsRequest s n m d
+protected s n d new x laws named decrypts accepts =
+    let (k, m, protects) = accepts s d decrypts in
+    (m, subst (λ (j : ℕ). Protects (requests s) j m d) (named_number s n k m d laws named protects) protects)
 
 -- what decryption leaves
 pub opened_in : (slots : List (Option Slot)) (i : ℕ) (s : Slot) (d new : List ℕ) (x : DecryptedRequest) → slice_get slots i ≡ Some (Some s)
     → DecryptsRequest (requests (as_server (context_of s.context))) d x new → IsOpenedIn slots d new
 opened_in slots i s d new x at decrypts = (i, s, at, number_of x.number, x.len, decrypts)
-
-pub was_decrypted : (s : SecurityContext) (d new : List ℕ) (x : DecryptedRequest) (o : Opened) → DecryptsRequest (requests s) d x new → OpensRequestAfter new x o → WasDecrypted x new
-was_decrypted s d new x o decrypts opens = let a = opens s d decrypts in (s, d, a.number, message_of o, decrypts, a.protects)
 
 -- ---- the rows
 
@@ -147,34 +119,40 @@ spoiled l r d new x old slot a passes decrypts refuses agrees =
     }
 
 -- what a request is refused for that doesn't carry the value in force
-pub wants_echo : (l : Life) (r : Named) (d new : List ℕ) (x : DecryptedRequest) (o : Opened) (old : Slot) → OneRequestReading
-    → SlotAgrees old l → IsNamed (as_server (context_of old.context)) (number_of r.number) d → DecryptsRequest (requests (as_server (context_of old.context))) d x new → OpensRequestAfter new x o
-    → (is_open l ≡ false) × (Carries (in_force l r.clock) (message_of o) → ⊥) → RefusesEcho l r d
-wants_echo l r d new x o old laws a named decrypts opens closed =
-    let got = receives (as_server (context_of old.context)) (number_of r.number) d new x o laws named decrypts opens in
-    (closed.0, message_of o, subst (λ s. ProtectsRequest s (number_of r.number) (message_of o) d) a.context got.protects, closed.1)
+pub wants_echo : (l : Life) (r : Named) (d new : List ℕ) (x : DecryptedRequest) (y : ReadRequest) (old : Slot) → OneRequestReading
+    → SlotAgrees old l → IsNamed (as_server (context_of old.context)) (number_of r.number) d → DecryptsRequest (requests (as_server (context_of old.context))) d x new
+    → CanLendRequest new x y → AcceptsRequestAfter new x
+    → (is_open l ≡ false) × OfWhatWasRead new y (λ m. Carries (in_force l r.clock) m → ⊥) → RefusesEcho l r d
+wants_echo l r d new x y old laws a named decrypts can accepts closed =
+    let s = as_server (context_of old.context) in
+    let (m, protects) = protected s (number_of r.number) d new x laws named decrypts accepts in
+    (closed.0, m, subst (λ t. ProtectsRequest t (number_of r.number) m d) a.context protects, closed.1 x s d (number_of r.number) m can decrypts protects)
 
-pub delivered : (l : Life) (r : Named) (d new : List ℕ) (x : DecryptedRequest) (o : Opened) (life : ℕ) (old slot : Slot) → DatagramIsOneMessage → OneRequestReading
+pub delivered : (l : Life) (r : Named) (d new : List ℕ) (x : DecryptedRequest) (y : ReadRequest) (life : ℕ) (old slot : Slot) → DatagramIsOneMessage → OneRequest → OneRequestReading
     → SlotAgrees old l → GatePasses old.gate (number_of r.number) → IsNamed (as_server (context_of old.context)) (number_of r.number) d → IsAskerOf r.asker d
-    → DecryptsRequest (requests (as_server (context_of old.context))) d x new → OpensRequestAfter new x o
-    → (is_open l ≡ false → Carries (in_force l r.clock) (message_of o)) → life ≡ old.life
+    → DecryptsRequest (requests (as_server (context_of old.context))) d x new → CanLendRequest new x y → AcceptsRequestAfter new x
+    → (is_open l ≡ false → OfWhatWasRead new y (λ m. Carries (in_force l r.clock) m)) → life ≡ old.life
     → SlotAgrees slot (marked (Some (Delivered (number_of r.number))) l)
-    → JudgesTo l r d (record { decision = decisions.Deliver x (record { context = r.index; life = life; number = r.number; asker = r.asker }); reply = 0 }) new [] (Some slot)
-delivered l r d new x o life old slot one laws a passes named asker decrypts opens carries same agrees =
-    let got = receives (as_server (context_of old.context)) (number_of r.number) d new x o laws named decrypts opens in
+    → JudgesTo l r d (record { decision = decisions.Deliver y (record { context = r.index; life = life; number = r.number; asker = r.asker }); reply = 0 }) new [] (Some slot)
+delivered l r d new x y life old slot one one_message laws a passes named asker decrypts can accepts carries same agrees =
+    let s = as_server (context_of old.context) in
+    let n = number_of r.number in
+    let (m, protects) = protected s n d new x laws named decrypts accepts in
+    let received = said (requests s) n m d protects in
+    let got = receives_said (requests s) n m d protects in
     let outer : asker.0 ≡ got.outer = one asker.0 got.outer d asker.1 got.datagram in
     record {
-      answer = server.Deliver (received_of o) (record { context = r.index; life = life; number = number_of r.number; kind = r.asker.kind; message_id = r.asker.message_id; token = r.asker.token.items });
+      answer = server.Deliver received (record { context = r.index; life = life; number = n; kind = r.asker.kind; message_id = r.asker.message_id; token = r.asker.token.items });
       row = (
         (
-          subst (λ s. Receives (requests s) (number_of r.number) d (received_of o)) a.context got,
-          (gate_passes old.gate l (number_of r.number) a.gate passes, carries),
+          subst (λ t. Receives (requests t) n d received) a.context got,
+          (gate_passes old.gate l n a.gate passes, (λ closed. carries closed x s d n m can decrypts protects)),
           (let k = got.kind in let i = got.message_id in let t = got.token in let p = asker.2 in let q = asker.3 in let u = asker.4 in let c : life ≡ l.count = same ∙ a.life in cc),
         ),
         refl,
       );
-      decides = ((λ q h. opens_alike (as_server (context_of old.context)) d o q laws (opens (as_server (context_of old.context)) d decrypts) (h (as_server (context_of old.context)) d decrypts)), refl);
-      agrees = marked_here slot l r.index (Delivered (number_of r.number)) agrees;
+      decides = ((x, can, (λ q h. opened_said (requests s) n m d protects one (one_message s) q (h s d decrypts))), refl);
+      agrees = marked_here slot l r.index (Delivered n) agrees;
     }
 
 pub replayed : (l : Life) (r : Named) (d reply : List ℕ) (len : ℕ) (slot : Slot) → SlotAgrees slot l → GateRefuses slot.gate (number_of r.number) → IsAskerOf r.asker d

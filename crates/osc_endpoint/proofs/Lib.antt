@@ -1,5 +1,7 @@
 pub mod Lives
 pub mod ChallengeLengths
+pub mod Receiving
+pub mod Showing
 pub mod Judgments
 pub mod Places
 pub mod Finding

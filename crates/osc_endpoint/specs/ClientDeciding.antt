@@ -1,15 +1,14 @@
 -- How the code is seen: what a client decides of a datagram before it lends slices of it. h is a history, c the client, d the
 -- datagram as it came, new what was left of it.
 use Rattle.std.specs.Prelude.{◌≡◌, ℕ, List, Contains, Option, Some, map, max, slice_get}
-use Rattle.osc_coap.specs.Inner.{InnerParts}
-use Rattle.osc_context.specs.SecurityContext.{SecurityContext}
 use Rattle.osc_context.specs.Views.{as_client, number_of}
-use Rattle.osc_protect.specs.Protection.{ProtectsResponse, responses}
+use Rattle.osc_protect.specs.Protection.{responses}
 use Rattle.osc_protect.specs.Stages.{Decrypts}
-use Rattle.osc_protect.specs.StageViews.{DecryptsResponse, FitsResponse, OpensResponseAfter}
+use Rattle.osc_protect.specs.StageViews.{CanLendResponse, DecryptsResponse, OpensResponseAfter}
 use Rattle.osc_protect.specs.Views.{context_of}
 use Rattle.osc_protect.specs.declared.opened.Opened.{Opened}
 use Rattle.osc_protect.specs.declared.stages.DecryptedResponse.{DecryptedResponse}
+use Rattle.osc_protect.specs.declared.stages.ReadResponse.{ReadResponse}
 use Rattle.osc_endpoint.specs.declared.client.Client.{Client}
 use Rattle.osc_endpoint.specs.declared.client_outcome.ClientOutcome.{ClientOutcome}
 use Rattle.osc_endpoint.specs.declared.decision.ClientDecision.{ClientDecision}
@@ -20,18 +19,13 @@ use Rattle.osc_endpoint.specs.ClientHistory as client
 use Rattle.osc_endpoint.specs.Received.{Received}
 use Rattle.osc_endpoint.specs.Views.{ClientShows, asked_of, received_of}
 
--- the datagram was decrypted to the new one, and protects some message (RFC 8613, 8.4)
-abbrev pub WasDecrypted : DecryptedResponse → List ℕ → Type 0
-WasDecrypted x new = (s : SecurityContext) × (n : ℕ) × (d : List ℕ) × (own : Option ℕ) × (m : InnerParts)
-    × DecryptsResponse (responses s n) d x new × ProtectsResponse s n own m d
-
--- what is read says this (RFC 8613, 8.4)
-abbrev pub ReadsAs : DecryptedResponse → List ℕ → Received → Type 0
-ReadsAs x new r = (o : Opened) → OpensResponseAfter new x o → received_of o ≡ r
+-- what was read of the datagram that was left says this (RFC 8613, 8.4)
+abbrev pub ReadsAs : ReadResponse → List ℕ → Received → Type 0
+ReadsAs x new r = (of : DecryptedResponse) × CanLendResponse new of x × ((o : Opened) → OpensResponseAfter new of o → received_of o ≡ r)
 
 -- what was decided can be shown from the datagram that was left (how the code is seen)
 abbrev pub CanShow : ClientDecision → List ℕ → Type 0
-CanShow (decisions.Deliver x number) new = FitsResponse new x × WasDecrypted x new
+CanShow (decisions.Deliver x number) new = (of : DecryptedResponse) × CanLendResponse new of x
 CanShow decision new = Unit {0}
 
 -- what was decided is this answer, the delivered message as it can be read from the datagram that was left (how the code is seen)

@@ -1,15 +1,14 @@
 -- How the code is seen: what a server decides of a datagram before it lends slices of it. h is a history, slots are the places of
 -- the table, d is the datagram as it came, new what was left of it.
 use Rattle.std.specs.Prelude.{◌≡◌, ℕ, List, Option, Some, slice_get}
-use Rattle.osc_coap.specs.Inner.{InnerParts}
-use Rattle.osc_context.specs.SecurityContext.{SecurityContext}
 use Rattle.osc_context.specs.Views.{as_server}
-use Rattle.osc_protect.specs.Protection.{ProtectsRequest, requests}
+use Rattle.osc_protect.specs.Protection.{requests}
 use Rattle.osc_protect.specs.Stages.{Decrypts}
-use Rattle.osc_protect.specs.StageViews.{DecryptsRequest, FitsRequest, OpensRequestAfter}
+use Rattle.osc_protect.specs.StageViews.{CanLendRequest, OpensRequestAfter}
 use Rattle.osc_protect.specs.Views.{context_of}
 use Rattle.osc_protect.specs.declared.opened.Opened.{Opened}
 use Rattle.osc_protect.specs.declared.stages.DecryptedRequest.{DecryptedRequest}
+use Rattle.osc_protect.specs.declared.stages.ReadRequest.{ReadRequest}
 use Rattle.osc_endpoint.specs.declared.decision.Decided.{Decided}
 use Rattle.osc_endpoint.specs.declared.decision.Decision.{Decision}
 use Rattle.osc_endpoint.specs.declared.decision.Decision.TheVariants as decisions
@@ -23,17 +22,13 @@ use Rattle.osc_endpoint.specs.ServerAnswer.{ServerAnswer}
 use Rattle.osc_endpoint.specs.ServerHistory as server
 use Rattle.osc_endpoint.specs.Views.{Shows, received_of, values_of}
 
--- the datagram was decrypted to the new one, and protects some message (RFC 8613, 8.2)
-abbrev pub WasDecrypted : DecryptedRequest → List ℕ → Type 0
-WasDecrypted x new = (s : SecurityContext) × (d : List ℕ) × (n : ℕ) × (m : InnerParts) × DecryptsRequest (requests s) d x new × ProtectsRequest s n m d
-
--- what is read says this (RFC 8613, 8.2)
-abbrev pub ReadsAs : DecryptedRequest → List ℕ → Received → Type 0
-ReadsAs x new r = (o : Opened) → OpensRequestAfter new x o → received_of o ≡ r
+-- what was read of the datagram that was left says this (RFC 8613, 8.2)
+abbrev pub ReadsAs : ReadRequest → List ℕ → Received → Type 0
+ReadsAs x new r = (of : DecryptedRequest) × CanLendRequest new of x × ((o : Opened) → OpensRequestAfter new of o → received_of o ≡ r)
 
 -- what was decided can be shown from the datagram that was left (how the code is seen)
 abbrev pub CanShow : Decision → List ℕ → Type 0
-CanShow (decisions.Deliver x ticket) new = FitsRequest new x × WasDecrypted x new
+CanShow (decisions.Deliver x ticket) new = (of : DecryptedRequest) × CanLendRequest new of x
 CanShow decision new = Unit {0}
 
 -- what was decided is this answer, the delivered message as it can be read from the datagram that was left (how the code is seen)

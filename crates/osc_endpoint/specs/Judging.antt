@@ -2,16 +2,19 @@
 -- the context's present life, r the request, d the datagram as it came, new what was left of it.
 use Rattle.std.specs.Prelude.{◌≡◌, ℕ, List, [], Option, Some, None, IsTrue, false}
 use Rattle.osc_coap.specs.Datagram.{Parts, IsDatagram}
+use Rattle.osc_coap.specs.Inner.{InnerParts}
 use Rattle.osc_context.specs.SecurityContext.{SecurityContext}
 use Rattle.osc_context.specs.Views.{as_server, number_of}
 use Rattle.osc_window.specs.declared.gate.Gate.{Gate}
 use Rattle.osc_window.specs.declared.gate.Gate.TheVariants as gates
 use Rattle.osc_window.specs.Views.{takes}
 use Rattle.osc_protect.specs.Head.{Head, HasRequestHead}
-use Rattle.osc_protect.specs.Protection.{requests}
+use Rattle.osc_protect.specs.Protection.{ProtectsRequest, requests}
 use Rattle.osc_protect.specs.Refusals.{Names}
-use Rattle.osc_protect.specs.StageViews.{IsSealedRequest}
+use Rattle.osc_protect.specs.StageViews.{CanLendRequest, DecryptsRequest, IsSealedRequest}
 use Rattle.osc_protect.specs.Views.{context_of}
+use Rattle.osc_protect.specs.declared.stages.DecryptedRequest.{DecryptedRequest}
+use Rattle.osc_protect.specs.declared.stages.ReadRequest.{ReadRequest}
 use Rattle.osc_endpoint.specs.declared.asker.Asker.{Asker}
 use Rattle.osc_endpoint.specs.declared.judging.Named.{Named}
 use Rattle.osc_endpoint.specs.declared.decision.Decided.{Decided}
@@ -75,3 +78,8 @@ RefusesEcho l r d = WantsEcho l (number_of r.number) r.clock d
 abbrev pub IsNamedAt : Option Slot → Named → List ℕ → Type 0
 IsNamedAt None r d = ⊥
 IsNamedAt (Some s) r d = IsNamed (as_server (context_of s.context)) (number_of r.number) d × IsSealedRequest (requests (as_server (context_of s.context))) d r.sealed
+
+-- of each message that a datagram protects which was decrypted to this one, and read as the value, it holds (RFC 8613, 8.2)
+abbrev pub OfWhatWasRead : List ℕ → ReadRequest → (InnerParts → Type 0) → Type 0
+OfWhatWasRead new read holds = (x : DecryptedRequest) (s : SecurityContext) (d : List ℕ) (n : ℕ) (m : InnerParts) → CanLendRequest new x read
+    → DecryptsRequest (requests s) d x new → ProtectsRequest s n m d → holds m

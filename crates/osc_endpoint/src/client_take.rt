@@ -1,5 +1,5 @@
-//! What a client makes of a datagram: at once, or in two halves, of which the first decides, and says what it leaves in the
-//! datagram, and the second lends slices of it.
+//! What a client makes of a datagram: it decides, and says what it leaves in the datagram, of which what was decided lends
+//! slices.
 
 ghost use Rattle.std.specs.Prelude.{◌≡◌, ◌<◌, ℕ, Option, Some, IfOk, IfErr, OnOk};
 ghost use Rattle.arrayvec.specs.ArrayVec.{array_vec_len};
@@ -14,38 +14,37 @@ use crate::decision::ClientDecision;
 use crate::pending::{Found, drop_expired, find_request};
 use osc_coap::{one_datagram, parse};
 use osc_protect::{
-    DecryptedResponse, NoHead, RequestRef, ResponseHead, decrypt_response, one_reading,
-    one_response, read_response,
+    DecryptedResponse, NoHead, RequestRef, ResponseHead, decrypt_response, inspect_response,
+    one_response,
 };
 
-/// What a client decided, as its outcome. The datagram is as `Client::decide` left it, and
-/// the decision the one that it gave.
-#[must_use]
-pub fn read_client_decided(datagram: &[u8], decision: ClientDecision) -> ClientOutcome<'_>
-    requires { CanShow decision datagram.now }
-    ensures { (answer : Answer) → Decides decision datagram.now answer → ClientShows result answer }
-{
-    one_response();
-    match decision {
-        ClientDecision::Malformed(error) => ClientOutcome::Malformed(error),
-        ClientDecision::NotResponse => ClientOutcome::NotResponse,
-        ClientDecision::UnknownToken => ClientOutcome::UnknownToken,
-        ClientDecision::Unprotected => ClientOutcome::Unprotected,
-        ClientDecision::Undecodable => ClientOutcome::Undecodable,
-        ClientDecision::BadTag => ClientOutcome::BadTag,
-        ClientDecision::BadInner => ClientOutcome::BadInner,
-        ClientDecision::Deliver(decrypted, number) => match read_response(datagram, decrypted) {
-            Ok(opened) => ClientOutcome::Deliver(opened, number),
-            Err(_) => unreachable!(),
-        },
+impl ClientDecision {
+    /// What was decided, as an outcome, which lends slices of the datagram: that of `take`. The datagram is as `Client::decide`
+    /// left it, and the decision the one that it gave. Nothing is read anew.
+    #[must_use]
+    pub fn outcome(self, datagram: &[u8]) -> ClientOutcome<'_>
+        requires { CanShow self datagram.now }
+        ensures { (answer : Answer) → Decides self datagram.now answer → ClientShows result answer }
+    {
+        match self {
+            ClientDecision::Malformed(error) => ClientOutcome::Malformed(error),
+            ClientDecision::NotResponse => ClientOutcome::NotResponse,
+            ClientDecision::UnknownToken => ClientOutcome::UnknownToken,
+            ClientDecision::Unprotected => ClientOutcome::Unprotected,
+            ClientDecision::Undecodable => ClientOutcome::Undecodable,
+            ClientDecision::BadTag => ClientOutcome::BadTag,
+            ClientDecision::BadInner => ClientOutcome::BadInner,
+            ClientDecision::Deliver(read, number) => ClientOutcome::Deliver(
+                read.opened(datagram),
+                number,
+            ),
+        }
     }
 }
 
 impl<const N: usize> Client<N> {
     ghost use Rattle.osc_coap.specs.Inner.{InnerParts};
-    ghost use Rattle.osc_context.specs.SecurityContext.{SecurityContext};
-    ghost use Rattle.osc_protect.specs.Protection.{responses};
-    ghost use Rattle.osc_protect.specs.StageViews.{DecryptsResponse, FitsResponse};
+    ghost use Rattle.osc_protect.specs.StageViews.{FitsResponse};
     ghost use Rattle.osc_endpoint.specs.Agrees.{ClientAgrees, HasTokensApart};
     ghost use Rattle.osc_endpoint.specs.ClientAnswer.{Delivers};
     ghost use Rattle.osc_endpoint.specs.ClientDeciding.{ClientDecidesTo, ClientTakes, IsDecryptedFor, IsOpenedBy};
@@ -64,7 +63,6 @@ impl<const N: usize> Client<N> {
         ensures left { IfErr result (λ x. LeavesBy self.old x datagram.old datagram.new) }
         ensures answers { IfOk result (λ p. (h : History) → ClientAgrees self.old h
             → IsDecryptedFor h now datagram.old p.0 p.1.place (number_of p.1.number) datagram.new self.new) }
-        ensures decrypted { IfOk result (λ p. (s : SecurityContext) × (n : ℕ) × DecryptsResponse (responses s n) datagram.old p.0 datagram.new) }
         ensures opened { OnOk result (IsOpenedBy self.old datagram.old datagram.new) }
         ensures fits { IfOk result (λ p. FitsResponse datagram.new p.0) }
         ensures within { IfOk result (λ p. p.1.place < array_vec_len self.new.pending) }
@@ -97,7 +95,8 @@ impl<const N: usize> Client<N> {
         Ok((decrypted, found))
     }
 
-    /// Decides what a datagram is answered, as `take` does. All but the reading of a delivered message happens here.
+    /// Decides what a datagram is answered, where it lies (RFC 8613, 8.4), and says what it leaves in it. Apart from time, only a
+    /// delivery ends a pending request; the message ID isn't compared. `ClientDecision::outcome` lends what was delivered.
     pub fn decide(&mut self, now: u64, datagram: &mut [u8]) -> ClientDecision
         ensures answered { (h : History) → ClientAgrees self.old h → ClientDecidesTo h now datagram.old result datagram.new self.new }
         ensures shown { CanShow result datagram.new }
@@ -105,38 +104,20 @@ impl<const N: usize> Client<N> {
         ensures apart { HasTokensApart self.old → HasTokensApart self.new }
     {
         one_datagram();
-        one_reading();
+        one_response();
         let (decrypted, found) = match self.decrypt(now, datagram) {
             Ok(decrypted) => decrypted,
             Err(decision) => return decision,
         };
-        let Ok(_) = read_response(datagram, decrypted) else {
+        let Ok(read) = inspect_response(datagram, decrypted) else {
             return ClientDecision::BadInner;
         };
         let _answered = self.pending.remove(found.place);
-        ClientDecision::Deliver(decrypted, found.number)
+        ClientDecision::Deliver(read, found.number)
     }
 
-    /// As `take`, one stage after the other.
-    fn take_forward<'b>(&mut self, now: u64, datagram: &'b mut [u8]) -> ClientOutcome<'b>
-        ensures takes { (h : History) → ClientAgrees self.old h → ClientTakes h now datagram.old result self.new }
-        ensures apart { HasTokensApart self.old → HasTokensApart self.new }
-    {
-        one_datagram();
-        let (decrypted, found) = match self.decrypt(now, datagram) {
-            Ok(decrypted) => decrypted,
-            Err(decision) => return read_client_decided(datagram, decision),
-        };
-        let Ok(opened) = read_response(datagram, decrypted) else {
-            return ClientOutcome::BadInner;
-        };
-        let _delivered = self.pending.remove(found.place);
-        ClientOutcome::Deliver(opened, found.number)
-    }
-
-    /// Answers a datagram, where it lies (RFC 8613, 8.4), as `decide` and then `read_client_decided` do, but reads the plaintext
-    /// once. Those two say what the datagram holds afterwards. Apart from time, only a delivery ends a pending request; the
-    /// message ID isn't compared.
+    /// Answers a datagram, where it lies (RFC 8613, 8.4): `decide`, and what was decided as an outcome. What the datagram holds
+    /// afterwards is what `decide` says.
     pub fn take<'b>(&mut self, now: u64, datagram: &'b mut [u8]) -> ClientOutcome<'b>
         ensures answered { (h : History) → ClientAgrees self.old h → ClientTakes h now datagram.old result self.new }
         ensures delivered { (h : History) (n : ℕ) (own : Option ℕ) (m : InnerParts) → ClientAgrees self.old h
@@ -147,6 +128,7 @@ impl<const N: usize> Client<N> {
     {
         one_datagram();
         one_response();
-        self.take_forward(now, datagram)
+        let decision = self.decide(now, datagram);
+        decision.outcome(datagram)
     }
 }

@@ -3,9 +3,9 @@
 use crate::ticket::Ticket;
 use osc_coap::FormatError;
 use osc_context::Piv;
-use osc_protect::{DecryptedRequest, DecryptedResponse};
+use osc_protect::{ReadRequest, ReadResponse};
 
-/// What a server decided of a datagram: an outcome, but of a delivery where its plaintext lies.
+/// What a server decided of a datagram: an outcome, but of a delivery where the parts of its message lie.
 #[derive(Debug, Drop)]
 pub enum Decision {
     Malformed(FormatError),
@@ -18,7 +18,7 @@ pub enum Decision {
     BadInner,
     Challenge { echo: [u8; 8], issued: u64 },
     SequenceExhausted,
-    Deliver(DecryptedRequest, Ticket),
+    Deliver(ReadRequest, Ticket),
 }
 
 /// What a server decided, and how many bytes of reply stand at the front of `out`; none where it is 0.
@@ -28,7 +28,7 @@ pub struct Decided {
     pub reply: usize,
 }
 
-/// What a client decided of a datagram: an outcome, but of a delivery where its plaintext lies.
+/// What a client decided of a datagram: an outcome, but of a delivery where the parts of its message lie.
 #[derive(Debug, Drop)]
 pub enum ClientDecision {
     Malformed(FormatError),
@@ -38,5 +38,5 @@ pub enum ClientDecision {
     Undecodable,
     BadTag,
     BadInner,
-    Deliver(DecryptedResponse, Piv),
+    Deliver(ReadResponse, Piv),
 }

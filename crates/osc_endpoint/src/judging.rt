@@ -3,13 +3,13 @@
 ghost use Rattle.std.specs.Prelude.{◌≡◌, ◌≤◌, ℕ, List, Option, Some, slice_get, take, drop, true, false};
 ghost use Rattle.osc_endpoint.specs.Agrees.{SlotAgrees};
 ghost use Rattle.osc_endpoint.specs.Deciding.{CanShow, Leaves};
-ghost use Rattle.osc_endpoint.specs.Judging.{GatePasses, GateRefuses, IsAskerOf, JudgesTo};
-ghost use Rattle.osc_endpoint.specs.Life.{Life};
+ghost use Rattle.osc_endpoint.specs.Judging.{GatePasses, GateRefuses, IsAskerOf, JudgesTo, OfWhatWasRead};
+ghost use Rattle.osc_endpoint.specs.Life.{Carries, Life, in_force, is_open};
 ghost use Rattle.osc_endpoint.specs.declared.slot.Slot.{Slot};
 ghost use Rattle.osc_context.specs.Views.{as_server, number_of};
 ghost use Rattle.osc_window.specs.Views.{is_open as is_open_gate};
 ghost use Rattle.osc_protect.specs.Protection.{requests};
-ghost use Rattle.osc_protect.specs.StageViews.{DecryptsRequest, FitsRequest, IsSealedRequest};
+ghost use Rattle.osc_protect.specs.StageViews.{CanLendRequest, DecryptsRequest, FitsRequest, IsSealedRequest};
 ghost use Rattle.osc_protect.specs.Views.{context_of};
 
 use crate::asker::Asker;
@@ -21,7 +21,10 @@ use crate::start::Fresh;
 use crate::ticket::Ticket;
 use osc_coap::one_datagram;
 use osc_context::Piv;
-use osc_protect::{DecryptedRequest, SealedRequest, decrypt_request, one_reading, read_request};
+use osc_protect::{
+    DecryptedRequest, ReadRequest, SealedRequest, decrypt_request, inspect_request, one_reading,
+    one_request,
+};
 use osc_window::Gate;
 
 /// A request that names a context: its index, its number, what is handed in with it, whom a reply goes to, and what is to be
@@ -103,6 +106,22 @@ impl Slot {
         }
     }
 
+    /// Whether the gate is open, or the request that was read carries the challenge in force.
+    fn admits_read(&self, clock: u64, datagram: &[u8], read: ReadRequest) -> bool
+        requires { (x : DecryptedRequest) × CanLendRequest datagram.now x read }
+        ensures yes { result ≡ true → (l : Life) → SlotAgrees self.now l → is_open l ≡ false
+            → OfWhatWasRead datagram.now read (λ m. Carries (in_force l clock) m) }
+        ensures no { result ≡ false → (l : Life) → SlotAgrees self.now l → (is_open l ≡ false)
+            × OfWhatWasRead datagram.now read (λ m. Carries (in_force l clock) m → ⊥) }
+        ensures closed { result ≡ false → is_open_gate self.now.gate ≡ false }
+    {
+        one_request();
+        if self.gate.is_open() {
+            return true;
+        }
+        self.admits(clock, &read.opened(datagram))
+    }
+
     /// Answers a request that was decrypted.
     fn judge_opened(
         &mut self,
@@ -128,14 +147,15 @@ impl Slot {
     {
         one_datagram();
         one_reading();
-        let Ok(opened) = read_request(datagram, decrypted) else {
+        one_request();
+        let Ok(read) = inspect_request(datagram, decrypted) else {
             self.spoil(request.number);
             return Decided {
                 decision: Decision::BadInner,
                 reply: 0,
             };
         };
-        if !self.admits(request.clock, &opened) {
+        if !self.admits_read(request.clock, datagram, read) {
             return self.demand(&request, out);
         }
         self.deliver(request.number);
@@ -146,7 +166,7 @@ impl Slot {
             asker: request.asker,
         };
         Decided {
-            decision: Decision::Deliver(decrypted, ticket),
+            decision: Decision::Deliver(read, ticket),
             reply: 0,
         }
     }

@@ -37,7 +37,6 @@ pub use client::Client;
 pub use client_event::{ClientEntry, ClientEvent};
 pub use client_outcome::{ClientOutcome, RequestError};
 pub use client_run::{run_client, run_client_on};
-pub use client_take::read_client_decided;
 pub use decision::{ClientDecision, Decided, Decision};
 pub use headlines::{client_headline, client_rows, server_headline, server_rows};
 pub use laws::{
@@ -49,7 +48,6 @@ pub use server::Server;
 pub use server_error::{AddError, ReplyError, RestartError};
 pub use server_event::{Answering, Arrival, Seen, ServerEntry, ServerEvent};
 pub use server_run::{run_server, run_server_on};
-pub use server_take::read_decided;
 pub use start::{Fresh, Start};
 pub use ticket::Ticket;
 

@@ -1,9 +1,8 @@
-//! What a server makes of a datagram, in two halves. The first decides, and says what it leaves in the datagram; the second
-//! lends slices of it.
+//! What a server makes of a datagram: it decides, and says what it leaves in the datagram, of which what was decided lends
+//! slices.
 
 ghost use Rattle.std.specs.Prelude.{◌≡◌, ◌≢◌, ◌≤◌, ℕ, List, Option, Some, take, drop};
-ghost use Rattle.osc_protect.specs.StageViews.{FitsRequest, OpensRequestAfter};
-ghost use Rattle.osc_endpoint.specs.Deciding.{CanShow, Decides, Leaves, WasDecrypted};
+ghost use Rattle.osc_endpoint.specs.Deciding.{CanShow, Decides, Leaves};
 ghost use Rattle.osc_endpoint.specs.Heads.{head_answer, HeadReply};
 ghost use Rattle.osc_endpoint.specs.Judging.{IsAskerOf};
 ghost use Rattle.osc_endpoint.specs.declared.slot.Slot.{Slot};
@@ -23,9 +22,7 @@ use crate::outcome::{Outcome, Taken};
 use crate::server::Server;
 use crate::start::Fresh;
 use osc_coap::{one_datagram, parse};
-use osc_protect::{
-    DecryptedRequest, NoHead, Opened, RequestHead, one_head, one_reading, one_request, read_request,
-};
+use osc_protect::{NoHead, RequestHead, one_head, one_reading, one_request};
 
 /// Answers a message that has no head of a request.
 fn refuse_head(none: NoHead, asker: &Asker, mid: u16, out: &mut [u8; 64]) -> Decided
@@ -50,42 +47,28 @@ fn refuse_head(none: NoHead, asker: &Asker, mid: u16, out: &mut [u8; 64]) -> Dec
     Decided { decision, reply: 0 }
 }
 
-/// Reads a request that was delivered.
-fn read_delivered(datagram: &[u8], decrypted: DecryptedRequest) -> Opened<'_>
-    requires placed { FitsRequest datagram.now decrypted }
-    requires decrypted { WasDecrypted decrypted datagram.now }
-    ensures { OpensRequestAfter datagram.now decrypted result }
-{
-    one_request();
-    match read_request(datagram, decrypted) {
-        Ok(opened) => opened,
-        Err(_) => unreachable!(),
-    }
-}
-
-/// What a server decided, as its outcome: the second half of `Server::take`. The datagram is as `Server::decide` left it, and
-/// the decision the one that it gave.
-#[must_use]
-pub fn read_decided(datagram: &[u8], decision: Decision) -> Outcome<'_>
-    requires { CanShow decision datagram.now }
-    ensures shows { (answer : Answer) → Decides decision datagram.now answer → Shows result answer }
-    ensures no_keeper_failed { result ≢ KeeperFailed }
-{
-    match decision {
-        Decision::Malformed(error) => Outcome::Malformed(error),
-        Decision::NotRequest => Outcome::NotRequest,
-        Decision::Plain => Outcome::Plain,
-        Decision::Undecodable => Outcome::Undecodable,
-        Decision::NoContext => Outcome::NoContext,
-        Decision::Replay => Outcome::Replay,
-        Decision::BadTag => Outcome::BadTag,
-        Decision::BadInner => Outcome::BadInner,
-        Decision::Challenge { echo, issued } => Outcome::Challenge { echo, issued },
-        Decision::SequenceExhausted => Outcome::SequenceExhausted,
-        Decision::Deliver(decrypted, ticket) => Outcome::Deliver(
-            read_delivered(datagram, decrypted),
-            ticket,
-        ),
+impl Decision {
+    /// What was decided, as an outcome, which lends slices of the datagram: that of `take`. The datagram is as `Server::decide`
+    /// left it, and the decision the one that it gave. Nothing is read anew.
+    #[must_use]
+    pub fn outcome(self, datagram: &[u8]) -> Outcome<'_>
+        requires { CanShow self datagram.now }
+        ensures shows { (answer : Answer) → Decides self datagram.now answer → Shows result answer }
+        ensures no_keeper_failed { result ≢ KeeperFailed }
+    {
+        match self {
+            Decision::Malformed(error) => Outcome::Malformed(error),
+            Decision::NotRequest => Outcome::NotRequest,
+            Decision::Plain => Outcome::Plain,
+            Decision::Undecodable => Outcome::Undecodable,
+            Decision::NoContext => Outcome::NoContext,
+            Decision::Replay => Outcome::Replay,
+            Decision::BadTag => Outcome::BadTag,
+            Decision::BadInner => Outcome::BadInner,
+            Decision::Challenge { echo, issued } => Outcome::Challenge { echo, issued },
+            Decision::SequenceExhausted => Outcome::SequenceExhausted,
+            Decision::Deliver(read, ticket) => Outcome::Deliver(read.opened(datagram), ticket),
+        }
     }
 }
 
@@ -152,8 +135,8 @@ impl Server {
     ghost use Rattle.osc_endpoint.specs.Views.{delivery_of};
     ghost use Rattle.osc_coap.specs.Inner.{InnerParts};
 
-    /// Decides what a datagram is answered: the first half of `take`. All but the reading of a delivered message happens
-    /// here.
+    /// Decides what a datagram is answered, where it lies (RFC 8613, 8.2), and says what it leaves in it. The first `reply` bytes
+    /// of `out` are the reply; the rest of `out` stays. `Decision::outcome` lends what was delivered.
     pub fn decide(
         &mut self,
         now: u64,
@@ -171,8 +154,8 @@ impl Server {
         decide_over(&mut self.clock, &mut self.slots, now, fresh, datagram, out)
     }
 
-    /// Answers a datagram, where it lies (RFC 8613, 8.2): `decide`, then `read_decided`. The first `reply` bytes of `out` are the
-    /// reply; the rest of `out` stays. Those two say what the datagram holds afterwards.
+    /// Answers a datagram, where it lies (RFC 8613, 8.2): `decide`, and what was decided as an outcome. The first `reply` bytes of
+    /// `out` are the reply; the rest of `out` stays. What the datagram holds afterwards is what `decide` says.
     pub fn take<'b>(
         &mut self,
         now: u64,
@@ -194,7 +177,9 @@ impl Server {
         one_reading();
         one_request();
         let Decided { decision, reply } = self.decide(now, fresh, datagram, out);
-        let outcome = read_decided(datagram, decision);
-        Taken { outcome, reply }
+        Taken {
+            outcome: decision.outcome(datagram),
+            reply,
+        }
     }
 }

@@ -216,8 +216,8 @@ impl ClientHandle {
         Some(asked)
     }
 
-    /// Decides what a datagram is answered, as `take` does. All but the reading of a delivered message happens here. None where no
-    /// call can have written the bytes.
+    /// Decides what a datagram is answered, where it lies (RFC 8613, 8.4), and says what it leaves in it. None where no call can have
+    /// written the bytes. `ClientDecision::outcome` lends what was delivered.
     pub fn decide(&mut self, now: u64, datagram: &mut [u8]) -> Option<ClientDecision>
         ensures answered { IfSome result (λ decision. (h : History) → Asks self.old h
             → ClientDecidesIn h now datagram.old decision datagram.new self.new) }
@@ -238,8 +238,8 @@ impl ClientHandle {
         Some(decision)
     }
 
-    /// Answers a datagram, where it lies (RFC 8613, 8.4), as `decide` and then `read_client_decided` do, but reads the plaintext
-    /// once. Those two say what the datagram holds afterwards. None where no call can have written the bytes.
+    /// Answers a datagram, where it lies (RFC 8613, 8.4), or None where no call can have written the bytes: `decide`, and what was
+    /// decided as an outcome. What the datagram holds afterwards is what `decide` says.
     pub fn take<'b>(&mut self, now: u64, datagram: &'b mut [u8]) -> Option<ClientOutcome<'b>>
         ensures answered { IfSome result (λ outcome. (h : History) → Asks self.old h
             → ClientTakesIn h now datagram.old outcome self.new) }

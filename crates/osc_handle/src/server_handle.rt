@@ -27,7 +27,7 @@ use osc_context::Piv;
 use osc_endpoint::siblings::decide_over;
 use osc_endpoint::{
     AddError, Decided, Decision, Fresh, ReplyError, RestartError, Start, Taken, Ticket,
-    answered_once, read_decided,
+    answered_once,
 };
 use osc_window::WindowSize;
 
@@ -167,8 +167,8 @@ impl ServerHandle {
         Some(decided)
     }
 
-    /// Answers a datagram, where it lies (RFC 8613, 8.2), or None where the bytes are none that a call may have written: `decide`, then
-    /// `read_decided`. The first `reply` bytes of `out` are the reply.
+    /// Answers a datagram, where it lies (RFC 8613, 8.2), or None where the bytes are none that a call may have written: `decide`, and
+    /// what was decided as an outcome. The first `reply` bytes of `out` are the reply.
     pub fn take<'b>(
         &mut self,
         now: u64,
@@ -189,7 +189,7 @@ impl ServerHandle {
         let Some(Decided { decision, reply }) = self.decide(now, fresh, datagram, out) else {
             return None;
         };
-        let outcome = read_decided(datagram, decision);
+        let outcome = decision.outcome(datagram);
         Some(Taken { outcome, reply })
     }
 

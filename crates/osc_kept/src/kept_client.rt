@@ -134,7 +134,7 @@ impl<K: Keeper, const N: usize> KeptClient<K, N> {
         }
     }
 
-    /// Decides what a datagram is answered, as `Client::decide` does; `read_client_decided` shows it. No number is drawn.
+    /// Decides what a datagram is answered, as `Client::decide` does. No number is drawn.
     pub fn decide(&mut self, now: u64, datagram: &mut [u8]) -> ClientDecision
         ensures answered { (h : History) → IsKept self.old.client (upcoming (own_in self.old.source)) h
             → KeptDecides h now datagram.old result datagram.new (own_in self.old.source) self.new.client }

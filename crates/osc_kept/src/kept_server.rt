@@ -24,9 +24,7 @@ use crate::kept_error::{KeptError, lift};
 use crate::source::Source;
 use osc_coap::Message;
 use osc_context::{Context, Keeper, KeeperError};
-use osc_endpoint::{
-    Decided, Fresh, Outcome, ReplyError, Server, Start, Taken, Ticket, read_decided,
-};
+use osc_endpoint::{Decided, Fresh, Outcome, ReplyError, Server, Start, Taken, Ticket};
 use osc_window::WindowSize;
 
 /// A server of one context, and the keeper of its own numbers: it seals with drawn numbers alone, each of which the keeper
@@ -137,7 +135,7 @@ impl<K: Keeper> KeptServer<K> {
         Ok(decide_drawn(server, source, now, fresh, datagram, out))
     }
 
-    /// Answers a datagram, where it lies, as `Server::take` does: `decide`, then `read_decided`. KeeperFailed comes before all other
+    /// Answers a datagram, where it lies, as `Server::take` does: `decide`, and what was decided as an outcome. KeeperFailed comes before all other
     /// outcomes; then the clock alone has moved, and `out` and the datagram are as they were.
     pub fn take<'b>(
         &mut self,
@@ -160,7 +158,7 @@ impl<K: Keeper> KeptServer<K> {
     {
         match self.decide(now, fresh, datagram, out) {
             Ok(Decided { decision, reply }) => {
-                let outcome = read_decided(datagram, decision);
+                let outcome = decision.outcome(datagram);
                 Taken { outcome, reply }
             }
             Err(KeeperError) => Taken {

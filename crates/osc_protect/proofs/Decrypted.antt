@@ -1,5 +1,5 @@
 -- Decrypting the payload where it lies.
-use Rattle.std.proofs.Common.{◌≡◌, ◌≢◌, ℕ, ◌+◌, ◌-◌, ◌<◌, ◌≤◌, List, ◌++◌, length, take, drop, refl, sym, ap, subst, ◌∙◌, arith, get_or, length-take, take-append-drop, Option, Some, None, IfSome, IfNone, Result, Ok, Err, IfOk, IsOk, IsErr, OnErr}
+use Rattle.std.proofs.Common.{◌≡◌, ◌≢◌, ℕ, ◌+◌, ◌-◌, ◌<◌, ◌≤◌, List, [], ◌++◌, length, take, drop, refl, sym, ap, subst, ◌∙◌, arith, get_or, length-take, take-append-drop, Option, Some, None, IfSome, IfNone, Result, Ok, Err, IfOk, IsOk, IsErr, OnErr}
 use Rattle.std.proofs.lemmas.List.{get_or-append_right}
 use Rattle.std.proofs.lemmas.List.Elements.{All-from_get_or}
 use borrow.Rule.Slice.PartMut.{put_mid, mid_of}
@@ -34,6 +34,15 @@ part_is last p d len x =
     mid_last (length d - len) d
     ∙ ap (λ (n : ℕ). drop (length d - n) d) x.long
     ∙ (last p d x.datagram x.filled).1
+
+-- the plaintext lies in front of the tag
+pub front_is : (last : PayloadIsTheEnd) (p : Parts) (d : List ℕ) (len start : ℕ) → IsDatagram p d → len + 8 ≡ length p.payload → start ≡ length d - (len + 8) → take (start + len - start) (drop start d) ≡ take len p.payload
+front_is last p d len start h room e =
+    let some : p.payload ≢ [] = λ z. let none : length p.payload ≡ 0 = ap length z in omega (arith, none, room) in
+    let ends : drop (length d - length p.payload) d ≡ p.payload = (last p d h some).1 in
+    let n : start + len - start ≡ len = omega arith in
+    let at : start ≡ length d - length p.payload = e ∙ ap (λ (k : ℕ). length d - k) room in
+    ap (λ (k : ℕ). take k (drop start d)) n ∙ ap (λ (k : ℕ). take len (drop k d)) at ∙ ap (take len) ends
 
 -- and lies within it
 pub part_within : (last : PayloadIsTheEnd) (p : Parts) (d : List ℕ) (len : ℕ) → HasPayload p d len → len ≤ length d

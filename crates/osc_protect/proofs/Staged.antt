@@ -1,5 +1,5 @@
 -- The stages of opening together: what is read after decrypting is what the datagram protects.
-use Rattle.std.proofs.Common.{◌≡◌, ℕ, List, ◌++◌, length, take, drop, refl, sym, ap, subst, ◌∙◌, option_map, Option, Result, Ok, Err, IfOk, IfErr, IsErr, IsOkAnd, IsErrOf, OnErr}
+use Rattle.std.proofs.Common.{◌≡◌, ℕ, List, true, false, ◌++◌, length, take, drop, refl, sym, ap, subst, ◌∙◌, option_map, Option, Result, Ok, Err, IfOk, IfErr, IsErr, IsOk, IsOkAnd, IsErrOf, OnErr, OnOk}
 use Rattle.std.proofs.lemmas.List.{take_at}
 use Rattle.osc_coap.specs.Datagram.{Parts, IsDatagram}
 use Rattle.osc_coap.specs.Inner.{InnerParts, IsInner}
@@ -11,7 +11,10 @@ use Rattle.osc_protect.specs.Protection.{Protection, Protects}
 use Rattle.osc_protect.specs.Refusals.{IsBadInner, RefusesPlaintext, RefusesToOpen}
 use Rattle.osc_protect.specs.Views.{message_of, opened_number}
 use Rattle.osc_protect.specs.Opening.{ShowsOuter, Opens}
-use Rattle.osc_protect.specs.Stages.{Decrypts}
+use Rattle.osc_coap.specs.Search.{has_number}
+use Rattle.osc_protect.specs.OptionSets.{is_barred}
+use Rattle.osc_protect.specs.Usage.{is_code_of}
+use Rattle.osc_protect.specs.Stages.{Decrypts, HasPlaintext}
 use Rattle.osc_protect.specs.Halves.{ReadsInner, RefusesInner}
 use Rattle.osc_protect.specs.Laws.{OneMessage}
 use Rattle.osc_protect.specs.declared.opened.Opened.{Opened}
@@ -38,30 +41,36 @@ module _ {I : Type 0} (one : DatagramIsOneMessage) (f : Protection I) (old new :
       let j : ShowsOuter after o = subst (λ (p : Parts). ShowsOuter p o) (one q after new h it.left) k in
       record { kind = j.kind; message_id = j.message_id; token = j.token; uri_host = j.uri_host; uri_port = j.uri_port }
 
+  -- what was read of the plaintext is what the old datagram protected
+  protects_inner : (q : Parts) (m : InnerParts) → IsDatagram q new → IsInner m (take len q.payload) → is_code_of f.usage m.code ≡ true → has_number is_barred m.options ≡ false → Protects f i m old
+  protects_inner q m h spells code allowed = record {
+    outer = it.outer;
+    datagram = it.datagram;
+    used = it.shows.used;
+    value = it.shows.value;
+    single = it.shows.single;
+    reads = subst (λ (v : OscoreParts). IsOscoreValue v it.shows.value) it.names it.shows.reads;
+    direct = it.shows.direct;
+    code = code;
+    allowed = allowed;
+    plaintext = it.plaintext;
+    spells = subst (λ (b : List ℕ). IsInner m b) (front q h) spells;
+    sealed = sym it.shows.payload ∙ it.seals;
+  }
+
+  -- so is a plaintext whose own payload has a known length
+  pub holds_protected : (k n : ℕ) → k ≡ len → (h : HasPlaintext f.usage new k n) → Protects f i h.inner old
+  holds_protected k n e h = protects_inner h.outer h.inner h.datagram (subst (λ (j : ℕ). IsInner h.inner (take j h.outer.payload)) e h.spells) h.code h.allowed
+
   pub reads_open : (number : Option Piv) → option_map number_of number ≡ (f.parts i).piv → (o : Opened) → ReadsInner f.usage new number len o → Opens f old o
-  reads_open number is o r =
-      let inner : IsInner (message_of o) it.plaintext = subst (λ (m : List ℕ). IsInner (message_of o) m) (front r.outer r.datagram) r.spells in
-      record {
-        number = i;
-        number_is = ap (option_map number_of) r.piv ∙ is;
-        protects = record {
-          outer = it.outer;
-          datagram = it.datagram;
-          used = it.shows.used;
-          value = it.shows.value;
-          single = it.shows.single;
-          reads = subst (λ (v : OscoreParts). IsOscoreValue v it.shows.value) it.names it.shows.reads;
-          direct = it.shows.direct;
-          code = r.code;
-          allowed = r.allowed;
-          plaintext = it.plaintext;
-          spells = inner;
-          sealed = sym it.shows.payload ∙ it.seals;
-        };
-        outer = it.outer;
-        datagram = it.datagram;
-        shows = same_outer r.outer o r.datagram r.shows;
-      }
+  reads_open number is o r = record {
+    number = i;
+    number_is = ap (option_map number_of) r.piv ∙ is;
+    protects = protects_inner r.outer (message_of o) r.datagram r.spells r.code r.allowed;
+    outer = it.outer;
+    datagram = it.datagram;
+    shows = same_outer r.outer o r.datagram r.shows;
+  }
 
   pub refuses_open : RefusesInner f.usage new len → RefusesPlaintext f old
   refuses_open h =
@@ -72,6 +81,10 @@ module _ {I : Type 0} (one : DatagramIsOneMessage) (f : Protection I) (old new :
 pub when_ok : {X E : Type 0} {P Q : X → Type 0} (r : Result X E) → ((x : X) → P x → Q x) → IfOk r P → IfOk r Q
 when_ok (Ok x) f h = f x h
 when_ok (Err e) f h = h
+
+pub when_accepted : {X E : Type 0} {P Q : Type 0} (r : Result X E) → (P → Q) → OnOk r P → OnOk r Q
+when_accepted (Ok x) f h = f h
+when_accepted (Err e) f h = h
 
 pub when_err : {X E : Type 0} {P Q : Type 0} (r : Result X E) → (P → Q) → OnErr r P → OnErr r Q
 when_err (Ok x) f h = h
@@ -102,3 +115,12 @@ module _ {I : Type 0} (f : Protection I) (laws : OneMessage f) (d : List ℕ) wh
   pub exactly_read : (r : Result Opened BadInner) → IfOk r (λ o. Opens f d o) → OnErr r (RefusesPlaintext f d) → RefusesPlaintext f d → IsErr r
   exactly_read (Ok o) h k y = absurd (laws.never_both d h.number (message_of o) Inner h.protects y)
   exactly_read (Err e) h k y = refl
+
+  -- the same of what is read and borrows nothing
+  pub accepts_read : {X : Type 0} (r : Result X BadInner) → OnErr r (RefusesPlaintext f d) → (i : I) (m : InnerParts) → Protects f i m d → IsOk r
+  accepts_read (Ok x) k i m y = refl
+  accepts_read (Err e) k i m y = absurd (laws.never_both d i m Inner y k)
+
+  pub refuses_read : {X : Type 0} (r : Result X BadInner) → OnOk r ((i : I) × (m : InnerParts) × Protects f i m d) → RefusesPlaintext f d → IsErr r
+  refuses_read (Ok x) h y = absurd (laws.never_both d (h.0) (h.1) Inner h.2 y)
+  refuses_read (Err e) h y = refl

@@ -1,18 +1,22 @@
 -- How the code is seen: the values that the stages of opening hand on. s is a security context, n a request's number, d,
 -- old and new are datagrams, o is what was opened.
-use Rattle.std.specs.Prelude.{ℕ, List, Option}
+use Rattle.std.specs.Prelude.{◌≡◌, ℕ, List, Option}
 use Rattle.std.specs.Option.{option_map}
+use Rattle.osc_coap.specs.Inner.{InnerParts}
 use Rattle.osc_context.specs.SecurityContext.{SecurityContext}
 use Rattle.osc_context.specs.Views.{number_of}
-use Rattle.osc_protect.specs.Protection.{Protection, requests, responses}
+use Rattle.osc_protect.specs.Protection.{Protection, ProtectsRequest, ProtectsResponse, requests, responses}
 use Rattle.osc_protect.specs.Refusals.{RefusesPlaintext}
 use Rattle.osc_protect.specs.Opening.{Opens}
-use Rattle.osc_protect.specs.Stages.{Decrypts, HasPayloadOf, HasSealed}
+use Rattle.osc_protect.specs.Stages.{Decrypts, HasPayloadOf, HasPlaintext, HasSealed}
 use Rattle.osc_protect.specs.declared.opened.Opened.{Opened}
 use Rattle.osc_protect.specs.declared.stages.DecryptedRequest.{DecryptedRequest}
 use Rattle.osc_protect.specs.declared.stages.DecryptedResponse.{DecryptedResponse}
+use Rattle.osc_protect.specs.declared.stages.ReadRequest.{ReadRequest}
+use Rattle.osc_protect.specs.declared.stages.ReadResponse.{ReadResponse}
 use Rattle.osc_protect.specs.declared.stages.SealedRequest.{SealedRequest}
 use Rattle.osc_protect.specs.declared.stages.SealedResponse.{SealedResponse}
+use Rattle.osc_protect.specs.declared.usage.Usage.TheVariants.{Request, Response}
 
 -- the value is of the datagram's head, which names the context (how the code is seen)
 abbrev pub IsSealedRequest : Protection ℕ → List ℕ → SealedRequest → Type 0
@@ -30,7 +34,7 @@ DecryptsRequest f old x new = Decrypts f old (number_of x.number) x.len new
 abbrev pub DecryptsResponse : Protection (Option ℕ) → List ℕ → DecryptedResponse → List ℕ → Type 0
 DecryptsResponse f old x new = Decrypts f old (option_map number_of x.number) x.len new
 
--- the datagram's payload has room for the plaintext of the value (how the code is seen)
+-- the datagram's payload is the plaintext of the value and a tag (how the code is seen)
 abbrev pub FitsRequest : List ℕ → DecryptedRequest → Type 0
 FitsRequest d x = HasPayloadOf d x.len
 
@@ -42,6 +46,10 @@ FitsResponse d x = HasPayloadOf d x.len
 abbrev pub OpensRequestAfter : List ℕ → DecryptedRequest → Opened → Type 0
 OpensRequestAfter new x o = (s : SecurityContext) (old : List ℕ) → DecryptsRequest (requests s) old x new → Opens (requests s) old o
 
+-- each datagram that was decrypted to this one, as a request, protects a message (RFC 8613, 8.2)
+abbrev pub AcceptsRequestAfter : List ℕ → DecryptedRequest → Type 0
+AcceptsRequestAfter new x = (s : SecurityContext) (old : List ℕ) → DecryptsRequest (requests s) old x new → (n : ℕ) × (m : InnerParts) × ProtectsRequest s n m old
+
 -- each datagram that was decrypted to this one, as a request, protects a bad plaintext (RFC 8613, 8.2)
 abbrev pub RefusesRequestAfter : List ℕ → DecryptedRequest → Type 0
 RefusesRequestAfter new x = (s : SecurityContext) (old : List ℕ) → DecryptsRequest (requests s) old x new → RefusesPlaintext (requests s) old
@@ -50,6 +58,19 @@ RefusesRequestAfter new x = (s : SecurityContext) (old : List ℕ) → DecryptsR
 abbrev pub OpensResponseAfter : List ℕ → DecryptedResponse → Opened → Type 0
 OpensResponseAfter new x o = (s : SecurityContext) (n : ℕ) (old : List ℕ) → DecryptsResponse (responses s n) old x new → Opens (responses s n) old o
 
+-- each datagram that was decrypted to this one, as a response, protects a message (RFC 8613, 8.4)
+abbrev pub AcceptsResponseAfter : List ℕ → DecryptedResponse → Type 0
+AcceptsResponseAfter new x = (s : SecurityContext) (n : ℕ) (old : List ℕ) → DecryptsResponse (responses s n) old x new
+    → (own : Option ℕ) × (m : InnerParts) × ProtectsResponse s n own m old
+
 -- each datagram that was decrypted to this one, as a response, protects a bad plaintext (RFC 8613, 8.4)
 abbrev pub RefusesResponseAfter : List ℕ → DecryptedResponse → Type 0
 RefusesResponseAfter new x = (s : SecurityContext) (n : ℕ) (old : List ℕ) → DecryptsResponse (responses s n) old x new → RefusesPlaintext (responses s n) old
+
+-- the value was read of the datagram, which holds the good plaintext of the decrypted request (how the code is seen)
+abbrev pub CanLendRequest : List ℕ → DecryptedRequest → ReadRequest → Type 0
+CanLendRequest d x r = (r.number ≡ x.number) × (r.len ≡ x.len) × HasPlaintext Request d r.len r.payload_len
+
+-- the same of a response (how the code is seen)
+abbrev pub CanLendResponse : List ℕ → DecryptedResponse → ReadResponse → Type 0
+CanLendResponse d x r = (r.number ≡ x.number) × (r.len ≡ x.len) × HasPlaintext Response d r.len r.payload_len

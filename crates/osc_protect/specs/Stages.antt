@@ -1,10 +1,16 @@
 -- To be believed: what the stages of opening hand on, and what they leave (RFC 8613, 8.2 and 8.4). f is a protection, of
--- requests or of responses, i a number that it knows, len a number of bytes, d, old and new are datagrams.
-use Rattle.std.specs.Prelude.{◌≡◌, ◌≤◌, ◌++◌, ℕ, List, length, drop}
+-- requests or of responses, u a usage, i a number that it knows, len and n are numbers of bytes, d, old and new datagrams.
+use Rattle.std.specs.Prelude.{◌≡◌, ◌+◌, ◌++◌, ℕ, List, length, take, drop, true, false}
+use Rattle.osc_ccm.specs.Ccm.{tag_length}
 use Rattle.osc_coap.specs.Datagram.{Parts, IsDatagram}
+use Rattle.osc_coap.specs.Inner.{InnerParts, IsInner}
+use Rattle.osc_coap.specs.Search.{has_number}
 use Rattle.osc_protect.specs.Head.{Head, HasHead, ShowsHead}
 use Rattle.osc_protect.specs.Protection.{Protection}
 use Rattle.osc_protect.specs.Refusals.{Names}
+use Rattle.osc_protect.specs.OptionSets.{is_barred}
+use Rattle.osc_protect.specs.Usage.{is_code_of}
+use Rattle.osc_protect.specs.declared.usage.Usage.{Usage}
 
 -- the datagram's head names the context by the number, and its payload has this length (RFC 8613, 8.2 and 8.4)
 pub record HasSealed {I : Type 0} (f : Protection I) (d : List ℕ) (i : I) (len : ℕ) : Type 0 where
@@ -34,6 +40,17 @@ pub record Decrypts {I : Type 0} (f : Protection I) (old : List ℕ) (i : I) (le
 abbrev pub HoldsPlaintext : {I : Type 0} → Protection I → List ℕ → Type 0
 HoldsPlaintext {I} f d = (h : Head) × HasHead f.usage d h × (i : I) × Names f h i × (plaintext : List ℕ) × (h.payload ≡ f.cipher i plaintext)
 
--- the datagram's payload begins with as many bytes (RFC 8613, 8.2 and 8.4)
+-- the datagram's payload is as many bytes and a tag (RFC 8613, 8.2 and 8.4)
 abbrev pub HasPayloadOf : List ℕ → ℕ → Type 0
-HasPayloadOf d len = (p : Parts) × IsDatagram p d × (len ≤ length p.payload)
+HasPayloadOf d len = (p : Parts) × IsDatagram p d × (len + tag_length ≡ length p.payload)
+
+-- a good plaintext of this length lies at the payload's front, and its own payload has that length (RFC 8613, 8.2 and 8.4)
+pub record HasPlaintext (u : Usage) (d : List ℕ) (len n : ℕ) : Type 0 where
+  pub outer : Parts
+  pub datagram : IsDatagram outer d
+  pub room : len + tag_length ≡ length outer.payload
+  pub inner : InnerParts
+  pub spells : IsInner inner (take len outer.payload)
+  pub long : n ≡ length inner.payload
+  pub code : is_code_of u inner.code ≡ true
+  pub allowed : has_number is_barred inner.options ≡ false

@@ -115,6 +115,7 @@ impl<'a> Aead<'a> {
         requires { (p : Parts) × HasPayload p datagram.old len }
         ensures decrypted { (p : Parts) → HasPayload p datagram.old len
             → IfSome result (λ n. DecryptsPayload (cipher_of self.now) p n datagram.new) }
+        ensures long { IfSome result (λ n. n + tag_length ≡ len) }
         ensures refused { (p : Parts) → HasPayload p datagram.old len
             → IfNone result ((m : List ℕ) → p.payload ≢ cipher_of self.now m) }
         ensures unchanged { IfNone result (datagram.new ≡ datagram.old) }

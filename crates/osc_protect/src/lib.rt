@@ -51,11 +51,13 @@ pub use laws::{
 pub use opened::Opened;
 pub use opening::{open_request, open_response};
 pub use protect_error::ProtectError;
-pub use reading::{read_request, read_response};
+pub use reading::{inspect_request, inspect_response, read_request, read_response};
 pub use request_head::{RequestHead, head_of_request};
 pub use request_ref::RequestRef;
 pub use response_head::ResponseHead;
 pub use sealing::{seal_request, seal_response};
 pub use stage_error::{BadInner, BadTag};
-pub use stages::{DecryptedRequest, DecryptedResponse, SealedRequest, SealedResponse};
+pub use stages::{
+    DecryptedRequest, DecryptedResponse, ReadRequest, ReadResponse, SealedRequest, SealedResponse,
+};
 pub use unprotect_error::UnprotectError;

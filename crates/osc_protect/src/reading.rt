@@ -1,26 +1,81 @@
 //! The last stage of opening: the plaintext of a datagram that was decrypted is read, and slices of the datagram are lent
 //! (RFC 8613, 8.2 and 8.4). A bad plaintext is the one refusal.
 
-ghost use Rattle.std.specs.Prelude.{◌≡◌, ℕ, List, Option, Some, IfOk, IsErr, IsOkAnd, OnErr};
+ghost use Rattle.std.specs.Prelude.{◌≡◌, ℕ, List, Option, Some, IfOk, IsErr, IsOk, IsOkAnd, OnErr, OnOk};
 ghost use Rattle.osc_coap.specs.Inner.{InnerParts};
 ghost use Rattle.osc_context.specs.SecurityContext.{SecurityContext};
 ghost use Rattle.osc_context.specs.Views.{number_of};
 ghost use Rattle.osc_protect.specs.Halves.{ReadsInner, RefusesInner};
 ghost use Rattle.osc_protect.specs.Protection.{ProtectsRequest, ProtectsResponse, requests, responses};
 ghost use Rattle.osc_protect.specs.Refusals.{RefusesPlaintext};
-ghost use Rattle.osc_protect.specs.Stages.{HasPayloadOf};
-ghost use Rattle.osc_protect.specs.StageViews.{DecryptsRequest, DecryptsResponse, FitsRequest, FitsResponse, OpensRequestAfter, OpensResponseAfter, RefusesRequestAfter, RefusesResponseAfter};
+ghost use Rattle.osc_protect.specs.Stages.{HasPayloadOf, HasPlaintext};
+ghost use Rattle.osc_protect.specs.StageViews.{AcceptsRequestAfter, AcceptsResponseAfter, DecryptsRequest, DecryptsResponse, FitsRequest, FitsResponse, OpensRequestAfter, OpensResponseAfter, RefusesRequestAfter, RefusesResponseAfter, CanLendRequest, CanLendResponse};
 ghost use Rattle.osc_protect.specs.Views.{message_of, opened_number};
 
 use crate::laws::{one_request, one_response};
 use crate::opened::Opened;
 use crate::option_search::has_barred;
 use crate::stage_error::BadInner;
-use crate::stages::{DecryptedRequest, DecryptedResponse};
+use crate::stages::{DecryptedRequest, DecryptedResponse, ReadRequest, ReadResponse};
 use crate::usage::{Usage, is_code_of};
+use osc_ccm::TAG_LEN;
 use osc_coap::option_numbers::{URI_HOST, URI_PORT};
-use osc_coap::{one_datagram, parse, parse_inner};
+use osc_coap::{one_datagram, one_inner, parse_inner, parsed, parsed_inner, payload_stands_last};
 use osc_context::Piv;
+
+/// Reads a request that was decrypted, and borrows nothing: `ReadRequest::opened` lends what was read, without a second reading.
+/// The datagram is as `decrypt_request` left it, and the value the one that it gave (RFC 8613, 8.2).
+pub fn inspect_request(
+    datagram: &[u8],
+    decrypted: DecryptedRequest,
+) -> Result<ReadRequest, BadInner>
+    requires { FitsRequest datagram.now decrypted }
+    ensures placed { IfOk result (λ x. CanLendRequest datagram.now decrypted x) }
+    ensures accepted { OnOk result (AcceptsRequestAfter datagram.now decrypted) }
+    ensures accepts { (s : SecurityContext) (old : List ℕ) (n : ℕ) (m : InnerParts) → DecryptsRequest (requests s) old decrypted datagram.now
+        → ProtectsRequest s n m old → IsOk result }
+    ensures refused { OnErr result (RefusesRequestAfter datagram.now decrypted) }
+    ensures refuses { (s : SecurityContext) (old : List ℕ) → DecryptsRequest (requests s) old decrypted datagram.now
+        → RefusesPlaintext (requests s) old → IsErr result }
+{
+    one_request();
+    inspect_request_forward(datagram, decrypted)
+}
+
+/// Reads a request's plaintext.
+fn inspect_request_forward(
+    datagram: &[u8],
+    decrypted: DecryptedRequest,
+) -> Result<ReadRequest, BadInner>
+    requires { FitsRequest datagram.now decrypted }
+    ensures placed { IfOk result (λ x. CanLendRequest datagram.now decrypted x) }
+    ensures accepted { OnOk result (AcceptsRequestAfter datagram.now decrypted) }
+    ensures refused { OnErr result (RefusesRequestAfter datagram.now decrypted) }
+{
+    one_datagram();
+    let (number, len) = (decrypted.number, decrypted.len);
+    match inspect(Usage::Request, datagram, len) {
+        Ok(payload_len) => Ok(ReadRequest {
+            number,
+            len,
+            payload_len,
+        }),
+        Err(error) => Err(error),
+    }
+}
+
+impl ReadRequest {
+    /// The message, in slices of the datagram. The datagram is as it was when the value was read of it.
+    #[must_use]
+    pub fn opened(self, datagram: &[u8]) -> Opened<'_>
+        requires { (x : DecryptedRequest) × CanLendRequest datagram.now x self }
+        ensures { (x : DecryptedRequest) → CanLendRequest datagram.now x self → OpensRequestAfter datagram.now x result }
+    {
+        one_datagram();
+        let number = Some(self.number);
+        lend(Usage::Request, datagram, number, self.len, self.payload_len)
+    }
+}
 
 /// Reads a request that was decrypted. The datagram is as `decrypt_request` left it, and the value the one that it gave.
 pub fn read_request(datagram: &[u8], decrypted: DecryptedRequest) -> Result<Opened<'_>, BadInner>
@@ -34,6 +89,81 @@ pub fn read_request(datagram: &[u8], decrypted: DecryptedRequest) -> Result<Open
 {
     one_request();
     read_request_forward(datagram, decrypted)
+}
+
+/// Reads a request's plaintext, and lends slices of it.
+fn read_request_forward(
+    datagram: &[u8],
+    decrypted: DecryptedRequest,
+) -> Result<Opened<'_>, BadInner>
+    requires { FitsRequest datagram.now decrypted }
+    ensures opened { IfOk result (λ o. OpensRequestAfter datagram.now decrypted o) }
+    ensures refused { OnErr result (RefusesRequestAfter datagram.now decrypted) }
+{
+    match inspect_request_forward(datagram, decrypted) {
+        Ok(read) => Ok(read.opened(datagram)),
+        Err(error) => Err(error),
+    }
+}
+
+/// Reads a response that was decrypted, and borrows nothing: `ReadResponse::opened` lends what was read, without a second reading.
+/// The datagram is as `decrypt_response` left it, and the value the one that it gave (RFC 8613, 8.4).
+pub fn inspect_response(
+    datagram: &[u8],
+    decrypted: DecryptedResponse,
+) -> Result<ReadResponse, BadInner>
+    requires { FitsResponse datagram.now decrypted }
+    ensures placed { IfOk result (λ x. CanLendResponse datagram.now decrypted x) }
+    ensures accepted { OnOk result (AcceptsResponseAfter datagram.now decrypted) }
+    ensures accepts { (s : SecurityContext) (n : ℕ) (old : List ℕ) (own : Option ℕ) (m : InnerParts) → DecryptsResponse (responses s n) old decrypted datagram.now
+        → ProtectsResponse s n own m old → IsOk result }
+    ensures refused { OnErr result (RefusesResponseAfter datagram.now decrypted) }
+    ensures refuses { (s : SecurityContext) (n : ℕ) (old : List ℕ) → DecryptsResponse (responses s n) old decrypted datagram.now
+        → RefusesPlaintext (responses s n) old → IsErr result }
+{
+    one_response();
+    inspect_response_forward(datagram, decrypted)
+}
+
+/// Reads a response's plaintext.
+fn inspect_response_forward(
+    datagram: &[u8],
+    decrypted: DecryptedResponse,
+) -> Result<ReadResponse, BadInner>
+    requires { FitsResponse datagram.now decrypted }
+    ensures placed { IfOk result (λ x. CanLendResponse datagram.now decrypted x) }
+    ensures accepted { OnOk result (AcceptsResponseAfter datagram.now decrypted) }
+    ensures refused { OnErr result (RefusesResponseAfter datagram.now decrypted) }
+{
+    one_datagram();
+    let (number, len) = (decrypted.number, decrypted.len);
+    match inspect(Usage::Response, datagram, len) {
+        Ok(payload_len) => Ok(ReadResponse {
+            number,
+            len,
+            payload_len,
+        }),
+        Err(error) => Err(error),
+    }
+}
+
+impl ReadResponse {
+    /// The message, in slices of the datagram. The datagram is as it was when the value was read of it.
+    #[must_use]
+    pub fn opened(self, datagram: &[u8]) -> Opened<'_>
+        requires { (x : DecryptedResponse) × CanLendResponse datagram.now x self }
+        ensures { (x : DecryptedResponse) → CanLendResponse datagram.now x self → OpensResponseAfter datagram.now x result }
+    {
+        one_datagram();
+        let number = self.number;
+        lend(
+            Usage::Response,
+            datagram,
+            number,
+            self.len,
+            self.payload_len,
+        )
+    }
 }
 
 /// Reads a response that was decrypted. The datagram is as `decrypt_response` left it, and the value the one that it gave.
@@ -50,21 +180,7 @@ pub fn read_response(datagram: &[u8], decrypted: DecryptedResponse) -> Result<Op
     read_response_forward(datagram, decrypted)
 }
 
-/// Reads a request's plaintext.
-fn read_request_forward(
-    datagram: &[u8],
-    decrypted: DecryptedRequest,
-) -> Result<Opened<'_>, BadInner>
-    requires { FitsRequest datagram.now decrypted }
-    ensures opened { IfOk result (λ o. OpensRequestAfter datagram.now decrypted o) }
-    ensures refused { OnErr result (RefusesRequestAfter datagram.now decrypted) }
-{
-    one_datagram();
-    let number = Some(decrypted.number);
-    read_plaintext(Usage::Request, datagram, number, decrypted.len)
-}
-
-/// Reads a response's plaintext.
+/// Reads a response's plaintext, and lends slices of it.
 fn read_response_forward(
     datagram: &[u8],
     decrypted: DecryptedResponse,
@@ -73,28 +189,21 @@ fn read_response_forward(
     ensures opened { IfOk result (λ o. OpensResponseAfter datagram.now decrypted o) }
     ensures refused { OnErr result (RefusesResponseAfter datagram.now decrypted) }
 {
-    one_datagram();
-    let number = decrypted.number;
-    read_plaintext(Usage::Response, datagram, number, decrypted.len)
+    match inspect_response_forward(datagram, decrypted) {
+        Ok(read) => Ok(read.opened(datagram)),
+        Err(error) => Err(error),
+    }
 }
 
-/// Reads the plaintext of `len` bytes at the front of the payload.
-fn read_plaintext(
-    usage: Usage,
-    datagram: &[u8],
-    number: Option<Piv>,
-    len: usize,
-) -> Result<Opened<'_>, BadInner>
+/// Reads the plaintext of `len` bytes at the front of the payload, and answers the length of its own payload.
+fn inspect(usage: Usage, datagram: &[u8], len: usize) -> Result<usize, BadInner>
     requires { HasPayloadOf datagram.now len }
-    ensures read { IfOk result (λ o. ReadsInner usage datagram.now number len o) }
+    ensures accepted { IfOk result (λ n. HasPlaintext usage datagram.now len n) }
     ensures refused { OnErr result (RefusesInner usage datagram.now len) }
 {
-    one_datagram();
-    let Ok(message) = parse(datagram) else {
-        unreachable!()
-    };
-    let plaintext = &message.payload()[..len];
-    let Ok(inner) = parse_inner(plaintext) else {
+    payload_stands_last();
+    let start = datagram.len() - (len + TAG_LEN);
+    let Ok(inner) = parse_inner(&datagram[start..start + len]) else {
         return Err(BadInner);
     };
     if !is_code_of(usage, inner.code) {
@@ -103,7 +212,25 @@ fn read_plaintext(
     if has_barred(inner.options()) {
         return Err(BadInner);
     }
-    Ok(Opened {
+    Ok(inner.payload().len())
+}
+
+/// Lends the parts of a plaintext that was read.
+fn lend(
+    usage: Usage,
+    datagram: &[u8],
+    number: Option<Piv>,
+    len: usize,
+    payload_len: usize,
+) -> Opened<'_>
+    requires { HasPlaintext usage datagram.now len payload_len }
+    ensures { ReadsInner usage datagram.now number len result }
+{
+    one_datagram();
+    one_inner();
+    let message = parsed(datagram, len + TAG_LEN);
+    let inner = parsed_inner(&message.payload()[..len], payload_len);
+    Opened {
         kind: message.kind,
         message_id: message.message_id,
         uri_host: message.options().first(URI_HOST),
@@ -113,5 +240,5 @@ fn read_plaintext(
         payload: inner.payload(),
         piv: number,
         inner: inner.options(),
-    })
+    }
 }

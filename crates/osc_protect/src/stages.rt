@@ -30,3 +30,19 @@ pub struct DecryptedResponse {
     pub(crate) number: Option<Piv>,
     pub(crate) len: usize,
 }
+
+/// A request whose plaintext was read: `inspect_request` gives it. With the datagram it is the opened message.
+#[derive(Clone, Copy, Debug)]
+pub struct ReadRequest {
+    pub(crate) number: Piv,
+    pub(crate) len: usize,
+    pub(crate) payload_len: usize,
+}
+
+/// A response whose plaintext was read: `inspect_response` gives it. With the datagram it is the opened message.
+#[derive(Clone, Copy, Debug)]
+pub struct ReadResponse {
+    pub(crate) number: Option<Piv>,
+    pub(crate) len: usize,
+    pub(crate) payload_len: usize,
+}

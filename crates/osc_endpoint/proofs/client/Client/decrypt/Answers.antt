@@ -108,9 +108,6 @@ returns-clause-answers g c = λ h a.
       decrypts = in_history (λ f. DecryptsResponse f c.args.datagram.now c.in-Ok-decrypt_response.decrypted c.decrypt_response.new.datagram) (as_client (context_of c.args.self.now.context)) (context h) (request_number c.new-request.result) (number_of c.in-Some.found.number) r.number a.context_is c.new-request.ensures number c.in-Ok-decrypt_response.ensures.decrypted;
     }
 
-pub returns-clause-decrypted : goal.returns-clause-decrypted
-returns-clause-decrypted g c = (as_client (context_of c.args.self.now.context), request_number c.new-request.result, c.in-Ok-decrypt_response.ensures.decrypted)
-
 pub returns-clause-opened : goal.returns-clause-opened
 returns-clause-opened g c =
     let (r, has, token, number) = there c.as_slice.result.now c.drop_expired.new.pending.items _ _ c.as_slice-2.result.now _ c.as_slice.ensures.value c.as_slice-2.ensures.value c.in-Some.ensures.found in

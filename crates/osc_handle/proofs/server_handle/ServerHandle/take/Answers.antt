@@ -6,6 +6,6 @@ returns-clause-answered c = λ h serves.
     record {
       answer = s.answer;
       row = s.row;
-      shows = c.read_decided-outcome.ensures.shows s.answer s.decides;
+      shows = c.outcome-outcome.ensures.shows s.answer s.decides;
       serves = s.serves;
     }
