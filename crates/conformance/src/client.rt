@@ -8,9 +8,7 @@ use crate::fields::{Fields, NamedContext};
 use crate::steps::{FILLED_WITH, Step, number, steps_of};
 use osc_coap::parse;
 use osc_context::Piv;
-use osc_endpoint::{
-    Client, ClientEntry, ClientEvent, read_client_decided, run_client, run_client_on,
-};
+use osc_endpoint::{Client, ClientEntry, ClientEvent, run_client, run_client_on};
 use osc_protect::head_of_request;
 use std::alloc::Global;
 
@@ -72,7 +70,7 @@ fn take<'a, const N: usize>(
 ) -> ClientEntry<'a> {
     if in_halves {
         let decision = client.decide(now, bytes);
-        ClientEntry::Took(read_client_decided(bytes, decision))
+        ClientEntry::Took(decision.outcome(bytes))
     } else {
         ClientEntry::Took(client.take(now, bytes))
     }

@@ -7,7 +7,7 @@ use crate::client_steps::events_of;
 use crate::fields::{Fields, NamedContext};
 use crate::steps::{Step, number};
 use osc_coap::parse;
-use osc_endpoint::{ClientEntry, ClientEvent, read_client_decided};
+use osc_endpoint::{ClientEntry, ClientEvent};
 use osc_handle::{ClientHandle, ContextHandle};
 
 /// `CONTEXT ROOM NEXT LIFE`: a client, whose room is that for eight pending requests.
@@ -47,7 +47,7 @@ fn take<'a>(
 ) -> Option<ClientEntry<'a>> {
     if in_halves {
         let decision = client.decide(now, bytes)?;
-        Some(ClientEntry::Took(read_client_decided(bytes, decision)))
+        Some(ClientEntry::Took(decision.outcome(bytes)))
     } else {
         let outcome = client.take(now, bytes)?;
         Some(ClientEntry::Took(outcome))

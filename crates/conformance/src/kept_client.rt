@@ -9,7 +9,7 @@ use crate::kept::{KeptEnd, Way, show_restart};
 use crate::steps::{FILLED_WITH, Step};
 use osc_coap::parse;
 use osc_context::Context;
-use osc_endpoint::{ClientEntry, read_client_decided};
+use osc_endpoint::ClientEntry;
 use osc_kept::{
     KeptClient, KeptClientEntry, KeptClientEvent, KeptError, run_kept_client, run_kept_client_on,
 };
@@ -89,7 +89,7 @@ fn take<'a>(
 ) -> ClientEntry<'a> {
     if in_halves {
         let decision = client.decide(now, bytes);
-        ClientEntry::Took(read_client_decided(bytes, decision))
+        ClientEntry::Took(decision.outcome(bytes))
     } else {
         ClientEntry::Took(client.take(now, bytes))
     }

@@ -10,9 +10,7 @@ use crate::steps::Step;
 use osc_coap::parse;
 use osc_context::Context;
 use osc_endpoint::siblings::{put_back, take_out};
-use osc_endpoint::{
-    Answering, Arrival, Decided, Outcome, ServerEntry, Taken, Ticket, read_decided,
-};
+use osc_endpoint::{Answering, Arrival, Decided, Outcome, ServerEntry, Taken, Ticket};
 use osc_kept::{
     KeptError, KeptServer, KeptServerEntry, KeptServerEvent, run_kept_server, run_kept_server_on,
 };
@@ -68,7 +66,7 @@ fn take<'a>(
     } = arrival;
     let (outcome, reply) = if in_halves {
         match server.decide(*now, *fresh, bytes, out) {
-            Ok(Decided { decision, reply }) => (read_decided(bytes, decision), reply),
+            Ok(Decided { decision, reply }) => (decision.outcome(bytes), reply),
             Err(_) => (Outcome::KeeperFailed, 0),
         }
     } else {

@@ -12,8 +12,8 @@ use osc_context::Context;
 use osc_protect::{
     HeadError, KeyedContext, Opened, ProtectError, RequestHead, RequestRef, ResponseHead,
     SealedResponse, UnprotectError, check_request, check_response, decrypt_request,
-    decrypt_response, head_of_request, open_request, open_response, read_request, read_response,
-    seal_request, seal_response,
+    decrypt_response, head_of_request, inspect_request, inspect_response, open_request,
+    open_response, seal_request, seal_response,
 };
 
 /// What a buffer to seal into is filled with.
@@ -184,8 +184,8 @@ fn request_in_stages<'b>(
     let Ok(decrypted) = decrypt_request(context, datagram, sealed) else {
         return Err(UnprotectError::Tag);
     };
-    match read_request(datagram, decrypted) {
-        Ok(opened) => Ok(opened),
+    match inspect_request(datagram, decrypted) {
+        Ok(read) => Ok(read.opened(datagram)),
         Err(_) => Err(UnprotectError::Inner),
     }
 }
@@ -232,8 +232,8 @@ fn response_in_stages<'b>(
     let Ok(decrypted) = decrypt_response(context, request, datagram, sealed) else {
         return Err(UnprotectError::Tag);
     };
-    match read_response(datagram, decrypted) {
-        Ok(opened) => Ok(opened),
+    match inspect_response(datagram, decrypted) {
+        Ok(read) => Ok(read.opened(datagram)),
         Err(_) => Err(UnprotectError::Inner),
     }
 }

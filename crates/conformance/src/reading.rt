@@ -4,31 +4,50 @@ use crate::answer::Answer;
 use crate::fields::Fields;
 use osc_coap::option_numbers::*;
 use osc_coap::{
-    Class, class_of, head_len, is_request_code, is_response_code, option_len, parse, parse_inner,
+    Class, Inner, Message, class_of, head_len, is_request_code, is_response_code, option_len,
+    parse, parse_inner, parsed, parsed_inner,
 };
 
-pub(crate) fn parsed(fields: &Fields<'_>, answer: &mut Answer) {
+/// What a message says.
+fn message(message: &Message<'_>, answer: &mut Answer) {
+    answer.kind(message.kind);
+    answer.bytes(&message.message_id.to_be_bytes());
+    answer.bytes(message.token.as_slice());
+    answer.code(message.code);
+    answer.options(message.options());
+    answer.bytes(message.payload());
+}
+
+/// A datagram that is read, and taken apart once more by the length of its payload.
+pub(crate) fn read_datagram(fields: &Fields<'_>, answer: &mut Answer) {
     fields.count(1);
-    match parse(fields.bytes(0)) {
-        Ok(message) => {
-            answer.kind(message.kind);
-            answer.bytes(&message.message_id.to_be_bytes());
-            answer.bytes(message.token.as_slice());
-            answer.code(message.code);
-            answer.options(message.options());
-            answer.bytes(message.payload());
+    let datagram = fields.bytes(0);
+    match parse(datagram) {
+        Ok(read) => {
+            message(&read, answer);
+            answer.again();
+            message(&parsed(datagram, read.payload().len()), answer);
         }
         Err(refusal) => answer.refused(refusal),
     }
 }
 
-pub(crate) fn parsed_inner(fields: &Fields<'_>, answer: &mut Answer) {
+/// What a plaintext says.
+fn plaintext(inner: &Inner<'_>, answer: &mut Answer) {
+    answer.code(inner.code);
+    answer.options(inner.options());
+    answer.bytes(inner.payload());
+}
+
+/// A plaintext that is read, and taken apart once more by the length of its payload.
+pub(crate) fn read_plaintext(fields: &Fields<'_>, answer: &mut Answer) {
     fields.count(1);
-    match parse_inner(fields.bytes(0)) {
-        Ok(inner) => {
-            answer.code(inner.code);
-            answer.options(inner.options());
-            answer.bytes(inner.payload());
+    let bytes = fields.bytes(0);
+    match parse_inner(bytes) {
+        Ok(read) => {
+            plaintext(&read, answer);
+            answer.again();
+            plaintext(&parsed_inner(bytes, read.payload().len()), answer);
         }
         Err(refusal) => answer.refused(refusal),
     }

@@ -11,7 +11,7 @@ use osc_context::Context;
 use osc_endpoint::siblings::{put_back, take_out};
 use osc_endpoint::{
     AddError, Answering, Arrival, Decided, Server, ServerEntry, ServerEvent, Start, Taken, Ticket,
-    read_decided, run_server, run_server_on,
+    run_server, run_server_on,
 };
 use osc_window::WindowSize;
 use std::alloc::Global;
@@ -108,7 +108,7 @@ fn take_in_halves<'a>(
         out,
     } = arrival;
     let Decided { decision, reply } = server.decide(*now, *fresh, bytes, out);
-    let (seen, ticket) = read_decided(bytes, decision).part();
+    let (seen, ticket) = decision.outcome(bytes).part();
     let reply = &out[..reply];
     (ServerEntry::Took { seen, reply }, ticket)
 }

@@ -7,9 +7,7 @@ use crate::server_entry::show;
 use crate::server_steps::events_of;
 use crate::steps::Step;
 use osc_coap::parse;
-use osc_endpoint::{
-    Answering, Arrival, Decided, ServerEntry, ServerEvent, Taken, Ticket, read_decided,
-};
+use osc_endpoint::{Answering, Arrival, Decided, ServerEntry, ServerEvent, Taken, Ticket};
 use osc_handle::{ContextHandle, ReplyRefusal, ServerHandle, TicketHandle};
 
 /// The tickets of earlier events, as bytes. One whose reply was sealed is taken out.
@@ -52,7 +50,7 @@ fn take<'a>(
     } = arrival;
     let (outcome, reply) = if in_halves {
         let Decided { decision, reply } = server.decide(*now, *fresh, bytes, out)?;
-        (read_decided(bytes, decision), reply)
+        (decision.outcome(bytes), reply)
     } else {
         let Taken { outcome, reply } = server.take(*now, *fresh, bytes, out)?;
         (outcome, reply)

@@ -31,8 +31,8 @@ fn of_messages(
     answer: &mut Answer,
 ) {
     match verb {
-        "parse" => reading::parsed(fields, answer),
-        "parse-inner" => reading::parsed_inner(fields, answer),
+        "parse" => reading::read_datagram(fields, answer),
+        "parse-inner" => reading::read_plaintext(fields, answer),
         "head-length" => reading::head_length(fields, answer),
         "request-or-response" => reading::usage(fields, answer),
         "code" => reading::code_usage(fields, answer),
