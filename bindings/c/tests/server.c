@@ -62,8 +62,17 @@ static bool same(const oscore_server *a, const oscore_server *b) {
     return same;
 }
 
+/* Whether only the payload of `datagram` was touched, and not its tag; a datagram that wasn't decrypted is as it was. */
+static bool is_left(uint32_t status, size_t len, const uint8_t *before) {
+    bool decrypted = status == OSCORE_DONE || status == OSCORE_INNER || status == OSCORE_CHALLENGE || status == OSCORE_SEQUENCE_EXHAUSTED;
+    if (!decrypted) return !memcmp(datagram, before, sizeof datagram);
+    return memcmp(datagram, before, len) && !memcmp(datagram, before, 4) && !memcmp(datagram + len - 8, before + len - 8, sizeof datagram - len + 8);
+}
+
 /* Hands in the first bytes of `datagram`. Where nothing is delivered, nothing is shown. */
 static uint32_t take(uint64_t now, size_t len) {
+    uint8_t before[sizeof datagram];
+    memcpy(before, datagram, sizeof before);
     static const oscore_opened none_opened;
     static const oscore_option none_options[4];
     static const oscore_ticket none_ticket;
@@ -71,6 +80,7 @@ static uint32_t take(uint64_t now, size_t len) {
     reply_len = 99;
     uint32_t status = oscore_server_take(&server, now, echo, MID, datagram, len, options, 4, &opened, &ticket, reply, &reply_len, &detail);
     CHECK(reply_len <= 64);
+    CHECK(is_left(status, len, before));
     CHECK(!status || (!memcmp(&opened, &none_opened, sizeof opened) && !memcmp(options, none_options, sizeof options)
         && !memcmp(&ticket, &none_ticket, sizeof ticket)));
     return status;

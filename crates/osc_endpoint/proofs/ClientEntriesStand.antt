@@ -1,5 +1,5 @@
 -- What each entry of a client's run is.
-use Rattle.std.proofs.Common.{◌≡◌, ℕ, zero, suc, ◌∙◌, sym, ap, subst, refl, Some, None, List, [], ◌∷◌}
+use Rattle.std.proofs.Common.{◌≡◌, ℕ, zero, suc, ◌∙◌, sym, ap, subst, refl, Some, List, [], ◌∷◌}
 use Rattle.std.specs.Prelude.{max, slice_get, unwrap_or}
 use Rattle.osc_coap.specs.Laws.{DatagramIsOneMessage}
 use Rattle.osc_protect.specs.Laws.{OneResponse}

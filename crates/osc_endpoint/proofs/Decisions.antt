@@ -32,7 +32,7 @@ use Rattle.osc_endpoint.specs.Heads.{head_answer, HeadReply}
 use Rattle.osc_endpoint.specs.Judging.{IsAskerOf, IsNamed, IsNamedAt, NamedAnswer}
 use Rattle.osc_endpoint.specs.Life.{Life, marked}
 use Rattle.osc_endpoint.specs.Replies.{as_reply, error_message, no_context}
-use Rattle.osc_endpoint.specs.ServerAnswer.{Arrival, SaysChallenge, TakeAnswer, arrival}
+use Rattle.osc_endpoint.specs.ServerAnswer.{Arrival, TakeAnswer, arrival}
 use Rattle.osc_endpoint.specs.ServerHistory as server
 use Rattle.osc_endpoint.specs.Table.{LooksUp, TableJudges}
 use Rattle.osc_endpoint.proofs.Judgments.{says_error}

@@ -1,10 +1,8 @@
 -- What each entry of a server's run is.
-use Rattle.std.proofs.Common.{◌≡◌, ℕ, zero, suc, ◌∙◌, sym, ap, subst, refl, Bool, Option, Some, None, Ok, Err, List, [], ◌∷◌, inl, inr}
+use Rattle.std.proofs.Common.{◌≡◌, ℕ, zero, suc, ◌∙◌, sym, ap, subst, refl, Bool, Option, Some, Ok, Err, List, [], ◌∷◌, inl, inr}
 use Rattle.std.specs.Prelude.{slice_get, unwrap_or}
-use Rattle.osc_coap.specs.Inner.{InnerParts}
 use Rattle.osc_context.specs.Views.{number_of}
 use Rattle.osc_protect.specs.Laws.{OneRequestReading}
-use Rattle.osc_protect.specs.Views.{message_of}
 use Rattle.osc_endpoint.specs.declared.server_event.Seen.{Seen}
 use Rattle.osc_endpoint.specs.declared.server_event.Seen.TheVariants as seen
 use Rattle.osc_endpoint.specs.declared.server_event.ServerEvent.{ServerEvent}

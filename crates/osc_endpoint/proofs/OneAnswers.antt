@@ -1,5 +1,5 @@
 -- That a server has one answer to an event.
-use Rattle.std.proofs.Common.{◌≡◌, ℕ, ◌⊎◌, ◌∙◌, sym, ap, subst, refl, arith, Bool, Option, Some, None, List, [], inl, inr}
+use Rattle.std.proofs.Common.{◌≡◌, ℕ, ◌⊎◌, ◌∙◌, sym, ap, subst, refl, arith, Bool, Option, Some, None, List, inl, inr}
 use Rattle.osc_coap.specs.Datagram.{Parts}
 use Rattle.osc_context.specs.SecurityContext.{SecurityContext}
 use Rattle.osc_protect.specs.Head.{Head, HasNoRequestHead, HasRequestHead}

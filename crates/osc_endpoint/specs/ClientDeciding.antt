@@ -40,6 +40,10 @@ Decides decisions.BadInner new client.BadInner = Unit {0}
 Decides (decisions.Deliver x piv) new (client.Deliver received number) = ReadsAs x new received × (number_of piv ≡ number)
 Decides decision new answer = ⊥
 
+-- the outcome shows what was decided, read from the datagram that was left (how the code is seen)
+abbrev pub ClientShowsDecided : ClientDecision → List ℕ → ClientOutcome → Type 0
+ClientShowsDecided decision new outcome = (answer : client.Answer) → Decides decision new answer → ClientShows outcome answer
+
 -- as a response to a request of the table the payload became the plaintext, and behind it the old tag; all else stayed (RFC 8613, 8.4)
 abbrev pub IsOpenedBy : {N : ℕ} → Client N → List ℕ → List ℕ → Type 0
 IsOpenedBy c d new = (r : client.Asked) × Contains (map asked_of c.pending.items) r × (own : Option ℕ) × (len : ℕ)

@@ -46,6 +46,10 @@ Decides decisions.SequenceExhausted new server.SequenceExhausted = Unit {0}
 Decides (decisions.Deliver x t) new (server.Deliver received ticket) = ReadsAs x new received × (values_of t ≡ ticket)
 Decides decision new answer = ⊥
 
+-- the outcome shows what was decided, read from the datagram that was left (how the code is seen)
+abbrev pub ShowsDecided : Decision → List ℕ → Outcome → Type 0
+ShowsDecided decision new outcome = (answer : server.Answer) → Decides decision new answer → Shows outcome answer
+
 -- under a context of the table the payload became the plaintext, and behind it the old tag; all else stayed (RFC 8613, 8.2)
 abbrev pub IsOpenedIn : List (Option Slot) → List ℕ → List ℕ → Type 0
 IsOpenedIn slots d new = (i : ℕ) × (s : Slot) × (slice_get slots i ≡ Some (Some s)) × (n : ℕ) × (len : ℕ)

@@ -4,9 +4,7 @@
 ghost use Rattle.std.specs.Prelude.{◌≡◌, ◌<◌, ℕ, Option, Some, IfOk, IfErr, OnOk};
 ghost use Rattle.arrayvec.specs.ArrayVec.{array_vec_len};
 ghost use Rattle.osc_context.specs.Views.{number_of};
-ghost use Rattle.osc_endpoint.specs.ClientDeciding.{CanShow, Decides, LeavesBy};
-ghost use Rattle.osc_endpoint.specs.ClientHistory.{Answer};
-ghost use Rattle.osc_endpoint.specs.Views.{ClientShows};
+ghost use Rattle.osc_endpoint.specs.ClientDeciding.{CanShow, ClientShowsDecided, LeavesBy};
 
 use crate::client::Client;
 use crate::client_outcome::ClientOutcome;
@@ -24,7 +22,7 @@ impl ClientDecision {
     #[must_use]
     pub fn outcome(self, datagram: &[u8]) -> ClientOutcome<'_>
         requires { CanShow self datagram.now }
-        ensures { (answer : Answer) → Decides self datagram.now answer → ClientShows result answer }
+        ensures { ClientShowsDecided self datagram.now result }
     {
         match self {
             ClientDecision::Malformed(error) => ClientOutcome::Malformed(error),
@@ -50,6 +48,7 @@ impl<const N: usize> Client<N> {
     ghost use Rattle.osc_endpoint.specs.ClientDeciding.{ClientDecidesTo, ClientTakes, IsDecryptedFor, IsOpenedBy};
     ghost use Rattle.osc_endpoint.specs.ClientHistory.{History};
     ghost use Rattle.osc_endpoint.specs.Views.{client_delivery_of};
+    ghost use Rattle.osc_endpoint.specs.declared.client_outcome.ClientOutcome.{ClientOutcome as OutcomeOf};
 
     /// Decrypts a response to a pending request where it lies, and says which request that is: all of `decide` that comes before
     /// the plaintext is read. Kind, token and OSCORE option are asked in this order.
@@ -101,6 +100,23 @@ impl<const N: usize> Client<N> {
         ensures answered { (h : History) → ClientAgrees self.old h → ClientDecidesTo h now datagram.old result datagram.new self.new }
         ensures shown { CanShow result datagram.new }
         ensures left { LeavesBy self.old result datagram.old datagram.new }
+        // What `ClientDecision::outcome` makes of it is a delivery exactly if the datagram as it came is one.
+        ensures delivered { (h : History) (n : ℕ) (own : Option ℕ) (m : InnerParts) (outcome : OutcomeOf) → ClientAgrees self.old h
+            → ClientShowsDecided result datagram.new outcome → client_delivery_of outcome ≡ Some (n, own, m) → Delivers h now datagram.old n own m }
+        ensures delivers { (h : History) (n : ℕ) (own : Option ℕ) (m : InnerParts) (outcome : OutcomeOf) → ClientAgrees self.old h
+            → ClientShowsDecided result datagram.new outcome → Delivers h now datagram.old n own m → client_delivery_of outcome ≡ Some (n, own, m) }
+        ensures apart { HasTokensApart self.old → HasTokensApart self.new }
+    {
+        one_datagram();
+        one_response();
+        self.decide_forward(now, datagram)
+    }
+
+    /// Decides what a datagram is answered.
+    fn decide_forward(&mut self, now: u64, datagram: &mut [u8]) -> ClientDecision
+        ensures answered { (h : History) → ClientAgrees self.old h → ClientDecidesTo h now datagram.old result datagram.new self.new }
+        ensures shown { CanShow result datagram.new }
+        ensures left { LeavesBy self.old result datagram.old datagram.new }
         ensures apart { HasTokensApart self.old → HasTokensApart self.new }
     {
         one_datagram();
@@ -126,8 +142,6 @@ impl<const N: usize> Client<N> {
             → Delivers h now datagram.old n own m → client_delivery_of result ≡ Some (n, own, m) }
         ensures apart { HasTokensApart self.old → HasTokensApart self.new }
     {
-        one_datagram();
-        one_response();
         let decision = self.decide(now, datagram);
         decision.outcome(datagram)
     }

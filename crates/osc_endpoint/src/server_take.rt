@@ -2,12 +2,10 @@
 //! slices.
 
 ghost use Rattle.std.specs.Prelude.{◌≡◌, ◌≢◌, ◌≤◌, ℕ, List, Option, Some, take, drop};
-ghost use Rattle.osc_endpoint.specs.Deciding.{CanShow, Decides, Leaves};
+ghost use Rattle.osc_endpoint.specs.Deciding.{CanShow, Decides, Leaves, ShowsDecided};
 ghost use Rattle.osc_endpoint.specs.Heads.{head_answer, HeadReply};
 ghost use Rattle.osc_endpoint.specs.Judging.{IsAskerOf};
 ghost use Rattle.osc_endpoint.specs.declared.slot.Slot.{Slot};
-ghost use Rattle.osc_endpoint.specs.Views.{Shows};
-ghost use Rattle.osc_endpoint.specs.ServerHistory.{Answer};
 ghost use Rattle.osc_endpoint.specs.declared.outcome.Outcome.TheVariants.{KeeperFailed};
 ghost use Rattle.osc_endpoint.specs.Agrees.{Agrees, server_of};
 ghost use Rattle.osc_endpoint.specs.Deciding.{DecidesTo};
@@ -21,8 +19,8 @@ use crate::judging::Named;
 use crate::outcome::{Outcome, Taken};
 use crate::server::Server;
 use crate::start::Fresh;
-use osc_coap::{one_datagram, parse};
-use osc_protect::{NoHead, RequestHead, one_head, one_reading, one_request};
+use osc_coap::parse;
+use osc_protect::{NoHead, RequestHead, one_reading, one_request};
 
 /// Answers a message that has no head of a request.
 fn refuse_head(none: NoHead, asker: &Asker, mid: u16, out: &mut [u8; 64]) -> Decided
@@ -53,7 +51,7 @@ impl Decision {
     #[must_use]
     pub fn outcome(self, datagram: &[u8]) -> Outcome<'_>
         requires { CanShow self datagram.now }
-        ensures shows { (answer : Answer) → Decides self datagram.now answer → Shows result answer }
+        ensures shows { ShowsDecided self datagram.now result }
         ensures no_keeper_failed { result ≢ KeeperFailed }
     {
         match self {
@@ -133,6 +131,7 @@ impl Server {
     ghost use Rattle.osc_endpoint.specs.Deciding.{DecidesTo, LeavesBy, Takes};
     ghost use Rattle.osc_endpoint.specs.ServerAnswer.{Delivers};
     ghost use Rattle.osc_endpoint.specs.Views.{delivery_of};
+    ghost use Rattle.osc_endpoint.specs.declared.outcome.Outcome.{Outcome as OutcomeOf};
     ghost use Rattle.osc_coap.specs.Inner.{InnerParts};
 
     /// Decides what a datagram is answered, where it lies (RFC 8613, 8.2), and says what it leaves in it. The first `reply` bytes
@@ -148,9 +147,16 @@ impl Server {
             → DecidesTo h now fresh datagram.old result datagram.new (take result.reply out.new) self.new }
         ensures shown { CanShow result.decision datagram.new }
         ensures left { LeavesBy self.old result.decision datagram.old datagram.new }
+        // What `Decision::outcome` makes of it is a delivery exactly if the datagram as it came is one.
+        ensures delivered { (h : History) (i n : ℕ) (m : InnerParts) (outcome : OutcomeOf) → Agrees self.old h
+            → ShowsDecided result.decision datagram.new outcome → delivery_of outcome ≡ Some (i, n, m) → Delivers h now datagram.old i n m }
+        ensures delivers { (h : History) (i n : ℕ) (m : InnerParts) (outcome : OutcomeOf) → Agrees self.old h
+            → ShowsDecided result.decision datagram.new outcome → Delivers h now datagram.old i n m → delivery_of outcome ≡ Some (i, n, m) }
         ensures within { result.reply ≤ 64 }
         ensures behind { drop result.reply out.new ≡ drop result.reply out.old }
     {
+        one_reading();
+        one_request();
         decide_over(&mut self.clock, &mut self.slots, now, fresh, datagram, out)
     }
 
@@ -173,9 +179,6 @@ impl Server {
         ensures within { result.reply ≤ 64 }
         ensures behind { drop result.reply out.new ≡ drop result.reply out.old }
     {
-        one_datagram();
-        one_reading();
-        one_request();
         let Decided { decision, reply } = self.decide(now, fresh, datagram, out);
         Taken {
             outcome: decision.outcome(datagram),

@@ -6,7 +6,7 @@ ghost use Rattle.osc_endpoint.specs.Agrees.{Agrees};
 ghost use Rattle.osc_endpoint.specs.ServerAnswer.{Delivers};
 ghost use Rattle.osc_endpoint.specs.ServerHistory.{History};
 
-use osc_endpoint::{Fresh, Outcome, Server, Taken};
+use osc_endpoint::{Decided, Fresh, Outcome, Server};
 
 /// Whether a datagram says this to a lock. The front of `out` goes back to the sender, where there is a reply: how many bytes is
 /// said by the second answer.
@@ -22,8 +22,8 @@ pub fn obeys(
     ensures { IsTrue result.0 → (h : History) → Agrees server.old h
         → (i n : ℕ) × (m : InnerParts) × Delivers h now datagram.old i n m × (m.payload ≡ order.now) }
 {
-    let Taken { outcome, reply } = server.take(now, fresh, datagram, out);
-    let obeys = match outcome {
+    let Decided { decision, reply } = server.decide(now, fresh, datagram, out);
+    let obeys = match decision.outcome(datagram) {
         Outcome::Deliver(request, _) => request.payload == order,
         _ => false,
     };

@@ -6,9 +6,10 @@ ghost use Rattle.osc_coap.specs.Views.{parts_of};
 ghost use Rattle.osc_context.specs.Views.{as_client, number_of};
 ghost use Rattle.osc_endpoint.specs.Agrees.{HasTokensApart, client_parts};
 ghost use Rattle.osc_endpoint.specs.ClientAnswer.{ClientAnswer, Delivers, IsAmong};
-ghost use Rattle.osc_endpoint.specs.ClientDeciding.{CanShow};
+ghost use Rattle.osc_endpoint.specs.ClientDeciding.{CanShow, ClientShowsDecided};
 ghost use Rattle.osc_endpoint.specs.ClientHistory.{History, New, Then, Advance, Advanced, Forget, Forgot, Request, Restart, Restarted};
 ghost use Rattle.osc_endpoint.specs.Views.{asked_of, client_delivery_of, request_entry};
+ghost use Rattle.osc_endpoint.specs.declared.client_outcome.ClientOutcome.{ClientOutcome as OutcomeOf};
 ghost use Rattle.osc_endpoint.specs.declared.client_outcome.RequestError.TheVariants.{KeeperFailed};
 ghost use Rattle.osc_handle.specs.ClientBytes.{ArePending, Asks, IsClient, IsPending, asked_at, asked_in, parts_in};
 ghost use Rattle.osc_handle.specs.ClientSteps.{ClientDecidesIn, ClientTakesIn, Keeps, LeavesIn, parts_with};
@@ -226,6 +227,11 @@ impl ClientHandle {
         ensures accepts { IsClient self.old → IsSome result }
         ensures shown { IfSome result (λ decision. CanShow decision datagram.new) }
         ensures left { IfSome result (λ decision. LeavesIn (parts_in self.old) decision datagram.old datagram.new) }
+        // What `ClientDecision::outcome` makes of it is a delivery exactly if the datagram as it came is one.
+        ensures delivered { IfSome result (λ decision. (h : History) (n : ℕ) (own : Option ℕ) (m : InnerParts) (outcome : OutcomeOf) → Asks self.old h
+            → ClientShowsDecided decision datagram.new outcome → client_delivery_of outcome ≡ Some (n, own, m) → Delivers h now datagram.old n own m) }
+        ensures delivers { IfSome result (λ decision. (h : History) (n : ℕ) (own : Option ℕ) (m : InnerParts) (outcome : OutcomeOf) → Asks self.old h
+            → ClientShowsDecided decision datagram.new outcome → Delivers h now datagram.old n own m → client_delivery_of outcome ≡ Some (n, own, m)) }
         ensures unchanged { IsNone result → (self.new ≡ self.old) × (datagram.new ≡ datagram.old) }
     {
         let Some(context) = self.whole_context() else {
@@ -252,13 +258,9 @@ impl ClientHandle {
         ensures accepts { IsClient self.old → IsSome result }
         ensures unchanged { IsNone result → self.new ≡ self.old }
     {
-        let Some(context) = self.whole_context() else {
+        let Some(decision) = self.decide(now, datagram) else {
             return None;
         };
-        let mut client = Client::resumed(context, self.life_ms, self.clock, Piv::new(self.next));
-        self.recall(&mut client);
-        let outcome = client.take(now, datagram);
-        self.keep(&client);
-        Some(outcome)
+        Some(decision.outcome(datagram))
     }
 }

@@ -1,28 +1,16 @@
 //! Options found by their numbers (RFC 7252, 5.10; RFC 8613, 2 and 4.1).
 
-ghost use Rattle.std.specs.Prelude.{◌≡◌, [], ◌∷◌, MatchOption};
+ghost use Rattle.std.specs.Prelude.{◌≡◌, ◌∷◌, ℕ, List};
+ghost use Rattle.osc_coap.specs.OptionNumbers.{oscore, uri_host, uri_port};
+ghost use Rattle.osc_coap.specs.Search.{first_of, has_number, values_at};
 ghost use Rattle.osc_coap.specs.Views.{options_left};
-ghost use Rattle.osc_coap.specs.Search.{has_number, values_at};
 ghost use Rattle.osc_protect.specs.Found.{first_number};
+ghost use Rattle.osc_protect.specs.Views.{shown};
 ghost use Rattle.osc_protect.specs.OptionSets.{is_barred, is_proxy, is_unsupported};
 
 use crate::option_sets::{is_barred, is_proxy, is_unsupported};
 use osc_coap::Options;
-
-/// Goes on behind the next option of this number, and gives its value.
-fn next_at<'a>(options: &mut Options<'a>, wanted: u16) -> Option<&'a [u8]>
-    ensures { MatchOption result
-        (values_at wanted (options_left options.old) ≡ [])
-        (λ value. values_at wanted (options_left options.old)
-        ≡ value.now ∷ values_at wanted (options_left options.new)) }
-{
-    while let Some((number, value)) = options.next() {
-        if number == wanted {
-            return Some(value);
-        }
-    }
-    None
-}
+use osc_coap::option_numbers::{OSCORE, URI_HOST, URI_PORT};
 
 /// How many options of one number there are, and the value of a single one.
 #[derive(Clone, Copy, Debug)]
@@ -32,32 +20,75 @@ pub(crate) enum Found<'a> {
     More,
 }
 
-ghost use Rattle.osc_protect.specs.Found.{Finds};
+impl<'a> Found<'a> {
+    ghost use Rattle.osc_protect.specs.Found.{FindsBefore};
 
-/// Looks for the options of this number.
-pub(crate) fn only_value<'a>(options: Options<'a>, wanted: u16) -> Found<'a>
-    ensures { Finds result (values_at wanted (options_left options.entry)) }
-{
-    let mut options = options;
-    let Some(value) = next_at(&mut options, wanted) else {
-        return Found::Nothing;
-    };
-    match next_at(&mut options, wanted) {
-        None => Found::One(value),
-        Some(_) => Found::More,
+    /// What was found with one more value.
+    fn and(self, value: &'a [u8]) -> Found<'a>
+        ensures { (rest values : List (List ℕ)) → FindsBefore self.entry (value.now ∷ rest) values → FindsBefore result rest values }
+    {
+        match self {
+            Found::Nothing => Found::One(value),
+            Found::One(_) | Found::More => Found::More,
+        }
     }
 }
 
-/// Whether one of the options is for proxies.
-pub(crate) fn has_proxy(options: Options<'_>) -> bool
-    ensures { result ≡ has_number is_proxy (options_left options.entry) }
-{
-    for (number, _) in options {
-        if is_proxy(number) {
-            return true;
+/// What the options outside say of the protection.
+#[derive(Clone, Copy, Debug)]
+pub(crate) struct OuterOptions<'a> {
+    pub(crate) oscore: Found<'a>,
+    pub(crate) has_proxy: bool,
+}
+
+ghost use Rattle.osc_protect.specs.Found.{Finds};
+
+impl<'a> OuterOptions<'a> {
+    /// Goes through the options once: which are OSCORE, and whether one is for proxies.
+    pub(crate) fn of(options: Options<'a>) -> OuterOptions<'a>
+        ensures oscore { Finds result.oscore (values_at oscore (options_left options.entry)) }
+        ensures proxy { result.has_proxy ≡ has_number is_proxy (options_left options.entry) }
+    {
+        let mut found = Found::Nothing;
+        let mut has_proxy = false;
+        for (number, value) in options {
+            if number == OSCORE {
+                found = found.and(value);
+            }
+            has_proxy = has_proxy || is_proxy(number);
+        }
+        OuterOptions {
+            oscore: found,
+            has_proxy,
         }
     }
-    false
+}
+
+/// The first Uri-Host and the first Uri-Port.
+#[derive(Clone, Copy, Debug)]
+pub(crate) struct OuterUri<'a> {
+    pub(crate) host: Option<&'a [u8]>,
+    pub(crate) port: Option<&'a [u8]>,
+}
+
+impl<'a> OuterUri<'a> {
+    /// Goes through the options once.
+    pub(crate) fn of(options: Options<'a>) -> OuterUri<'a>
+        ensures host { shown result.host ≡ first_of (values_at uri_host (options_left options.entry)) }
+        ensures port { shown result.port ≡ first_of (values_at uri_port (options_left options.entry)) }
+    {
+        let mut host = None;
+        let mut port = None;
+        for (number, value) in options {
+            if number == URI_HOST && host.is_none() {
+                host = Some(value);
+            }
+            if number == URI_PORT && port.is_none() {
+                port = Some(value);
+            }
+        }
+        OuterUri { host, port }
+    }
 }
 
 /// Whether one of the options may not stand inside.

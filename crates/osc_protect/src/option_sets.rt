@@ -32,5 +32,5 @@ pub(crate) fn is_unsupported(number: u16) -> bool
 pub(crate) fn is_barred(number: u16) -> bool
     ensures { result ≡ is_barred number }
 {
-    is_left_out(number) || class_of(number) == Class::U
+    is_left_out(number) || matches!(class_of(number), Class::U)
 }

@@ -4,9 +4,8 @@ ghost use Rattle.std.specs.Prelude.{◌≡◌, IfOk, IfErr};
 ghost use Rattle.osc_coap.specs.Views.{parts_of};
 
 use crate::head_error::{HeadError, NoHead};
-use crate::option_search::{Found, has_proxy, only_value};
+use crate::option_search::{Found, OuterOptions};
 use crate::usage::{Usage, is_complete, is_used};
-use osc_coap::option_numbers::OSCORE;
 use osc_coap::{Kind, Message, Token, parse};
 use osc_context::OscoreOption;
 
@@ -40,7 +39,8 @@ pub(crate) fn head_of<'a>(usage: Usage, message: &Message<'a>) -> Result<OscoreH
     if !is_used(usage, message) {
         return Err(NoHead::NotThatKind);
     }
-    let value = match only_value(message.options(), OSCORE) {
+    let outer = OuterOptions::of(message.options());
+    let value = match outer.oscore {
         Found::Nothing => return Err(NoHead::NoOscore),
         Found::One(value) => value,
         Found::More => return Err(NoHead::Undecodable),
@@ -52,7 +52,7 @@ pub(crate) fn head_of<'a>(usage: Usage, message: &Message<'a>) -> Result<OscoreH
         return Err(NoHead::Undecodable);
     }
     let payload = message.payload();
-    if payload.is_empty() || has_proxy(message.options()) {
+    if payload.is_empty() || outer.has_proxy {
         return Err(NoHead::Undecodable);
     }
     Ok(OscoreHead {

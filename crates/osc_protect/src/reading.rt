@@ -14,12 +14,11 @@ ghost use Rattle.osc_protect.specs.Views.{message_of, opened_number};
 
 use crate::laws::{one_request, one_response};
 use crate::opened::Opened;
-use crate::option_search::has_barred;
+use crate::option_search::{OuterUri, has_barred};
 use crate::stage_error::BadInner;
 use crate::stages::{DecryptedRequest, DecryptedResponse, ReadRequest, ReadResponse};
 use crate::usage::{Usage, is_code_of};
 use osc_ccm::TAG_LEN;
-use osc_coap::option_numbers::{URI_HOST, URI_PORT};
 use osc_coap::{one_datagram, one_inner, parse_inner, parsed, parsed_inner, payload_stands_last};
 use osc_context::Piv;
 
@@ -230,11 +229,12 @@ fn lend(
     one_inner();
     let message = parsed(datagram, len + TAG_LEN);
     let inner = parsed_inner(&message.payload()[..len], payload_len);
+    let uri = OuterUri::of(message.options());
     Opened {
         kind: message.kind,
         message_id: message.message_id,
-        uri_host: message.options().first(URI_HOST),
-        uri_port: message.options().first(URI_PORT),
+        uri_host: uri.host,
+        uri_port: uri.port,
         token: message.token,
         code: inner.code,
         payload: inner.payload(),

@@ -35,5 +35,5 @@ returns c =
       piv = refl;
       spells = search rules;
       code = subst (λ (m : InnerParts). is_code_of c.args.usage m.code ≡ true) inner c.requires.code;
-      allowed = ap (has_number is_barred) c.options-3.ensures ∙ subst (λ (m : InnerParts). has_number is_barred m.options ≡ false) inner c.requires.allowed;
+      allowed = ap (has_number is_barred) c.options-2.ensures ∙ subst (λ (m : InnerParts). has_number is_barred m.options ≡ false) inner c.requires.allowed;
     }
