@@ -1,10 +1,10 @@
-//! Calls of osc_aes, osc_ccm and osc_hkdf. What a cipher is asked, both are asked.
+//! Calls of osc_aes, osc_ccm and osc_hkdf. What a cipher is asked, all three are asked.
 
 ghost use Rattle.std.specs.Prelude.{◌≤◌, length};
 
 use crate::answer::Answer;
 use crate::fields::Fields;
-use osc_aes::{BlockCipher, PlainAes, TableAes};
+use osc_aes::{BlockCipher, PlainAes, PlaneAes, TableAes};
 use osc_ccm::{MOST_AAD, open, seal};
 use osc_hkdf::{expand, extract, hmac_sha256};
 
@@ -20,6 +20,8 @@ pub(crate) fn aes128(fields: &Fields<'_>, answer: &mut Answer) {
     encrypted(&PlainAes::new(&key), fields, answer);
     answer.again();
     encrypted(&TableAes::new(&key), fields, answer);
+    answer.again();
+    encrypted(&PlaneAes::new(&key), fields, answer);
 }
 
 /// The additional data, at most as much as CCM takes.
@@ -55,6 +57,8 @@ pub(crate) fn ccm_seal(fields: &Fields<'_>, answer: &mut Answer) {
     sealed(&PlainAes::new(&key), fields, answer);
     answer.again();
     sealed(&TableAes::new(&key), fields, answer);
+    answer.again();
+    sealed(&PlaneAes::new(&key), fields, answer);
 }
 
 fn opened<C: BlockCipher>(cipher: &C, fields: &Fields<'_>, answer: &mut Answer) {
@@ -74,6 +78,8 @@ pub(crate) fn ccm_open(fields: &Fields<'_>, answer: &mut Answer) {
     opened(&PlainAes::new(&key), fields, answer);
     answer.again();
     opened(&TableAes::new(&key), fields, answer);
+    answer.again();
+    opened(&PlaneAes::new(&key), fields, answer);
 }
 
 /// The code of a message that comes in three parts.

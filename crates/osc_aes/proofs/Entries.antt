@@ -20,7 +20,7 @@ same_values f g a n e i x lt at =
     sym (get_or-map-range_with_len f a n i x (f x) lt (sym at)) ∙ ap (λ s. get_or s i (f x)) e ∙ get_or-map-range_with_len g a n i x (f x) lt (sym at)
 
 -- two functions with one list of values agree on each byte
-same_on_bytes : {X : Type 0} (f g : ℕ → X) → map f (range_with_len 0 256) ≡ map g (range_with_len 0 256) → (x : ℕ) → x < 256 → f x ≡ g x
+pub same_on_bytes : {X : Type 0} (f g : ℕ → X) → map f (range_with_len 0 256) ≡ map g (range_with_len 0 256) → (x : ℕ) → x < 256 → f x ≡ g x
 same_on_bytes f g e x lt = same_values f g 0 256 e x x lt (omega arith)
 
 -- ---- the field

@@ -7,3 +7,12 @@ pub mod Lengths
 pub mod RoundKeys
 pub mod Vectors
 pub mod WordRounds
+pub mod Circuit
+pub mod LinearPrograms
+pub mod MovedBits
+pub mod PackedBits
+pub mod LaneBytes
+pub mod WordBytes
+pub mod PlaneRounds
+pub mod PlaneKeys
+pub mod FourBlocks

@@ -7,3 +7,4 @@ pub mod Views
 pub mod Keyed
 -- for the proofs
 pub mod RoundWords
+pub mod Lanes

@@ -1,6 +1,6 @@
 //! The key schedule (FIPS 197, 5.2): the words w0 to w43, of four bytes each, one after the other.
 
-ghost use Rattle.std.specs.Prelude.{◌≡◌, ◌<◌, ◌≤◌};
+ghost use Rattle.std.specs.Prelude.{◌≡◌, ◌<◌, ◌≤◌, ◌+◌, ◌*◌, length};
 ghost use Rattle.osc_aes.specs.Field.{power};
 ghost use Rattle.osc_aes.specs.Aes128.{added_word, expanded_key, next_word, word_at, xor_word};
 
@@ -61,8 +61,8 @@ fn added_word(last: [u8; 4], index: usize) -> [u8; 4]
     }
 }
 
-fn word_at(words: &[u8; 176], index: usize) -> [u8; 4]
-    requires { index < 44 }
+pub(crate) fn word_at(words: &[u8], index: usize) -> [u8; 4]
+    requires { 4 * index + 4 ≤ length words.now }
     ensures { result ≡ word_at words.now index }
 {
     let start = 4 * index;
@@ -74,7 +74,7 @@ fn word_at(words: &[u8; 176], index: usize) -> [u8; 4]
     ]
 }
 
-fn xor_word(u: [u8; 4], v: [u8; 4]) -> [u8; 4]
+pub(crate) fn xor_word(u: [u8; 4], v: [u8; 4]) -> [u8; 4]
     ensures { result ≡ xor_word u v }
 {
     [u[0] ^ v[0], u[1] ^ v[1], u[2] ^ v[2], u[3] ^ v[3]]
