@@ -1,1 +1,3 @@
 pub mod Callers
+pub mod PremisesMet
+pub mod Calls

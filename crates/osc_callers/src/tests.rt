@@ -5,6 +5,7 @@ mod command;
 mod file;
 mod folder;
 mod kept;
+mod premises;
 mod reading;
 mod two_ends;
 mod writing;
