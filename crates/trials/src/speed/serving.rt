@@ -56,14 +56,15 @@ fn add(server: &mut Server, client: &[u8]) -> Option<usize> {
     server.add(context, start, WindowSize::default()).ok()
 }
 
-/// A server with as many contexts of others before the client's.
-fn server_of(others: u8) -> Option<Server> {
-    let mut server = Server::new();
+/// Makes a server anew in its place, with as many contexts of others before the client's. Answered by value it would have a room of
+/// 4,496 bytes in each call that is measured, which is cleared each time, though none but the first needs it.
+fn renew(server: &mut Server, others: u8) -> Option<()> {
+    *server = Server::new();
     for other in 0..others {
-        add(&mut server, &[1, other])?;
+        add(server, &[1, other])?;
     }
-    add(&mut server, &[])?;
-    Some(server)
+    add(server, &[])?;
+    Some(())
 }
 
 /// What becomes of a request that is delivered.
@@ -89,7 +90,7 @@ fn delivery<R: Clock + Print>(
     let (mut datagram, mut out) = ([0; 36], [0; 64]);
     watch.figure(name, || {
         if rest.is_empty() {
-            server = server_of(others)?;
+            renew(&mut server, others)?;
             rest = requests;
         }
         let (request, tail) = rest.split_first()?;
@@ -103,6 +104,26 @@ fn delivery<R: Clock + Print>(
             server.reply(ticket, false, 0, &plain, &mut out).ok()?;
         }
         Some(code)
+    })
+}
+
+/// The same requests, opened over a context that keeps its keys, which asks no window.
+fn opening<R: Clock + Print>(watch: &mut Stopwatch<'_, R>, requests: &[Request]) -> io::Result<()> {
+    let Ok(context) = context_of(SERVER, &[]) else {
+        return Err(io::Error::other("the context was refused"));
+    };
+    let server = KeyedContext::new(context);
+    let mut rest: &[Request] = &[];
+    let mut datagram = [0; 36];
+    watch.figure("open_request-of-those", || {
+        if rest.is_empty() {
+            rest = requests;
+        }
+        let (request, tail) = rest.split_first()?;
+        rest = tail;
+        datagram.copy_from_slice(request);
+        let opened = server.open_request(&mut datagram).ok()?;
+        Some(opened.code)
     })
 }
 
@@ -123,10 +144,10 @@ fn refusal<R: Clock + Print>(
 
 /// A turned tag, and then the example request, delivered and come again.
 fn refusals<R: Clock + Print>(watch: &mut Stopwatch<'_, R>) -> io::Result<()> {
-    let Some(opened) = server_of(0) else {
+    let mut server = Server::new();
+    if renew(&mut server, 0).is_none() {
         return Err(io::Error::other("the server was refused"));
-    };
-    let mut server = opened;
+    }
     let mut turned = SEALED;
     turned[34] ^= 1;
     refusal(watch, "take-bad-tag", &mut server, turned)?;
@@ -142,10 +163,10 @@ fn run<R: Clock + Print>(
     name: &str,
     count: usize,
 ) -> io::Result<()> {
-    let Some(opened) = server_of(0) else {
+    let mut server = Server::new();
+    if renew(&mut server, 0).is_none() {
         return Err(io::Error::other("the server was refused"));
-    };
-    let mut server = opened;
+    }
     let mut events = Vec::new(alloc);
     for _ in 0..count {
         events.push(ServerEvent::Datagram(Arrival {
@@ -171,6 +192,7 @@ pub(crate) fn serving<R: Clock + Print>(
     alloc: Global,
 ) -> io::Result<()> {
     let requests = requests_of(alloc)?;
+    opening(watch, &requests)?;
     delivery(watch, "take-delivery", &requests, 0, End::Kept)?;
     delivery(watch, "take-delivery-of-8", &requests, 7, End::Kept)?;
     delivery(watch, "take-and-reply", &requests, 0, End::Answered)?;
