@@ -62,7 +62,7 @@ static bool same(const oscore_server *a, const oscore_server *b) {
     return same;
 }
 
-/* Whether only the payload of `datagram` was touched, and not its tag; a datagram that wasn't decrypted is as it was. */
+/* Whether a datagram that wasn't decrypted is as it was, and of one that was the head, the tag and what lies behind it are. */
 static bool is_left(uint32_t status, size_t len, const uint8_t *before) {
     bool decrypted = status == OSCORE_DONE || status == OSCORE_INNER || status == OSCORE_CHALLENGE || status == OSCORE_SEQUENCE_EXHAUSTED;
     if (!decrypted) return !memcmp(datagram, before, sizeof datagram);
