@@ -13,7 +13,7 @@ use crate::outcome::Taken;
 use crate::server::Server;
 use crate::server_event::{Answering, Arrival, ServerEntry, ServerEvent};
 use crate::ticket::Ticket;
-use crate::ticket_places::{put_back, take_out};
+use crate::ticket_places::{make_places, put_back, take_out};
 use osc_coap::parse;
 use osc_context::Piv;
 use std::alloc::{AllocError, Global};
@@ -142,11 +142,7 @@ pub fn run_server_on<'a>(
     let mut tickets = Vec::new(alloc);
     let mut rest = mem::take(events);
     while !rest.is_empty() {
-        if let Err(error) = log.reserve(1) {
-            *events = rest;
-            return Err(error);
-        }
-        if let Err(error) = tickets.reserve(1) {
+        if let Err(error) = make_places(log, &mut tickets) {
             *events = rest;
             return Err(error);
         }

@@ -1,9 +1,20 @@
 //! The tickets of a run: one place an event, with the ticket that its delivery gave, as long as no reply took it.
 
-ghost use Rattle.std.specs.Prelude.{◌≡◌, Some, None, slice_get, slice_set};
+ghost use Rattle.std.specs.Prelude.{◌≡◌, ◌+◌, ◌<◌, Some, None, slice_get, slice_set, vec_capacity, vec_len, OnOk};
 ghost use Rattle.std.specs.Option.{option_and_then};
 
 use crate::ticket::Ticket;
+use std::alloc::AllocError;
+
+/// Makes room for one entry more of a run, and for the ticket at its place; where memory is refused both lists have what they had.
+pub fn make_places<T>(log: &mut Vec<T>, tickets: &mut Vec<Option<Ticket>>) -> Result<(), AllocError>
+    ensures entries { (log.new.items ≡ log.old.items) × (vec_len log.new ≡ vec_len log.old) }
+    ensures tickets { (tickets.new.items ≡ tickets.old.items) × (vec_len tickets.new ≡ vec_len tickets.old) }
+    ensures room { OnOk result ((vec_len log.new < vec_capacity log.new) × (vec_len tickets.new < vec_capacity tickets.new)) }
+{
+    log.reserve(1)?;
+    tickets.reserve(1)
+}
 
 /// Puts a ticket back into its place, where there is one.
 pub fn put_back(tickets: &mut [Option<Ticket>], of: usize, ticket: Ticket)

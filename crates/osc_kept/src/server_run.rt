@@ -14,7 +14,7 @@ use crate::kept_event::{KeptServerEntry, KeptServerEvent};
 use crate::kept_server::KeptServer;
 use osc_coap::parse;
 use osc_context::Keeper;
-use osc_endpoint::siblings::{put_back, take_out};
+use osc_endpoint::siblings::{make_places, put_back, take_out};
 use osc_endpoint::{Answering, Arrival, Outcome, Seen, ServerEntry, Taken, Ticket};
 use std::alloc::{AllocError, Global};
 use std::mem;
@@ -155,11 +155,7 @@ pub fn run_kept_server_on<'a, K: Keeper>(
     let mut tickets = Vec::new(alloc);
     let mut rest = mem::take(events);
     while !rest.is_empty() {
-        if let Err(error) = log.reserve(1) {
-            *events = rest;
-            return Err(error);
-        }
-        if let Err(error) = tickets.reserve(1) {
+        if let Err(error) = make_places(log, &mut tickets) {
             *events = rest;
             return Err(error);
         }

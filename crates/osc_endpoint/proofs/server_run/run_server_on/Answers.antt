@@ -16,7 +16,7 @@ loop-log-preserved c =
     let xs = c.args.events.now.now in
     let i = vec_len c.loop-log.log in
     let nonempty : i < length xs = grind (arith, common_steps) in
-    let len : vec_len c.push_reserved.new.self ≡ i + 1 = omega (arith, c.push_reserved.ensures.len, c.reserve.ensures.len) in
+    let len : vec_len c.push_reserved.new.self ≡ i + 1 = omega (arith, c.push_reserved.ensures.len, c.make_places.ensures.entries.1) in
     record {
       within = omega arith;
       rest_is = after_is xs c.loop-log.rest.now c.split_at_mut-front.result.1.now i _ c.loop-log.invariant.rest_is c.split_at_mut-front.ensures.back len;
@@ -25,9 +25,9 @@ loop-log-preserved c =
           let (g, serves, next) = c.serve-entry.ensures mid agrees in
           let event = c.index-front-0.result in
           let events_are = one_more xs c.loop-log.rest.now c.split_at_mut-front.result.0.now i (vec_len c.push_reserved.new.self) event c.loop-log.invariant.rest_is c.split_at_mut-front.ensures.front nonempty c.index-front-0.is len in
-          let entries_are = c.push_reserved.ensures.items ∙ ap (λ z. z ++ c.serve-entry.result.0 ∷ []) c.reserve.ensures.items in
-          let before = c.reserve-in-loop-log.new.self in
-          let shown : c.deref_mut.result.now ≡ c.loop-log.tickets.items = c.deref_mut.ensures.value ∙ c.reserve-in-loop-log.ensures.items in
+          let entries_are = c.push_reserved.ensures.items ∙ ap (λ z. z ++ c.serve-entry.result.0 ∷ []) c.make_places.ensures.entries.0 in
+          let before = c.make_places.new.tickets in
+          let shown : c.deref_mut.result.now ≡ c.loop-log.tickets.items = c.deref_mut.ensures.value ∙ c.make_places.ensures.tickets.0 in
           let put : take before.len (c.serve-entry.new.tickets ++ drop (length c.serve-entry.new.tickets) before.items) ≡ c.serve-entry.new.tickets = take_at c.serve-entry.new.tickets (drop (length c.serve-entry.new.tickets) before.items) before.len (omega (arith, c.serve-entry.auto.tickets, c.deref_mut.ensures.len)) in
           let tickets_are = c.push_reserved-in-loop-log.ensures.items ∙ ap (λ z. z ++ c.serve-entry.result.1 ∷ []) put in (
             g,
@@ -40,9 +40,6 @@ loop-log-preserved c =
 
 pub returns-in-Err-clause-tickets : goal.returns-in-Err-clause-tickets
 returns-in-Err-clause-tickets c = λ h g us run takes. run_takes h g us _ _ run takes
-
-pub returns-in-Err-reserve-clause-tickets : goal.returns-in-Err-reserve-clause-tickets
-returns-in-Err-reserve-clause-tickets c = λ h g us run takes. run_takes h g us _ _ run takes
 
 pub returns-clause-tickets : goal.returns-clause-tickets
 returns-clause-tickets c = λ h g us run takes. run_takes h g us _ _ run takes

@@ -16,7 +16,7 @@ loop-log-preserved g c =
     let xs = c.args.events.now.now in
     let i = vec_len c.loop-log.log in
     let nonempty : i < length xs = grind (arith, common_steps) in
-    let len : vec_len c.push_reserved.new.self ≡ i + 1 = omega (arith, c.push_reserved.ensures.len, c.reserve.ensures.len) in
+    let len : vec_len c.push_reserved.new.self ≡ i + 1 = omega (arith, c.push_reserved.ensures.len, c.make_places.ensures.entries.1) in
     record {
       within = omega arith;
       rest_is = after_is xs c.loop-log.rest.now c.split_at_mut-front.result.1.now i _ c.loop-log.invariant.rest_is c.split_at_mut-front.ensures.back len;
@@ -25,8 +25,8 @@ loop-log-preserved g c =
           let (after, serves, next) = c.serve-entry.ensures mid kept in
           let event = c.index-front-0.result in
           let events_are = one_more xs c.loop-log.rest.now c.split_at_mut-front.result.0.now i (vec_len c.push_reserved.new.self) event c.loop-log.invariant.rest_is c.split_at_mut-front.ensures.front nonempty c.index-front-0.is len in
-          let before = c.reserve-in-loop-log.new.self in
-          let shown : c.deref_mut.result.now ≡ c.loop-log.tickets.items = c.deref_mut.ensures.value ∙ c.reserve-in-loop-log.ensures.items in
+          let before = c.make_places.new.tickets in
+          let shown : c.deref_mut.result.now ≡ c.loop-log.tickets.items = c.deref_mut.ensures.value ∙ c.make_places.ensures.tickets.0 in
           let put : take before.len (c.serve-entry.new.tickets ++ drop (length c.serve-entry.new.tickets) before.items) ≡ c.serve-entry.new.tickets = take_at c.serve-entry.new.tickets (drop (length c.serve-entry.new.tickets) before.items) before.len (omega (arith, c.serve-entry.auto.tickets, c.deref_mut.ensures.len)) in
           let tickets_are = c.push_reserved-in-loop-log.ensures.items ∙ ap (λ z. z ++ c.serve-entry.result.1 ∷ []) put in
           let old = c.loop-log.server.source in
@@ -35,8 +35,8 @@ loop-log-preserved g c =
           let o = option_map values_of c.serve-entry.result.1 in
           let step = subst (λ (ts : List (Option Ticket)). Serves (server_state mid old (values_in ts)) event c.serve-entry.result.0 after new us o) shown serves in (
             after,
-            run_on ServerStep (server_state h c.args.server.now.source []) (server_state mid old (values_in c.loop-log.tickets.items)) (server_state after new _) xs i (vec_len c.push_reserved.new.self) c.loop-log.log.items c.reserve.new.self.items c.push_reserved.new.self.items event c.serve-entry.result.0 run
-                (us, o, step, ap values_in tickets_are ∙ values_more c.serve-entry.new.tickets c.serve-entry.result.1) events_are c.push_reserved.ensures.items c.reserve.ensures.items,
+            run_on ServerStep (server_state h c.args.server.now.source []) (server_state mid old (values_in c.loop-log.tickets.items)) (server_state after new _) xs i (vec_len c.push_reserved.new.self) c.loop-log.log.items c.make_places.new.log.items c.push_reserved.new.self.items event c.serve-entry.result.0 run
+                (us, o, step, ap values_in tickets_are ∙ values_more c.serve-entry.new.tickets c.serve-entry.result.1) events_are c.push_reserved.ensures.items c.make_places.ensures.entries.0,
             next,
           );
     }
