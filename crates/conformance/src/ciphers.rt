@@ -8,10 +8,19 @@ use osc_aes::{BlockCipher, PlainAes, PlaneAes, TableAes};
 use osc_ccm::{MOST_AAD, open, seal};
 use osc_hkdf::{expand, extract, hmac_sha256};
 
+/// A block alone, and as either of two.
 fn encrypted<C: BlockCipher>(cipher: &C, fields: &Fields<'_>, answer: &mut Answer) {
     let mut block = fields.array::<16>(1);
     cipher.encrypt(&mut block);
     answer.bytes(&block);
+    answer.again();
+    let mut first = fields.array::<16>(1);
+    cipher.encrypt_two(&mut first, &mut [0u8; 16]);
+    answer.bytes(&first);
+    answer.again();
+    let mut second = fields.array::<16>(1);
+    cipher.encrypt_two(&mut [0u8; 16], &mut second);
+    answer.bytes(&second);
 }
 
 pub(crate) fn aes128(fields: &Fields<'_>, answer: &mut Answer) {

@@ -86,18 +86,22 @@ absorbed_aad key x0 x1 x2 aad block taken some et eb e1 e2 =
     ∙ ap (fold step x0) (sym (padded_blocks-cons xs (omega arith)))
     ∙ ap (λ (l : List ℕ). fold step x0 (padded_blocks l)) (sym (encoded_is aad some))
 
--- all blocks absorbed
-pub mac_is : (key nonce aad m first x1 x2 x3 : List ℕ) → length first ≡ 16 → first ≡ first_block nonce aad m
+-- the first block and the additional data absorbed
+pub begun_is : (key nonce aad m first x1 x2 : List ℕ) → length first ≡ 16 → first ≡ first_block nonce aad m
     → x1 ≡ mac_step key (replicate 16 0) (padded_block first 0) → x2 ≡ fold (mac_step key) x1 (padded_blocks (encoded_aad aad))
+    → x2 ≡ fold (mac_step key) (mac_step key (replicate 16 0) (first_block nonce aad m)) (padded_blocks (encoded_aad aad))
+begun_is key nonce aad m first x1 x2 long ef e1 e2 =
+    let step = mac_step key in
+    e2 ∙ ap (λ (x : List ℕ). fold step x (padded_blocks (encoded_aad aad))) (e1 ∙ ap (step (replicate 16 0)) (padded_whole first long ∙ ef))
+
+-- all blocks absorbed
+pub mac_is : (key nonce aad m x2 x3 : List ℕ)
+    → x2 ≡ fold (mac_step key) (mac_step key (replicate 16 0) (first_block nonce aad m)) (padded_blocks (encoded_aad aad))
     → x3 ≡ fold (mac_step key) x2 (padded_blocks m) → x3 ≡ mac_of key nonce aad m
 unfolding mac_of
-mac_is key nonce aad m first x1 x2 x3 long ef e1 e2 e3 =
+mac_is key nonce aad m x2 x3 e2 e3 =
     let step = mac_step key in
-    e3 ∙ ap (λ (x : List ℕ). fold step x (padded_blocks m)) (
-    e2 ∙ ap (λ (x : List ℕ). fold step x (padded_blocks (encoded_aad aad))) (
-    e1 ∙ ap (step (replicate 16 0)) (padded_whole first long ∙ ef)
-    )
-    )
+    e3 ∙ ap (λ (x : List ℕ). fold step x (padded_blocks m)) e2
     ∙ sym (fold-append step (step (replicate 16 0) (first_block nonce aad m)) (padded_blocks (encoded_aad aad)) (padded_blocks m))
 
 -- a fold of blocks is a block
@@ -110,15 +114,18 @@ pub length-mac_of : BlockKeepsItsLength → (key nonce aad m : List ℕ) → len
 unfolding mac_of
 length-mac_of whole key nonce aad m = length-fold whole key (replicate 16 0) (mac_blocks nonce aad m) refl
 
--- the tag as it is sent, byte by byte
-pub encrypted_tag_is : (key nonce aad m x s tag : List ℕ) → length x ≡ 16 → length s ≡ 16 → length tag ≡ 8 → x ≡ mac_of key nonce aad m
-    → s ≡ stream_block key nonce 0 → ((k : ℕ) → k < 8 → get_or tag k 0 ≡ bit_xor (get_or x k 0) (get_or s k 0))
-    → tag ≡ encrypted_tag key nonce aad m
-encrypted_tag_is key nonce aad m x s tag lx ls lt ex es at =
+-- the fronts of two blocks added byte by byte
+pub fronts_added : (x s tag : List ℕ) → length x ≡ 16 → length s ≡ 16 → length tag ≡ 8
+    → ((k : ℕ) → k < 8 → get_or tag k 0 ≡ bit_xor (get_or x k 0) (get_or s k 0)) → tag ≡ xor_bytes (take 8 x) (take 8 s)
+fronts_added x s tag lx ls lt at =
     let tx = length-take-le 8 x (omega arith) in
     let ts = length-take-le 8 s (omega arith) in
     is_xor_bytes (take 8 x) (take 8 s) tag (omega (arith, tx, ts)) (omega (arith, tx))
     (λ k low.
     let k8 : k < 8 = omega (arith, tx) in
     at k k8 ∙ ap₂ bit_xor (sym (get_or-take 8 x k 0 k8)) (sym (get_or-take 8 s k 0 k8)))
-    ∙ ap₂ (λ (a b : List ℕ). xor_bytes (take 8 a) (take 8 b)) ex es
+
+-- the tag as it is sent
+pub encrypted_tag_is : (key nonce aad m x s tag : List ℕ) → x ≡ mac_of key nonce aad m → s ≡ stream_block key nonce 0
+    → tag ≡ xor_bytes (take 8 x) (take 8 s) → tag ≡ encrypted_tag key nonce aad m
+encrypted_tag_is key nonce aad m x s tag ex es et = et ∙ ap₂ (λ (a b : List ℕ). xor_bytes (take 8 a) (take 8 b)) ex es

@@ -59,6 +59,15 @@ padded_blocks-cons xs some =
     ap (λ (c : ℕ). map (padded_block xs) (range_with_len 0 c)) more
     ∙ ap (λ (l : List (List ℕ)). padded_block xs 0 ∷ l) (blocks_past xs n)
 
+-- the first blocks of lists that agree so far
+pub blocks_before : (xs ys : List ℕ) (i : ℕ) → take (16 * i) xs ≡ take (16 * i) ys
+    → map (padded_block xs) (range_with_len 0 i) ≡ map (padded_block ys) (range_with_len 0 i)
+blocks_before xs ys i e =
+    same_map (padded_block xs) (padded_block ys) i (λ k lt.
+    same_map (λ j. get_or xs (16 * k + j) 0) (λ j. get_or ys (16 * k + j) 0) 16 (λ j low.
+    sym (get_or-take (16 * i) xs (16 * k + j) 0 (omega (arith, lt, low))) ∙ ap (λ (l : List ℕ). get_or l (16 * k + j) 0) e
+    ∙ get_or-take (16 * i) ys (16 * k + j) 0 (omega (arith, lt, low))))
+
 -- one more block absorbed
 pub absorb_more : (key x0 x x' xs : List ℕ) (i n : ℕ) → n ≡ min (16 * i + 16) (length xs) - 16 * i
     → x ≡ fold (mac_step key) x0 (map (padded_block xs) (range_with_len 0 i))

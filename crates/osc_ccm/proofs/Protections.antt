@@ -91,7 +91,7 @@ module _ (whole : BlockKeepsItsLength) (key nonce aad : List ℕ) where
   -- what opening computes: `front` decrypts the front of `buf`, and the buffer is then `front ++ drop n buf`
   module _ (buf front tag : List ℕ) (n : ℕ) (long : length buf ≡ n + 8) (long_front : length front ≡ n)
       (ef : front ≡ encrypted key nonce (take n buf))
-      (et : tag ≡ encrypted_tag key nonce aad (take n (front ++ drop n buf))) where
+      (et : tag ≡ encrypted_tag key nonce aad front) where
     -- its front
     pub front_is : take n (front ++ drop n buf) ≡ front
     front_is = take_at front (drop n buf) n long_front
@@ -100,16 +100,13 @@ module _ (whole : BlockKeepsItsLength) (key nonce aad : List ℕ) where
     pub back_stays : drop n (front ++ drop n buf) ≡ drop n buf
     back_stays = drop_at front (drop n buf) n long_front
 
-    tag_is : tag ≡ encrypted_tag key nonce aad front
-    tag_is = et ∙ ap (encrypted_tag key nonce aad) front_is
-
     -- the bytes that are compared with the tag
     pub received : take (length (front ++ drop n buf) - n) (drop n (front ++ drop n buf)) ≡ drop n buf
     received = take_rest (front ++ drop n buf) n ∙ back_stays
 
     -- a right tag: the buffer was the protection of the front
     pub opens : tag ≡ drop n buf → buf ≡ ccm key nonce aad (take n (front ++ drop n buf))
-    opens hit = protects buf front n ef (sym hit ∙ tag_is) ∙ ap (ccm key nonce aad) (sym front_is)
+    opens hit = protects buf front n ef (sym hit ∙ et) ∙ ap (ccm key nonce aad) (sym front_is)
 
     -- and of no other message
     pub opens_only : (m : List ℕ) → buf ≡ ccm key nonce aad m → take n (front ++ drop n buf) ≡ m
@@ -117,7 +114,7 @@ module _ (whole : BlockKeepsItsLength) (key nonce aad : List ℕ) where
 
     -- a protection has a right tag
     pub right_tag : (m : List ℕ) → buf ≡ ccm key nonce aad m → tag ≡ drop n buf
-    right_tag m e = tag_is ∙ sym (protected_tag buf front m n long ef e)
+    right_tag m e = et ∙ sym (protected_tag buf front m n long ef e)
 
     -- the key stream once more gives the buffer back
     pub restored : (again : List ℕ) → again ≡ encrypted key nonce (take n (front ++ drop n buf)) → again ++ drop n (front ++ drop n buf) ≡ buf

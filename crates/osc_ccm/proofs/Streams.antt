@@ -49,6 +49,14 @@ module _ (whole : BlockKeepsItsLength) (key nonce : List ℕ) where
       ∙ ap (λ (l : List ℕ). length l) (key_stream-more key nonce n)
       ∙ length-append (key_stream key nonce n) (stream_block key nonce (n + 1)) ∙ omega (arith, before, last)
 
+  -- what is left of a buffer of which the first i blocks were encrypted
+  pub left_is : (init buf : List ℕ) (i : ℕ) → 16 * i < length init → buf ≡ encrypted_to key nonce init i → drop (16 * i) buf ≡ drop (16 * i) init
+  left_is init buf i lt e =
+      let long_taken = length-take-le (16 * i) init (omega arith) in
+      let long_stream = length-key_stream i in
+      let long_front = length-xor_bytes (take (16 * i) init) (key_stream key nonce i) (omega (arith, long_taken, long_stream)) ∙ long_taken in
+      ap (drop (16 * i)) e ∙ drop_at (xor_bytes (take (16 * i) init) (key_stream key nonce i)) (drop (16 * i) init) (16 * i) long_front
+
   -- one more block encrypted
   pub encrypted_more : (init buf ys : List ℕ) (i n : ℕ) → n ≡ min (16 * i + 16) (length init) - 16 * i → 16 * i < length init
       → buf ≡ encrypted_to key nonce init i → length ys ≡ n
@@ -66,7 +74,7 @@ module _ (whole : BlockKeepsItsLength) (key nonce : List ℕ) where
       length-xor_bytes (take (16 * i) init) (key_stream key nonce i) (omega (arith, long_taken, long_stream)) ∙ long_taken in
       let n_rest : n ≡ min 16 (length rest) = omega (arith, long_rest) in
       let before : take (16 * i) buf ≡ front = ap (take (16 * i)) e ∙ take_at front rest (16 * i) long_front in
-      let after : drop (16 * i) buf ≡ rest = ap (drop (16 * i)) e ∙ drop_at front rest (16 * i) long_front in
+      let after : drop (16 * i) buf ≡ rest = left_is init buf i lt e in
       let taken : take n rest ≡ take 16 rest = ap (λ (m : ℕ). take m rest) n_rest ∙ take_min 16 rest in
       let long_part = length-take-le n rest (omega (arith, n_rest)) in
       let part : ys ≡ xor_bytes (take n rest) block =

@@ -12,6 +12,7 @@
 mod blocks;
 mod key_stream;
 mod laws;
+mod message;
 mod opening;
 mod sealing;
 mod tag;

@@ -5,7 +5,8 @@ ghost use Rattle.osc_ccm.specs.Ccm.{ccm, tag_length};
 
 use crate::blocks::{MOST_PLAINTEXT, TAG_LEN};
 use crate::key_stream::add_key_stream;
-use crate::tag::{encrypted_tag, is_same_tag};
+use crate::message::open_message;
+use crate::tag::is_same_tag;
 use osc_aes::{BlockCipher, encrypted_length};
 use std::error::Error;
 use std::fmt;
@@ -57,8 +58,7 @@ pub fn open<C: BlockCipher>(
         return Err(OpenError::TooLong);
     }
     let len = buf.len() - TAG_LEN;
-    add_key_stream(cipher, nonce, &mut buf[..len]);
-    let tag = encrypted_tag(cipher, nonce, aad, &buf[..len]);
+    let tag = open_message(cipher, nonce, aad, &mut buf[..len]);
     if is_same_tag(&tag, &buf[len..]) {
         return Ok(len);
     }

@@ -4,8 +4,7 @@ ghost use Rattle.std.specs.Prelude.{◌≡◌, ◌↔◌, ◌+◌, ◌++◌, ◌
 ghost use Rattle.osc_ccm.specs.Ccm.{ccm, tag_length};
 
 use crate::blocks::{MOST_PLAINTEXT, TAG_LEN};
-use crate::key_stream::add_key_stream;
-use crate::tag::encrypted_tag;
+use crate::message::seal_message;
 use osc_aes::{BlockCipher, encrypted_length};
 use std::error::Error;
 use std::fmt;
@@ -49,8 +48,7 @@ pub fn seal<C: BlockCipher>(
     if buf.len() - len < TAG_LEN {
         return Err(SealError::NoRoom);
     }
-    let tag = encrypted_tag(cipher, nonce, aad, &buf[..len]);
-    add_key_stream(cipher, nonce, &mut buf[..len]);
+    let tag = seal_message(cipher, nonce, aad, &mut buf[..len]);
     buf[len..len + TAG_LEN].copy_from_slice(&tag);
     Ok(len + TAG_LEN)
 }

@@ -1,49 +1,57 @@
 //! The tag (RFC 3610, 2.2): the last state of a chain of blocks, each added to the state before and encrypted.
 
-ghost use Rattle.std.specs.Prelude.{◌≡◌, ◌↔◌, ◌≤◌, fold, length, IsTrue};
-ghost use Rattle.osc_ccm.specs.Ccm.{encoded_aad, encrypted_tag, mac_of, mac_step, padded_block, padded_blocks};
+ghost use Rattle.std.specs.Prelude.{◌≡◌, ◌↔◌, ◌<◌, ◌≤◌, ℕ, List, fold, length, replicate, take, IsTrue};
+ghost use Rattle.osc_ccm.specs.Ccm.{encoded_aad, first_block, mac_step, padded_block, padded_blocks, stream_block, tag_length, xor_bytes};
 
-use crate::blocks::{FLAGS, FLAGS_WITH_AAD, TAG_LEN, aad_block, numbered_block, xor_front};
-use crate::key_stream::stream_block;
+use crate::blocks::{
+    COUNTER_FLAGS, FLAGS, FLAGS_WITH_AAD, TAG_LEN, aad_block, numbered_block, xor_front,
+};
 use osc_aes::BlockCipher;
 
-// The tag of a message as it is sent: added to the front of S_0.
-pub(crate) fn encrypted_tag<C: BlockCipher>(
+// The state after B_0 and the additional data, of a message of so many bytes; and S_i, made beside B_0.
+pub(crate) fn begin<C: BlockCipher>(
     cipher: &C,
     nonce: &[u8; 13],
     aad: &[u8],
-    message: &[u8],
-) -> [u8; 8]
+    len: usize,
+    i: usize,
+) -> ([u8; 16], [u8; 16])
     requires aad { length aad.now ≤ 65279 }
-    requires message { length message.now ≤ 65535 }
-    ensures { result ≡ encrypted_tag (C.cipher_key cipher.now) nonce.now aad.now message.now }
-{
-    let state = mac(cipher, nonce, aad, message);
-    let stream = stream_block(cipher, nonce, 0);
-    let mut tag = [0u8; 8];
-    for k in 0..tag.len() {
-        tag[k] = state[k] ^ stream[k];
-    }
-    tag
-}
-
-// The state after all blocks.
-fn mac<C: BlockCipher>(cipher: &C, nonce: &[u8; 13], aad: &[u8], message: &[u8]) -> [u8; 16]
-    requires aad { length aad.now ≤ 65279 }
-    requires message { length message.now ≤ 65535 }
-    ensures { result ≡ mac_of (C.cipher_key cipher.now) nonce.now aad.now message.now }
+    requires len { len ≤ 65535 }
+    requires number { i < 65536 }
+    ensures state { (m : List ℕ) → length m ≡ len → result.0
+        ≡ fold (mac_step (C.cipher_key cipher.now)) (mac_step (C.cipher_key cipher.now) (replicate 16 0) (first_block nonce.now aad.now m)) (padded_blocks (encoded_aad aad.now)) }
+    ensures stream { result.1 ≡ stream_block (C.cipher_key cipher.now) nonce.now i }
 {
     let flags = if aad.is_empty() {
         FLAGS
     } else {
         FLAGS_WITH_AAD
     };
-    let first = numbered_block(flags, nonce, message.len() as u16);
+    let first = numbered_block(flags, nonce, len as u16);
     let mut state = [0u8; 16];
-    absorb_block(cipher, &mut state, &first);
+    let stream = absorb_beside(cipher, nonce, &mut state, &first, i);
     absorb_aad(cipher, &mut state, aad);
-    absorb(cipher, &mut state, message);
-    state
+    (state, stream)
+}
+
+// Takes up to 16 bytes into the state, as a block filled with zeros, and makes S_i beside it.
+pub(crate) fn absorb_beside<C: BlockCipher>(
+    cipher: &C,
+    nonce: &[u8; 13],
+    state: &mut [u8; 16],
+    part: &[u8],
+    i: usize,
+) -> [u8; 16]
+    requires part { length part.now ≤ 16 }
+    requires number { i < 65536 }
+    ensures state { state.new ≡ mac_step (C.cipher_key cipher.now) state.old (padded_block part.now 0) }
+    ensures stream { result ≡ stream_block (C.cipher_key cipher.now) nonce.now i }
+{
+    xor_front(state, part);
+    let mut stream = numbered_block(COUNTER_FLAGS, nonce, i as u16);
+    cipher.encrypt_two(state, &mut stream);
+    stream
 }
 
 // Takes the additional data into the state, its length before it.
@@ -78,6 +86,17 @@ fn absorb_block<C: BlockCipher>(cipher: &C, state: &mut [u8; 16], part: &[u8])
 {
     xor_front(state, part);
     cipher.encrypt(state);
+}
+
+// The tag as it is sent: the front of the last state, added to the front of S_0.
+pub(crate) fn hidden_tag(state: &[u8; 16], stream: &[u8; 16]) -> [u8; 8]
+    ensures { result ≡ xor_bytes (take tag_length state.now) (take tag_length stream.now) }
+{
+    let mut tag = [0u8; 8];
+    for k in 0..tag.len() {
+        tag[k] = state[k] ^ stream[k];
+    }
+    tag
 }
 
 // Whether two tags are equal: the differences of all bytes are gathered, and tested once.

@@ -2,7 +2,7 @@
 //! of a call can be done once for all.
 
 use crate::speed::stopwatch::Stopwatch;
-use osc_aes::{BlockCipher, TableAes};
+use osc_aes::{BlockCipher, PlaneAes, TableAes};
 use osc_ccm::{TAG_LEN, open, seal};
 use std::io;
 use std::rt::Clock;
@@ -24,7 +24,7 @@ const AAD: [u8; 20] = [
 /// The longest plaintext that is measured.
 const LONGEST: usize = 1_024;
 
-/// A key's schedule.
+/// A key's schedule, by tables and in planes.
 pub(crate) fn schedule<R: Clock + Print>(watch: &mut Stopwatch<'_, R>) -> io::Result<()> {
     let mut key = KEY;
     let mut cipher = TableAes::new(&key);
@@ -33,40 +33,85 @@ pub(crate) fn schedule<R: Clock + Print>(watch: &mut Stopwatch<'_, R>) -> io::Re
         cipher = TableAes::new(&key);
         Some(key[0])
     })?;
-    // The last schedule has to be there.
+    let mut planes = PlaneAes::new(&key);
+    watch.figure("schedule-planes", || {
+        key[0] = key[0].wrapping_add(1);
+        planes = PlaneAes::new(&key);
+        Some(key[0])
+    })?;
+    // The last schedules have to be there.
     cipher.encrypt(&mut key);
+    planes.encrypt(&mut key);
     watch.keep(key[0]);
     Ok(())
 }
 
-/// A block.
+/// A block, and two at once, by tables and in planes.
 pub(crate) fn block<R: Clock + Print>(watch: &mut Stopwatch<'_, R>) -> io::Result<()> {
     let cipher = TableAes::new(&KEY);
+    one_block(watch, "block", &cipher)?;
+    two_blocks(watch, "two-blocks", &cipher)?;
+    let planes = PlaneAes::new(&KEY);
+    one_block(watch, "block-planes", &planes)?;
+    two_blocks(watch, "two-blocks-planes", &planes)
+}
+
+/// A block by some cipher.
+fn one_block<C: BlockCipher, R: Clock + Print>(
+    watch: &mut Stopwatch<'_, R>,
+    name: &str,
+    cipher: &C,
+) -> io::Result<()> {
     let mut block = [0u8; 16];
-    watch.figure("block", || {
+    watch.figure(name, || {
         cipher.encrypt(&mut block);
         Some(block[0])
     })
 }
 
-/// Seals and opens of four lengths, with 20 bytes of additional data.
+/// Two blocks at once by some cipher.
+fn two_blocks<C: BlockCipher, R: Clock + Print>(
+    watch: &mut Stopwatch<'_, R>,
+    name: &str,
+    cipher: &C,
+) -> io::Result<()> {
+    let mut first = [0u8; 16];
+    let mut second = [1u8; 16];
+    watch.figure(name, || {
+        cipher.encrypt_two(&mut first, &mut second);
+        Some(first[0] ^ second[0])
+    })
+}
+
+/// Seals and opens by tables, and in planes with a key that was there.
 pub(crate) fn ccm<R: Clock + Print>(watch: &mut Stopwatch<'_, R>) -> io::Result<()> {
+    ccm_tables(watch)?;
+    let planes = PlaneAes::new(&KEY);
+    seal_kept_key(watch, "seal-13-planes", 13, &planes)?;
+    open_kept_key(watch, "open-13-planes", 13, &planes)?;
+    seal_kept_key(watch, "seal-1024-planes", 1_024, &planes)?;
+    open_kept_key(watch, "open-1024-planes", 1_024, &planes)
+}
+
+/// Seals and opens of four lengths, with 20 bytes of additional data.
+fn ccm_tables<R: Clock + Print>(watch: &mut Stopwatch<'_, R>) -> io::Result<()> {
+    let cipher = TableAes::new(&KEY);
     seal_new_key(watch, "seal-5-new-key", 5)?;
-    seal_kept_key(watch, "seal-5-kept-key", 5)?;
+    seal_kept_key(watch, "seal-5-kept-key", 5, &cipher)?;
     open_new_key(watch, "open-5-new-key", 5)?;
-    open_kept_key(watch, "open-5-kept-key", 5)?;
+    open_kept_key(watch, "open-5-kept-key", 5, &cipher)?;
     seal_new_key(watch, "seal-13-new-key", 13)?;
-    seal_kept_key(watch, "seal-13-kept-key", 13)?;
+    seal_kept_key(watch, "seal-13-kept-key", 13, &cipher)?;
     open_new_key(watch, "open-13-new-key", 13)?;
-    open_kept_key(watch, "open-13-kept-key", 13)?;
+    open_kept_key(watch, "open-13-kept-key", 13, &cipher)?;
     seal_new_key(watch, "seal-64-new-key", 64)?;
-    seal_kept_key(watch, "seal-64-kept-key", 64)?;
+    seal_kept_key(watch, "seal-64-kept-key", 64, &cipher)?;
     open_new_key(watch, "open-64-new-key", 64)?;
-    open_kept_key(watch, "open-64-kept-key", 64)?;
+    open_kept_key(watch, "open-64-kept-key", 64, &cipher)?;
     seal_new_key(watch, "seal-1024-new-key", 1_024)?;
-    seal_kept_key(watch, "seal-1024-kept-key", 1_024)?;
+    seal_kept_key(watch, "seal-1024-kept-key", 1_024, &cipher)?;
     open_new_key(watch, "open-1024-new-key", 1_024)?;
-    open_kept_key(watch, "open-1024-kept-key", 1_024)
+    open_kept_key(watch, "open-1024-kept-key", 1_024, &cipher)
 }
 
 /// What is sealed or opened, and with what, beside the cipher.
@@ -90,14 +135,14 @@ impl Call {
     }
 
     /// Seals what stands in the buffer, and answers its first byte.
-    fn seal(&mut self, cipher: &TableAes) -> Option<u8> {
+    fn seal<C: BlockCipher>(&mut self, cipher: &C) -> Option<u8> {
         let len = self.len.min(LONGEST);
         seal(cipher, &self.nonce, &self.aad, &mut self.buf, len).ok()?;
         Some(self.buf[0])
     }
 
     /// Copies sealed bytes into the buffer, opens them, and answers the plaintext's first byte.
-    fn open(&mut self, cipher: &TableAes, sealed: &[u8; LONGEST + TAG_LEN]) -> Option<u8> {
+    fn open<C: BlockCipher>(&mut self, cipher: &C, sealed: &[u8; LONGEST + TAG_LEN]) -> Option<u8> {
         let end = self.len.min(LONGEST) + TAG_LEN;
         let buf = &mut self.buf[..];
         buf[..end].copy_from_slice(&sealed[..end]);
@@ -122,16 +167,16 @@ fn seal_new_key<R: Clock + Print>(
 }
 
 /// A seal with a schedule that was there.
-fn seal_kept_key<R: Clock + Print>(
+fn seal_kept_key<C: BlockCipher, R: Clock + Print>(
     watch: &mut Stopwatch<'_, R>,
     name: &str,
     len: usize,
+    cipher: &C,
 ) -> io::Result<()> {
     let mut call = Call::new(len);
-    let cipher = TableAes::new(&KEY);
     watch.figure(name, || {
         call.nonce[12] = call.buf[0];
-        call.seal(&cipher)
+        call.seal(cipher)
     })
 }
 
@@ -156,19 +201,19 @@ fn open_new_key<R: Clock + Print>(
 }
 
 /// An open with a schedule that was there, and the copy of the bytes that it opens.
-fn open_kept_key<R: Clock + Print>(
+fn open_kept_key<C: BlockCipher, R: Clock + Print>(
     watch: &mut Stopwatch<'_, R>,
     name: &str,
     len: usize,
+    cipher: &C,
 ) -> io::Result<()> {
     let mut call = Call::new(len);
-    let cipher = TableAes::new(&KEY);
-    let _byte = call.seal(&cipher);
+    let _byte = call.seal(cipher);
     let sealed = call.buf;
     let mut zero = 0;
     watch.figure(name, || {
         call.nonce[12] ^= zero;
-        zero = call.open(&cipher, &sealed)?;
+        zero = call.open(cipher, &sealed)?;
         Some(zero)
     })
 }

@@ -18,11 +18,11 @@ returns-then-is_same_tag-clause-opened g c =
     let key = g.C.BlockCipher.cipher_key c.args.cipher.now in
     let n = length c.args.buf.now - 8 in
     let long : length c.args.buf.now ≡ n + 8 = omega arith in
-    let front : length c.add_key_stream.new.message ≡ n = omega (arith, length-take n c.args.buf.now) in
-    let there = received whole key c.args.nonce.now c.args.aad.now c.args.buf.now c.add_key_stream.new.message c.encrypted_tag-tag.result n long front
-    c.add_key_stream.ensures c.encrypted_tag-tag.ensures in
-    opens whole key c.args.nonce.now c.args.aad.now c.args.buf.now c.add_key_stream.new.message c.encrypted_tag-tag.result n long front
-    c.add_key_stream.ensures c.encrypted_tag-tag.ensures
+    let front : length c.open_message-tag.new.message ≡ n = omega (arith, length-take n c.args.buf.now) in
+    let there = received whole key c.args.nonce.now c.args.aad.now c.args.buf.now c.open_message-tag.new.message c.open_message-tag.result n long front
+    c.open_message-tag.ensures.message c.open_message-tag.ensures.tag in
+    opens whole key c.args.nonce.now c.args.aad.now c.args.buf.now c.open_message-tag.new.message c.open_message-tag.result n long front
+    c.open_message-tag.ensures.message c.open_message-tag.ensures.tag
     (c.if-is_same_tag.ensures.0 refl ∙ there)
 
 pub returns-then-is_same_tag-clause-accepts : goal.returns-then-is_same_tag-clause-accepts
@@ -31,9 +31,9 @@ returns-then-is_same_tag-clause-accepts g c = λ m short e.
     let key = g.C.BlockCipher.cipher_key c.args.cipher.now in
     let n = length c.args.buf.now - 8 in
     let long : length c.args.buf.now ≡ n + 8 = omega arith in
-    let front : length c.add_key_stream.new.message ≡ n = omega (arith, length-take n c.args.buf.now) in
-    opens_only whole key c.args.nonce.now c.args.aad.now c.args.buf.now c.add_key_stream.new.message c.encrypted_tag-tag.result n long front
-    c.add_key_stream.ensures c.encrypted_tag-tag.ensures m e
+    let front : length c.open_message-tag.new.message ≡ n = omega (arith, length-take n c.args.buf.now) in
+    opens_only whole key c.args.nonce.now c.args.aad.now c.args.buf.now c.open_message-tag.new.message c.open_message-tag.result n long front
+    c.open_message-tag.ensures.message c.open_message-tag.ensures.tag m e
 
 pub returns-then-is_same_tag-clause-bad_tag : goal.returns-then-is_same_tag-clause-bad_tag
 returns-then-is_same_tag-clause-bad_tag g c = (λ e. cc, λ none. absurd (none.2 _ (returns-then-is_same_tag-clause-opened g c)))
@@ -44,11 +44,11 @@ returns-clause-accepts g c = λ m short e.
     let key = g.C.BlockCipher.cipher_key c.args.cipher.now in
     let n = length c.args.buf.now - 8 in
     let long : length c.args.buf.now ≡ n + 8 = omega arith in
-    let front : length c.add_key_stream.new.message ≡ n = omega (arith, length-take n c.args.buf.now) in
-    let there = received whole key c.args.nonce.now c.args.aad.now c.args.buf.now c.add_key_stream.new.message c.encrypted_tag-tag.result n long front
-    c.add_key_stream.ensures c.encrypted_tag-tag.ensures in
-    let hit : false ≡ true = c.if-is_same_tag.ensures.1 (right_tag whole key c.args.nonce.now c.args.aad.now c.args.buf.now c.add_key_stream.new.message c.encrypted_tag-tag.result n long front
-    c.add_key_stream.ensures c.encrypted_tag-tag.ensures m e ∙ sym there) in
+    let front : length c.open_message-tag.new.message ≡ n = omega (arith, length-take n c.args.buf.now) in
+    let there = received whole key c.args.nonce.now c.args.aad.now c.args.buf.now c.open_message-tag.new.message c.open_message-tag.result n long front
+    c.open_message-tag.ensures.message c.open_message-tag.ensures.tag in
+    let hit : false ≡ true = c.if-is_same_tag.ensures.1 (right_tag whole key c.args.nonce.now c.args.aad.now c.args.buf.now c.open_message-tag.new.message c.open_message-tag.result n long front
+    c.open_message-tag.ensures.message c.open_message-tag.ensures.tag m e ∙ sym there) in
     cc
 
 pub returns-clause-bad_tag : goal.returns-clause-bad_tag
@@ -69,6 +69,6 @@ returns-clause-unchanged g c =
     let key = g.C.BlockCipher.cipher_key c.args.cipher.now in
     let n = length c.args.buf.now - 8 in
     let long : length c.args.buf.now ≡ n + 8 = omega arith in
-    let front : length c.add_key_stream.new.message ≡ n = omega (arith, length-take n c.args.buf.now) in
-    restored whole key c.args.nonce.now c.args.aad.now c.args.buf.now c.add_key_stream.new.message c.encrypted_tag-tag.result n long front
-    c.add_key_stream.ensures c.encrypted_tag-tag.ensures c.add_key_stream-2.new.message c.add_key_stream-2.ensures
+    let front : length c.open_message-tag.new.message ≡ n = omega (arith, length-take n c.args.buf.now) in
+    restored whole key c.args.nonce.now c.args.aad.now c.args.buf.now c.open_message-tag.new.message c.open_message-tag.result n long front
+    c.open_message-tag.ensures.message c.open_message-tag.ensures.tag c.add_key_stream.new.message c.add_key_stream.ensures
