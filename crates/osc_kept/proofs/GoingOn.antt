@@ -14,7 +14,7 @@ use Rattle.osc_kept.specs.KeptServing as serving
 use Rattle.osc_kept.specs.KeptServing.{IsStart, started}
 use Rattle.osc_kept.specs.Numbering as kept
 use Rattle.osc_kept.specs.Numbering.{Own, AreAlike, Effect, Stay, Draw, Reserve, Load, Use, after, Allowed, Goes, nothing_drawn, use_of}
-use Rattle.osc_kept.specs.GoingOn.{ClientBegins, ClientGoesOn, ClientRuns, GoesOn, IsDrawn, KnowsFloor, ServerBegins, ServerGoesOn, ServerRuns, StartsOn, server_started}
+use Rattle.osc_kept.specs.GoingOn.{ClientBegins, ClientGoesOn, ClientRuns, GoesOn, IsDrawn, KeepsFloor, KnowsFloor, ServerBegins, ServerGoesOn, ServerRuns, StartsOn, server_started}
 use Rattle.osc_kept.specs.Premises.{AtEach, LoadsNoneBelow, NumbersAreKept}
 use Rattle.osc_kept.specs.World.{World, Event, Then, End, Client, Server, Draws, Reserves, AtClient, AtServer, client_effect, client_history, effect, numbers, server_effect, server_history}
 
@@ -48,9 +48,13 @@ after_alike Reserve o p x = record { next_is = ap (λ n. n + 1) x.next_is; limit
 after_alike (Load n) o p x = record { next_is = refl; limit_is = refl; hand_is = refl }
 after_alike (Use n) o p x = record { next_is = x.next_is; limit_is = x.limit_is; hand_is = refl }
 
+-- what is saved is known
+saved_known : (o p : Own) → AreAlike o p → (after Reserve o).floor ≤ (after Reserve p).floor
+saved_known o p x = let limit : o.limit ≡ p.limit = x.limit_is in omega (arith, limit)
+
 -- a floor that isn't below stays so
 floor_alike : (e : Effect) (o p : Own) → AreAlike o p → o.floor ≤ p.floor → (after e o).floor ≤ (after e p).floor
-floor_alike Reserve o p x f = let limit : o.limit ≡ p.limit = x.limit_is in omega (arith, limit)
+floor_alike Reserve o p x f = saved_known o p x
 floor_alike Stay o p x f = f
 floor_alike Draw o p x f = f
 floor_alike (Load n) o p x f = f
@@ -77,6 +81,7 @@ record Drawn (of : End) (s : SecurityContext) (w : World) (old new : Own) : Type
   pub server_is : server_history s world ≡ server_history s w
   pub kept : AtEach (NumbersAreKept s) w → AtEach (NumbersAreKept s) world
   pub knows : KnowsFloor of s w old → KnowsFloor of s world new
+  pub floor : KeepsFloor of s w world new
 
 no_draw : (of : End) (s : SecurityContext) (w : World) (old new : Own) → AreAlike (numbers of s w) old → new ≡ old → Drawn of s w old new
 no_draw of s w old new e f =
@@ -88,6 +93,7 @@ no_draw of s w old new e f =
       server_is = refl;
       kept = λ k. k;
       knows = λ k. subst (KnowsFloor of s w) (sym f) k;
+      floor = inl refl;
     }
 
 one_draw : (of : End) (s : SecurityContext) (w : World) (old new : Own) → AreAlike (numbers of s w) old → Goes Draw old new → Drawn of s w old new
@@ -100,6 +106,7 @@ one_draw Client s w old new e g =
       server_is = refl;
       kept = λ k. (k, record { client = allowed_alike Draw (numbers Client s w) old e (loads_none Draw _ tt) g.0; server = tt });
       knows = λ k. subst (KnowsFloor Client s (Then w (Draws Client))) (sym g.1) (floor_alike Draw (numbers Client s w) old e k);
+      floor = inl refl;
     }
 one_draw Server s w old new e g =
     record {
@@ -110,6 +117,7 @@ one_draw Server s w old new e g =
       server_is = refl;
       kept = λ k. (k, record { client = tt; server = allowed_alike Draw (numbers Server s w) old e (loads_none Draw _ tt) g.0 });
       knows = λ k. subst (KnowsFloor Server s (Then w (Draws Server))) (sym g.1) (floor_alike Draw (numbers Server s w) old e k);
+      floor = inl refl;
     }
 
 one_reserve : (of : End) (s : SecurityContext) (w : World) (old new : Own) → AreAlike (numbers of s w) old → Goes Reserve old new → Drawn of s w old new
@@ -122,6 +130,7 @@ one_reserve Client s w old new e g =
       server_is = refl;
       kept = λ k. (k, record { client = allowed_alike Reserve (numbers Client s w) old e (loads_none Reserve _ tt) g.0; server = tt });
       knows = λ k. subst (KnowsFloor Client s (Then w (Reserves Client))) (sym g.1) (floor_alike Reserve (numbers Client s w) old e k);
+      floor = inr (subst (KnowsFloor Client s (Then w (Reserves Client))) (sym g.1) (saved_known (numbers Client s w) old e));
     }
 one_reserve Server s w old new e g =
     record {
@@ -132,6 +141,7 @@ one_reserve Server s w old new e g =
       server_is = refl;
       kept = λ k. (k, record { client = tt; server = allowed_alike Reserve (numbers Server s w) old e (loads_none Reserve _ tt) g.0 });
       knows = λ k. subst (KnowsFloor Server s (Then w (Reserves Server))) (sym g.1) (floor_alike Reserve (numbers Server s w) old e k);
+      floor = inr (subst (KnowsFloor Server s (Then w (Reserves Server))) (sym g.1) (saved_known (numbers Server s w) old e));
     }
 
 draws_from : (of : End) (s : SecurityContext) (w : World) (hand : Option ℕ) (old new : Own) → AreAlike (numbers of s w) old → kept.DrawsFrom hand old new → Drawn of s w old new
@@ -162,6 +172,17 @@ moved of s w event e mid new is x g =
       alike = alike_to _ _ new (after_alike (effect of s w event) (numbers of s w) mid x) ends;
       knows = λ k. subst (λ (o : Own). (after (effect of s w event) (numbers of s w)).floor ≤ o.floor) (sym ends) (floor_alike (effect of s w event) (numbers of s w) mid x k);
     }
+
+-- what is used leaves the floor
+floor_used : (o : Option ℕ) (own : Own) → (after (use_of o) own).floor ≡ own.floor
+floor_used None own = refl
+floor_used (Some n) own = refl
+
+-- behind a draw an event that leaves the floor keeps it
+keeps_floor : (of : End) (s : SecurityContext) (w b v : World) (mid new : Own) → KeepsFloor of s w b mid → (KnowsFloor of s b mid → KnowsFloor of s v new)
+    → (numbers of s v).floor ≡ (numbers of s b).floor → KeepsFloor of s w v new
+keeps_floor of s w b v mid new (inl same) knows stays = inl (stays ∙ same)
+keeps_floor of s w b v mid new (inr known) knows stays = inr (knows known)
 
 -- the effect of an event of the server, behind a draw or none
 pub server_is : (s : SecurityContext) (w : World) (h : server.History) (event : server.Event) (entry : server.Entry) → server_history s w ≡ Some h
@@ -202,6 +223,8 @@ server_steps s w h event entry old new i e g =
         ends = refl;
         kept = λ k l. (x.kept k, record { client = tt; server = m.allowed (server_none s x.world h event entry known none) });
         knows = λ k. (server_none s w h event entry i.history_is none, m.knows (x.knows k));
+        floor = keeps_floor Server s w x.world (Then x.world (AtServer event entry)) g.0 new x.floor m.knows
+            (ap (λ f. (after f (numbers Server s x.world)).floor) (server_is s x.world h event entry known ∙ e) ∙ floor_used (serving.uses h event entry) (numbers Server s x.world));
       },
       record { history_is = ap (λ o. option_map (λ y. server.Then y event entry) o) known; numbers_are = m.alike },
     )
@@ -221,6 +244,8 @@ client_steps s w h event entry old new i e g =
         ends = refl;
         kept = λ k l. (x.kept k, record { client = m.allowed (client_none s x.world h event entry known none); server = tt });
         knows = λ k. (client_none s w h event entry i.history_is none, m.knows (x.knows k));
+        floor = keeps_floor Client s w x.world (Then x.world (AtClient event entry)) g.0 new x.floor m.knows
+            (ap (λ f. (after f (numbers Client s x.world)).floor) (client_is s x.world h event entry known ∙ e) ∙ floor_used (asking.uses h event entry) (numbers Client s x.world));
       },
       record { history_is = ap (λ o. option_map (λ y. client.Then y event entry) o) known; numbers_are = m.alike },
     )
@@ -249,6 +274,7 @@ server_restarts s w h c next old new i g =
         ends = refl;
         kept = λ k l. (k, record { client = tt; server = m.allowed l });
         knows = λ k. (loads_known Server s w event next old loads g.0.0 k, m.knows k);
+        floor = inl (ap (λ f. (after f (numbers Server s w)).floor) loads);
       },
       record { history_is = ap (λ o. option_map (λ y. server.Then y (server.Restart c next) server.Restarted) o) i.history_is; numbers_are = m.alike },
     )
@@ -266,6 +292,7 @@ client_restarts s w h next old new i g =
         ends = refl;
         kept = λ k l. (k, record { client = m.allowed l; server = tt });
         knows = λ k. (loads_known Client s w event next old loads g.0.0 k, m.knows k);
+        floor = inl (ap (λ f. (after f (numbers Client s w)).floor) loads);
       },
       record { history_is = ap (λ o. option_map (λ y. client.Then y (client.Restart next) client.Restarted) o) i.history_is; numbers_are = m.alike },
     )

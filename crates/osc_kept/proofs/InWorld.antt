@@ -33,7 +33,7 @@ use Rattle.osc_kept.proofs.Saving.{fresh_by_saving, saved_still}
 
 -- ---- tickets
 
-had_tickets : (n : ℕ) (s : SecurityContext) (w : World) (h : server.History) → AtEach (Answers n s) w → server_history s w ≡ Some h → TakesTickets h
+pub had_tickets : (n : ℕ) (s : SecurityContext) (w : World) (h : server.History) → AtEach (Answers n s) w → server_history s w ≡ Some h → TakesTickets h
 had_tickets n s Begin h a e = let f : None ≡ Some h = e in cc
 had_tickets n s (Then w (ServerStarts start size)) h a e = subst TakesTickets (some_is e) ([], refl)
 had_tickets n s (Then w (AtServer event entry)) h a e =
@@ -52,7 +52,7 @@ tickets_step s w h event entry p a x = x
 
 -- ---- a draw changes no premise
 
-forges_still : (s : SecurityContext) (w v : World) (d : List ℕ) → sent s v ≡ sent s w → NobodyForgesRequests s w d → NobodyForgesRequests s v d
+pub forges_still : (s : SecurityContext) (w v : World) (d : List ℕ) → sent s v ≡ sent s w → NobodyForgesRequests s w d → NobodyForgesRequests s v d
 forges_still s w v d e f n m p =
     let x : SealedByClient s w (request_seal s n) p.outer.payload = f n m p in
     record {
@@ -64,12 +64,12 @@ forges_still s w v d e f n m p =
       text_is = x.text_is;
     }
 
-same_sent : (of : End) (s : SecurityContext) (w v : World) → IsDrawn of w v → sent s v ≡ sent s w
+pub same_sent : (of : End) (s : SecurityContext) (w v : World) → IsDrawn of w v → sent s v ≡ sent s w
 same_sent of s w v (inl e) = ap (sent s) e
 same_sent of s w v (inr (inl e)) = ap (sent s) e
 same_sent of s w v (inr (inr e)) = ap (sent s) e
 
-same_answered : (of : End) (s : SecurityContext) (w v : World) → IsDrawn of w v → answered s v ≡ answered s w
+pub same_answered : (of : End) (s : SecurityContext) (w v : World) → IsDrawn of w v → answered s v ≡ answered s w
 same_answered of s w v (inl e) = ap (answered s) e
 same_answered of s w v (inr (inl e)) = ap (answered s) e
 same_answered of s w v (inr (inr e)) = ap (answered s) e
@@ -131,12 +131,12 @@ unseen_at s w h now mid echo d reply (server.Challenge i k given issued) e only 
     u r has (carries ∙ ap (λ x. Some x) (value_is s w h now mid i k issued echo d given reply g of e only a f life none))
 unseen_at s w h now mid echo d reply answer e only a u = tt
 
-unseen_still : (s : SecurityContext) (w v : World) (echo : List ℕ) → sent s v ≡ sent s w → IsUnseen s w echo → IsUnseen s v echo
+pub unseen_still : (s : SecurityContext) (w v : World) (echo : List ℕ) → sent s v ≡ sent s w → IsUnseen s w echo → IsUnseen s v echo
 unseen_still s w v echo e u r has = u r (subst (λ rs. Has r rs) e has)
 
 -- ---- a response
 
-responses_still : (s : SecurityContext) (w v : World) (pending : List client.Asked) (d : List ℕ) → answered s v ≡ answered s w → NobodyForgesResponses s w pending d
+pub responses_still : (s : SecurityContext) (w v : World) (pending : List client.Asked) (d : List ℕ) → answered s v ≡ answered s w → NobodyForgesResponses s w pending d
     → NobodyForgesResponses s v pending d
 responses_still s w v pending d e f r own m is p =
     let x : SealedByServer s w (response_seal s r.number own) p.outer.payload = f r own m is p in

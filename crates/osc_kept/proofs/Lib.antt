@@ -12,5 +12,7 @@ pub mod Claims
 pub mod Saving
 pub mod GoingOn
 pub mod InWorld
+pub mod RunTickets
+pub mod RunsInWorld
 pub mod Examples
 pub mod CallsInWorld

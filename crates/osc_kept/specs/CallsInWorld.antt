@@ -1,6 +1,6 @@
 -- To be believed: the calls of kept ends within the list of what happens at both ends (RFC 8613, 7.4, 8.1 to 8.4 and B.1), each as a step of it. w is the
 -- world before, v the one after, s the security context, n for how many pending requests the client has room, old and new are an end before and after.
-use Rattle.std.specs.Prelude.{◌≡◌, ◌≤◌, ℕ, List, Some, max}
+use Rattle.std.specs.Prelude.{◌≡◌, ◌≤◌, ℕ, List, [], Option, Some, max}
 use Rattle.osc_context.specs.SecurityContext.{SecurityContext}
 use Rattle.osc_context.specs.declared.keeper.Keeper as keeper
 use Rattle.osc_window.specs.declared.window_size.WindowSize.{WindowSize}
@@ -16,14 +16,20 @@ use Rattle.osc_endpoint.specs.Deciding as deciding
 use Rattle.osc_endpoint.specs.ServerHistory as server
 use Rattle.osc_endpoint.specs.Views.{ClientShows, Shows}
 use Rattle.osc_kept.specs.declared.kept_client.KeptClient.{KeptClient}
+use Rattle.osc_kept.specs.declared.kept_event.KeptClientEntry.{KeptClientEntry}
+use Rattle.osc_kept.specs.declared.kept_event.KeptClientEvent.{KeptClientEvent}
+use Rattle.osc_kept.specs.declared.kept_event.KeptServerEntry.{KeptServerEntry}
+use Rattle.osc_kept.specs.declared.kept_event.KeptServerEvent.{KeptServerEvent}
 use Rattle.osc_kept.specs.declared.kept_server.KeptServer.{KeptServer}
 use Rattle.osc_kept.specs.GoingOn.{ClientRuns, GoesOn, KnowsFloor, ServerRuns, server_started}
 use Rattle.osc_kept.specs.InWorld.{ClientStays, IsAsClaimed, IsHeld, ServerStays}
 use Rattle.osc_kept.specs.KeptAsking as asking
+use Rattle.osc_kept.specs.KeptRuns.{ClientRun, ServerRun, client_state, server_state}
 use Rattle.osc_kept.specs.KeptServing as serving
 use Rattle.osc_kept.specs.Numbering.{upcoming}
 use Rattle.osc_kept.specs.Owning.{own_in}
 use Rattle.osc_kept.specs.Premises.{NobodyForgesResponses}
+use Rattle.osc_kept.specs.RunsInWorld.{ClientRunAdds, ClientRunTrusts, ServerRunAdds, ServerRunTrusts}
 use Rattle.osc_kept.specs.World.{World, Then, Client, Server, ClientStarts, AtClient, AtServer, client_history, numbers, server_history}
 
 -- the server is the one that runs in the world (own rule)
@@ -68,6 +74,12 @@ RestartsInWorld n s w loaded old new = (KnowsFloor Server s w (own_in old.source
 abbrev pub StartsInWorld : {K : Type 0} {k : keeper.Ghosts K} → ℕ → SecurityContext → World → Start → WindowSize → KeptServer K k → Type 0
 StartsInWorld n s w start size new = IsAsClaimed n s w (server_started start size w) × RunsIn s (server_started start size w) new × ClientStays s w (server_started start size w)
 
+-- a run of it: what it adds if others see to theirs, by the very log (RFC 8613, B.1.1)
+abbrev pub ServesInWorld : {K : Type 0} {k : keeper.Ghosts K} → ℕ → SecurityContext → World → List KeptServerEvent → List KeptServerEntry → KeptServer K k → KeptServer K k → Type 0
+ServesInWorld n s w es xs old new = (h : server.History) × (server_history s w ≡ Some h) × (g : server.History) × (us : List (Option server.TicketValues))
+    × (run : ServerRun (server_state h old.source []) es xs (server_state g new.source us)) × serving.IsKept new.server (upcoming (own_in new.source)) g
+    × (ServerRunTrusts s w (own_in old.source) (server_state h old.source []) es xs (server_state g new.source us) run → ServerRunAdds n s w g (own_in old.source) (own_in new.source))
+
 -- ---- what a call of a client leaves
 
 -- the same of a client (RFC 8613, B.1.1)
@@ -94,3 +106,9 @@ ClientRestartsInWorld s w loaded old new = (KnowsFloor Client s w (own_in old.so
 abbrev pub ClientStartsInWorld : {K : Type 0} {k : keeper.Ghosts K} {N : ℕ} → SecurityContext → World → ℕ → ℕ → KeptClient K N k → Type 0
 ClientStartsInWorld {N = N} s w loaded life_ms new = IsAsClaimed N s w (Then w (ClientStarts loaded life_ms)) × ClientRunsIn s (Then w (ClientStarts loaded life_ms)) new
     × ServerStays s w (Then w (ClientStarts loaded life_ms))
+
+-- a run of it, as above (RFC 8613, B.1.1)
+abbrev pub AsksInWorld : {K : Type 0} {k : keeper.Ghosts K} {N : ℕ} → SecurityContext → World → List KeptClientEvent → List KeptClientEntry → KeptClient K N k → KeptClient K N k → Type 0
+AsksInWorld {N = N} s w es xs old new = (h : client.History) × (client_history s w ≡ Some h) × (g : client.History)
+    × (run : ClientRun N (client_state h old.source) es xs (client_state g new.source)) × asking.IsKept new.client (upcoming (own_in new.source)) g
+    × (ClientRunTrusts N s w (own_in old.source) (client_state h old.source) es xs (client_state g new.source) run → ClientRunAdds N s w g (own_in old.source) (own_in new.source))

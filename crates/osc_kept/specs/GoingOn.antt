@@ -34,14 +34,19 @@ KnowsFloor of s w own = (numbers of s w).floor ≤ own.floor
 abbrev pub IsDrawn : End → World → World → Type 0
 IsDrawn of w v = (v ≡ w) ⊎ ((v ≡ Then w (Draws of)) ⊎ (v ≡ Then w (Reserves of)))
 
+-- the floor stays, or the keeper of the end saved it, and knows it (RFC 8613, B.1.1)
+abbrev pub KeepsFloor : End → SecurityContext → World → World → Own → Type 0
+KeepsFloor of s w v new = ((numbers of s v).floor ≡ (numbers of s w).floor) ⊎ KnowsFloor of s v new
+
 -- zero or one draw, and then this event, all of them with kept numbers where no life begins below the floor; a keeper that knows the floor sees to
--- that, and knows it still (RFC 8613, B.1.1)
+-- that, and knows it still, and another knows what it saved (RFC 8613, B.1.1)
 pub record GoesOn (of : End) (s : SecurityContext) (w : World) (event : Event) (v : World) (old new : Own) : Type 0 where
   pub between : World
   pub drawn : IsDrawn of w between
   pub ends : v ≡ Then between event
   pub kept : AtEach (NumbersAreKept s) w → LoadsNoneBelow of s w event → AtEach (NumbersAreKept s) v
   pub knows : KnowsFloor of s w old → LoadsNoneBelow of s w event × KnowsFloor of s v new
+  pub floor : KeepsFloor of s w v new
 
 -- what an event does to the numbers of a kept server: a restart loads one, else one is drawn where it is asked for, and then used where the server seals
 -- (RFC 8613, 7.2.1 and B.1.1)

@@ -9,6 +9,7 @@ pub mod Premises
 pub mod Claims
 pub mod GoingOn
 pub mod InWorld
+pub mod RunsInWorld
 pub mod CallsInWorld
 pub mod Examples
 -- how the code is seen

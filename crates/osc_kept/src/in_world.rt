@@ -1,8 +1,8 @@
-//! The calls of kept ends within the list of what happened at both ends (RFC 8613, 7.4, 8.1 to 8.4 and B.1). Each is the call that it is
-//! named for, with a contract on that list: where the list meets the premises and this end runs in it, the call adds to it, the
-//! longer list meets the premises too, and all of it is as `both_ends` says. Nothing else is done here.
+//! The calls and runs of kept ends within the list of what happened at both ends (RFC 8613, 7.4, 8.1 to 8.4 and B.1). Each is the call
+//! that it is named for, with a contract on that list: where the list meets the premises and this end runs in it, the call adds to it,
+//! the longer list meets the premises too, and all of it is as `both_ends` says. Nothing else is done here.
 
-ghost use Rattle.std.specs.Prelude.{◌≡◌, ◌≢◌, ◌≤◌, ◌+◌, ℕ, Err, IsErr, IsOk, IfErr, IfOk, IsErrOf, OnErr, length, take};
+ghost use Rattle.std.specs.Prelude.{◌≡◌, ◌≢◌, ◌≤◌, ◌<◌, ◌+◌, ℕ, [], Err, IsErr, IsOk, IfErr, IfOk, IsErrOf, OnErr, OnOk, drop, length, take, vec_len};
 ghost use Rattle.osc_coap.specs.Views.{parts_of};
 ghost use Rattle.osc_context.specs.SecurityContext.{SecurityContext};
 ghost use Rattle.osc_context.specs.Views.{as_client, as_server};
@@ -13,7 +13,7 @@ ghost use Rattle.osc_endpoint.specs.declared.client_outcome.RequestError.TheVari
 ghost use Rattle.osc_endpoint.specs.declared.outcome.Outcome.TheVariants as outcomes;
 ghost use Rattle.osc_endpoint.specs.declared.server_error.ReplyError.TheVariants as replies;
 ghost use Rattle.osc_endpoint.specs.declared.start.Start.{Start as StartOf};
-ghost use Rattle.osc_kept.specs.CallsInWorld.{ClientAfter, ClientDecidesInWorld, ClientRestartsInWorld, ClientRunsIn, ClientStartsInWorld, ClientTakesInWorld, DecidesInWorld, HoldsTicket, NobodyForgesTo, RestartsInWorld, RunsIn, ServerAfter, StartsInWorld, TakesInWorld};
+ghost use Rattle.osc_kept.specs.CallsInWorld.{AsksInWorld, ClientAfter, ClientDecidesInWorld, ClientRestartsInWorld, ClientRunsIn, ClientStartsInWorld, ClientTakesInWorld, DecidesInWorld, HoldsTicket, NobodyForgesTo, RestartsInWorld, RunsIn, ServerAfter, ServesInWorld, StartsInWorld, TakesInWorld};
 ghost use Rattle.osc_kept.specs.GoingOn.{HasSavedFirst};
 ghost use Rattle.osc_kept.specs.InWorld.{IsUnseen};
 ghost use Rattle.osc_kept.specs.KeptServing.{IsStart};
@@ -22,16 +22,20 @@ ghost use Rattle.osc_kept.specs.Refusals.{Loaded, RefusesAt};
 ghost use Rattle.osc_kept.specs.declared.kept_error.KeptError.TheVariants.{LivesExhausted};
 ghost use Rattle.osc_kept.specs.World.{World, Client as ClientEnd, Server as ServerEnd, numbers};
 
+use crate::client_run::run_kept_client_on;
 use crate::kept_client::KeptClient;
 use crate::kept_error::KeptError;
+use crate::kept_event::{KeptClientEntry, KeptClientEvent, KeptServerEntry, KeptServerEvent};
 use crate::kept_server::KeptServer;
-use crate::laws::kept_ends_in_world;
+use crate::laws::{kept_ends_in_world, kept_runs_in_world};
+use crate::server_run::run_kept_server_on;
 use osc_coap::Message;
 use osc_context::{Context, Keeper, KeeperError};
 use osc_endpoint::{
     ClientDecision, ClientOutcome, Decided, Fresh, ReplyError, RequestError, Taken, Ticket,
 };
 use osc_window::WindowSize;
+use std::alloc::{AllocError, Global};
 
 /// `KeptServer::start`, over a keeper that needn't know the floor of that list, as one of a later process doesn't: where the number
 /// that it loads isn't below that floor.
@@ -120,6 +124,24 @@ pub fn reply_in_world<K: Keeper>(
 {
     kept_ends_in_world();
     server.reply(ticket, own, mid, plain, out)
+}
+
+/// `run_kept_server_on`, where others see to what is theirs at each of its events (`ServerRunTrusts`).
+pub fn run_server_in_world<'a, K: Keeper>(
+    alloc: Global,
+    server: &mut KeptServer<K>,
+    events: &mut &'a mut [KeptServerEvent],
+    log: &mut Vec<KeptServerEntry<'a>>,
+) -> Result<(), AllocError>
+    requires { log.old.items ≡ [] }
+    ensures run { (n : ℕ) (s : SecurityContext) (w : World) → IsLawful n s w → RunsIn s w server.old
+        → ServesInWorld n s w (take (vec_len log.new) events.old.now) log.new.items server.old server.new }
+    ensures rest { events.new.now ≡ drop (vec_len log.new) events.old.now }
+    ensures all { OnOk result (vec_len log.new ≡ length events.old.now) }
+    ensures fewer { OnErr result (vec_len log.new < length events.old.now) }
+{
+    kept_runs_in_world::<K>();
+    run_kept_server_on(alloc, server, events, log)
 }
 
 /// `KeptClient::start`, over a keeper that needn't know the floor of that list, as one of a later process doesn't: where the number
@@ -216,4 +238,22 @@ pub fn advance_in_world<K: Keeper, const N: usize>(client: &mut KeptClient<K, N>
 {
     kept_ends_in_world();
     client.advance(now);
+}
+
+/// `run_kept_client_on`, where others see to what is theirs at each of its events (`ClientRunTrusts`).
+pub fn run_client_in_world<'a, K: Keeper, const N: usize>(
+    alloc: Global,
+    client: &mut KeptClient<K, N>,
+    events: &mut &'a mut [KeptClientEvent],
+    log: &mut Vec<KeptClientEntry<'a>>,
+) -> Result<(), AllocError>
+    requires { log.old.items ≡ [] }
+    ensures run { (s : SecurityContext) (w : World) → IsLawful N s w → ClientRunsIn s w client.old
+        → AsksInWorld s w (take (vec_len log.new) events.old.now) log.new.items client.old client.new }
+    ensures rest { events.new.now ≡ drop (vec_len log.new) events.old.now }
+    ensures all { OnOk result (vec_len log.new ≡ length events.old.now) }
+    ensures fewer { OnErr result (vec_len log.new < length events.old.now) }
+{
+    kept_runs_in_world::<K>();
+    run_kept_client_on(alloc, client, events, log)
 }

@@ -5,9 +5,10 @@ ghost use Rattle.osc_kept.specs.Claims.{TwoEnds};
 ghost use Rattle.osc_kept.specs.Examples.{NoneCanBeLeftOut, PremisesCanBeMet};
 ghost use Rattle.osc_kept.specs.GoingOn.{ClientBegins, ClientGoesOn, FreshBySaving, ServerBegins, ServerGoesOn};
 ghost use Rattle.osc_kept.specs.InWorld.{ClientInWorld, ClientStartsInWorld, ServerInWorld, ServerStartsInWorld};
+ghost use Rattle.osc_kept.specs.RunsInWorld.{ClientRunInWorld, ServerRunInWorld};
 
 use osc_coap::one_datagram;
-use osc_context::{one_nonce, one_option_value};
+use osc_context::{Keeper, one_nonce, one_option_value};
 use osc_endpoint::ticket_once;
 use osc_protect::{one_cipher_input, sealed_opens};
 
@@ -69,6 +70,15 @@ pub fn kept_ends_in_world()
     ensures client { ClientInWorld }
     ensures server_starts { ServerStartsInWorld }
     ensures client_starts { ClientStartsInWorld }
+{
+    both_ends();
+}
+
+/// Each run of a kept end does so too, over whatever keeper, where others see to what is theirs in it (`ServerRunTrusts`,
+/// `ClientRunTrusts`). That a reply takes a ticket that is left is no part of that: a run takes only what its own deliveries gave.
+pub fn kept_runs_in_world<K: Keeper>()
+    ensures server { ServerRunInWorld K.Keeper }
+    ensures client { ClientRunInWorld K.Keeper }
 {
     both_ends();
 }

@@ -15,8 +15,9 @@ mod source;
 pub use client_run::{run_kept_client, run_kept_client_on};
 pub use in_world::{
     advance_in_world, decide_in_world, decide_response_in_world, forget_in_world, reply_in_world,
-    request_in_world, restart_client_in_world, restart_server_in_world, start_client_in_world,
-    start_server_in_world, take_in_world, take_response_in_world,
+    request_in_world, restart_client_in_world, restart_server_in_world, run_client_in_world,
+    run_server_in_world, start_client_in_world, start_server_in_world, take_in_world,
+    take_response_in_world,
 };
 pub use kept_client::KeptClient;
 pub use kept_error::KeptError;
@@ -24,6 +25,6 @@ pub use kept_event::{KeptClientEntry, KeptClientEvent, KeptServerEntry, KeptServ
 pub use kept_server::KeptServer;
 pub use laws::{
     both_ends, fresh_by_saving, kept_ends_begin, kept_ends_go_on, kept_ends_in_world,
-    premises_are_needed, premises_can_be_met,
+    kept_runs_in_world, premises_are_needed, premises_can_be_met,
 };
 pub use server_run::{run_kept_server, run_kept_server_on};
