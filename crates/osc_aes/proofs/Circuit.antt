@@ -115,14 +115,14 @@ inputs-same f g u v h e =
     (ap₂ (λ (b : ℕ) (bs : List ℕ). b ∷ bs) (h 0 (omega arith)) (ap (λ (b : ℕ). b ∷ []) e))))))))
 
 -- on words it substitutes the byte in each lane
-pub circuit_lane : (planes : List ℕ) (i : ℕ) → i < 64
-    → lane (outputs (run bit_xor bit_and substitution_gates (inputs (λ k. get_or planes k 0) (2 ^ 64 - 1)))) i ≡ substitute (lane planes i)
+pub circuit_lane : (planes : List ℕ) (i : ℕ) → i < 32
+    → lane (outputs (run bit_xor bit_and substitution_gates (inputs (λ k. get_or planes k 0) (2 ^ 32 - 1)))) i ≡ substitute (lane planes i)
 circuit_lane planes i lt =
     let h : ℕ → ℕ = λ p. bit_at p i in
     let none : h 0 ≡ 0 = bit_at-zero i in
-    let words : List ℕ = inputs (λ k. get_or planes k 0) (2 ^ 64 - 1) in
+    let words : List ℕ = inputs (λ k. get_or planes k 0) (2 ^ 32 - 1) in
     let bits : map h words ≡ inputs (bit_at (lane planes i)) 1 =
-    inputs-same (λ k. bit_at (get_or planes k 0) i) (bit_at (lane planes i)) _ 1 (λ t ltt. sym (lane-bit planes i t ltt)) (bit_at_ones 64 i lt) in
+    inputs-same (λ k. bit_at (get_or planes k 0) i) (bit_at (lane planes i)) _ 1 (λ t ltt. sym (lane-bit planes i t ltt)) (bit_at_ones 32 i lt) in
     ap byte_of (pick-map h none (run bit_xor bit_and substitution_gates words) places)
     ∙ ap (λ (vs : List ℕ). byte_of (outputs vs))
     (run-map bit_xor bit_and xor_bit min h none (λ u v. bit_at_xor u v i) (λ u v. bit_at_and u v i) substitution_gates words

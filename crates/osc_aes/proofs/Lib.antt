@@ -15,4 +15,4 @@ pub mod LaneBytes
 pub mod WordBytes
 pub mod PlaneRounds
 pub mod PlaneKeys
-pub mod FourBlocks
+pub mod TwoBlocks

@@ -18,7 +18,7 @@ pub data Step : Type 0 where
 abbrev pub word : Step → List ℕ → ℕ
 word (Sum i j) vs = bit_xor (get_or vs i 0) (get_or vs j 0)
 word (Down i k) vs = get_or vs i 0 / 2 ^ k
-word (Up i k) vs = get_or vs i 0 * 2 ^ k % 2 ^ 64
+word (Up i k) vs = get_or vs i 0 * 2 ^ k % 2 ^ 32
 word (Under i m) vs = bit_and (get_or vs i 0) m
 
 -- all words, the newest first
@@ -54,7 +54,7 @@ cut (suc k) (x ∷ xs) = cut k xs
 abbrev pub masks : Step → List (List ℕ) → List ℕ
 masks (Sum i j) ms = plus (get_or ms i []) (get_or ms j [])
 masks (Down i k) ms = cut k (get_or ms i [])
-masks (Up i k) ms = take 64 (zeros_before k (get_or ms i []))
+masks (Up i k) ms = take 32 (zeros_before k (get_or ms i []))
 masks (Under i m) ms = kept m (get_or ms i [])
 
 -- those of all words, the newest first
@@ -110,15 +110,15 @@ take-past (suc n) (x ∷ xs) (suc p) le = take-past n xs p (omega arith)
 pub bit_at-down : (w k p : ℕ) → bit_at (w / 2 ^ k) p ≡ bit_at w (k + p)
 bit_at-down w k p = ap (λ (n : ℕ). n % 2) (shr-shr w k p)
 
--- a bit below 64 of what is left in a word
-bit_at-mod_low : (n p : ℕ) → p < 64 → bit_at (n % 2 ^ 64) p ≡ bit_at n p
+-- a bit below 32 of what is left in a word
+bit_at-mod_low : (n p : ℕ) → p < 32 → bit_at (n % 2 ^ 32) p ≡ bit_at n p
 bit_at-mod_low n p lt =
-    let e : n / 2 ^ 64 * 2 ^ 64 + n % 2 ^ 64 ≡ n = omega arith in
-    sym (bit_at_cat_low (n / 2 ^ 64) 64 (n % 2 ^ 64) p lt) ∙ ap (λ (x : ℕ). bit_at x p) e
+    let e : n / 2 ^ 32 * 2 ^ 32 + n % 2 ^ 32 ≡ n = omega arith in
+    sym (bit_at_cat_low (n / 2 ^ 32) 32 (n % 2 ^ 32) p lt) ∙ ap (λ (x : ℕ). bit_at x p) e
 
 -- no bit above is left in a word
-bit_at-mod_high : (n p : ℕ) → 64 ≤ p → bit_at (n % 2 ^ 64) p ≡ 0
-bit_at-mod_high n p le = bit_at_above (n % 2 ^ 64) 64 p (omega arith) le
+bit_at-mod_high : (n p : ℕ) → 32 ≤ p → bit_at (n % 2 ^ 32) p ≡ 0
+bit_at-mod_high n p le = bit_at_above (n % 2 ^ 32) 32 p (omega arith) le
 
 -- a bit below those of a word shifted up
 bit_at-up_low : (w k p : ℕ) → p < k → bit_at (w * 2 ^ k) p ≡ 0
@@ -223,15 +223,15 @@ module _ (src : ℕ → ℕ) (low : (j : ℕ) → src j < 2) where
     step-means (Up i k) vs mss h p =
         let w : ℕ = get_or vs i 0 in
         let zs : List ℕ = zeros_before k (get_or mss i []) in
-        elim (cases_lt p 64) [
+        elim (cases_lt p 32) [
           | inl lt ↦
               bit_at-mod_low (w * 2 ^ k) p lt
               ∙ (elim (cases_lt p k) [
                 | inl below ↦ bit_at-up_low w k p below ∙ sym (sum_of-zero n) ∙ ap (sum_of src n) (sym (get_or-zeros_low k (get_or mss i []) p below))
                 | inr above ↦ bit_at-up_high w k p (pow_pos k) above ∙ h i (p - k) ∙ ap (sum_of src n) (sym (get_or-zeros_high k (get_or mss i []) p above))
               ])
-              ∙ ap (sum_of src n) (sym (get_or-take 64 zs p 0 lt))
-          | inr past ↦ bit_at-mod_high (w * 2 ^ k) p past ∙ sym (ap (sum_of src n) (take-past 64 zs p past) ∙ sum_of-zero n)
+              ∙ ap (sum_of src n) (sym (get_or-take 32 zs p 0 lt))
+          | inr past ↦ bit_at-mod_high (w * 2 ^ k) p past ∙ sym (ap (sum_of src n) (take-past 32 zs p past) ∙ sum_of-zero n)
         ]
     step-means (Under i m) vs mss h p =
         bit_at_and (get_or vs i 0) m p ∙ ap (λ (x : ℕ). min x (bit_at m p)) (h i p)

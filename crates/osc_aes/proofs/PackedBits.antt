@@ -1,12 +1,12 @@
--- Blocks turned into planes and back: each exchange of bits moves them, and where to is computed.
-use Rattle.std.proofs.Common.{◌≡◌, ℕ, zero, suc, ◌+◌, ◌*◌, ◌/◌, ◌%◌, ◌^◌, ◌<◌, List, [], ◌∷◌, ◌++◌, length, take, refl, ap, ap₂, ◌∙◌, sym, get_or, get_or-take, map, inl, inr, arith}
+-- Words turned into planes and back: each exchange of bits moves them, and where to is computed.
+use Rattle.std.proofs.Common.{◌≡◌, ℕ, zero, suc, ◌+◌, ◌*◌, ◌/◌, ◌%◌, ◌^◌, ◌<◌, List, [], ◌∷◌, ◌++◌, length, refl, ap, ap₂, ◌∙◌, sym, get_or, map, inl, inr, arith}
 use Rattle.std.specs.Int.{bit_at}
 use Rattle.std.specs.List.{range_with_len}
 use Rattle.std.proofs.lemmas.Bool.{cases_lt}
 use Rattle.std.proofs.lemmas.Nat.Bits.{bit_at-lt, bit_at-zero, bit_at_above}
 use Rattle.std.proofs.lemmas.List.{get_or_past}
 use Rattle.std.proofs.lemmas.List.FromFn.{get_or-map-range_with_len}
-use Rattle.osc_aes.specs.Lanes.{pairs_exchanged, place}
+use Rattle.osc_aes.specs.Lanes.{pairs_exchanged}
 use Rattle.osc_aes.proofs.LinearPrograms.{Step, Sum, Down, Up, Under, words, all_masks, sum_of, sum_of-zero, sum_of-one, Means, AllMean, program-means}
 
 -- the steps by which two words exchange bits: the first stands at 0 afterwards, the second at 2
@@ -32,42 +32,32 @@ chosen none xs k0 k1 k2 k3 k4 k5 k6 k7 =
 
 -- each bit of word k by itself
 abbrev row : ℕ → List ℕ
-row k = map (λ p. 2 ^ (64 * k + p)) (range_with_len 0 64)
+row k = map (λ p. 2 ^ (32 * k + p)) (range_with_len 0 32)
 
 -- each bit of eight words by itself
 abbrev rows : List (List ℕ)
 rows = map row (range_with_len 0 8)
 
--- ---- the inputs of all planes, and of all words
+-- ---- the inputs of eight words, after exchanges
 
--- of the planes
-abbrev into_masks : List (List ℕ)
-into_masks =
-    let m1 = pairs_masks rows 8 0x00ff00ff00ff00ff in
-    let m2 = pairs_masks m1 16 0x0000ffff0000ffff in
-    let m3 = pairs_masks m2 32 0x00000000ffffffff in
-    let m4 = chosen [] (pairs_masks m3 4 0x0f0f0f0f0f0f0f0f) 0 2 1 3 4 6 5 7 in
-    let m5 = chosen [] (pairs_masks m4 1 0x5555555555555555) 0 4 2 6 1 5 3 7 in
-    chosen [] (pairs_masks m5 2 0x3333333333333333) 0 4 1 5 2 6 3 7
+-- after those that transpose
+abbrev across_masks : List (List ℕ)
+across_masks =
+    let m1 = chosen [] (pairs_masks rows 1 0x55555555) 0 2 1 3 4 6 5 7 in
+    let m2 = chosen [] (pairs_masks m1 2 0x33333333) 0 4 2 6 1 5 3 7 in
+    chosen [] (pairs_masks m2 4 0x0f0f0f0f) 0 2 4 6 1 3 5 7
 
--- bit i of plane t is bit t of the byte at the place of lane i
-into_values : map (λ t. get_or into_masks t []) (range_with_len 0 8) ≡ map (λ t. map (λ i. 2 ^ (8 * place i + t)) (range_with_len 0 64)) (range_with_len 0 8)
-into_values = refl
+-- bit i of word t is bit t of a byte of word i % 8
+across_values : map (λ t. get_or across_masks t []) (range_with_len 0 8) ≡ map (λ t. map (λ i. 2 ^ (32 * (i % 8) + (8 * (i / 8) + t))) (range_with_len 0 32)) (range_with_len 0 8)
+across_values = refl
 
--- of the words
-abbrev from_masks : List (List ℕ)
-from_masks =
-    let m0 = chosen [] rows 0 2 4 6 1 3 5 7 in
-    let m1 = chosen [] (pairs_masks m0 2 0x3333333333333333) 0 4 2 6 1 5 3 7 in
-    let m2 = chosen [] (pairs_masks m1 1 0x5555555555555555) 0 2 1 3 4 6 5 7 in
-    let m3 = pairs_masks m2 4 0x0f0f0f0f0f0f0f0f in
-    let m4 = pairs_masks m3 32 0x00000000ffffffff in
-    let m5 = pairs_masks m4 16 0x0000ffff0000ffff in
-    pairs_masks m5 8 0x00ff00ff00ff00ff
+-- after those of rows 1 and 3
+abbrev back_masks : List (List ℕ)
+back_masks = chosen [] (pairs_masks (chosen [] rows 0 4 1 5 2 6 3 7) 0 0xff00ff00) 0 2 4 6 1 3 5 7
 
--- bit p of word k is a bit of plane p % 8, since p / 8 counts bytes
-from_values : map (λ k. get_or from_masks k []) (range_with_len 0 8) ≡ map (λ k. map (λ p. 2 ^ (64 * (p % 8) + place (8 * k + p / 8))) (range_with_len 0 64)) (range_with_len 0 8)
-from_values = refl
+-- bit p of word k is one of the word of a column further on
+back_values : map (λ k. get_or back_masks k []) (range_with_len 0 8) ≡ map (λ k. map (λ p. 2 ^ (32 * (2 * ((k / 2 + 2 * (p / 8)) % 4) + k % 2) + p)) (range_with_len 0 32)) (range_with_len 0 8)
+back_values = refl
 
 -- the steps by which every eighth lane of planes becomes a byte of a number
 abbrev pub gather_steps : List Step
@@ -77,54 +67,54 @@ gather_steps =
     ∷ Under 25 0x01010101 ∷ Up 0 7 ∷ Sum 2 0 ∷ Sum 11 0 ∷ []
 
 -- bit p of the number is one of plane p % 8
-gather_masks : take 32 (get_or (all_masks gather_steps rows) 0 []) ≡ map (λ p. 2 ^ (64 * (p % 8) + 8 * (p / 8))) (range_with_len 0 32)
+gather_masks : get_or (all_masks gather_steps rows) 0 [] ≡ map (λ p. 2 ^ (32 * (p % 8) + 8 * (p / 8))) (range_with_len 0 32)
 gather_masks = refl
 
--- ---- what moves, where the inputs are the 512 bits of eight words
+-- ---- what moves, where the inputs are the 256 bits of eight words
 
-module _ (ws : List ℕ) (eight : length ws ≡ 8) (fits : (k : ℕ) → get_or ws k 0 < 2 ^ 64) where
+module _ (ws : List ℕ) (eight : length ws ≡ 8) (fits : (k : ℕ) → get_or ws k 0 < 2 ^ 32) where
   -- input j
   abbrev bit : ℕ → ℕ
-  bit j = bit_at (get_or ws (j / 64) 0) (j % 64)
+  bit j = bit_at (get_or ws (j / 32) 0) (j % 32)
 
   -- an input is a bit
   bit-lt : (j : ℕ) → bit j < 2
-  bit-lt j = bit_at-lt (get_or ws (j / 64) 0) (j % 64)
+  bit-lt j = bit_at-lt (get_or ws (j / 32) 0) (j % 32)
 
   -- each bit of a word is the sum of the inputs that a list of numbers names
   abbrev HasInputs : ℕ → List ℕ → Type 0
-  HasInputs = Means bit bit-lt 512
+  HasInputs = Means bit bit-lt 256
 
   -- and so of all words
   abbrev HaveInputs : List ℕ → List (List ℕ) → Type 0
-  HaveInputs = AllMean bit bit-lt 512
+  HaveInputs = AllMean bit bit-lt 256
 
   -- each bit of word k is an input
   row-means : (k : ℕ) → k < 8 → HasInputs (get_or ws k 0) (row k)
-  row-means k lt p = elim (cases_lt p 64) [
+  row-means k lt p = elim (cases_lt p 32) [
     | inl within ↦
-        let word : k ≡ (64 * k + p) / 64 = omega arith in
-        let seat : p ≡ (64 * k + p) % 64 = omega arith in
+        let word : k ≡ (32 * k + p) / 32 = omega arith in
+        let seat : p ≡ (32 * k + p) % 32 = omega arith in
         ap₂ (λ (x y : ℕ). bit_at (get_or ws x 0) y) word seat
-        ∙ sym (ap (sum_of bit 512) (get_or-map-range_with_len (λ p. 2 ^ (64 * k + p)) 0 64 p p 0 within (omega arith))
-        ∙ sum_of-one bit bit-lt 512 (64 * k + p) (omega arith))
+        ∙ sym (ap (sum_of bit 256) (get_or-map-range_with_len (λ p. 2 ^ (32 * k + p)) 0 32 p p 0 within (omega arith))
+        ∙ sum_of-one bit bit-lt 256 (32 * k + p) (omega arith))
     | inr past ↦
-        bit_at_above (get_or ws k 0) 64 p (fits k) past
-        ∙ sym (ap (sum_of bit 512) (get_or_past (row k) p 0 past) ∙ sum_of-zero bit bit-lt 512)
+        bit_at_above (get_or ws k 0) 32 p (fits k) past
+        ∙ sym (ap (sum_of bit 256) (get_or_past (row k) p 0 past) ∙ sum_of-zero bit bit-lt 256)
   ]
 
   -- so of all words
   rows-mean : HaveInputs ws rows
   rows-mean k p = elim (cases_lt k 8) [
-    | inl lt ↦ row-means k lt p ∙ ap (λ (ms : List ℕ). sum_of bit 512 (get_or ms p 0)) (sym (get_or-map-range_with_len row 0 8 k k [] lt (omega arith)))
+    | inl lt ↦ row-means k lt p ∙ ap (λ (ms : List ℕ). sum_of bit 256 (get_or ms p 0)) (sym (get_or-map-range_with_len row 0 8 k k [] lt (omega arith)))
     | inr past ↦
         ap (λ (x : ℕ). bit_at x p) (get_or_past ws k 0 (omega (arith, eight, past))) ∙ bit_at-zero p
-        ∙ sym (ap (λ (ms : List ℕ). sum_of bit 512 (get_or ms p 0)) (get_or_past rows k [] past) ∙ sum_of-zero bit bit-lt 512)
+        ∙ sym (ap (λ (ms : List ℕ). sum_of bit 256 (get_or ms p 0)) (get_or_past rows k [] past) ∙ sum_of-zero bit bit-lt 256)
   ]
 
   -- no word has no inputs
   none-means : HasInputs 0 []
-  none-means p = bit_at-zero p ∙ sym (sum_of-zero bit bit-lt 512)
+  none-means p = bit_at-zero p ∙ sym (sum_of-zero bit bit-lt 256)
 
   -- what is known of each of eight words is known of all
   eight-mean : (w0 w1 w2 w3 w4 w5 w6 w7 : ℕ) (m0 m1 m2 m3 m4 m5 m6 m7 : List ℕ)
@@ -147,7 +137,7 @@ module _ (ws : List ℕ) (eight : length ws ≡ 8) (fits : (k : ℕ) → get_or 
   -- both words of an exchange
   exchange-means : (x y k mask : ℕ) (mx my : List ℕ) → HasInputs x mx → HasInputs y my
       → (at : ℕ) → HasInputs (get_or (words (exchange_steps k mask) (x ∷ y ∷ [])) at 0) (get_or (all_masks (exchange_steps k mask) (mx ∷ my ∷ [])) at [])
-  exchange-means x y k mask mx my hx hy = program-means bit bit-lt 512 (exchange_steps k mask) (x ∷ y ∷ []) (mx ∷ my ∷ []) both
+  exchange-means x y k mask mx my hx hy = program-means bit bit-lt 256 (exchange_steps k mask) (x ∷ y ∷ []) (mx ∷ my ∷ []) both
     where
       both : HaveInputs (x ∷ y ∷ []) (mx ∷ my ∷ [])
       both zero = hx
@@ -169,78 +159,58 @@ module _ (ws : List ℕ) (eight : length ws ≡ 8) (fits : (k : ℕ) → get_or 
   chosen-mean vs ms h k0 k1 k2 k3 k4 k5 k6 k7 = eight-mean _ _ _ _ _ _ _ _ _ _ _ _ _ _ _ _ (h k0) (h k1) (h k2) (h k3) (h k4) (h k5) (h k6) (h k7)
 
   -- words each of whose bits has one input hold those inputs
-  moves : (vs : List ℕ) (ms : List (List ℕ)) (from : ℕ → ℕ → ℕ) → HaveInputs vs ms
-      → map (λ t. get_or ms t []) (range_with_len 0 8) ≡ map (λ t. map (λ i. 2 ^ from t i) (range_with_len 0 64)) (range_with_len 0 8)
-      → (t i : ℕ) → t < 8 → i < 64 → from t i < 512 → bit_at (get_or vs t 0) i ≡ bit (from t i)
-  moves vs ms from h e t i lt lti within =
-      let inputs : get_or ms t [] ≡ map (λ i. 2 ^ from t i) (range_with_len 0 64) =
+  moves : (vs : List ℕ) (ms : List (List ℕ)) (plane seat : ℕ → ℕ → ℕ) → HaveInputs vs ms
+      → map (λ t. get_or ms t []) (range_with_len 0 8) ≡ map (λ t. map (λ i. 2 ^ (32 * plane t i + seat t i)) (range_with_len 0 32)) (range_with_len 0 8)
+      → (t i : ℕ) → t < 8 → i < 32 → plane t i < 8 → seat t i < 32 → bit_at (get_or vs t 0) i ≡ bit_at (get_or ws (plane t i) 0) (seat t i)
+  moves vs ms plane seat h e t i lt lti within low =
+      let inputs : get_or ms t [] ≡ map (λ i. 2 ^ (32 * plane t i + seat t i)) (range_with_len 0 32) =
       sym (get_or-map-range_with_len (λ t. get_or ms t []) 0 8 t t [] lt (omega arith)) ∙ ap (λ (x : List (List ℕ)). get_or x t []) e
-      ∙ get_or-map-range_with_len (λ t. map (λ i. 2 ^ from t i) (range_with_len 0 64)) 0 8 t t [] lt (omega arith) in
-      h t i ∙ ap (λ (m : List ℕ). sum_of bit 512 (get_or m i 0)) inputs
-      ∙ ap (sum_of bit 512) (get_or-map-range_with_len (λ i. 2 ^ from t i) 0 64 i i 0 lti (omega arith))
-      ∙ sum_of-one bit bit-lt 512 (from t i) within
+      ∙ get_or-map-range_with_len (λ t. map (λ i. 2 ^ (32 * plane t i + seat t i)) (range_with_len 0 32)) 0 8 t t [] lt (omega arith) in
+      let word : (32 * plane t i + seat t i) / 32 ≡ plane t i = omega (arith, low) in
+      let place : (32 * plane t i + seat t i) % 32 ≡ seat t i = omega (arith, low) in
+      h t i ∙ ap (λ (m : List ℕ). sum_of bit 256 (get_or m i 0)) inputs
+      ∙ ap (sum_of bit 256) (get_or-map-range_with_len (λ i. 2 ^ (32 * plane t i + seat t i)) 0 32 i i 0 lti (omega arith))
+      ∙ sum_of-one bit bit-lt 256 (32 * plane t i + seat t i) (omega (arith, within, low))
+      ∙ ap₂ (λ (x y : ℕ). bit_at (get_or ws x 0) y) word place
 
-  -- the planes of eight words, by six exchanges
-  pub into-planes : (w1 w2 w3 w4 w5 w6 : List ℕ) → w1 ≡ pairs_exchanged ws 8 0x00ff00ff00ff00ff → w2 ≡ pairs_exchanged w1 16 0x0000ffff0000ffff
-      → w3 ≡ pairs_exchanged w2 32 0x00000000ffffffff → w4 ≡ pairs_exchanged w3 4 0x0f0f0f0f0f0f0f0f
-      → w5 ≡ pairs_exchanged (chosen 0 w4 0 2 1 3 4 6 5 7) 1 0x5555555555555555
-      → w6 ≡ pairs_exchanged (chosen 0 w5 0 4 2 6 1 5 3 7) 2 0x3333333333333333
-      → (t i : ℕ) → t < 8 → i < 64
-      → bit_at (get_or (chosen 0 w6 0 4 1 5 2 6 3 7) t 0) i ≡ bit_at (get_or ws ((8 * place i + t) / 64) 0) ((8 * place i + t) % 64)
-  into-planes w1 w2 w3 w4 w5 w6 e1 e2 e3 e4 e5 e6 t i lt lti =
-      let m1 = pairs_masks rows 8 0x00ff00ff00ff00ff in
-      let h1 = pairs-mean 8 0x00ff00ff00ff00ff ws w1 rows rows-mean e1 in
-      let m2 = pairs_masks m1 16 0x0000ffff0000ffff in
-      let h2 = pairs-mean 16 0x0000ffff0000ffff w1 w2 m1 h1 e2 in
-      let m3 = pairs_masks m2 32 0x00000000ffffffff in
-      let h3 = pairs-mean 32 0x00000000ffffffff w2 w3 m2 h2 e3 in
-      let m4 = pairs_masks m3 4 0x0f0f0f0f0f0f0f0f in
-      let h4 = pairs-mean 4 0x0f0f0f0f0f0f0f0f w3 w4 m3 h3 e4 in
-      let n4 = chosen [] m4 0 2 1 3 4 6 5 7 in
-      let m5 = pairs_masks n4 1 0x5555555555555555 in
-      let h5 = pairs-mean 1 0x5555555555555555 (chosen 0 w4 0 2 1 3 4 6 5 7) w5 n4 (chosen-mean w4 m4 h4 0 2 1 3 4 6 5 7) e5 in
-      let n5 = chosen [] m5 0 4 2 6 1 5 3 7 in
-      let m6 = pairs_masks n5 2 0x3333333333333333 in
-      let h6 = pairs-mean 2 0x3333333333333333 (chosen 0 w5 0 4 2 6 1 5 3 7) w6 n5 (chosen-mean w5 m5 h5 0 4 2 6 1 5 3 7) e6 in
-      moves (chosen 0 w6 0 4 1 5 2 6 3 7) into_masks (λ t i. 8 * place i + t) (chosen-mean w6 m6 h6 0 4 1 5 2 6 3 7) into_values
-      t i lt lti (omega arith)
+  -- eight words after the exchanges that transpose
+  pub transposed : (w1 w2 w3 : List ℕ) → w1 ≡ pairs_exchanged ws 1 0x55555555
+      → w2 ≡ pairs_exchanged (chosen 0 w1 0 2 1 3 4 6 5 7) 2 0x33333333
+      → w3 ≡ pairs_exchanged (chosen 0 w2 0 4 2 6 1 5 3 7) 4 0x0f0f0f0f
+      → (t i : ℕ) → t < 8 → i < 32
+      → bit_at (get_or (chosen 0 w3 0 2 4 6 1 3 5 7) t 0) i ≡ bit_at (get_or ws (i % 8) 0) (8 * (i / 8) + t)
+  transposed w1 w2 w3 e1 e2 e3 t i lt lti =
+      let m1 = pairs_masks rows 1 0x55555555 in
+      let h1 = pairs-mean 1 0x55555555 ws w1 rows rows-mean e1 in
+      let n1 = chosen [] m1 0 2 1 3 4 6 5 7 in
+      let m2 = pairs_masks n1 2 0x33333333 in
+      let h2 = pairs-mean 2 0x33333333 (chosen 0 w1 0 2 1 3 4 6 5 7) w2 n1 (chosen-mean w1 m1 h1 0 2 1 3 4 6 5 7) e2 in
+      let n2 = chosen [] m2 0 4 2 6 1 5 3 7 in
+      let m3 = pairs_masks n2 4 0x0f0f0f0f in
+      let h3 = pairs-mean 4 0x0f0f0f0f (chosen 0 w2 0 4 2 6 1 5 3 7) w3 n2 (chosen-mean w2 m2 h2 0 4 2 6 1 5 3 7) e3 in
+      moves (chosen 0 w3 0 2 4 6 1 3 5 7) across_masks (λ t i. i % 8) (λ t i. 8 * (i / 8) + t) (chosen-mean w3 m3 h3 0 2 4 6 1 3 5 7) across_values
+      t i lt lti (omega arith) (omega (arith, lt, lti))
 
-  -- the words of eight planes, by the same exchanges in the other order
-  pub from-planes : (w1 w2 w3 w4 w5 w6 : List ℕ) → w1 ≡ pairs_exchanged (chosen 0 ws 0 2 4 6 1 3 5 7) 2 0x3333333333333333 → w2 ≡ pairs_exchanged (chosen 0 w1 0 4 2 6 1 5 3 7) 1 0x5555555555555555
-      → w3 ≡ pairs_exchanged (chosen 0 w2 0 2 1 3 4 6 5 7) 4 0x0f0f0f0f0f0f0f0f → w4 ≡ pairs_exchanged w3 32 0x00000000ffffffff
-      → w5 ≡ pairs_exchanged w4 16 0x0000ffff0000ffff → w6 ≡ pairs_exchanged w5 8 0x00ff00ff00ff00ff
-      → (k p : ℕ) → k < 8 → p < 64 → bit_at (get_or w6 k 0) p ≡ bit_at (get_or ws (p % 8) 0) (place (8 * k + p / 8))
-  from-planes w1 w2 w3 w4 w5 w6 e1 e2 e3 e4 e5 e6 k p lt ltp =
-      let m0 = chosen [] rows 0 2 4 6 1 3 5 7 in
-      let h0 = chosen-mean ws rows rows-mean 0 2 4 6 1 3 5 7 in
-      let m1 = pairs_masks m0 2 0x3333333333333333 in
-      let h1 = pairs-mean 2 0x3333333333333333 (chosen 0 ws 0 2 4 6 1 3 5 7) w1 m0 h0 e1 in
-      let n1 = chosen [] m1 0 4 2 6 1 5 3 7 in
-      let m2 = pairs_masks n1 1 0x5555555555555555 in
-      let h2 = pairs-mean 1 0x5555555555555555 (chosen 0 w1 0 4 2 6 1 5 3 7) w2 n1 (chosen-mean w1 m1 h1 0 4 2 6 1 5 3 7) e2 in
-      let n2 = chosen [] m2 0 2 1 3 4 6 5 7 in
-      let m3 = pairs_masks n2 4 0x0f0f0f0f0f0f0f0f in
-      let h3 = pairs-mean 4 0x0f0f0f0f0f0f0f0f (chosen 0 w2 0 2 1 3 4 6 5 7) w3 n2 (chosen-mean w2 m2 h2 0 2 1 3 4 6 5 7) e3 in
-      let m4 = pairs_masks m3 32 0x00000000ffffffff in
-      let h4 = pairs-mean 32 0x00000000ffffffff w3 w4 m3 h3 e4 in
-      let m5 = pairs_masks m4 16 0x0000ffff0000ffff in
-      let h5 = pairs-mean 16 0x0000ffff0000ffff w4 w5 m4 h4 e5 in
-      let h6 = pairs-mean 8 0x00ff00ff00ff00ff w5 w6 m5 h5 e6 in
-      let plane : (64 * (p % 8) + place (8 * k + p / 8)) / 64 ≡ p % 8 = omega arith in
-      let seat : (64 * (p % 8) + place (8 * k + p / 8)) % 64 ≡ place (8 * k + p / 8) = omega arith in
-      moves w6 from_masks (λ k p. 64 * (p % 8) + place (8 * k + p / 8)) h6 from_values k p lt ltp (omega arith)
-      ∙ ap₂ (λ (x y : ℕ). bit_at (get_or ws x 0) y) plane seat
+  -- eight words whose rows 1 and 3 go two columns on
+  pub turned_back : (w : List ℕ) → w ≡ pairs_exchanged (chosen 0 ws 0 4 1 5 2 6 3 7) 0 0xff00ff00
+      → (k p : ℕ) → k < 8 → p < 32
+      → bit_at (get_or (chosen 0 w 0 2 4 6 1 3 5 7) k 0) p ≡ bit_at (get_or ws (2 * ((k / 2 + 2 * (p / 8)) % 4) + k % 2) 0) p
+  turned_back w e k p lt ltp =
+      let n = chosen [] rows 0 4 1 5 2 6 3 7 in
+      let m = pairs_masks n 0 0xff00ff00 in
+      let h = pairs-mean 0 0xff00ff00 (chosen 0 ws 0 4 1 5 2 6 3 7) w n (chosen-mean ws rows rows-mean 0 4 1 5 2 6 3 7) e in
+      moves (chosen 0 w 0 2 4 6 1 3 5 7) back_masks (λ k p. 2 * ((k / 2 + 2 * (p / 8)) % 4) + k % 2) (λ k p. p) (chosen-mean w m h 0 2 4 6 1 3 5 7) back_values
+      k p lt ltp (omega arith) ltp
 
   -- the bits of a number that is put together of every eighth lane
   pub gather_moves : (p : ℕ) → p < 32 → bit_at (get_or (words gather_steps ws) 0 0) p ≡ bit_at (get_or ws (p % 8) 0) (8 * (p / 8))
   gather_moves p lt =
-      let masks : List ℕ = get_or (all_masks gather_steps rows) 0 [] in
-      let from : ℕ = 64 * (p % 8) + 8 * (p / 8) in
-      let plane : from / 64 ≡ p % 8 = omega (arith, lt) in
-      let seat : from % 64 ≡ 8 * (p / 8) = omega (arith, lt) in
-      program-means bit bit-lt 512 gather_steps ws rows rows-mean 0 p
-      ∙ ap (sum_of bit 512)
-      (sym (get_or-take 32 masks p 0 lt) ∙ ap (λ (x : List ℕ). get_or x p 0) gather_masks
-      ∙ get_or-map-range_with_len (λ p. 2 ^ (64 * (p % 8) + 8 * (p / 8))) 0 32 p p 0 lt (omega arith))
-      ∙ sum_of-one bit bit-lt 512 from (omega (arith, lt))
+      let from : ℕ = 32 * (p % 8) + 8 * (p / 8) in
+      let plane : from / 32 ≡ p % 8 = omega (arith, lt) in
+      let seat : from % 32 ≡ 8 * (p / 8) = omega (arith, lt) in
+      program-means bit bit-lt 256 gather_steps ws rows rows-mean 0 p
+      ∙ ap (sum_of bit 256)
+      (ap (λ (x : List ℕ). get_or x p 0) gather_masks
+      ∙ get_or-map-range_with_len (λ p. 2 ^ (32 * (p % 8) + 8 * (p / 8))) 0 32 p p 0 lt (omega arith))
+      ∙ sum_of-one bit bit-lt 256 from (omega (arith, lt))
       ∙ ap₂ (λ (x y : ℕ). bit_at (get_or ws x 0) y) plane seat

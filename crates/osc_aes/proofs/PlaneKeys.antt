@@ -1,14 +1,15 @@
 -- Round keys in planes, and words substituted in planes.
-use Rattle.std.proofs.Common.{◌≡◌, ℕ, ◌+◌, ◌*◌, ◌%◌, ◌<◌, ◌≤◌, List, [], ◌∷◌, length, drop, get_or, set, get_or-take, get_or-drop, get_or-set_other, get_or-set_same, length-drop, inl, inr, refl, ap, ap₂, ◌∙◌, sym, arith}
+use Rattle.std.proofs.Common.{◌≡◌, ℕ, zero, suc, ◌+◌, ◌/◌, ◌*◌, ◌%◌, ◌<◌, ◌≤◌, List, [], ◌∷◌, length, drop, get_or, set, get_or-take, get_or-drop, get_or-set_other, get_or-set_same, length-drop, inl, inr, refl, ap, ap₂, ◌∙◌, sym, arith}
 use Rattle.std.proofs.lemmas.Bool.{cases_eq}
 use Rattle.std.proofs.lemmas.List.{length-take-le}
 use Rattle.std.proofs.lemmas.List.FromFn.{fill_by_all}
 use Rattle.osc_aes.specs.SubstitutionBox.{substitute}
 use Rattle.osc_aes.specs.Aes128.{added_word, expanded_key, sub_word, word_at, xor_word}
 use Rattle.osc_aes.specs.Views.{lane}
-use Rattle.osc_aes.specs.Lanes.{AreKeysTo, block_at, place}
+use Rattle.osc_aes.specs.Lanes.{AreKeysTo, block_at, block_in, state_in}
 use Rattle.osc_aes.proofs.Keys.{added_word-within, expanded_key-word}
 use Rattle.osc_aes.proofs.Lengths.{length-key_words, take-expanded_key}
+use Rattle.osc_aes.proofs.PlaneRounds.{state-known}
 
 -- ---- words substituted in planes
 
@@ -24,7 +25,7 @@ four_substituted (a ∷ b ∷ c ∷ d ∷ more ∷ word) e = absurd (omega arith
 
 -- a word whose bytes are those of another, each substituted
 pub sub_word-is : (word out planes substituted : List ℕ) → length word ≡ 4 → length out ≡ 4
-    → ((n : ℕ) → n < 4 → lane planes (8 * n) ≡ get_or word n 0) → ((i : ℕ) → i < 64 → lane substituted i ≡ substitute (lane planes i))
+    → ((n : ℕ) → n < 4 → lane planes (8 * n) ≡ get_or word n 0) → ((i : ℕ) → i < 32 → lane substituted i ≡ substitute (lane planes i))
     → ((n : ℕ) → n < 4 → get_or out n 0 ≡ lane substituted (8 * n)) → out ≡ sub_word word
 sub_word-is word out planes substituted long same spread each gathered =
     fill_by_all (λ n. substitute (get_or word n 0)) out 4 0 same
@@ -109,15 +110,47 @@ first_key key long = sym (take-expanded_key (expanded_key key) key long refl)
 
 -- ---- round keys in planes
 
+-- a column that is turned right and found again
+turned_again : (y column : ℕ) → column < 4 → ((column + y) % 4 + 3 * y) % 4 ≡ column
+turned_again y column lt = omega (arith, lt)
+
+-- a column that is not turned
+not_turned : (x row : ℕ) → (x % 4 + 0 * row) % 4 ≡ x % 4
+not_turned x row = omega arith
+
+-- a round key whose rows are turned, in one block
+turned_block : (n : ℕ) (k turned planes : List ℕ) (b : ℕ) → block_in 0 planes b ≡ turned
+    → ((m : ℕ) → m < 16 → get_or turned m 0 ≡ get_or k (m % 4 + 4 * ((m / 4 + 3 * (n * (m % 4))) % 4)) 0)
+    → (row column : ℕ) → row < 4 → column < 4 → state_in n planes b row column ≡ get_or k (row + 4 * column) 0
+turned_block n k turned planes b packed moved row column ltr ltc =
+    let y : ℕ = n * row in
+    let seat : ℕ = (column + y) % 4 in
+    let at : (x z : ℕ) → x < 4 → (x + 4 * z) % 4 ≡ x = λ x z lt. omega (arith, lt) in
+    let over : (x z : ℕ) → x < 4 → (x + 4 * z) / 4 ≡ z = λ x z lt. omega (arith, lt) in
+    let low : (x z : ℕ) → x < 4 → x + 4 * (z % 4) < 16 = λ x z lt. omega (arith, lt) in
+    ap (λ (x : ℕ). lane planes (8 * row + (2 * x + b))) (sym (not_turned (column + y) row))
+    ∙ state-known 0 planes turned b packed row seat ltr (omega arith) ∙ moved (row + 4 * seat) (low row (column + y) ltr)
+    ∙ ap₂ (λ (r c : ℕ). get_or k (r + 4 * ((c + 3 * (n * r)) % 4)) 0) (at row seat ltr) (over row seat ltr)
+    ∙ ap (λ (c : ℕ). get_or k (row + 4 * c) 0) (turned_again y column ltc)
+
+-- and in both
+pub turned_key : (n : ℕ) (k turned planes : List ℕ) → block_in 0 planes 0 ≡ turned → block_in 0 planes 1 ≡ turned
+    → ((m : ℕ) → m < 16 → get_or turned m 0 ≡ get_or k (m % 4 + 4 * ((m / 4 + 3 * (n * (m % 4))) % 4)) 0)
+    → (b row column : ℕ) → b < 2 → row < 4 → column < 4 → state_in n planes b row column ≡ get_or k (row + 4 * column) 0
+turned_key n k turned planes first second moved zero row column few = turned_block n k turned planes 0 first moved row column
+turned_key n k turned planes first second moved (suc zero) row column few = turned_block n k turned planes 1 second moved row column
+turned_key n k turned planes first second moved (suc (suc b)) row column few = absurd (omega arith)
+
 -- one more of them
 pub one_more_key : (n : ℕ) (keys : List (List ℕ)) (w k planes : List ℕ) → n < length keys → k ≡ block_at w n
-    → ((i : ℕ) → i < 64 → lane planes i ≡ get_or k (place i % 16) 0) → AreKeysTo n keys w → AreKeysTo (n + 1) (set keys n planes) w
-one_more_key n keys w k planes room e held below r i lt lti = elim (cases_eq r n) [
+    → ((b row column : ℕ) → b < 2 → row < 4 → column < 4 → state_in n planes b row column ≡ get_or k (row + 4 * column) 0)
+    → AreKeysTo n keys w → AreKeysTo (n + 1) (set keys n planes) w
+one_more_key n keys w k planes room e held before r lt b row column few ltr ltc = elim (cases_eq r n) [
   | inl same ↦
-      ap (λ (x : List ℕ). lane x i) (ap (λ (j : ℕ). get_or (set keys n planes) j []) same ∙ get_or-set_same keys n planes [] room)
-      ∙ held i lti ∙ ap (λ (x : List ℕ). get_or x (place i % 16) 0) e ∙ get_or-block w n (place i % 16) (omega arith)
-      ∙ ap (λ (j : ℕ). get_or w (16 * j + place i % 16) 0) (sym same)
+      ap₂ (λ (x : List ℕ) (m : ℕ). state_in m x b row column) (ap (λ (j : ℕ). get_or (set keys n planes) j []) same ∙ get_or-set_same keys n planes [] room) same
+      ∙ held b row column few ltr ltc ∙ ap (λ (x : List ℕ). get_or x (row + 4 * column) 0) e ∙ get_or-block w n (row + 4 * column) (omega (arith, ltr, ltc))
+      ∙ ap (λ (j : ℕ). get_or w (16 * j + (row + 4 * column)) 0) (sym same)
   | inr other ↦
-      ap (λ (x : List ℕ). lane x i) (get_or-set_other keys n r planes [] other)
-      ∙ below r i (omega (arith, lt, other)) lti
+      ap (λ (x : List ℕ). state_in r x b row column) (get_or-set_other keys n r planes [] other)
+      ∙ before r (omega (arith, lt, other)) b row column few ltr ltc
 ]

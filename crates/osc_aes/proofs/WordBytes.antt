@@ -5,10 +5,11 @@ use Rattle.std.specs.List.{flat_map}
 use Rattle.std.proofs.lemmas.Nat.{shr-shr}
 use Rattle.std.proofs.lemmas.Nat.Bits.{bit_at_cat_low, bit_at_cat_high}
 use Rattle.std.proofs.lemmas.List.{get_or-drop, get_or_append_left, get_or-append_right}
+use Rattle.std.proofs.lemmas.List.FromFn.{fill_by_all}
 use Rattle.byteorder.specs.Endian.{little_from, little_number, little_bytes}
 use Rattle.byteorder.specs.Numbers.{length-bytes_low_first}
 use Rattle.osc_aes.specs.Views.{lane}
-use Rattle.osc_aes.specs.Lanes.{place}
+use Rattle.osc_aes.specs.Lanes.{block_in, lane_of, state_in}
 use Rattle.osc_aes.proofs.LaneBytes.{lane-byte}
 use Rattle.osc_aes.proofs.LinearPrograms.{bit_at-down}
 
@@ -32,25 +33,71 @@ little_bit (suc m) i xs fit (suc q) t lt ltt =
     ap (λ (x : ℕ). bit_at x (8 * suc q + t)) e ∙ bit_at_cat_high r 8 b (8 * suc q + t) (omega (arith, fit i)) (omega arith)
     ∙ ap (bit_at r) place ∙ little_bit m (suc i) xs fit q t (omega arith) ltt ∙ ap (λ (j : ℕ). bit_at (get_or xs j 0) t) same
 
--- planes of words of bytes have the bytes in their lanes
-pub packed_lane : (bytes words planes : List ℕ) → ((k : ℕ) → get_or bytes k 0 < 256)
-    → ((k : ℕ) → k < 8 → get_or words k 0 ≡ little_number 8 (drop (8 * k) bytes))
-    → ((t i : ℕ) → t < 8 → i < 64 → bit_at (get_or planes t 0) i ≡ bit_at (get_or words ((8 * place i + t) / 64) 0) ((8 * place i + t) % 64))
-    → (i : ℕ) → i < 64 → lane planes i ≡ get_or bytes (place i) 0
-packed_lane bytes words planes fit read bits i lt =
-    let n : ℕ = place i in
-    let within : n < 64 = omega (arith, lt) in
-    lane-byte planes i (get_or bytes n 0) (fit n) (λ t ltt.
-    let word : (8 * n + t) / 64 ≡ n / 8 = omega (arith, ltt) in
-    let bit : (8 * n + t) % 64 ≡ 8 * (n % 8) + t = omega (arith, ltt) in
-    let back : 8 * (n / 8) + n % 8 ≡ n = omega arith in
-    let rest : List ℕ = drop (8 * (n / 8)) bytes in
-    bits t i ltt lt ∙ ap₂ (λ (x y : ℕ). bit_at (get_or words x 0) y) word bit
-    ∙ ap (λ (x : ℕ). bit_at x (8 * (n % 8) + t)) (read (n / 8) (omega (arith, within)))
-    ∙ little_bit 8 0 rest (λ k. let h = fit (8 * (n / 8) + k) in let e = get_or-drop (8 * (n / 8)) bytes k 0 in omega (arith, h, e)) (n % 8) t (omega arith) ltt
-    ∙ ap (λ (x : ℕ). bit_at x t) (ap (λ (j : ℕ). get_or rest j 0) (omega arith) ∙ get_or-drop (8 * (n / 8)) bytes (n % 8) 0 ∙ ap (λ (j : ℕ). get_or bytes j 0) back))
+-- bit t of byte r of a word of a block
+word_bit : (block : List ℕ) → ((k : ℕ) → get_or block k 0 < 256) → (c r t : ℕ) → r < 4 → t < 8
+    → bit_at (little_number 4 (drop (4 * c) block)) (8 * r + t) ≡ bit_at (get_or block (r + 4 * c) 0) t
+word_bit block fit c r t ltr ltt =
+    let rest : List ℕ = drop (4 * c) block in
+    let at : 4 * c + (0 + r) ≡ r + 4 * c = omega arith in
+    little_bit 4 0 rest (λ k. let h = fit (4 * c + k) in let e = get_or-drop (4 * c) block k 0 in omega (arith, h, e)) r t ltr ltt
+    ∙ ap (λ (x : ℕ). bit_at x t) (get_or-drop (4 * c) block (0 + r) 0 ∙ ap (λ (j : ℕ). get_or block j 0) at)
+
+module _ (block words planes : List ℕ) (b : ℕ) (few : b < 2) (long : length block ≡ 16) (fit : (k : ℕ) → get_or block k 0 < 256)
+    (read : (c : ℕ) → c < 4 → get_or words (2 * c + b) 0 ≡ little_number 4 (drop (4 * c) block))
+    (bits : (t i : ℕ) → t < 8 → i < 32 → bit_at (get_or planes t 0) i ≡ bit_at (get_or words (i % 8) 0) (8 * (i / 8) + t)) where
+  -- a lane holds the byte of its row and column
+  packed_byte : (r c : ℕ) → r < 4 → c < 4 → lane planes (8 * r + (2 * c + b)) ≡ get_or block (r + 4 * c) 0
+  packed_byte r c ltr ltc =
+      let i : ℕ = 8 * r + (2 * c + b) in
+      let word : i % 8 ≡ 2 * c + b = omega (arith, few, ltc) in
+      let row : i / 8 ≡ r = omega (arith, few, ltc) in
+      lane-byte planes i (get_or block (r + 4 * c) 0) (fit (r + 4 * c)) (λ t ltt.
+      bits t i ltt (omega (arith, few, ltr, ltc)) ∙ ap₂ (λ (x y : ℕ). bit_at (get_or words x 0) (8 * y + t)) word row
+      ∙ ap (λ (x : ℕ). bit_at x (8 * r + t)) (read c ltc) ∙ word_bit block fit c r t ltr ltt)
+
+  -- planes of the words of a block hold that block
+  pub packed_block : block_in 0 planes b ≡ block
+  packed_block =
+      sym (fill_by_all (λ k. state_in 0 planes b (k % 4) (k / 4)) block 16 0 long (λ k lt.
+      let place : k % 4 + 4 * (k / 4) ≡ k = omega arith in
+      let seat : lane_of 0 b (k % 4) (k / 4) ≡ 8 * (k % 4) + (2 * (k / 4) + b) = omega (arith, lt) in
+      sym (ap (lane planes) seat ∙ packed_byte (k % 4) (k / 4) (omega arith) (omega (arith, lt))
+      ∙ ap (λ (j : ℕ). get_or block j 0) place)))
+
+-- the words of two blocks by turns
+abbrev pub by_turns : List ℕ → List ℕ → List ℕ
+by_turns a b =
+    get_or a 0 0 ∷ get_or b 0 0 ∷ get_or a 1 0 ∷ get_or b 1 0 ∷ get_or a 2 0 ∷ get_or b 2 0 ∷ get_or a 3 0 ∷ get_or b 3 0 ∷ []
+
+-- those of the first block
+pub get_or-first : (a b : List ℕ) (c : ℕ) → c < 4 → get_or (by_turns a b) (2 * c + 0) 0 ≡ get_or a c 0
+get_or-first a b zero lt = refl
+get_or-first a b (suc zero) lt = refl
+get_or-first a b (suc (suc zero)) lt = refl
+get_or-first a b (suc (suc (suc zero))) lt = refl
+get_or-first a b (suc (suc (suc (suc c)))) lt = absurd (omega arith)
+
+-- those of the second
+pub get_or-second : (a b : List ℕ) (c : ℕ) → c < 4 → get_or (by_turns a b) (2 * c + 1) 0 ≡ get_or b c 0
+get_or-second a b zero lt = refl
+get_or-second a b (suc zero) lt = refl
+get_or-second a b (suc (suc zero)) lt = refl
+get_or-second a b (suc (suc (suc zero))) lt = refl
+get_or-second a b (suc (suc (suc (suc c)))) lt = absurd (omega arith)
 
 -- ---- and back
+
+-- the words of block b among eight
+abbrev pub words_of : ℕ → List ℕ → List ℕ
+words_of b ws = get_or ws (2 * 0 + b) 0 ∷ get_or ws (2 * 1 + b) 0 ∷ get_or ws (2 * 2 + b) 0 ∷ get_or ws (2 * 3 + b) 0 ∷ []
+
+-- one of them
+get_or-words_of : (b : ℕ) (ws : List ℕ) (c : ℕ) → c < 4 → get_or (words_of b ws) c 0 ≡ get_or ws (2 * c + b) 0
+get_or-words_of b ws zero lt = refl
+get_or-words_of b ws (suc zero) lt = refl
+get_or-words_of b ws (suc (suc zero)) lt = refl
+get_or-words_of b ws (suc (suc (suc zero))) lt = refl
+get_or-words_of b ws (suc (suc (suc (suc c)))) lt = absurd (omega arith)
 
 -- a byte of a word that is written low byte first
 get_or-low_bytes : (m i x q : ℕ) → q < m → get_or (bytes_low_first i m x) q 0 ≡ byte_at (i + q) x
@@ -61,59 +108,76 @@ get_or-low_bytes (suc m) i x (suc q) lt =
     get_or-low_bytes m (suc i) x q (omega arith) ∙ ap (λ (j : ℕ). byte_at j x) same
 
 -- a byte of words that are written so
-get_or-words : (ws : List ℕ) (k q : ℕ) → k < length ws → q < 8 → get_or (flat_map (little_bytes 8) ws) (8 * k + q) 0 ≡ byte_at q (get_or ws k 0)
+get_or-words : (ws : List ℕ) (k q : ℕ) → k < length ws → q < 4 → get_or (flat_map (little_bytes 4) ws) (4 * k + q) 0 ≡ byte_at q (get_or ws k 0)
 get_or-words [] k q lt ltq = absurd (omega arith)
 get_or-words (w ∷ ws) zero q lt ltq =
-    let long : length (little_bytes 8 w) ≡ 8 = length-bytes_low_first 0 8 w in
-    let at : 8 * 0 + q ≡ q = omega arith in
-    ap (λ (j : ℕ). get_or (flat_map (little_bytes 8) (w ∷ ws)) j 0) at
-    ∙ get_or_append_left (little_bytes 8 w) (flat_map (little_bytes 8) ws) 0 q (omega (arith, long, ltq))
-    ∙ get_or-low_bytes 8 0 w q ltq ∙ ap (λ (j : ℕ). byte_at j w) (omega arith)
+    let long : length (little_bytes 4 w) ≡ 4 = length-bytes_low_first 0 4 w in
+    let at : 4 * 0 + q ≡ q = omega arith in
+    ap (λ (j : ℕ). get_or (flat_map (little_bytes 4) (w ∷ ws)) j 0) at
+    ∙ get_or_append_left (little_bytes 4 w) (flat_map (little_bytes 4) ws) 0 q (omega (arith, long, ltq))
+    ∙ get_or-low_bytes 4 0 w q ltq ∙ ap (λ (j : ℕ). byte_at j w) (omega arith)
 get_or-words (w ∷ ws) (suc k) q lt ltq =
-    let long : length (little_bytes 8 w) ≡ 8 = length-bytes_low_first 0 8 w in
-    let at : 8 * suc k + q - 8 ≡ 8 * k + q = omega arith in
-    get_or-append_right (little_bytes 8 w) (flat_map (little_bytes 8) ws) 8 (8 * suc k + q) 0 long (omega arith)
-    ∙ ap (λ (j : ℕ). get_or (flat_map (little_bytes 8) ws) j 0) at ∙ get_or-words ws k q (omega arith) ltq
+    let long : length (little_bytes 4 w) ≡ 4 = length-bytes_low_first 0 4 w in
+    let at : 4 * suc k + q - 4 ≡ 4 * k + q = omega arith in
+    get_or-append_right (little_bytes 4 w) (flat_map (little_bytes 4) ws) 4 (4 * suc k + q) 0 long (omega arith)
+    ∙ ap (λ (j : ℕ). get_or (flat_map (little_bytes 4) ws) j 0) at ∙ get_or-words ws k q (omega arith) ltq
 
 -- a byte of a word, by arithmetic
-byte_at-is : (q w : ℕ) → q < 8 → byte_at q w ≡ w / 2 ^ (8 * q) % 2 ^ 8
+byte_at-is : (q w : ℕ) → q < 4 → byte_at q w ≡ w / 2 ^ (8 * q) % 2 ^ 8
 byte_at-is zero w lt = omega arith
 byte_at-is (suc zero) w lt = refl
 byte_at-is (suc (suc zero)) w lt = refl
 byte_at-is (suc (suc (suc zero))) w lt = refl
-byte_at-is (suc (suc (suc (suc zero)))) w lt = refl
-byte_at-is (suc (suc (suc (suc (suc zero))))) w lt = refl
-byte_at-is (suc (suc (suc (suc (suc (suc zero)))))) w lt = refl
-byte_at-is (suc (suc (suc (suc (suc (suc (suc zero))))))) w lt = refl
-byte_at-is (suc (suc (suc (suc (suc (suc (suc (suc q)))))))) w lt = absurd (omega arith)
+byte_at-is (suc (suc (suc (suc q)))) w lt = absurd (omega arith)
 
 -- and so it is one
-byte_at-lt : (q w : ℕ) → q < 8 → byte_at q w < 256
+byte_at-lt : (q w : ℕ) → q < 4 → byte_at q w < 256
 byte_at-lt q w lt = let e = byte_at-is q w lt in omega (arith, e)
 
 -- a bit of a byte of a word
-byte-bit : (w q t : ℕ) → q < 8 → t < 8 → bit_at (byte_at q w) t ≡ bit_at w (8 * q + t)
+byte-bit : (w q t : ℕ) → q < 4 → t < 8 → bit_at (byte_at q w) t ≡ bit_at w (8 * q + t)
 byte-bit w q t ltq lt =
     let n : ℕ = w / 2 ^ (8 * q) in
     let e : n / 2 ^ 8 * 2 ^ 8 + n % 2 ^ 8 ≡ n = omega arith in
     ap (λ (x : ℕ). bit_at x t) (byte_at-is q w ltq) ∙ sym (bit_at_cat_low (n / 2 ^ 8) 8 (n % 2 ^ 8) t lt) ∙ ap (λ (x : ℕ). bit_at x t) e ∙ ap (λ (x : ℕ). x % 2) (shr-shr w (8 * q) t)
 
--- bytes of words of planes are those in the lanes
-pub unpacked_byte : (planes words bytes : List ℕ) → length words ≡ 8 → bytes ≡ flat_map (little_bytes 8) words
-    → ((k p : ℕ) → k < 8 → p < 64 → bit_at (get_or words k 0) p ≡ bit_at (get_or planes (p % 8) 0) (place (8 * k + p / 8)))
-    → (n : ℕ) → n < 64 → get_or bytes n 0 ≡ lane planes (place n)
-unpacked_byte planes words bytes eight wrote bits n lt =
-    let k : ℕ = n / 8 in
-    let q : ℕ = n % 8 in
-    let back : n ≡ 8 * k + q = omega arith in
-    let small : k < 8 = omega (arith, lt) in
-    let x : ℕ = byte_at q (get_or words k 0) in
-    ap₂ (λ (bs : List ℕ) (j : ℕ). get_or bs j 0) wrote back ∙ get_or-words words k q (omega (arith, small, eight)) (omega arith)
-    ∙ sym (lane-byte planes (place n) x (byte_at-lt q (get_or words k 0) (omega arith)) (λ t ltt.
-    let plane : (8 * q + t) % 8 ≡ t = omega (arith, ltt) in
-    let seat : 8 * k + (8 * q + t) / 8 ≡ n = omega (arith, ltt) in
-    sym (byte-bit (get_or words k 0) q t (omega arith) ltt ∙ bits k (8 * q + t) small (omega (arith, ltt))
-    ∙ ap₂ (λ (u v : ℕ). bit_at (get_or planes u 0) (place v)) plane seat)))
+-- a lane whose bits are those of a byte of a word
+lane-of_word : (planes : List ℕ) (w i q : ℕ) → q < 4 → ((t : ℕ) → t < 8 → bit_at w (8 * q + t) ≡ bit_at (get_or planes t 0) i)
+    → byte_at q w ≡ lane planes i
+lane-of_word planes w i q lt bits =
+    sym (lane-byte planes i (byte_at q w) (byte_at-lt q w lt) (λ t ltt. sym (byte-bit w q t lt ltt ∙ bits t ltt)))
+
+-- the lane from which bit t of row r comes to column c of block b
+lane-back : (r c b t : ℕ) → b < 2 → t < 8
+    → 8 * ((8 * r + t) / 8) + (2 * (((2 * c + b) / 2 + 2 * ((8 * r + t) / 8)) % 4) + (2 * c + b) % 2) ≡ lane_of 10 b r c
+lane-back r c b t few lt =
+    let row : (8 * r + t) / 8 ≡ r = omega (arith, lt) in
+    let column : (2 * c + b) / 2 ≡ c = omega (arith, few) in
+    let block : (2 * c + b) % 2 ≡ b = omega (arith, few) in
+    omega (arith, row, column, block)
+
+-- planes after ten rounds, transposed and turned back, are written as the block
+pub unpacked_block : (planes across words bytes : List ℕ) (b : ℕ) → b < 2 → length bytes ≡ 16
+    → bytes ≡ flat_map (little_bytes 4) (words_of b words)
+    → ((t i : ℕ) → t < 8 → i < 32 → bit_at (get_or across t 0) i ≡ bit_at (get_or planes (i % 8) 0) (8 * (i / 8) + t))
+    → ((k p : ℕ) → k < 8 → p < 32 → bit_at (get_or words k 0) p ≡ bit_at (get_or across (2 * ((k / 2 + 2 * (p / 8)) % 4) + k % 2) 0) p)
+    → bytes ≡ block_in 10 planes b
+unpacked_block planes across words bytes b few sixteen wrote turned back =
+    fill_by_all (λ n. state_in 10 planes b (n % 4) (n / 4)) bytes 16 0 sixteen (λ n lt.
+    let c : ℕ = n / 4 in
+    let r : ℕ = n % 4 in
+    let place : n ≡ 4 * c + r = omega arith in
+    let small : c < 4 = omega (arith, lt) in
+    let low : r < 4 = omega arith in
+    ap₂ (λ (bs : List ℕ) (j : ℕ). get_or bs j 0) wrote place ∙ get_or-words (words_of b words) c r small low
+    ∙ ap (byte_at r) (get_or-words_of b words c small)
+    ∙ lane-of_word planes (get_or words (2 * c + b) 0) (lane_of 10 b r c) r low (λ t ltt.
+    let p : ℕ = 8 * r + t in
+    let from : ℕ = 2 * (((2 * c + b) / 2 + 2 * (p / 8)) % 4) + (2 * c + b) % 2 in
+    let plane : p % 8 ≡ t = omega (arith, ltt) in
+    back (2 * c + b) p (omega (arith, small, few)) (omega (arith, low, ltt))
+    ∙ turned from p (omega (arith, few)) (omega (arith, low, ltt))
+    ∙ ap₂ (λ (u v : ℕ). bit_at (get_or planes u 0) v) plane (lane-back r c b t few ltt)))
 
 -- ---- the bytes of one word of a key
 
@@ -145,22 +209,13 @@ word_planes-lane bytes x fit e n lt =
     bit_at-shifts x (8 * n) t ltt ∙ ap (λ (y : ℕ). bit_at y (8 * n + t)) e ∙ little_bit 4 0 bytes fit n t lt ltt
     ∙ ap (λ (j : ℕ). bit_at (get_or bytes j 0) t) (omega arith))
 
--- the first four of bytes
-first_four : (xs : List ℕ) (n : ℕ) → n < 4 → get_or (get_or xs 0 0 ∷ get_or xs 1 0 ∷ get_or xs 2 0 ∷ get_or xs 3 0 ∷ []) n 0 ≡ get_or xs n 0
-first_four xs zero lt = refl
-first_four xs (suc zero) lt = refl
-first_four xs (suc (suc zero)) lt = refl
-first_four xs (suc (suc (suc zero))) lt = refl
-first_four xs (suc (suc (suc (suc n)))) lt = absurd (omega arith)
-
 -- the bytes of a number whose bits are those of every eighth lane
-pub word_in-byte : (planes bytes : List ℕ) (x : ℕ) → bytes ≡ little_bytes 8 x
+pub word_in-byte : (planes bytes : List ℕ) (x : ℕ) → bytes ≡ little_bytes 4 x
     → ((p : ℕ) → p < 32 → bit_at x p ≡ bit_at (get_or planes (p % 8) 0) (8 * (p / 8)))
-    → (n : ℕ) → n < 4 → get_or (get_or bytes 0 0 ∷ get_or bytes 1 0 ∷ get_or bytes 2 0 ∷ get_or bytes 3 0 ∷ []) n 0 ≡ lane planes (8 * n)
+    → (n : ℕ) → n < 4 → get_or bytes n 0 ≡ lane planes (8 * n)
 word_in-byte planes bytes x wrote bits n lt =
-    first_four bytes n lt ∙ ap (λ (bs : List ℕ). get_or bs n 0) wrote ∙ get_or-low_bytes 8 0 x n (omega (arith, lt)) ∙ ap (λ (j : ℕ). byte_at j x) (omega arith)
-    ∙ sym (lane-byte planes (8 * n) (byte_at n x) (byte_at-lt n x (omega (arith, lt))) (λ t ltt.
+    ap (λ (bs : List ℕ). get_or bs n 0) wrote ∙ get_or-low_bytes 4 0 x n lt ∙ ap (λ (j : ℕ). byte_at j x) (omega arith)
+    ∙ lane-of_word planes x (8 * n) n lt (λ t ltt.
     let plane : (8 * n + t) % 8 ≡ t = omega (arith, ltt) in
     let seat : 8 * ((8 * n + t) / 8) ≡ 8 * n = omega (arith, ltt) in
-    sym (byte-bit x n t (omega (arith, lt)) ltt ∙ bits (8 * n + t) (omega (arith, lt, ltt))
-    ∙ ap₂ (λ (u v : ℕ). bit_at (get_or planes u 0) v) plane seat)))
+    bits (8 * n + t) (omega (arith, lt, ltt)) ∙ ap₂ (λ (u v : ℕ). bit_at (get_or planes u 0) v) plane seat)

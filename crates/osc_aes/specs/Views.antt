@@ -15,6 +15,6 @@ key_of_words words =
 abbrev pub lane : List ℕ → ℕ → ℕ
 lane planes i = from_bits 8 (λ k. bit_at (slice_index planes k) i)
 
--- the key among round keys in planes: of round key 0 row r and column c, in lane 16r + 4c (how the code is seen)
+-- the key among round keys in planes: of round key 0 row r and column c, in lane 8r + 2c (how the code is seen)
 unfoldable pub key_of_planes : List (List ℕ) → List ℕ
-key_of_planes keys = block_of (λ row column. lane (get_or keys 0 []) (16 * row + 4 * column))
+key_of_planes keys = block_of (λ row column. lane (get_or keys 0 []) (8 * row + 2 * column))

@@ -1,9 +1,9 @@
 //! The key schedule (FIPS 197, 5.2) with no look-up that depends on the key: words are substituted in planes.
 
-ghost use Rattle.std.specs.Prelude.{◌≡◌, ◌<◌, ◌≤◌, ◌+◌, ◌*◌, ◌%◌, ℕ, List, length, slice_index};
+ghost use Rattle.std.specs.Prelude.{◌≡◌, ◌<◌, ◌+◌, ◌*◌, ℕ, List, length, slice_index};
 ghost use Rattle.osc_aes.specs.Aes128.{added_word, expanded_key, sub_word};
 ghost use Rattle.osc_aes.specs.Views.{lane};
-ghost use Rattle.osc_aes.specs.Lanes.{AreKeysOf, block_at, place};
+ghost use Rattle.osc_aes.specs.Lanes.{AreKeysOf, block_at, state_in};
 
 use crate::key_schedule::{round_constant, word_at, xor_word};
 use crate::plane_packing::pack;
@@ -11,32 +11,35 @@ use crate::plane_substitution::sub_bytes;
 use byteorder::{ByteOrder, LittleEndian};
 
 // Lanes 0, 8, 16 and 24, in which the bytes of a word stand.
-const LANES: u64 = 0x0101_0101;
+const LANES: u32 = 0x0101_0101;
 
-// Round keys 0 to 10 of a key, each in the lanes of all four blocks.
-pub(crate) fn round_keys(key: &[u8; 16]) -> [[u64; 8]; 11]
+// Round keys 0 to 10 of a key, each in the lanes of both blocks, and as the state stands to which it is added.
+pub(crate) fn round_keys(key: &[u8; 16]) -> [[u32; 8]; 11]
     ensures { AreKeysOf result (expanded_key key.now) }
 {
-    let mut keys = [[0u64; 8]; 11];
-    keys[0] = in_each_block(key);
+    let mut keys = [[0u32; 8]; 11];
+    keys[0] = turned_planes(key, 0);
     let mut round_key = *key;
     for round in 0..10 {
         let next = next_round_key(&round_key, round);
-        keys[round + 1] = in_each_block(&next);
+        keys[round + 1] = turned_planes(&next, round + 1);
         round_key = next;
     }
     keys
 }
 
-// A round key in the lanes of all four blocks.
-fn in_each_block(round_key: &[u8; 16]) -> [u64; 8]
-    ensures { (i : ℕ) → i < 64 → lane result i ≡ slice_index round_key.now (place i % 16) }
+// A round key in the lanes of both blocks, where row r stands turned right by `round` times r columns.
+fn turned_planes(round_key: &[u8; 16], round: usize) -> [u32; 8]
+    requires { round < 11 }
+    ensures { (b row column : ℕ) → b < 2 → row < 4 → column < 4
+        → state_in round result b row column ≡ slice_index round_key.now (row + 4 * column) }
 {
-    let mut repeated = [0u8; 64];
-    for n in 0..64 {
-        repeated[n] = round_key[n % 16];
+    let mut turned = [0u8; 16];
+    for n in 0..16 {
+        let row = n % 4;
+        turned[n] = round_key[row + 4 * ((n / 4 + 3 * (round * row)) % 4)];
     }
-    pack(&repeated)
+    pack(&turned, &turned)
 }
 
 // Round key `round + 1` from the one before it, word by word.
@@ -76,10 +79,10 @@ fn sub_word(word: [u8; 4]) -> [u8; 4]
 
 // The planes whose lane 8n is byte n of a word: the word itself, shifted.
 #[inline(always)]
-fn word_planes(word: &[u8; 4]) -> [u64; 8]
+fn word_planes(word: &[u8; 4]) -> [u32; 8]
     ensures { (n : ℕ) → n < 4 → lane result (8 * n) ≡ slice_index word.now n }
 {
-    let number = u64::from(LittleEndian::read_u32(word));
+    let number = LittleEndian::read_u32(word);
     [
         number,
         number >> 1,
@@ -94,7 +97,7 @@ fn word_planes(word: &[u8; 4]) -> [u64; 8]
 
 // The word whose byte n is lane 8n of planes.
 #[inline(always)]
-fn word_in(planes: &[u64; 8]) -> [u8; 4]
+fn word_in(planes: &[u32; 8]) -> [u8; 4]
     ensures { (n : ℕ) → n < 4 → slice_index result n ≡ lane planes.now (8 * n) }
 {
     let [p0, p1, p2, p3, p4, p5, p6, p7] = *planes;
@@ -103,7 +106,7 @@ fn word_in(planes: &[u64; 8]) -> [u8; 4]
         ^ ((p5 & LANES) << 5)
         ^ ((p6 & LANES) << 6)
         ^ ((p7 & LANES) << 7);
-    let mut bytes = [0u8; 8];
-    LittleEndian::write_u64(&mut bytes, low ^ high);
-    [bytes[0], bytes[1], bytes[2], bytes[3]]
+    let mut bytes = [0u8; 4];
+    LittleEndian::write_u32(&mut bytes, low ^ high);
+    bytes
 }

@@ -1,71 +1,65 @@
-//! Four blocks as eight planes, and back. Bit t of the byte at place n becomes bit `place n` of plane t.
+//! Two blocks as eight planes, and back. Word 2c + b is column c of block b, its row r at byte r; bit t of that byte
+//! becomes bit 8r + 2c + b of plane t.
 
 ghost use Rattle.std.specs.Prelude.{◌≡◌, ◌<◌, ◌+◌, ◌*◌, ◌/◌, ◌%◌, ℕ, slice_index};
 ghost use Rattle.std.specs.Int.{bit_at};
-ghost use Rattle.osc_aes.specs.Views.{lane};
-ghost use Rattle.osc_aes.specs.Lanes.{exchanged, pairs_exchanged, place};
+ghost use Rattle.osc_aes.specs.Lanes.{block_in, exchanged, pairs_exchanged};
 
 use byteorder::{ByteOrder, LittleEndian};
 
-// The planes of four blocks, one after the other.
-pub(crate) fn pack(blocks: &[u8; 64]) -> [u64; 8]
-    ensures { (i : ℕ) → i < 64 → lane result i ≡ slice_index blocks.now (place i) }
+// The planes of two blocks, before any round.
+pub(crate) fn pack(first: &[u8; 16], second: &[u8; 16]) -> [u32; 8]
+    ensures first { block_in 0 result 0 ≡ first.now }
+    ensures second { block_in 0 result 1 ≡ second.now }
 {
-    let mut words = [0u64; 8];
-    LittleEndian::read_u64_into(blocks, &mut words);
-    into_planes(&words)
+    let mut a = [0u32; 4];
+    LittleEndian::read_u32_into(first, &mut a);
+    let mut b = [0u32; 4];
+    LittleEndian::read_u32_into(second, &mut b);
+    transpose(&[a[0], b[0], a[1], b[1], a[2], b[2], a[3], b[3]])
 }
 
-// The four blocks of planes.
-pub(crate) fn unpack(planes: [u64; 8]) -> [u8; 64]
-    ensures { (n : ℕ) → n < 64 → slice_index result n ≡ lane planes (place n) }
+// The two blocks of planes after ten rounds.
+pub(crate) fn unpack(planes: [u32; 8], first: &mut [u8; 16], second: &mut [u8; 16])
+    ensures first { first.new ≡ block_in 10 planes 0 }
+    ensures second { second.new ≡ block_in 10 planes 1 }
 {
-    let words = from_planes(&planes);
-    let mut blocks = [0u8; 64];
-    LittleEndian::write_u64_into(&words, &mut blocks);
-    blocks
+    let [w0, w1, w2, w3, w4, w5, w6, w7] = turn_back(&transpose(&planes));
+    LittleEndian::write_u32_into(&[w0, w2, w4, w6], first);
+    LittleEndian::write_u32_into(&[w1, w3, w5, w7], second);
 }
 
-// The planes of eight words. Each exchange swaps one binary digit of the number of a word for one of the number of a
-// bit in it: first four for the lowest digit of the word, then one for each of the others.
+// Eight words, in which the bits of each byte stand across: bit t of the byte of word k is now bit k of that of word t.
+// Each exchange swaps one binary digit of the number of a word for one of the number of a bit.
 #[inline(always)]
-fn into_planes(words: &[u64; 8]) -> [u64; 8]
-    ensures { (t i : ℕ) → t < 8 → i < 64 → bit_at (slice_index result t) i
-        ≡ bit_at (slice_index words.now ((8 * place i + t) / 64)) ((8 * place i + t) % 64) }
+fn transpose(words: &[u32; 8]) -> [u32; 8]
+    ensures { (t i : ℕ) → t < 8 → i < 32
+        → bit_at (slice_index result t) i ≡ bit_at (slice_index words.now (i % 8)) (8 * (i / 8) + t) }
 {
-    let words = exchange_pairs(*words, 8, 0x00ff_00ff_00ff_00ff);
-    let words = exchange_pairs(words, 16, 0x0000_ffff_0000_ffff);
-    let words = exchange_pairs(words, 32, 0x0000_0000_ffff_ffff);
-    let [w0, w1, w2, w3, w4, w5, w6, w7] = exchange_pairs(words, 4, 0x0f0f_0f0f_0f0f_0f0f);
+    let [w0, w1, w2, w3, w4, w5, w6, w7] = exchange_pairs(*words, 1, 0x5555_5555);
     let words = [w0, w2, w1, w3, w4, w6, w5, w7];
-    let [w0, w2, w1, w3, w4, w6, w5, w7] = exchange_pairs(words, 1, 0x5555_5555_5555_5555);
+    let [w0, w2, w1, w3, w4, w6, w5, w7] = exchange_pairs(words, 2, 0x3333_3333);
     let words = [w0, w4, w1, w5, w2, w6, w3, w7];
-    let [w0, w4, w1, w5, w2, w6, w3, w7] = exchange_pairs(words, 2, 0x3333_3333_3333_3333);
-    [w0, w2, w4, w6, w1, w3, w5, w7]
+    let [w0, w4, w1, w5, w2, w6, w3, w7] = exchange_pairs(words, 4, 0x0f0f_0f0f);
+    [w0, w1, w2, w3, w4, w5, w6, w7]
 }
 
-// The eight words of planes: the same exchanges in the other order.
+// Eight columns whose row r stands turned by ten times r, turned back: rows 1 and 3 go two columns on.
 #[inline(always)]
-fn from_planes(planes: &[u64; 8]) -> [u64; 8]
-    ensures { (k p : ℕ) → k < 8 → p < 64 → bit_at (slice_index result k) p
-        ≡ bit_at (slice_index planes.now (p % 8)) (place (8 * k + p / 8)) }
+fn turn_back(words: &[u32; 8]) -> [u32; 8]
+    ensures { (k p : ℕ) → k < 8 → p < 32
+        → bit_at (slice_index result k) p ≡ bit_at (slice_index words.now (2 * ((k / 2 + 2 * (p / 8)) % 4) + k % 2)) p }
 {
-    let [w0, w2, w4, w6, w1, w3, w5, w7] = *planes;
+    let [w0, w1, w2, w3, w4, w5, w6, w7] = *words;
     let words = [w0, w4, w1, w5, w2, w6, w3, w7];
-    let [w0, w4, w1, w5, w2, w6, w3, w7] = exchange_pairs(words, 2, 0x3333_3333_3333_3333);
-    let words = [w0, w2, w1, w3, w4, w6, w5, w7];
-    let [w0, w2, w1, w3, w4, w6, w5, w7] = exchange_pairs(words, 1, 0x5555_5555_5555_5555);
-    let words = [w0, w1, w2, w3, w4, w5, w6, w7];
-    let words = exchange_pairs(words, 4, 0x0f0f_0f0f_0f0f_0f0f);
-    let words = exchange_pairs(words, 32, 0x0000_0000_ffff_ffff);
-    let words = exchange_pairs(words, 16, 0x0000_ffff_0000_ffff);
-    exchange_pairs(words, 8, 0x00ff_00ff_00ff_00ff)
+    let [w0, w4, w1, w5, w2, w6, w3, w7] = exchange_pairs(words, 0, 0xff00_ff00);
+    [w0, w1, w2, w3, w4, w5, w6, w7]
 }
 
 // Four pairs of neighbours, each with its bits exchanged.
 #[inline(always)]
-fn exchange_pairs(words: [u64; 8], distance: u32, mask: u64) -> [u64; 8]
-    requires { distance < 64 }
+fn exchange_pairs(words: [u32; 8], distance: u32, mask: u32) -> [u32; 8]
+    requires { distance < 32 }
     ensures { result ≡ pairs_exchanged words distance mask }
 {
     let [w0, w1, w2, w3, w4, w5, w6, w7] = words;
@@ -79,8 +73,8 @@ fn exchange_pairs(words: [u64; 8], distance: u32, mask: u64) -> [u64; 8]
 // Two words in which the bits of `second` under the mask have changed places with those of `first` that stand
 // `distance` higher.
 #[inline(always)]
-fn exchange(first: u64, second: u64, distance: u32, mask: u64) -> [u64; 2]
-    requires { distance < 64 }
+fn exchange(first: u32, second: u32, distance: u32, mask: u32) -> [u32; 2]
+    requires { distance < 32 }
     ensures { result ≡ exchanged first second distance mask }
 {
     let differing = ((first >> distance) ^ second) & mask;

@@ -1,4 +1,4 @@
-//! The substitution box (FIPS 197, 5.1.1) on 64 bytes at once, by a circuit of Boyar and Peralta: no table is looked up.
+//! The substitution box (FIPS 197, 5.1.1) on 32 bytes at once, by a circuit of Boyar and Peralta: no table is looked up.
 
 ghost use Rattle.std.specs.Prelude.{◌≡◌, ◌<◌, ℕ};
 ghost use Rattle.osc_aes.specs.SubstitutionBox.{substitute};
@@ -6,8 +6,8 @@ ghost use Rattle.osc_aes.specs.Views.{lane};
 
 // Substitutes the byte of each lane. One line is one gate, by the circuit's own names: x0 is the highest bit.
 #[inline(always)]
-pub(crate) fn sub_bytes(planes: [u64; 8]) -> [u64; 8]
-    ensures { (i : ℕ) → i < 64 → lane result i ≡ substitute (lane planes i) }
+pub(crate) fn sub_bytes(planes: [u32; 8]) -> [u32; 8]
+    ensures { (i : ℕ) → i < 32 → lane result i ≡ substitute (lane planes i) }
 {
     let [x7, x6, x5, x4, x3, x2, x1, x0] = planes;
     // Sums of the bits of a byte.
@@ -120,13 +120,13 @@ pub(crate) fn sub_bytes(planes: [u64; 8]) -> [u64; 8]
     let t65 = t61 ^ t62;
     let t66 = z1 ^ t63;
     let s0 = t59 ^ t63;
-    let s6 = t56 ^ t62 ^ u64::MAX;
-    let s7 = t48 ^ t60 ^ u64::MAX;
+    let s6 = t56 ^ t62 ^ u32::MAX;
+    let s7 = t48 ^ t60 ^ u32::MAX;
     let t67 = t64 ^ t65;
     let s3 = t53 ^ t66;
     let s4 = t51 ^ t66;
     let s5 = t47 ^ t65;
-    let s1 = t64 ^ s3 ^ u64::MAX;
-    let s2 = t55 ^ t67 ^ u64::MAX;
+    let s1 = t64 ^ s3 ^ u32::MAX;
+    let s2 = t55 ^ t67 ^ u32::MAX;
     [s7, s6, s5, s4, s3, s2, s1, s0]
 }

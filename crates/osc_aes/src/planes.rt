@@ -1,22 +1,28 @@
-//! AES-128 on four blocks at once, in planes of bits: plane k is a word whose bit i is bit k of the byte in lane i, and
-//! lane 16r + 4c + b holds row r and column c of the state of block b.
+//! AES-128 on two blocks at once, in planes of bits: plane k is a word whose bit i is bit k of the byte in lane i, and lane
+//! 8r + 2c + b holds row r and column c of block b. No step shifts rows: after n rounds, row r of the state stands turned
+//! right by n times r columns.
+//!
+//!     lanes                 0 1  2 3  4 5  6 7 | 8 9  10 11  12 13  14 15 | 16 17  ..
+//!     row                   0    0    0    0   | 1    1      1      1     | 2
+//!     column, at first      0    1    2    3   | 0    1      2      3     | 0
+//!     after one round       0    1    2    3   | 3    0      1      2     | 2
 
-ghost use Rattle.std.specs.Prelude.{◌≡◌, ◌<◌, ℕ, List, length};
-ghost use Rattle.osc_aes.specs.Aes128.{aes128, cipher, expanded_key};
+ghost use Rattle.std.specs.Prelude.{◌≡◌, ◌<◌, ◌+◌, ◌%◌, ℕ, List, length};
+ghost use Rattle.osc_aes.specs.Aes128.{after_rounds, aes128, cipher, expanded_key};
 ghost use Rattle.osc_aes.specs.Views.{key_of_planes};
-ghost use Rattle.osc_aes.specs.Lanes.{AreKeysOf, block_at, block_in};
+ghost use Rattle.osc_aes.specs.Lanes.{AreKeysOf, IsKeyOf, block_in};
 
 use crate::block_cipher::BlockCipher;
 use crate::plane_keys::round_keys;
 use crate::plane_packing::{pack, unpack};
-use crate::plane_steps::{add_planes, mix_columns, shift_rows};
+use crate::plane_steps::{add_planes, mix_columns};
 use crate::plane_substitution::sub_bytes;
 
 /// AES-128 under one key, with no look-up and no branch that depends on a bit of the key or of a block. It keeps the
-/// eleven round keys in planes, each for all four blocks: 704 bytes.
+/// eleven round keys in planes, each for both blocks: 352 bytes.
 #[derive(Drop)]
 pub struct PlaneAes {
-    keys: [[u64; 8]; 11],
+    keys: [[u32; 8]; 11],
     ghost expanded: { AreKeysOf keys (expanded_key (key_of_planes keys)) },
     ghost key_len: { length (key_of_planes keys) ≡ 16 },
 }
@@ -37,35 +43,62 @@ impl BlockCipher for PlaneAes {
     ghost cipher_key = { λ s. key_of_planes s.keys };
 
     fn encrypt(&self, block: &mut [u8; 16]) {
-        let mut blocks = [0u8; 64];
-        blocks[..16].copy_from_slice(block);
-        let encrypted = encrypt_four(&self.keys, &blocks);
-        block.copy_from_slice(&encrypted[..16]);
+        let mut other = [0u8; 16];
+        encrypt_both(&self.keys, block, &mut other);
+    }
+
+    fn encrypt_two(&self, first: &mut [u8; 16], second: &mut [u8; 16]) {
+        encrypt_both(&self.keys, first, second);
     }
 
     ghost key_len = { λ s. s.key_len };
 }
 
-// Four blocks, one after the other, each encrypted.
-fn encrypt_four(keys: &[[u64; 8]; 11], blocks: &[u8; 64]) -> [u8; 64]
-    ensures { (key : List ℕ) → AreKeysOf keys.now (expanded_key key) → (b : ℕ) → b < 4
-        → block_at result b ≡ aes128 key (block_at blocks.now b) }
+// Two blocks, each encrypted in its place.
+fn encrypt_both(keys: &[[u32; 8]; 11], first: &mut [u8; 16], second: &mut [u8; 16])
+    ensures first { (key : List ℕ) → AreKeysOf keys.now (expanded_key key) → first.new ≡ aes128 key first.old }
+    ensures second { (key : List ℕ) → AreKeysOf keys.now (expanded_key key) → second.new ≡ aes128 key second.old }
 {
-    unpack(cipher(pack(blocks), keys))
+    let planes = cipher(pack(first, second), keys);
+    unpack(planes, first, second);
 }
 
 // The planes after all rounds.
-fn cipher(planes: [u64; 8], keys: &[[u64; 8]; 11]) -> [u64; 8]
-    ensures { (w : List ℕ) → AreKeysOf keys.now w → (b : ℕ) → b < 4 → block_in result b ≡ cipher w (block_in planes b) }
+fn cipher(planes: [u32; 8], keys: &[[u32; 8]; 11]) -> [u32; 8]
+    ensures { (w : List ℕ) → AreKeysOf keys.now w → (b : ℕ) → b < 2
+        → block_in 10 result b ≡ cipher w (block_in 0 planes b) }
 {
     let mut state = add_planes(planes, keys[0]);
-    for round in 0..9 {
-        let substituted = sub_bytes(state);
-        let shifted = shift_rows(substituted);
-        let mixed = mix_columns(shifted);
-        state = add_planes(mixed, keys[round + 1]);
+    for four in 0..2 {
+        let next = four_rounds(state, keys, 4 * four);
+        state = next;
     }
-    let substituted = sub_bytes(state);
-    let shifted = shift_rows(substituted);
-    add_planes(shifted, keys[10])
+    let mixed = round(state, keys[9], 1);
+    add_planes(sub_bytes(mixed), keys[10])
+}
+
+// Four rounds after the first `done`. They are written out, since in each the rows stand otherwise.
+#[inline(always)]
+fn four_rounds(planes: [u32; 8], keys: &[[u32; 8]; 11], done: usize) -> [u32; 8]
+    requires fours { done % 4 ≡ 0 }
+    requires few { done < 7 }
+    ensures { (w block : List ℕ) → AreKeysOf keys.now w → (b : ℕ) → b < 2
+        → block_in done planes b ≡ after_rounds w block done → block_in (done + 4) result b ≡ after_rounds w block (done + 4) }
+{
+    let one = round(planes, keys[done + 1], 1);
+    let two = round(one, keys[done + 2], 2);
+    let three = round(two, keys[done + 3], 3);
+    round(three, keys[done + 4], 0)
+}
+
+// A round with a key. After it as many rounds are done as `turned` says modulo 4.
+#[inline(always)]
+fn round(planes: [u32; 8], key: [u32; 8], turned: usize) -> [u32; 8]
+    requires { turned < 4 }
+    ensures { (w block : List ℕ) (n m b : ℕ) → m ≡ n + 1 → m % 4 ≡ turned → IsKeyOf m key w → b < 2
+        → block_in n planes b ≡ after_rounds w block n → block_in m result b ≡ after_rounds w block m }
+{
+    let substituted = sub_bytes(planes);
+    let mixed = mix_columns(substituted, turned);
+    add_planes(mixed, key)
 }

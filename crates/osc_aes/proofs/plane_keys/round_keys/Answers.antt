@@ -8,8 +8,8 @@ pub loop-round-init : goal.loop-round-init
 loop-round-init c = (
   refl,
   first_key c.args.key.now (omega arith),
-  one_more_key 0 (replicate 11 (replicate 8 0)) (expanded_key c.args.key.now) c.args.key.now c.in_each_block.result (omega arith) (first_key c.args.key.now (omega arith)) c.in_each_block.ensures
-      (λ r i lt lti. absurd (omega (arith, lt))),
+  one_more_key 0 (replicate 11 (replicate 8 0)) (expanded_key c.args.key.now) c.args.key.now c.turned_planes.result (omega arith) (first_key c.args.key.now (omega arith)) c.turned_planes.ensures
+      (λ r lt. absurd (omega (arith, lt))),
 )
 
 pub loop-round-preserved : goal.loop-round-preserved
@@ -18,8 +18,8 @@ loop-round-preserved c =
       search rules,
       next,
       one_more_key (c.loop-round.round + 1) c.loop-round.keys (expanded_key c.args.key.now) c.next_round_key-next.result
-          c.in_each_block-in-loop-round.result (omega arith) next c.in_each_block-in-loop-round.ensures c.loop-round.invariant.2,
+          c.turned_planes-in-loop-round.result (omega arith) next c.turned_planes-in-loop-round.ensures c.loop-round.invariant.2,
     )
 
 pub returns : goal.returns
-returns c = λ r i lt lti. c.loop-round.invariant.2 r i (omega (arith, lt)) lti
+returns c = λ r lt. c.loop-round.invariant.2 r (omega (arith, lt))

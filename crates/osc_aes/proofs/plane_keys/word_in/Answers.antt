@@ -5,4 +5,4 @@ use Rattle.osc_aes.proofs.plane_keys.word_in.Goals as goal
 
 pub returns : goal.returns
 returns c =
-    word_in-byte c.args.planes.now c.write_u64.new.buf _ c.write_u64.ensures (gather_moves c.args.planes.now (omega arith) c.fits-planes)
+    word_in-byte c.args.planes.now c.write_u32.new.buf _ c.write_u32.ensures (gather_moves c.args.planes.now (omega arith) c.fits-planes)

@@ -1,7 +1,13 @@
 use Rattle.std.proofs.Common.{arith}
-use Rattle.osc_aes.proofs.WordBytes.{unpacked_byte}
+use Rattle.osc_aes.proofs.WordBytes.{unpacked_block}
 use Rattle.osc_aes.proofs.plane_packing.unpack.Goals as goal
 
-pub returns : goal.returns
-returns c =
-    unpacked_byte c.args.planes c.from_planes-words.result c.write_u64_into.new.dst (omega arith) c.write_u64_into.ensures c.from_planes-words.ensures
+pub returns-clause-first : goal.returns-clause-first
+returns-clause-first c =
+    unpacked_block c.args.planes c.transpose.result c.turn_back.result c.write_u32_into.new.dst 0 (omega arith) (omega arith)
+    c.write_u32_into.ensures c.transpose.ensures c.turn_back.ensures
+
+pub returns-clause-second : goal.returns-clause-second
+returns-clause-second c =
+    unpacked_block c.args.planes c.transpose.result c.turn_back.result c.write_u32_into-2.new.dst 1 (omega arith) (omega arith)
+    c.write_u32_into-2.ensures c.transpose.ensures c.turn_back.ensures

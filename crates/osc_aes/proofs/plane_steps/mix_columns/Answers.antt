@@ -7,11 +7,11 @@ use Rattle.osc_aes.proofs.plane_steps.mix_columns.Goals as goal
 
 pub returns : goal.returns
 returns c = λ i lt.
-    let one : below i < 64 = omega arith in
-    let two : below (below i) < 64 = omega arith in
+    let j = c.args.turned in
+    let two : below j (below j i) < 32 = omega arith in
     let next = c.turn_columns-next.ensures i lt in
-    let far = c.turn_columns-far.ensures i lt ∙ c.turn_columns.ensures (below i) one ∙ c.add_planes-sum.ensures (below (below i)) two
-    ∙ ap (bit_xor (lane c.args.planes (below (below i)))) (c.turn_columns-next.ensures (below (below i)) two) in
+    let far = c.turn_columns_twice-far.ensures i lt ∙ c.add_planes-sum.ensures (below j (below j i)) two
+    ∙ ap (bit_xor (lane c.args.planes (below j (below j i)))) (c.turn_columns-next.ensures (below j (below j i)) two) in
     c.add_planes-2.ensures i lt
     ∙ ap₂ bit_xor
     (c.add_planes.ensures i lt

@@ -1,5 +1,5 @@
 use Rattle.std.proofs.Common.{length, ap, ◌∙◌, arith}
-use Rattle.osc_aes.proofs.FourBlocks.{key-known, own_keys}
+use Rattle.osc_aes.proofs.TwoBlocks.{key-known, own_keys}
 use Rattle.osc_aes.proofs.planes.PlaneAes.new.Goals as goal
 
 pub returns : goal.returns
