@@ -1,5 +1,5 @@
 -- How the code is seen: a Partial IV, an option and a context as numbers and lists, without where the bytes lie.
-use Rattle.std.specs.Prelude.{◌≡◌, ℕ, Result, Ok, Err}
+use Rattle.std.specs.Prelude.{◌≡◌, ℕ, Bool, Result, Ok, Err}
 use Rattle.std.specs.Option.{option_copied, option_map}
 use Rattle.osc_context.specs.declared.numbers.Numbers.{Numbers}
 use Rattle.osc_context.specs.declared.partial_iv.Piv.{Piv}
@@ -39,6 +39,10 @@ as_client c = record { client = c.sender_id; client_key = c.sender_key; server =
 -- the context of an end that answers requests: the other end is the client (RFC 8613, 3.1)
 abbrev pub as_server : Context → SecurityContext
 as_server c = record { client = c.recipient_id; client_key = c.recipient_key; server = c.sender_id; server_key = c.sender_key; common_iv = c.common_iv; id_context = c.id_context }
+
+-- its keys are used in constant time (own rule)
+abbrev pub is_constant_time : Context → Bool
+is_constant_time c = c.constant_time
 
 -- the context of a client with the sender's identifier and a server with the recipient's (how the code is seen)
 abbrev pub client_context_of : Params → SecurityContext

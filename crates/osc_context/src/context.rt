@@ -30,6 +30,7 @@ pub struct Context {
     sender_key: [u8; 16],
     recipient_key: [u8; 16],
     common_iv: [u8; 13],
+    constant_time: bool,
     pub ghost usable: { IsUsable (record {
       client = sender_id;
       client_key = sender_key;
@@ -41,12 +42,13 @@ pub struct Context {
 }
 
 impl Context {
-    ghost use Rattle.osc_context.specs.Views.{as_client, as_server, client_context_of, server_context_of};
+    ghost use Rattle.osc_context.specs.Views.{as_client, as_server, client_context_of, is_constant_time, server_context_of};
 
     /// Derives keys and Common IV by HKDF (RFC 8613, 3.2.1). The first refusal in the order of [`ContextError`] is answered.
     pub fn derive(params: Params<'_>) -> Result<Context, ContextError>
         ensures client { IfOk result (λ c. as_client c ≡ client_context_of params.entry) }
         ensures server { IfOk result (λ c. as_server c ≡ server_context_of params.entry) }
+        ensures by_tables { IfOk result (λ c. is_constant_time c ≡ false) }
         ensures accepted { IsOk result → (e : ContextError) → ¬ RefusesParams params.entry e }
         ensures accepts { ((e : ContextError) → ¬ RefusesParams params.entry e) → IsOk result }
         ensures refused { IfErr result (λ e. IsFirstParamsRefusal params.entry e) }
@@ -58,6 +60,7 @@ impl Context {
     /// Derives a context, or finds why not.
     fn derive_judged(params: Params<'_>) -> Result<Context, ContextError>
         ensures client { IfOk result (λ c. as_client c ≡ client_context_of params.entry) }
+        ensures by_tables { IfOk result (λ c. is_constant_time c ≡ false) }
         ensures passed { IsOk result → PassesBelow 5 params.entry }
         ensures refused { IfErr result (λ e. IsFirstParamsRefusal params.entry e) }
     {
@@ -72,6 +75,7 @@ impl Context {
             sender_id: sender,
             recipient_id: recipient,
             id_context,
+            constant_time: false,
         })
     }
 
@@ -103,6 +107,7 @@ impl Context {
           common_iv = common_iv;
           id_context = id_context;
         }) }
+        ensures by_tables { IfSome result (λ c. is_constant_time c ≡ false) }
         ensures accepts { sender ≢ recipient → IsSome result }
         ensures refuses { sender ≡ recipient → IsNone result }
     {
@@ -116,7 +121,28 @@ impl Context {
             sender_key,
             recipient_key,
             common_iv,
+            constant_time: false,
         })
+    }
+
+    /// The same context, whose keys are used by a cipher with no look-up and no branch that depends on a key: it is slower than the
+    /// one by tables, and its times tell nothing of the key. A context that isn't told so goes by tables; what is sent is the same.
+    #[must_use]
+    pub fn constant_time(mut self) -> Context
+        ensures client { as_client result ≡ as_client self }
+        ensures server { as_server result ≡ as_server self }
+        ensures chosen { is_constant_time result ≡ true }
+    {
+        self.constant_time = true;
+        self
+    }
+
+    /// Whether its keys are used in constant time.
+    #[must_use]
+    pub fn is_constant_time(&self) -> bool
+        ensures { result ≡ is_constant_time self.now }
+    {
+        self.constant_time
     }
 
     /// The identifier of this end.

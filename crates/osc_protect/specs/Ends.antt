@@ -1,13 +1,13 @@
 -- For the proofs: which end of a security context an end is (RFC 8613, 3.1). s is a security context.
 use Rattle.std.specs.Prelude.{◌≡◌}
-use Rattle.osc_aes.specs.Keyed.{key_of}
+use Rattle.osc_protect.specs.ContextCipher.{key_under}
 use Rattle.osc_context.specs.SecurityContext.{SecurityContext}
 use Rattle.osc_protect.specs.declared.ends.End.{End}
 
 -- the end is the client: identifier and key are its (RFC 8613, 3.1)
 abbrev pub IsClientOf : SecurityContext → End → Type 0
-IsClientOf s end = (end.kid.now ≡ s.client) × (key_of end.schedule.now ≡ s.client_key)
+IsClientOf s end = (end.kid.now ≡ s.client) × (key_under end.schedule.now ≡ s.client_key)
 
 -- the end is the server: identifier and key are its (RFC 8613, 3.1)
 abbrev pub IsServerOf : SecurityContext → End → Type 0
-IsServerOf s end = (end.kid.now ≡ s.server) × (key_of end.schedule.now ≡ s.server_key)
+IsServerOf s end = (end.kid.now ≡ s.server) × (key_under end.schedule.now ≡ s.server_key)

@@ -12,6 +12,7 @@ pub mod Laws
 pub mod CipherLaws
 pub mod Text
 -- how the code is seen
+pub mod ContextCipher
 pub mod Views
 pub mod StageViews
 -- for the proofs

@@ -6,7 +6,7 @@ use Rattle.osc_coap.specs.Views.{options_left}
 use Rattle.osc_coap.specs.Inner.{InnerParts}
 use Rattle.osc_context.specs.Views.{as_client, as_server, number_of, oscore_parts_of}
 use Rattle.osc_context.specs.declared.context.Context.{Context}
-use Rattle.osc_aes.specs.Keyed.{key_of}
+use Rattle.osc_protect.specs.ContextCipher.{key_under}
 use Rattle.osc_ccm.specs.Ccm.{ccm}
 use Rattle.osc_protect.specs.Head.{Head}
 use Rattle.osc_protect.specs.Protection.{Protection, requests, responses}
@@ -41,7 +41,7 @@ request_number r = number_of r.number
 
 -- the cipher of one message, from a plaintext to what protects it (RFC 8613, 5)
 unfoldable pub cipher_of : Aead → List ℕ → List ℕ
-cipher_of a plaintext = ccm (key_of a.schedule.now) a.nonce a.additional_data.items plaintext
+cipher_of a plaintext = ccm (key_under a.schedule.now) a.nonce a.additional_data.items plaintext
 
 -- the context whose schedules are kept (how the code is seen)
 abbrev pub context_of : KeyedContext → Context

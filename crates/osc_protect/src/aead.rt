@@ -14,9 +14,9 @@ ghost use Rattle.osc_context.specs.Views.{number_of};
 ghost use Rattle.osc_protect.specs.Ends.{IsClientOf, IsServerOf};
 ghost use Rattle.osc_protect.specs.Protection.{request_cipher, response_cipher, response_nonce};
 
+use crate::context_cipher::ContextCipher;
 use crate::ends::End;
 use arrayvec::ArrayVec;
-use osc_aes::TableAes;
 use osc_ccm::{open, protection_length, seal};
 use osc_coap::payload_stands_last;
 use osc_context::{Kid, Piv, aad, nonce};
@@ -24,7 +24,7 @@ use osc_context::{Kid, Piv, aad, nonce};
 /// What the cipher of one message takes beside the plaintext: the schedule of a key, nonce and additional data.
 #[derive(Drop)]
 pub(crate) struct Aead<'a> {
-    schedule: &'a TableAes,
+    schedule: &'a ContextCipher,
     nonce: [u8; 13],
     additional_data: ArrayVec<u8, 32>,
 }

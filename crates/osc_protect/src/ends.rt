@@ -2,48 +2,49 @@
 //! key never meets the identifier of the other end.
 
 ghost use Rattle.std.specs.Prelude.{◌≡◌};
-ghost use Rattle.osc_aes.specs.Keyed.{key_of};
-ghost use Rattle.osc_context.specs.Views.{as_client, as_server};
+ghost use Rattle.osc_context.specs.Views.{as_client, as_server, is_constant_time};
+ghost use Rattle.osc_protect.specs.ContextCipher.{is_in_constant_time, key_under};
 
-use osc_aes::TableAes;
+use crate::context_cipher::ContextCipher;
 use osc_context::{Context, Kid};
 
 /// An end, as the cipher of a message takes it: its identifier, and the schedule of its key.
 #[derive(Clone, Copy)]
 pub(crate) struct End<'a> {
     pub(crate) kid: &'a Kid,
-    pub(crate) schedule: &'a TableAes,
+    pub(crate) schedule: &'a ContextCipher,
 }
 
 /// A context with the schedule of the sender's key: what this end seals with.
 #[derive(Clone, Copy)]
 pub(crate) struct Sender<'a> {
     pub(crate) context: &'a Context,
-    schedule: &'a TableAes,
-    ghost keyed: { key_of schedule.now ≡ (as_client context.now).client_key },
+    schedule: &'a ContextCipher,
+    ghost keyed: { key_under schedule.now ≡ (as_client context.now).client_key },
 }
 
 /// A context with the schedule of the recipient's key: what this end opens with.
 #[derive(Clone, Copy)]
 pub(crate) struct Recipient<'a> {
     pub(crate) context: &'a Context,
-    schedule: &'a TableAes,
-    ghost keyed: { key_of schedule.now ≡ (as_server context.now).client_key },
+    schedule: &'a ContextCipher,
+    ghost keyed: { key_under schedule.now ≡ (as_server context.now).client_key },
 }
 
 impl<'a> Sender<'a> {
     ghost use Rattle.osc_protect.specs.Ends.{IsClientOf, IsServerOf};
 
     /// The schedule of the sender's key.
-    pub(crate) fn schedule_of(context: &Context) -> TableAes
-        ensures { key_of result ≡ (as_client context.now).client_key }
+    pub(crate) fn schedule_of(context: &Context) -> ContextCipher
+        ensures key { key_under result ≡ (as_client context.now).client_key }
+        ensures chosen { is_in_constant_time result ≡ is_constant_time context.now }
     {
-        TableAes::new(context.sender_key())
+        ContextCipher::new(context.sender_key(), context.is_constant_time())
     }
 
     /// A context with that schedule.
-    pub(crate) fn new(context: &'a Context, schedule: &'a TableAes) -> Sender<'a>
-        requires { key_of schedule.now ≡ (as_client context.now).client_key }
+    pub(crate) fn new(context: &'a Context, schedule: &'a ContextCipher) -> Sender<'a>
+        requires { key_under schedule.now ≡ (as_client context.now).client_key }
         ensures { result.context.now ≡ context.entry.now }
     {
         Sender { context, schedule }
@@ -65,15 +66,16 @@ impl<'a> Recipient<'a> {
     ghost use Rattle.osc_protect.specs.Ends.{IsClientOf, IsServerOf};
 
     /// The schedule of the recipient's key.
-    pub(crate) fn schedule_of(context: &Context) -> TableAes
-        ensures { key_of result ≡ (as_server context.now).client_key }
+    pub(crate) fn schedule_of(context: &Context) -> ContextCipher
+        ensures key { key_under result ≡ (as_server context.now).client_key }
+        ensures chosen { is_in_constant_time result ≡ is_constant_time context.now }
     {
-        TableAes::new(context.recipient_key())
+        ContextCipher::new(context.recipient_key(), context.is_constant_time())
     }
 
     /// A context with that schedule.
-    pub(crate) fn new(context: &'a Context, schedule: &'a TableAes) -> Recipient<'a>
-        requires { key_of schedule.now ≡ (as_server context.now).client_key }
+    pub(crate) fn new(context: &'a Context, schedule: &'a ContextCipher) -> Recipient<'a>
+        requires { key_under schedule.now ≡ (as_server context.now).client_key }
         ensures { result.context.now ≡ context.entry.now }
     {
         Recipient { context, schedule }

@@ -2,14 +2,15 @@
 
 ghost use Rattle.std.specs.Prelude.{◌≡◌, ◌≢◌, ◌≤◌, ℕ, List, Option, Some, length, take, drop, IfOk, IfErr, IsOk, IsOkAnd, IsErrOf, OnErr};
 ghost use Rattle.std.specs.Option.{ForSome, option_map};
-ghost use Rattle.osc_aes.specs.Keyed.{key_of};
 ghost use Rattle.osc_coap.specs.Inner.{InnerParts};
 ghost use Rattle.osc_coap.specs.Views.{parts_of};
-ghost use Rattle.osc_context.specs.Views.{as_client, as_server, number_of};
+ghost use Rattle.osc_context.specs.Views.{as_client, as_server, is_constant_time, number_of};
+ghost use Rattle.osc_protect.specs.ContextCipher.{is_in_constant_time, key_under};
 ghost use Rattle.osc_protect.specs.declared.protect_error.ProtectError.{ProtectError};
 ghost use Rattle.osc_protect.specs.declared.unprotect_error.UnprotectError.{UnprotectError};
 ghost use Rattle.osc_protect.specs.declared.unprotect_error.UnprotectError.TheVariants.{WrongContext};
 
+use crate::context_cipher::ContextCipher;
 use crate::ends::{Recipient, Sender};
 use crate::opened::Opened;
 use crate::opening::{open_request, open_request_by, open_response, open_response_by};
@@ -17,7 +18,6 @@ use crate::protect_error::ProtectError;
 use crate::request_ref::RequestRef;
 use crate::sealing::{seal_request, seal_request_by, seal_response, seal_response_by};
 use crate::unprotect_error::UnprotectError;
-use osc_aes::TableAes;
 use osc_coap::Message;
 use osc_context::{Context, Piv};
 use std::fmt;
@@ -28,10 +28,12 @@ use std::fmt;
 pub struct KeyedContext {
     context: Context,
     // Both are kept, or neither.
-    sender: Option<TableAes>,
-    recipient: Option<TableAes>,
-    ghost sender_keyed: { ForSome sender (λ schedule. key_of schedule ≡ (as_client context).client_key) },
-    ghost recipient_keyed: { ForSome recipient (λ schedule. key_of schedule ≡ (as_server context).client_key) },
+    sender: Option<ContextCipher>,
+    recipient: Option<ContextCipher>,
+    ghost sender_keyed: { ForSome sender (λ schedule. (key_under schedule ≡ (as_client context).client_key)
+        × (is_in_constant_time schedule ≡ is_constant_time context)) },
+    ghost recipient_keyed: { ForSome recipient (λ schedule. (key_under schedule ≡ (as_server context).client_key)
+        × (is_in_constant_time schedule ≡ is_constant_time context)) },
 }
 
 impl KeyedContext {

@@ -17,6 +17,7 @@
 
 mod aead;
 mod checks;
+mod context_cipher;
 mod decrypting;
 mod ends;
 mod head_error;

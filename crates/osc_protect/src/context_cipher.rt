@@ -1,0 +1,49 @@
+//! The cipher of a context's keys: by tables, or in constant time where the context asks for that.
+
+ghost use Rattle.std.specs.Prelude.{◌≡◌};
+ghost use Rattle.osc_protect.specs.ContextCipher.{is_in_constant_time, key_under};
+
+use osc_aes::{BlockCipher, PlaneAes, TableAes};
+
+/// AES-128 under one key of a context.
+#[derive(Drop)]
+pub(crate) enum ContextCipher {
+    ByTables(TableAes),
+    ConstantTime(PlaneAes),
+}
+
+impl ContextCipher {
+    /// The schedule of a key.
+    pub(crate) fn new(key: &[u8; 16], constant_time: bool) -> ContextCipher
+        ensures key { key_under result ≡ key.now }
+        ensures chosen { is_in_constant_time result ≡ constant_time }
+    {
+        if constant_time {
+            ContextCipher::ConstantTime(PlaneAes::new(key))
+        } else {
+            ContextCipher::ByTables(TableAes::new(key))
+        }
+    }
+}
+
+impl BlockCipher for ContextCipher {
+    ghost use Rattle.osc_protect.specs.declared.context_cipher.ContextCipher.TheVariants.{ByTables, ConstantTime};
+
+    ghost cipher_key = { key_under };
+
+    fn encrypt(&self, block: &mut [u8; 16]) {
+        match self {
+            ContextCipher::ByTables(cipher) => cipher.encrypt(block),
+            ContextCipher::ConstantTime(cipher) => cipher.encrypt(block),
+        }
+    }
+
+    fn encrypt_two(&self, first: &mut [u8; 16], second: &mut [u8; 16]) {
+        match self {
+            ContextCipher::ByTables(cipher) => cipher.encrypt_two(first, second),
+            ContextCipher::ConstantTime(cipher) => cipher.encrypt_two(first, second),
+        }
+    }
+
+    ghost key_len = { elim [ ByTables cipher ↦ cipher.key_len | ConstantTime cipher ↦ cipher.key_len ] };
+}
