@@ -11,22 +11,22 @@ use Rattle.osc_endpoint.specs.ServerHistory.{History, Then, Answer, Datagram, De
 use Rattle.osc_endpoint.specs.ServerRun.{Run, ServerRunStep, ReplyStep, ticket_at, ticket_of}
 
 -- the ticket at a place, if there is one
-abbrev one_of : Option TicketValues → List TicketValues
+abbrev pub one_of : Option TicketValues → List TicketValues
 one_of None = []
 one_of (Some t) = t ∷ []
 
 -- the tickets at the places of a run, the last place first
-abbrev left_in : List (Option TicketValues) → List TicketValues
+abbrev pub left_in : List (Option TicketValues) → List TicketValues
 left_in [] = []
 left_in (o ∷ ts) = left_in ts ++ one_of o
 
-left_more : (ts : List (Option TicketValues)) (o : Option TicketValues) → left_in (ts ++ o ∷ []) ≡ one_of o ++ left_in ts
+pub left_more : (ts : List (Option TicketValues)) (o : Option TicketValues) → left_in (ts ++ o ∷ []) ≡ one_of o ++ left_in ts
 left_more [] None = refl
 left_more [] (Some t) = refl
 left_more (x ∷ ts) o = ap (λ ys. ys ++ one_of x) (left_more ts o) ∙ append_assoc (one_of o) (left_in ts) (one_of x)
 
 -- a ticket that is taken out of its place is taken out of those that are left
-taken_out : (ts : List (Option TicketValues)) (i : ℕ) (t : TicketValues) (zs : List TicketValues) → ticket_at ts i ≡ Some t
+pub taken_out : (ts : List (Option TicketValues)) (i : ℕ) (t : TicketValues) (zs : List TicketValues) → ticket_at ts i ≡ Some t
     → IsTakenOut t (left_in ts ++ zs) (left_in (slice_set ts i None) ++ zs)
 taken_out [] i t zs is = absurd (let f : None ≡ Some t = is in cc)
 taken_out (x ∷ ts) zero t zs is =

@@ -35,7 +35,8 @@ use Rattle.osc_kept.specs.Premises.{IsLawful, IsNoAdd, NobodyForgesRequests}
 use Rattle.osc_kept.specs.RunsInWorld.{ClientRunInWorld, ClientRunTrusts, ClientStepTrusts, IsBehind, IsOf, LoadsAbove, RunsOn, ServerRunInWorld, ServerRunTrusts, ServerStepTrusts}
 use Rattle.osc_kept.specs.World.{World, Begin, Then, Event, End, Client, Server, AtClient, AtServer, answered, numbers, sent}
 use Rattle.osc_kept.proofs.InWorld.{client_in_world, forges_still, had_tickets, responses_still, same_answered, same_sent, server_in_world, unseen_still}
-use Rattle.osc_kept.proofs.RunTickets.{left_in, none_more, places_are, taken_out, took_more}
+use Rattle.osc_endpoint.proofs.RunTickets.{left_in, taken_out}
+use Rattle.osc_kept.proofs.RunTickets.{none_more, places_are, took_more}
 
 -- ---- the list behind a step
 
