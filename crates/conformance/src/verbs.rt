@@ -120,18 +120,28 @@ fn under_this(verb: &str, fields: &Fields<'_>, context: &KeyedContext, answer: &
     }
 }
 
-/// Such a call under a context that keeps its schedules, and once more under one that keeps none.
+/// Such a call under a context that keeps its schedules, once more under one that keeps none, and under one in constant time.
 fn under_a_context(
     verb: &str,
     fields: &Fields<'_>,
     contexts: &[NamedContext<'_>],
     answer: &mut Answer,
 ) {
-    let (Some(context), Some(again)) = (fields.context(contexts), fields.context(contexts)) else {
+    let (Some(context), Some(again), Some(third)) = (
+        fields.context(contexts),
+        fields.context(contexts),
+        fields.context(contexts),
+    ) else {
         return fields.refuse();
     };
+    let third = third.constant_time();
+    if context.is_constant_time() || !third.is_constant_time() {
+        return fields.refuse();
+    }
     under_this(verb, fields, &KeyedContext::new(context), answer);
     answer.again();
     let context = KeyedContext::for_one_message(again);
     under_this(verb, fields, &context, answer);
+    answer.again();
+    under_this(verb, fields, &KeyedContext::new(third), answer);
 }
