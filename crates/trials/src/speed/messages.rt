@@ -32,21 +32,32 @@ pub(crate) fn context_of<'a>(
     Context::derive(params(sender, recipient))
 }
 
-/// A request that is sealed, and the same that is opened.
-pub(crate) fn message<R: Clock + Print>(watch: &mut Stopwatch<'_, R>) -> io::Result<()> {
+/// The contexts of the client and the server.
+fn ends() -> io::Result<(Context, Context)> {
     let Ok(client) = context_of(&[], SERVER) else {
         return Err(io::Error::other("the client's context was refused"));
     };
     let Ok(server) = context_of(SERVER, &[]) else {
         return Err(io::Error::other("the server's context was refused"));
     };
+    Ok((client, server))
+}
+
+/// A request that is sealed, and the same that is opened; then both in constant time.
+pub(crate) fn message<R: Clock + Print>(watch: &mut Stopwatch<'_, R>) -> io::Result<()> {
     let Ok(plain) = parse(&PLAIN) else {
         return Err(io::Error::other("the plain request was refused"));
     };
+    let (client, server) = ends()?;
     by_context(watch, &client, &server, &plain)?;
-    let client = KeyedContext::new(client);
-    let server = KeyedContext::new(server);
-    by_keyed_context(watch, &client, &server, &plain)
+    let (client, server) = (KeyedContext::new(client), KeyedContext::new(server));
+    let names = ["seal_request-kept-keys", "open_request-kept-keys"];
+    by_keyed_context(watch, names, &client, &server, &plain)?;
+    let (client, server) = ends()?;
+    let client = KeyedContext::new(client.constant_time());
+    let server = KeyedContext::new(server.constant_time());
+    let names = ["seal_request-constant-time", "open_request-constant-time"];
+    by_keyed_context(watch, names, &client, &server, &plain)
 }
 
 /// The calls over a context, with a schedule each time.
@@ -70,21 +81,22 @@ fn by_context<R: Clock + Print>(
     })
 }
 
-/// The calls over a context that keeps its schedules.
+/// The calls over a context that keeps its schedules, under the names of both.
 fn by_keyed_context<R: Clock + Print>(
     watch: &mut Stopwatch<'_, R>,
+    names: [&str; 2],
     client: &KeyedContext,
     server: &KeyedContext,
     plain: &Message<'_>,
 ) -> io::Result<()> {
     let mut out = SEALED;
-    watch.figure("seal_request-kept-keys", || {
+    watch.figure(names[0], || {
         let number = Piv::new(NUMBER)?;
         client.seal_request(number, plain, &mut out).ok()?;
         Some(out[34])
     })?;
     let mut datagram = SEALED;
-    watch.figure("open_request-kept-keys", || {
+    watch.figure(names[1], || {
         datagram.copy_from_slice(&SEALED);
         let opened = server.open_request(&mut datagram).ok()?;
         Some(opened.code)
