@@ -73,6 +73,7 @@ typedef struct oscore_context {
     uint8_t recipient[7], recipient_len;
     uint8_t id_context[32], id_context_len; /* of length 0: none */
     uint8_t sender_key[16], recipient_key[16], common_iv[13];
+    uint8_t constant_time; /* by any value but 0 its keys are used in constant time */
 } oscore_context;
 
 /* An option of a message that was opened. Its value lies in the datagram. */
@@ -184,10 +185,12 @@ void oscore_sizes(oscore_struct_sizes *sizes);
 void oscore_status_name(uint32_t status, char name[24]);
 
 /* Derives a context from a Master Secret (1 to 64 bytes), a Master Salt (0 to 64), an ID Context (1 to 32) where `has_id_context`
-   says that there is one, the identifier of this end and that of the other (0 to 7 bytes each). */
+   says that there is one, the identifier of this end and that of the other (0 to 7 bytes each). Its keys are used by tables, whose
+   times may tell of a key to who shares the machine; with `constant_time` by a cipher whose source has no look-up and no branch that
+   depends on a key or a message, which is slower. What is sent is the same, and the other end may choose otherwise. */
 uint32_t oscore_derive(oscore_context *out, const uint8_t *secret, size_t secret_len, const uint8_t *salt, size_t salt_len,
                        bool has_id_context, const uint8_t *id_context, size_t id_context_len, const uint8_t *sender,
-                       size_t sender_len, const uint8_t *recipient, size_t recipient_len);
+                       size_t sender_len, const uint8_t *recipient, size_t recipient_len, bool constant_time);
 
 /* Reads which context a request names. */
 uint32_t oscore_head(const uint8_t *datagram, size_t datagram_len, oscore_request_head *head, size_t *detail);

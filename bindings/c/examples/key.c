@@ -129,7 +129,7 @@ static bool ask(int udp, const char *wish, const char *file) {
 
 static void begin(uint64_t next) {
     oscore_context context = {0};
-    uint32_t status = oscore_derive(&context, SECRET, sizeof SECRET, NULL, 0, false, NULL, 0, KEY, sizeof KEY, LOCK, sizeof LOCK);
+    uint32_t status = oscore_derive(&context, SECRET, sizeof SECRET, NULL, 0, false, NULL, 0, KEY, sizeof KEY, LOCK, sizeof LOCK, false);
     if (!status) status = oscore_client_begin(&client, &context, next, WAIT_MS);
     if (status) stop("no client");
 }

@@ -111,7 +111,7 @@ int main(int count, char **words) {
     static oscore_context context;
     static oscore_server server;
     size_t index = 0;
-    uint32_t status = oscore_derive(&context, SECRET, sizeof SECRET, NULL, 0, false, NULL, 0, LOCK, sizeof LOCK, KEY, sizeof KEY);
+    uint32_t status = oscore_derive(&context, SECRET, sizeof SECRET, NULL, 0, false, NULL, 0, LOCK, sizeof LOCK, KEY, sizeof KEY, false);
     oscore_server_begin(&server);
     if (!status) status = oscore_server_add(&server, &context, restarted, next, 32, &index);
     if (status) stop("no server");

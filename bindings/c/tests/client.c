@@ -1,5 +1,5 @@
-/* A client: RFC 8613, C.4, C.7 and C.8; each status of its calls once, and what it leaves; what is pending, and for how long; spoilt
-   datagrams and clients. Built with the sanitizers by .ci/run. */
+/* A client: RFC 8613, C.4, C.7 and C.8, by tables and in constant time; each status of its calls once, and what it leaves; what is
+   pending, and for how long; spoilt datagrams and clients. Built with the sanitizers by .ci/run. */
 #include "../oscore.h"
 #include <stdio.h>
 #include <stdlib.h>
@@ -17,6 +17,8 @@ static const char *ANSWERS[2] = {"64445d1f0000397490ffdbaad1e9a7e7b2a813d3c31524
 static const char *SEALED_GET = "64445d1f0000397490ff9f1ea60c8c8dee1b7a";
 
 enum { NOW = 1000, LIFE = 5000 };
+/* Whether `begin` makes a client in constant time. */
+static bool constant_time;
 static oscore_context context;
 static oscore_client client;
 static oscore_option options[4];
@@ -37,7 +39,7 @@ static void begin(uint64_t next) {
     uint8_t secret[16], salt[8], one = 1;
     hex("0102030405060708090a0b0c0d0e0f10", secret);
     hex("9e7ca92223786340", salt);
-    CHECK(!oscore_derive(&context, secret, 16, salt, 8, false, NULL, 0, NULL, 0, &one, 1));
+    CHECK(!oscore_derive(&context, secret, 16, salt, 8, false, NULL, 0, NULL, 0, &one, 1, constant_time));
     CHECK(!oscore_client_begin(&client, &context, next, LIFE));
     CHECK(client.next == next && client.life_ms == LIFE && client.clock == 0 && client.count == 0);
 }
@@ -76,6 +78,7 @@ static void exchanges(void) {
         CHECK(opened.kind == 2 && opened.code == 0x45 && opened.message_id == 0x5d1f && opened.has_number == own && opened.number == 0);
         CHECK(opened.payload_len == 12 && !memcmp(opened.payload, "Hello World!", 12) && !opened.option_count);
         CHECK(take(NOW, ANSWERS[own]) == OSCORE_UNKNOWN_TOKEN && detail == 0);
+        CHECK(client.context.constant_time == constant_time);
     }
 }
 
@@ -181,6 +184,9 @@ static void spoils_clients(void) {
 
 int main(void) {
     srand(1);
+    constant_time = true;
+    exchanges();
+    constant_time = false;
     exchanges();
     begins();
     refuses();

@@ -1,5 +1,5 @@
-/* One message: RFC 8613, C.1 to C.8, both ways; each status once; the layout of the structs; spoilt datagrams and handles. Built with
-   the sanitizers by .ci/run. */
+/* One message: RFC 8613, C.1 to C.8, both ways, by tables and in constant time; each status once; the layout of the structs; spoilt
+   datagrams and handles. Built with the sanitizers by .ci/run. */
 #include "../oscore.h"
 #include <stdio.h>
 #include <stdlib.h>
@@ -41,19 +41,20 @@ static const char *ANSWER = "64455d1f00003974ff48656c6c6f20576f726c6421";
 static const char *SEALED_ANSWERS[2] = {"64445d1f0000397490ffdbaad1e9a7e7b2a813d3c31524378303cdafae119106",
                                         "64445d1f00003974920100ff4d4c13669384b67354b2b6175ff4b8658c666a6cf88e"};
 
-static void derives(void) {
+static void derives(bool constant_time) {
     uint8_t secret[16], salt[8], id_context[8], client[1], server[1], wanted[16];
     hex("0102030405060708090a0b0c0d0e0f10", secret);
     for (int i = 0; i < CONTEXTS; i++) {
         bool has = DERIVED[i].id_context;
         size_t salt_len = hex(DERIVED[i].salt, salt), id_context_len = has ? hex(DERIVED[i].id_context, id_context) : 0;
         size_t client_len = hex(DERIVED[i].client, client), server_len = hex(DERIVED[i].server, server);
-        CHECK(!oscore_derive(&clients[i], secret, 16, salt, salt_len, has, id_context, id_context_len, client, client_len, server, server_len));
-        CHECK(!oscore_derive(&servers[i], secret, 16, salt, salt_len, has, id_context, id_context_len, server, server_len, client, client_len));
+        CHECK(!oscore_derive(&clients[i], secret, 16, salt, salt_len, has, id_context, id_context_len, client, client_len, server, server_len, constant_time));
+        CHECK(!oscore_derive(&servers[i], secret, 16, salt, salt_len, has, id_context, id_context_len, server, server_len, client, client_len, constant_time));
         CHECK(hex(DERIVED[i].client_key, wanted) == 16 && !memcmp(clients[i].sender_key, wanted, 16) && !memcmp(servers[i].recipient_key, wanted, 16));
         CHECK(hex(DERIVED[i].server_key, wanted) == 16 && !memcmp(clients[i].recipient_key, wanted, 16) && !memcmp(servers[i].sender_key, wanted, 16));
         CHECK(hex(DERIVED[i].common_iv, wanted) == 13 && !memcmp(clients[i].common_iv, wanted, 13) && !memcmp(servers[i].common_iv, wanted, 13));
         CHECK(clients[i].sender_len == client_len && clients[i].recipient_len == 1 && clients[i].recipient[0] == 1);
+        CHECK(clients[i].constant_time == constant_time && servers[i].constant_time == constant_time);
         CHECK(clients[i].id_context_len == id_context_len && !memcmp(clients[i].id_context, id_context, id_context_len));
     }
 }
@@ -103,7 +104,7 @@ static void counts_options(void) {
 static uint32_t derive(size_t secret, size_t salt, size_t id, size_t id_context) {
     static const uint8_t bytes[66] = {1};
     oscore_context context = {0}, none = {0};
-    uint32_t status = oscore_derive(&context, bytes, secret, bytes, salt, true, bytes, id_context, bytes, id, bytes, 1);
+    uint32_t status = oscore_derive(&context, bytes, secret, bytes, salt, true, bytes, id_context, bytes, id, bytes, 1, true);
     CHECK(!memcmp(&context, &none, sizeof none));
     return status;
 }
@@ -218,9 +219,11 @@ static void spoils_handles(void) {
 
 int main(void) {
     srand(1);
-    derives();
-    exchanges_requests();
-    exchanges_responses();
+    for (int constant_time = 1; constant_time >= 0; constant_time--) {
+        derives(constant_time);
+        exchanges_requests();
+        exchanges_responses();
+    }
     counts_options();
     refuses();
     names_statuses();

@@ -1,5 +1,5 @@
-/* A server: RFC 8613, C.4, C.7 and C.8; each status of its calls once, and what it leaves; restarts, tickets, eight contexts; spoilt
-   datagrams, servers and tickets. Built with the sanitizers by .ci/run. */
+/* A server: RFC 8613, C.4, C.7 and C.8, by tables and in constant time; each status of its calls once, and what it leaves; restarts,
+   tickets, eight contexts; spoilt datagrams, servers and tickets. Built with the sanitizers by .ci/run. */
 #include "../oscore.h"
 #include <stdio.h>
 #include <stdlib.h>
@@ -19,6 +19,8 @@ static const char *ELSEWHERE = "440271c30000b932396c6f63616c686f737463091400ff4e
 enum { NOW = 1000, MID = 0x1234 };
 static const uint64_t NUMBERS = 1ull << 40;
 static uint8_t echo[8] = {1, 2, 3, 4, 5, 6, 7, 8};
+/* Whether `derive` makes contexts in constant time. */
+static bool constant_time;
 static oscore_context client, own;
 static oscore_server server;
 static oscore_option options[4];
@@ -40,8 +42,8 @@ static void derive(uint8_t recipient, size_t recipient_len, const char *id_conte
     size_t id_len = id_context ? hex(id_context, id) : 0;
     hex("0102030405060708090a0b0c0d0e0f10", secret);
     hex("9e7ca92223786340", salt);
-    CHECK(!oscore_derive(&client, secret, 16, salt, 8, id_context, id, id_len, &recipient, recipient_len, &one, 1));
-    CHECK(!oscore_derive(&own, secret, 16, salt, 8, id_context, id, id_len, &one, 1, &recipient, recipient_len));
+    CHECK(!oscore_derive(&client, secret, 16, salt, 8, id_context, id, id_len, &recipient, recipient_len, &one, 1, constant_time));
+    CHECK(!oscore_derive(&own, secret, 16, salt, 8, id_context, id, id_len, &one, 1, &recipient, recipient_len, constant_time));
 }
 
 static void begin(bool restarted, uint64_t next) {
@@ -121,6 +123,7 @@ static void exchanges(void) {
         CHECK(server.unanswered[0].highest == 20 && server.unanswered[0].mask == 1);
         CHECK(!answer(&ticket, with_number) && is(out, out_len, SEALED_ANSWERS[with_number]));
         CHECK(server.contexts[0].next == (uint64_t)with_number && !server.unanswered[0].mask);
+        CHECK(server.contexts[0].context.constant_time == constant_time && client.constant_time == constant_time);
         CHECK(!oscore_open_response(&client, 20, out, out_len, NULL, 0, &opened, &detail) && opened.code == 69 && opened.has_number == with_number);
     }
     /* Not confirmable: reply and refusal aren't either, and their message ID is the one that was handed in. */
@@ -391,6 +394,10 @@ static void spoils_tickets(void) {
 
 int main(void) {
     srand(1);
+    constant_time = true;
+    exchanges();
+    restarts();
+    constant_time = false;
     exchanges();
     refuses_datagrams();
     refuses_replies();

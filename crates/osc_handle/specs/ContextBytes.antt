@@ -1,5 +1,5 @@
 -- To be believed: what the bytes of a context handle say. h is a handle.
-use Rattle.std.specs.Prelude.{◌≢◌, ℕ, ◌≤◌, zero, suc, List, Option, Some, None, take}
+use Rattle.std.specs.Prelude.{◌≢◌, ℕ, ◌≤◌, ◌==◌, zero, suc, Bool, not, List, Option, Some, None, take}
 use Rattle.osc_context.specs.SecurityContext.{SecurityContext}
 use Rattle.osc_handle.specs.declared.context_handle.ContextHandle.{ContextHandle}
 
@@ -15,6 +15,10 @@ client_in h = record { client = take h.sender_len h.sender; client_key = h.sende
 -- the context of an end that answers requests (RFC 8613, 3.1)
 abbrev pub server_in : ContextHandle → SecurityContext
 server_in h = record { client = take h.recipient_len h.recipient; client_key = h.recipient_key; server = take h.sender_len h.sender; server_key = h.sender_key; common_iv = h.common_iv; id_context = id_context_in h.id_context h.id_context_len }
+
+-- its keys are used in constant time: any value but 0 asks for it (own rule)
+abbrev pub is_constant_time_in : ContextHandle → Bool
+is_constant_time_in h = not (h.constant_time == 0)
 
 -- bytes that a call may have written: lengths that the fields have room for, and two identifiers (RFC 8613, 3.3)
 pub record IsContext (h : ContextHandle) : Type 0 where

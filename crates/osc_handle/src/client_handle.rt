@@ -3,7 +3,7 @@
 ghost use Rattle.std.specs.Prelude.{◌≡◌, ◌≢◌, ◌≤◌, ℕ, IfSome, IsSome, IsNone, OnErr, IfOk, IfErr, Option, Some, true, false, length, drop, map, take, slice_get};
 ghost use Rattle.osc_coap.specs.Inner.{InnerParts};
 ghost use Rattle.osc_coap.specs.Views.{parts_of};
-ghost use Rattle.osc_context.specs.Views.{as_client, number_of};
+ghost use Rattle.osc_context.specs.Views.{as_client, is_constant_time, number_of};
 ghost use Rattle.osc_endpoint.specs.Agrees.{HasTokensApart, client_parts};
 ghost use Rattle.osc_endpoint.specs.ClientAnswer.{ClientAnswer, Delivers, IsAmong};
 ghost use Rattle.osc_endpoint.specs.ClientDeciding.{CanShow, ClientShowsDecided};
@@ -13,7 +13,7 @@ ghost use Rattle.osc_endpoint.specs.declared.client_outcome.ClientOutcome.{Clien
 ghost use Rattle.osc_endpoint.specs.declared.client_outcome.RequestError.TheVariants.{KeeperFailed};
 ghost use Rattle.osc_handle.specs.ClientBytes.{ArePending, Asks, IsClient, IsPending, asked_at, asked_in, parts_in};
 ghost use Rattle.osc_handle.specs.ClientSteps.{ClientDecidesIn, ClientTakesIn, Keeps, LeavesIn, parts_with};
-ghost use Rattle.osc_handle.specs.ContextBytes.{IsContext, client_in};
+ghost use Rattle.osc_handle.specs.ContextBytes.{IsContext, client_in, is_constant_time_in};
 ghost use Rattle.osc_handle.specs.declared.pending_handle.PendingHandle.{PendingHandle as PendingOf};
 
 use crate::context_handle::ContextHandle;
@@ -65,6 +65,7 @@ impl ClientHandle {
     /// the context are none that a call may have written.
     pub fn begin(context: &ContextHandle, next: Piv, life_ms: u64) -> Option<ClientHandle>
         ensures made { IfSome result (λ c. Asks c (New (client_in context.now) (number_of next) life_ms)) }
+        ensures context { IfSome result (λ c. c.context ≡ context.now) }
         ensures accepted { IsSome result → IsContext context.now }
         ensures accepts { IsContext context.now → IsSome result }
     {
@@ -112,6 +113,7 @@ impl ClientHandle {
     /// The context, or None where no call can have written the client's bytes.
     fn whole_context(&self) -> Option<Context>
         ensures client { IfSome result (λ c. as_client c ≡ client_in self.now.context) }
+        ensures chosen { IfSome result (λ c. is_constant_time c ≡ is_constant_time_in self.now.context) }
         ensures accepted { IsSome result → IsClient self.now }
         ensures accepts { IsClient self.now → IsSome result }
     {

@@ -1,10 +1,10 @@
 //! A context in the caller's memory: plain bytes, of which each may have any value.
 
-ghost use Rattle.std.specs.Prelude.{◌≡◌, ◌≤◌, take, IfSome, IfNone, IsSome, length, true, false};
+ghost use Rattle.std.specs.Prelude.{◌≡◌, ◌≤◌, ◌||◌, take, IfSome, IfNone, IsSome, length, true, false};
 ghost use Rattle.osc_context.specs.SecurityContext.{AnswersTo};
-ghost use Rattle.osc_context.specs.Views.{as_client, as_server};
+ghost use Rattle.osc_context.specs.Views.{as_client, as_server, is_constant_time};
 ghost use Rattle.osc_protect.specs.Views.{shown};
-ghost use Rattle.osc_handle.specs.ContextBytes.{client_in, server_in, id_context_in, IsContext};
+ghost use Rattle.osc_handle.specs.ContextBytes.{client_in, server_in, id_context_in, is_constant_time_in, IsContext};
 
 use osc_context::{Context, IdContext, Kid};
 
@@ -21,6 +21,8 @@ pub struct ContextHandle {
     pub sender_key: [u8; 16],
     pub recipient_key: [u8; 16],
     pub common_iv: [u8; 13],
+    /// Whether its keys are used in constant time: any value but 0 asks for that.
+    pub constant_time: u8,
 }
 
 impl ContextHandle {
@@ -28,6 +30,7 @@ impl ContextHandle {
     pub fn of(context: &Context) -> ContextHandle
         ensures client { client_in result ≡ as_client context.now }
         ensures server { server_in result ≡ as_server context.now }
+        ensures chosen { is_constant_time_in result ≡ is_constant_time context.now }
         ensures handle { IsContext result }
     {
         let (sender, sender_len) = padded(context.sender().bytes());
@@ -46,6 +49,7 @@ impl ContextHandle {
             sender_key: *context.sender_key(),
             recipient_key: *context.recipient_key(),
             common_iv: *context.common_iv(),
+            constant_time: u8::from(context.is_constant_time()),
         }
     }
 
@@ -61,6 +65,7 @@ impl ContextHandle {
             sender_key: [0; 16],
             recipient_key: [0; 16],
             common_iv: [0; 13],
+            constant_time: 0,
         }
     }
 
@@ -68,20 +73,22 @@ impl ContextHandle {
     pub fn context(&self) -> Option<Context>
         ensures client { IfSome result (λ c. as_client c ≡ client_in self.now) }
         ensures server { IfSome result (λ c. as_server c ≡ server_in self.now) }
+        ensures chosen { IfSome result (λ c. is_constant_time c ≡ is_constant_time_in self.now) }
         ensures accepted { IsSome result → IsContext self.now }
         ensures accepts { IsContext self.now → IsSome result }
     {
         let sender = identifier(&self.sender, self.sender_len)?;
         let recipient = identifier(&self.recipient, self.recipient_len)?;
         let id_context = id_context(&self.id_context, self.id_context_len)?;
-        Context::from_derived(
+        let context = Context::from_derived(
             sender,
             recipient,
             id_context,
             self.sender_key,
             self.recipient_key,
             self.common_iv,
-        )
+        )?;
+        Some(as_asked(context, self.constant_time != 0))
     }
 }
 
@@ -152,6 +159,19 @@ fn id_context(bytes: &[u8; 32], len: u8) -> Option<Option<IdContext>>
         return Some(None);
     }
     IdContext::new(bytes.get(..usize::from(len))?).map(Some)
+}
+
+/// The context, with its keys used in constant time where that is asked for.
+fn as_asked(context: Context, constant_time: bool) -> Context
+    ensures client { as_client result ≡ as_client context }
+    ensures server { as_server result ≡ as_server context }
+    ensures chosen { is_constant_time result ≡ (constant_time || is_constant_time context) }
+{
+    if constant_time {
+        context.constant_time()
+    } else {
+        context
+    }
 }
 
 /// The bytes at the front of a field, zeros behind them, and how many they are.

@@ -2,7 +2,7 @@
 
 ghost use Rattle.std.specs.Prelude.{◌≡◌, ◌≢◌, ◌≤◌, ◌<◌, ◌+◌, ◌^◌, ◌⊎◌, IfSome, IsSome, IfOk, IfErr, OnErr, true, false, length, drop};
 ghost use Rattle.std.specs.Option.{option_map};
-ghost use Rattle.osc_context.specs.Views.{as_server, number_of};
+ghost use Rattle.osc_context.specs.Views.{as_server, is_constant_time, number_of};
 ghost use Rattle.osc_window.specs.Views.{places_of};
 ghost use Rattle.osc_coap.specs.Views.{parts_of};
 ghost use Rattle.osc_protect.specs.Views.{context_of};
@@ -12,7 +12,7 @@ ghost use Rattle.osc_endpoint.specs.Replies.{as_reply};
 ghost use Rattle.osc_endpoint.specs.Replying.{reply_entry, reply_mark};
 ghost use Rattle.osc_endpoint.specs.ServerAnswer.{LifeReply};
 ghost use Rattle.osc_endpoint.specs.declared.server_error.ReplyError.TheVariants.{KeeperFailed};
-ghost use Rattle.osc_handle.specs.ContextBytes.{IsContext, server_in};
+ghost use Rattle.osc_handle.specs.ContextBytes.{IsContext, is_constant_time_in, server_in};
 ghost use Rattle.osc_handle.specs.SlotBytes.{HoldsIn, IsGateBytes, IsGateIn, IsHighestIn, IsSlotBytes, IsSlotIn, SameBut};
 ghost use Rattle.osc_endpoint.specs.declared.slot.Slot.{Slot as SlotOf};
 
@@ -130,6 +130,7 @@ impl SlotHandle {
     pub(crate) fn keep(&mut self, slot: &Slot)
         ensures kept { (before : SlotOf) → IsSlotIn self.old before → slot.now.context ≡ before.context → slot.now.size ≡ before.size → IsSlotIn self.new slot.now }
         ensures bytes { IsSlotBytes self.old → IsSlotBytes self.new }
+        ensures context { self.new.context ≡ self.old.context }
     {
         self.keep_gate(&slot.gate);
         self.next = slot.next;
@@ -154,6 +155,7 @@ impl SlotHandle {
         requires gate { IsGateIn self.now gate }
         ensures made { IsSlotIn self.now result }
         ensures gate { result.gate ≡ gate }
+        ensures chosen { is_constant_time (context_of result.context) ≡ is_constant_time_in self.now.context }
     {
         let (Some(context), Some(size)) = (self.context.context(), size_with(self.places)) else {
             unreachable!();
@@ -199,6 +201,7 @@ impl SlotHandle {
         requires same { as_server (context_of slot.now.context) ≡ server_in context.now }
         ensures made { IsSlotIn result slot.now }
         ensures bytes { IsSlotBytes result }
+        ensures context { result.context ≡ context.now }
     {
         let places = slot.size.places() as u8;
         let mut bytes = SlotHandle {
