@@ -1,7 +1,6 @@
 -- A run of a client of the code is one of the lines' events, and each has one line.
-use Rattle.std.proofs.Common.{◌≡◌, ℕ, List, [], ◌∷◌, All, map, length, take, refl, sym, ap, subst, ◌∙◌}
-use Rattle.std.proofs.lemmas.List.{take-map}
-use Rattle.std.proofs.lemmas.List.Elements.{All-head, All-tail, All-take}
+use Rattle.std.proofs.Common.{◌≡◌, ℕ, List, [], ◌∷◌, All, map, length, refl, sym, ap, subst, ◌∙◌}
+use Rattle.std.proofs.lemmas.List.Elements.{All-head, All-tail}
 use Rattle.osc_coap.specs.Datagram.{Parts, IsDatagram}
 use Rattle.osc_coap.specs.Laws.{DatagramHasNoFault, DatagramHasOneFault, DatagramIsOneMessage}
 use Rattle.osc_endpoint.specs.ClientHistory.{History, Then, Event, Entry, Answer, Request, Datagram, Forget, Restart, Advance, Sent, NotSent, Took, Forgot, Restarted, Advanced, Malformed, NotResponse, UnknownToken, Unprotected, Undecodable, BadTag, BadInner, Deliver, next}
@@ -16,7 +15,6 @@ use Rattle.osc_endpoint.specs.declared.client_event.ClientEvent.TheVariants as e
 use Rattle.osc_endpoint.specs.declared.client_outcome.ClientOutcome.{ClientOutcome}
 use Rattle.osc_endpoint.specs.declared.client_outcome.ClientOutcome.TheVariants as outcomes
 use Rattle.osc_endpoint.specs.ClientLaws.{AllClientAnswers, OneClientAnswer}
-use Rattle.osc_text.specs.AskedEvents.{AskedEvent}
 use Rattle.osc_text.specs.AskedEvents as asked
 use Rattle.osc_text.specs.AskedReading.{HasRoom, asked_seen}
 use Rattle.osc_text.specs.Asking.{ClientLine, RequestLine, places, request_room}
@@ -58,15 +56,10 @@ step_is h k (events.Restart first) entries.Restarted is goes = (goes, refl)
 step_is h k e x is s = absurd s
 
 -- a run of the code has the lines of its events
-run_is : (h k : History) (all : List ClientEvent) (log : List ClientEntry) → All HasRoom all → Run places h all log k → EventLines ClientLine h (map asked_seen all) (map asked_line log)
+pub run_is : (h k : History) (all : List ClientEvent) (log : List ClientEntry) → All HasRoom all → Run places h all log k → EventLines ClientLine h (map asked_seen all) (map asked_line log)
 run_is h k [] [] is run = tt
 run_is h k (e ∷ all) (x ∷ log) is (mid, step, more) = (mid, step_is h mid e x (All-head HasRoom e all is) step, run_is mid k all log (All-tail HasRoom e all is) more)
 run_is h k all log is run = absurd run
-
--- the lines of a log of the first events
-pub run_lines : (h k : History) (all : List ClientEvent) (n : ℕ) (log : List ClientEntry) → All HasRoom all → Run places h (take n all) log k
-    → EventLines ClientLine h (take n (map asked_seen all)) (map asked_line log)
-run_lines h k all n log is run = subst (λ (es : List AskedEvent). EventLines ClientLine h es (map asked_line log)) (sym (take-map asked_seen n all)) (run_is h k (take n all) log (All-take HasRoom n all is) run)
 
 -- ---- one line
 

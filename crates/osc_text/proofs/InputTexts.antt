@@ -1,10 +1,10 @@
 -- What came of an input is what is printed of it.
-use Rattle.std.proofs.Common.{◌≡◌, ℕ, zero, suc, inl, inr, List, [], ◌∷◌, ◌++◌, length, take, drop, Option, Result, Ok, Err, IfOk, refl, sym, ap, ap₂, subst, ◌∙◌, arith, take-append-drop}
+use Rattle.std.proofs.Common.{◌≡◌, ℕ, zero, suc, inl, inr, List, [], ◌∷◌, ◌++◌, All, length, map, take, drop, Option, Result, Ok, Err, IfOk, refl, sym, ap, ap₂, subst, ◌∙◌, arith, take-append-drop}
 use Rattle.std.specs.Io.KnownBytes.{Appends}
 use Rattle.std.proofs.KnownBytes.{Appends-nil}
-use Rattle.std.proofs.lemmas.List.{take_all}
-use Rattle.osc_context.specs.ContextRefusal.{IsFirstParamsRefusal, RefusesParams, context_error_text}
-use Rattle.osc_context.specs.Laws.{OneParamsRefusal}
+use Rattle.std.proofs.lemmas.List.{length-map, take-map, take_all}
+use Rattle.std.proofs.lemmas.List.Elements.{All-take}
+use Rattle.osc_context.specs.ContextRefusal.{RefusesParams, context_error_text}
 use Rattle.osc_context.specs.declared.context_error.ContextError.{ContextError}
 use Rattle.osc_context.specs.declared.parameters.Params.{Params}
 use Rattle.osc_text.specs.Contexts.{InContext, Told}
@@ -13,12 +13,14 @@ use Rattle.osc_text.specs.InputReading.{Misreads, SpellsNone, SpellsSeen}
 use Rattle.osc_text.specs.InputText.{EventLines, InputText}
 use Rattle.osc_text.specs.Inputs.{IsFirstBadLine, SpellsInput}
 use Rattle.osc_text.specs.Lines.{refused_line}
-use Rattle.osc_text.specs.Printing.{Prints, RunsEvents}
+use Rattle.osc_text.specs.Printing.{Prints, RunsContext, RunsEvents, RunsInput}
+use Rattle.osc_text.specs.Printing.RunsContext.{derived, refused}
+use Rattle.osc_text.specs.Printing.RunsInput.{misread, ran}
 use Rattle.osc_text.specs.Written.{Stops, Writes, text_of}
 use Rattle.osc_text.specs.declared.fault.Fault.{Fault}
 use Rattle.osc_text.specs.declared.fault.Fault.TheVariants.{Line, Memory}
 use Rattle.osc_text.proofs.Appending.{so_far_error, so_far_none, SoFar}
-use Rattle.osc_text.proofs.InputLines.{OneSpelling, bad_spells_none, first_bad, one_bad_line, one_input}
+use Rattle.osc_text.proofs.InputLines.{OneSpelling, bad_spells_none, first_bad, input_spelled, one_bad_line, one_input}
 
 -- ---- lines
 
@@ -67,10 +69,22 @@ whole_front old new lines w = (length lines, subst (λ (ls : List (List ℕ)). A
 
 -- ---- inputs
 
+-- the events of the code that ran are those of the lines
+pub runs_seen : {V S E : Type 0} (step : S → E → List ℕ → S → Type 0) (seen : V → E) (IsRight : V → Type 0) (AreLinesOf : List V → List (List ℕ) → Type 0) (s : S) (all : List V) (old new : Option (List ℕ)) (r : Result ℕ Fault)
+    → ((some : List V) (lines : List (List ℕ)) → AreLinesOf some lines → All IsRight some → EventLines step s (map seen some) lines)
+    → All IsRight all → RunsEvents AreLinesOf all old new r → RunsEvents (EventLines step s) (map seen all) old new r
+runs_seen {E = E} step seen IsRight AreLinesOf s all old new r told is runs = record {
+  n = runs.n;
+  lines = runs.lines;
+  served = subst (λ (es : List E). EventLines step s es runs.lines) (sym (take-map seen runs.n all)) (told (take runs.n all) runs.lines runs.served (All-take IsRight runs.n all is));
+  written = runs.written;
+  whole = subst (λ (n : ℕ). IfOk r (λ k. (k ≡ 0) × (runs.n ≡ n))) (sym (length-map all seen)) runs.whole;
+}
+
 module _ {X S E : Type 0} (contents : X → Option (List ℕ)) (spells : List ℕ → E → Type 0) (step : S → E → List ℕ → S → Type 0) where
   -- events that ran are printed
-  pub run_prints : OneSpelling spells → (CanBe : S → Type 0) → OneLine step CanBe → (s : S) (input : List ℕ) (all : List E) (before after : X) (r : Result ℕ Fault) → CanBe s
-      → SpellsInput spells input all → RunsEvents step s all (contents before) (contents after) r → Prints contents (InputText spells step s input) (IsFirstBadLine spells input) before after r
+  run_prints : OneSpelling spells → (CanBe : S → Type 0) → OneLine step CanBe → (s : S) (input : List ℕ) (all : List E) (before after : X) (r : Result ℕ Fault) → CanBe s
+      → SpellsInput spells input all → RunsEvents (EventLines step s) all (contents before) (contents after) r → Prints contents (InputText spells step s input) (IsFirstBadLine spells input) before after r
   run_prints once CanBe one s input all before after (Ok k) is spelled runs = record {
     told = (runs.lines, (all, spelled, subst (λ (es : List E). EventLines step s es runs.lines) (take_all runs.n all (let n = runs.whole.1 in omega (arith, n))) runs.served, runs.whole.0));
     written = λ lines status text.
@@ -95,7 +109,7 @@ module _ {X S E : Type 0} (contents : X → Option (List ℕ)) (spells : List �
   }
 
   -- an input that isn't read prints nothing
-  pub misread_prints : {V : Type 0} (seen : V → E) (IsRight : V → Type 0) (s : S) (input : List ℕ) (before : X) (fault : Fault) → Misreads (SpellsSeen spells seen IsRight) (SpellsNone spells) input fault
+  misread_prints : {V : Type 0} (seen : V → E) (IsRight : V → Type 0) (s : S) (input : List ℕ) (before : X) (fault : Fault) → Misreads (SpellsSeen spells seen IsRight) (SpellsNone spells) input fault
       → Prints contents (InputText spells step s input) (IsFirstBadLine spells input) before before (Err fault)
   misread_prints seen IsRight s input before (Line k) m =
       let bad = first_bad spells seen IsRight input k m in
@@ -118,6 +132,15 @@ module _ {X S E : Type 0} (contents : X → Option (List ℕ)) (spells : List �
     quiet = λ n worse. refl;
   }
   misread_prints seen IsRight s input before fault m = absurd m
+
+  -- an input is printed
+  pub input_prints : {V : Type 0} (seen : V → E) (IsRight : V → Type 0) (AreLinesOf : List V → List (List ℕ) → Type 0) → OneSpelling spells → (CanBe : S → Type 0) → OneLine step CanBe → (s : S) (input : List ℕ) (before after : X) (r : Result ℕ Fault) → CanBe s
+      → ((some : List V) (lines : List (List ℕ)) → AreLinesOf some lines → All IsRight some → EventLines step s (map seen some) lines)
+      → RunsInput contents (SpellsSeen spells seen IsRight) (SpellsNone spells) AreLinesOf input before after r → Prints contents (InputText spells step s input) (IsFirstBadLine spells input) before after r
+  input_prints seen IsRight AreLinesOf once CanBe one s input before after r is told (misread fault m answer same) = rw (answer, same) (misread_prints seen IsRight s input before fault m)
+  input_prints seen IsRight AreLinesOf once CanBe one s input before after r is told (ran all spelled runs) =
+      let good = input_spelled spells seen IsRight input all spelled in
+      run_prints once CanBe one s input (map seen all) before after r is good.0 (runs_seen step seen IsRight AreLinesOf s all (contents before) (contents after) r told good.1 runs)
 
 -- ---- what is told with more or less around it
 
@@ -175,22 +198,19 @@ refusal_prints contents before after (Err e) line w two = record {
 abbrev pub BadInContext : Params → (ℕ → Type 0) → ℕ → Type 0
 BadInContext g HasBad n = ((e : ContextError) → ¬ RefusesParams g e) × HasBad n
 
-module _ {X : Type 0} (contents : X → Option (List ℕ)) (g : Params) (tells : Told) (HasBad : ℕ → Type 0) (before after : X) (r : Result ℕ Fault) where
-  -- a context that is there changes nothing
-  pub context_prints : ((e : ContextError) → ¬ RefusesParams g e) → Prints contents tells HasBad before after r → Prints contents (InContext g tells) (BadInContext g HasBad) before after r
-  context_prints none p = prints_as contents before after r tells (InContext g tells) HasBad (BadInContext g HasBad) p (λ lines n text. in_context none text) inside (λ n bad. (none, bad)) (λ n bad. bad.1)
+module _ {X : Type 0} (contents : X → Option (List ℕ)) (g : Params) (tells : Told) (HasBad HasWorse : ℕ → Type 0) (before after : X) (r : Result ℕ Fault) where
+  -- a context is printed, or its refusal
+  pub context_prints : ((n : ℕ) → BadInContext g HasBad n → HasWorse n) → ((n : ℕ) → HasWorse n → BadInContext g HasBad n)
+      → RunsContext g (contents before) (contents after) r (Prints contents tells HasBad before after r) → Prints contents (InContext g tells) HasWorse before after r
+  context_prints there back (derived none p) = prints_as contents before after r tells (InContext g tells) HasBad HasWorse p (λ lines n text. in_context none text) inside (λ n bad. there n (none, bad)) (λ n bad. (back n bad).1)
     where
       inside : (lines : List (List ℕ)) (n : ℕ) → InContext g tells lines n → tells lines n
       inside lines n (no_context e first text status) = absurd (none e first.holds)
-      inside lines n (in_context there text) = text
-
-  -- a refused context is printed
-  pub no_context_prints : OneParamsRefusal → (e : ContextError) → IsFirstParamsRefusal g e → Writes (contents before) (contents after) (refused_line (context_error_text e) ∷ []) r → IfOk r (λ n. n ≡ 2)
-      → Prints contents (InContext g tells) (BadInContext g HasBad) before after r
-  no_context_prints law e first w two =
-      prints_as contents before after r (Refuses (refused_line (context_error_text e))) (InContext g tells) Never (BadInContext g HasBad) (refusal_prints contents before after r (refused_line (context_error_text e)) w two)
-      (λ lines n text. no_context e first text.0 text.1) back (λ n bad. absurd bad) (λ n bad. absurd (bad.0 e first.holds))
+      inside lines n (in_context none_too text) = text
+  context_prints there back (refused e first one w two) =
+      prints_as contents before after r (Refuses (refused_line (context_error_text e))) (InContext g tells) Never HasWorse (refusal_prints contents before after r (refused_line (context_error_text e)) w two)
+      (λ lines n text. no_context e first text.0 text.1) outside (λ n bad. absurd bad) (λ n bad. absurd ((back n bad).0 e first.holds))
     where
-      back : (lines : List (List ℕ)) (n : ℕ) → InContext g tells lines n → Refuses (refused_line (context_error_text e)) lines n
-      back lines n (no_context f first_too text status) = (text ∙ ap (λ (x : ContextError). refused_line (context_error_text x) ∷ []) (law g f e first_too first), status)
-      back lines n (in_context none text) = absurd (none e first.holds)
+      outside : (lines : List (List ℕ)) (n : ℕ) → InContext g tells lines n → Refuses (refused_line (context_error_text e)) lines n
+      outside lines n (no_context f first_too text status) = (text ∙ ap (λ (x : ContextError). refused_line (context_error_text x) ∷ []) (one f first_too), status)
+      outside lines n (in_context none text) = absurd (none e first.holds)

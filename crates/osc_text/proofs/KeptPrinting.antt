@@ -1,11 +1,10 @@
 -- What came of an end whose numbers are kept is what is printed of it.
-use Rattle.std.proofs.Common.{◌≡◌, ◌⊎◌, ℕ, inl, inr, List, [], ◌∷◌, All, map, take, Option, Result, Ok, Err, IfOk, refl, sym, subst, arith}
-use Rattle.std.proofs.lemmas.List.{take-map, take_all}
-use Rattle.std.proofs.lemmas.List.Elements.{All-head, All-tail, All-take}
-use Rattle.osc_context.specs.ContextRefusal.{IsFirstParamsRefusal, RefusesParams, context_error_text}
+use Rattle.std.proofs.Common.{◌≡◌, ◌⊎◌, ℕ, inl, inr, List, [], ◌∷◌, All, map, Option, Result, Ok, Err, IfOk, refl, subst, arith}
+use Rattle.std.proofs.lemmas.List.{take_all}
+use Rattle.std.proofs.lemmas.List.Elements.{All-head, All-tail}
+use Rattle.osc_context.specs.ContextRefusal.{context_error_text}
 use Rattle.osc_context.specs.SecurityContext.{SecurityContext}
 use Rattle.osc_context.specs.Views.{client_context_of, server_context_of}
-use Rattle.osc_context.specs.declared.context_error.ContextError.{ContextError}
 use Rattle.osc_context.specs.declared.keeper.Keeper as keeper
 use Rattle.osc_context.specs.declared.parameters.Params.{Params}
 use Rattle.osc_kept.specs.KeptRuns.{RunOf}
@@ -25,35 +24,31 @@ use Rattle.osc_text.specs.KeptServing.{KeptLine, KeptServeText, StartText}
 use Rattle.osc_text.specs.KeptServing.StartText.{not_started, served}
 use Rattle.osc_text.specs.KeptText.{FrontText, LineOf, WroteBy}
 use Rattle.osc_text.specs.Lines.{refused_line}
-use Rattle.osc_text.specs.Printing.{RunsEvents}
+use Rattle.osc_text.specs.Printing.{RunsContext, RunsEvents, RunsInput, WroteAround}
+use Rattle.osc_text.specs.Printing.RunsContext.{derived, refused}
+use Rattle.osc_text.specs.Printing.RunsInput.{misread, ran}
 use Rattle.osc_text.specs.Written.{Writes}
 use Rattle.osc_text.specs.declared.fault.Fault.{Fault}
 use Rattle.osc_text.specs.declared.fault.Fault.TheVariants.{Line, Memory, Write}
-use Rattle.osc_text.proofs.InputLines.{first_bad}
-use Rattle.osc_text.proofs.InputTexts.{BadInContext, Refuses}
+use Rattle.osc_text.proofs.InputLines.{first_bad, input_spelled}
+use Rattle.osc_text.proofs.InputTexts.{BadInContext, Refuses, runs_seen}
 
 -- ---- runs
 
 module _ {S V X E : Type 0} (Step : S → V → X → S → Type 0) (seen : V → E) (IsRight : V → Type 0) (text : X → List ℕ) where
   -- a run has the lines of its events
-  run_is : (s t : S) (all : List V) (log : List X) → All IsRight all → RunOf Step s all log t → EventLines (LineOf Step seen IsRight text) s (map seen all) (map (λ x. entry_line (text x)) log)
+  pub run_is : (s t : S) (all : List V) (log : List X) → All IsRight all → RunOf Step s all log t → EventLines (LineOf Step seen IsRight text) s (map seen all) (map (λ x. entry_line (text x)) log)
   run_is s t [] [] is run = tt
   run_is s t [] (x ∷ log) is run = absurd run
   run_is s t (e ∷ all) [] is run = absurd run
   run_is s t (e ∷ all) (x ∷ log) is (mid, step, more) =
       (mid, (e, x, refl, All-head IsRight e all is, step, refl), run_is mid t all log (All-tail IsRight e all is) more)
 
-  -- the lines of a log of the first events
-  pub run_lines : (s t : S) (all : List V) (n : ℕ) (log : List X) → All IsRight all → RunOf Step s (take n all) log t
-      → EventLines (LineOf Step seen IsRight text) s (take n (map seen all)) (map (λ x. entry_line (text x)) log)
-  run_lines s t all n log is run =
-      subst (λ (es : List E). EventLines (LineOf Step seen IsRight text) s es (map (λ x. entry_line (text x)) log)) (sym (take-map seen n all)) (run_is s t (take n all) log (All-take IsRight n all is) run)
-
 -- ---- inputs
 
 module _ {X S E : Type 0} (contents : X → Option (List ℕ)) (spells : List ℕ → E → Type 0) (step : S → E → List ℕ → S → Type 0) where
   -- events that ran are printed
-  pub run_told : (s : S) (input : List ℕ) (all : List E) (before after : X) (r : Result ℕ Fault) → SpellsInput spells input all → RunsEvents step s all (contents before) (contents after) r
+  run_told : (s : S) (input : List ℕ) (all : List E) (before after : X) (r : Result ℕ Fault) → SpellsInput spells input all → RunsEvents (EventLines step s) all (contents before) (contents after) r
       → WroteBy contents (InputText spells step s input) (FrontText spells step s input) (IsFirstBadLine spells input) before after r
   run_told s input all before after (Ok k) spelled runs =
       (runs.lines, (all, spelled, subst (λ (es : List E). EventLines step s es runs.lines) (take_all runs.n all (let n = runs.whole.1 in omega (arith, n))) runs.served, runs.whole.0), runs.written)
@@ -62,46 +57,62 @@ module _ {X S E : Type 0} (contents : X → Option (List ℕ)) (spells : List �
   run_told s input all before after (Err fault) spelled runs = absurd runs.written
 
   -- an input that isn't read prints nothing
-  pub misread_told : {V : Type 0} (seen : V → E) (IsRight : V → Type 0) (s : S) (input : List ℕ) (before : X) (fault : Fault) → Misreads (SpellsSeen spells seen IsRight) (SpellsNone spells) input fault
+  misread_told : {V : Type 0} (seen : V → E) (IsRight : V → Type 0) (s : S) (input : List ℕ) (before : X) (fault : Fault) → Misreads (SpellsSeen spells seen IsRight) (SpellsNone spells) input fault
       → WroteBy contents (InputText spells step s input) (FrontText spells step s input) (IsFirstBadLine spells input) before before (Err fault)
   misread_told seen IsRight s input before (Line k) m = (first_bad spells seen IsRight input k m, refl)
   misread_told seen IsRight s input before Memory m = inl refl
   misread_told seen IsRight s input before fault m = absurd m
 
+  -- an input is printed
+  pub input_told : {V : Type 0} (seen : V → E) (IsRight : V → Type 0) (AreLinesOf : List V → List (List ℕ) → Type 0) (s : S) (input : List ℕ) (before after : X) (r : Result ℕ Fault)
+      → ((some : List V) (lines : List (List ℕ)) → AreLinesOf some lines → All IsRight some → EventLines step s (map seen some) lines)
+      → RunsInput contents (SpellsSeen spells seen IsRight) (SpellsNone spells) AreLinesOf input before after r
+      → WroteBy contents (InputText spells step s input) (FrontText spells step s input) (IsFirstBadLine spells input) before after r
+  input_told seen IsRight AreLinesOf s input before after r told (misread fault m answer same) = rw (same, answer) (misread_told seen IsRight s input before fault m)
+  input_told seen IsRight AreLinesOf s input before after r told (ran all spelled runs) =
+      let good = input_spelled spells seen IsRight input all spelled in
+      run_told s input (map seen all) before after r good.0 (runs_seen step seen IsRight AreLinesOf s all (contents before) (contents after) r told good.1 runs)
+
 -- ---- what is told with more around it
 
-module _ {X : Type 0} (contents : X → Option (List ℕ)) (tells begins : Told) (HasBad : ℕ → Type 0) (before after : X) where
-  -- the same, with more around it
-  pub told_as : (says fronts : Told) (HasWorse : ℕ → Type 0) (r : Result ℕ Fault) → ((lines : List (List ℕ)) (n : ℕ) → says lines n → tells lines n)
-      → ((lines : List (List ℕ)) (n : ℕ) → fronts lines n → begins lines n) → ((n : ℕ) → HasWorse n → HasBad n) → WroteBy contents says fronts HasWorse before after r → WroteBy contents tells begins HasBad before after r
-  told_as says fronts HasWorse (Ok k) there front_there bad_there (lines, text, wrote) = (lines, there lines k text, wrote)
-  told_as says fronts HasWorse (Err (Line n)) there front_there bad_there (bad, same) = (bad_there n bad, same)
-  told_as says fronts HasWorse (Err Memory) there front_there bad_there (inl same) = inl same
-  told_as says fronts HasWorse (Err Memory) there front_there bad_there (inr (lines, n, text, wrote)) = inr (lines, n, front_there lines n text, wrote)
-  told_as says fronts HasWorse (Err (Write e)) there front_there bad_there w = tt
-  told_as says fronts HasWorse (Err fault) there front_there bad_there w = absurd w
+-- the same, with more around it
+told_as : {X : Type 0} (contents : X → Option (List ℕ)) (tells begins says fronts : Told) (HasBad HasWorse : ℕ → Type 0) (before after : X) (r : Result ℕ Fault) → ((lines : List (List ℕ)) (n : ℕ) → says lines n → tells lines n)
+    → ((lines : List (List ℕ)) (n : ℕ) → fronts lines n → begins lines n) → ((n : ℕ) → HasWorse n → HasBad n) → WroteBy contents says fronts HasWorse before after r → WroteBy contents tells begins HasBad before after r
+told_as contents tells begins says fronts HasBad HasWorse before after (Ok k) there front_there bad_there (lines, text, wrote) = (lines, there lines k text, wrote)
+told_as contents tells begins says fronts HasBad HasWorse before after (Err (Line n)) there front_there bad_there (bad, same) = (bad_there n bad, same)
+told_as contents tells begins says fronts HasBad HasWorse before after (Err Memory) there front_there bad_there (inl same) = inl same
+told_as contents tells begins says fronts HasBad HasWorse before after (Err Memory) there front_there bad_there (inr (lines, n, text, wrote)) = inr (lines, n, front_there lines n text, wrote)
+told_as contents tells begins says fronts HasBad HasWorse before after (Err (Write e)) there front_there bad_there w = tt
+told_as contents tells begins says fronts HasBad HasWorse before after (Err fault) there front_there bad_there w = absurd w
+
+module _ {X S E : Type 0} (contents : X → Option (List ℕ)) (spells : List ℕ → E → Type 0) (step : S → E → List ℕ → S → Type 0) (input : List ℕ) (before after : X) where
+  -- what is told of the input, and of a front of it
+  abbrev pub tells : S → Told
+  tells s = InputText spells step s input
+
+  abbrev pub begins : S → Told
+  begins s = FrontText spells step s input
+
+  -- an end that started prints what its input says
+  pub start_told : (around : (S → Told) → Told) (HasBad : ℕ → Type 0) (r : Result ℕ Fault) (s : S) → ((told : S → Told) (lines : List (List ℕ)) (n : ℕ) → told s lines n → around told lines n) → ((n : ℕ) → IsFirstBadLine spells input n → HasBad n)
+      → WroteBy contents (tells s) (begins s) (IsFirstBadLine spells input) before after r → WroteAround spells step around HasBad input X contents before after r
+  start_told around HasBad r s there bad_there = told_as contents (around tells) (around begins) (tells s) (begins s) HasBad (IsFirstBadLine spells input) before after r (there tells) (there begins) bad_there
 
   -- a refusal is printed
-  pub refusal_told : (line : List ℕ) (r : Result ℕ Fault) → ((lines : List (List ℕ)) (n : ℕ) → Refuses line lines n → tells lines n) → ((lines : List (List ℕ)) (n : ℕ) → Refuses line lines n → begins lines n)
-      → Writes (contents before) (contents after) (line ∷ []) r → IfOk r (λ n. n ≡ 2) → WroteBy contents tells begins HasBad before after r
-  refusal_told line (Ok k) there front_there w two = (line ∷ [], there (line ∷ []) k (refl, two), w)
-  refusal_told line (Err Memory) there front_there w two = inr (line ∷ [], 2, front_there (line ∷ []) 2 (refl, refl), w)
-  refusal_told line (Err (Write e)) there front_there w two = tt
-  refusal_told line (Err fault) there front_there w two = absurd w
+  pub refusal_told : (around : (S → Told) → Told) (HasBad : ℕ → Type 0) (r : Result ℕ Fault) (line : List ℕ) → ((told : S → Told) (lines : List (List ℕ)) (n : ℕ) → Refuses line lines n → around told lines n)
+      → Writes (contents before) (contents after) (line ∷ []) r → IfOk r (λ n. n ≡ 2) → WroteAround spells step around HasBad input X contents before after r
+  refusal_told around HasBad (Ok k) line there w two = (line ∷ [], there tells (line ∷ []) k (refl, two), w)
+  refusal_told around HasBad (Err Memory) line there w two = inr (line ∷ [], 2, there begins (line ∷ []) 2 (refl, refl), w)
+  refusal_told around HasBad (Err (Write e)) line there w two = tt
+  refusal_told around HasBad (Err fault) line there w two = absurd w
 
--- ---- contexts
-
-module _ {X : Type 0} (contents : X → Option (List ℕ)) (g : Params) (tells begins : Told) (HasBad : ℕ → Type 0) (before after : X) (r : Result ℕ Fault) where
-  -- a context that is there changes nothing
-  pub context_told : ((e : ContextError) → ¬ RefusesParams g e) → WroteBy contents tells begins HasBad before after r
-      → WroteBy contents (InContext g tells) (InContext g begins) (BadInContext g HasBad) before after r
-  context_told none = told_as contents (InContext g tells) (InContext g begins) (BadInContext g HasBad) before after tells begins HasBad r (λ lines n text. in_context none text) (λ lines n text. in_context none text) (λ n bad. (none, bad))
-
-  -- a refused context is printed
-  pub no_context_told : (e : ContextError) → IsFirstParamsRefusal g e → Writes (contents before) (contents after) (refused_line (context_error_text e) ∷ []) r → IfOk r (λ n. n ≡ 2)
-      → WroteBy contents (InContext g tells) (InContext g begins) HasBad before after r
-  no_context_told e first =
-      refusal_told contents (InContext g tells) (InContext g begins) HasBad before after (refused_line (context_error_text e)) r (λ lines n text. no_context e first text.0 text.1) (λ lines n text. no_context e first text.0 text.1)
+  -- a context is printed, or its refusal
+  pub context_told : (g : Params) (around : (S → Told) → Told) (HasBad HasWorse : ℕ → Type 0) (r : Result ℕ Fault) → ((n : ℕ) → BadInContext g HasBad n → HasWorse n)
+      → RunsContext g (contents before) (contents after) r (WroteAround spells step around HasBad input X contents before after r) → WroteAround spells step (λ told. InContext g (around told)) HasWorse input X contents before after r
+  context_told g around HasBad HasWorse r there (derived none told) =
+      told_as contents (InContext g (around tells)) (InContext g (around begins)) (around tells) (around begins) HasWorse HasBad before after r (λ lines n text. in_context none text) (λ lines n text. in_context none text) (λ n bad. there n (none, bad)) told
+  context_told g around HasBad HasWorse r there (refused e first one w two) =
+      refusal_told (λ told. InContext g (around told)) HasWorse r (refused_line (context_error_text e)) (λ told lines n text. no_context e first text.0 text.1) w two
 
 -- ---- statuses
 

@@ -17,4 +17,3 @@ pub mod ServerSteps
 pub mod ServerTexts
 pub mod AskedSpellings
 pub mod ClientSteps
-pub mod ClientTexts

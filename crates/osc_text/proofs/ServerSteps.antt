@@ -1,7 +1,6 @@
 -- A run of the code is one of the lines' events.
-use Rattle.std.proofs.Common.{◌≡◌, ℕ, Bool, List, [], ◌∷◌, ◌++◌, All, map, length, take, Option, Ok, Err, refl, sym, ap, subst}
-use Rattle.std.proofs.lemmas.List.{take-map}
-use Rattle.std.proofs.lemmas.List.Elements.{All-head, All-tail, All-take}
+use Rattle.std.proofs.Common.{◌≡◌, ℕ, Bool, List, [], ◌∷◌, ◌++◌, All, map, length, Option, Ok, Err, refl, ap, subst}
+use Rattle.std.proofs.lemmas.List.Elements.{All-head, All-tail}
 use Rattle.osc_context.specs.Views.{number_of}
 use Rattle.osc_endpoint.specs.declared.server_event.Seen.{Seen}
 use Rattle.osc_endpoint.specs.declared.server_event.Seen.TheVariants as seen
@@ -13,7 +12,6 @@ use Rattle.osc_endpoint.specs.ServerHistory.{History, Answer, TicketValues, Malf
 use Rattle.osc_endpoint.specs.Received.{Received}
 use Rattle.osc_endpoint.specs.ServerRun.{GoesOn, Logs, ReplyStep, Run, ServerRunStep}
 use Rattle.osc_text.specs.EntryLines.{entry_line}
-use Rattle.osc_text.specs.InputEvents.{InputEvent}
 use Rattle.osc_text.specs.InputText.{EventLines}
 use Rattle.osc_text.specs.ServedReading.{IsOfRun, event_seen}
 use Rattle.osc_text.specs.ServerLines.{answer_text, delivery_text, reply_text}
@@ -67,9 +65,3 @@ run_is h k ts us [] [] is run = tt
 run_is h k ts us (e ∷ all) (x ∷ log) is (mid, vs, step, more) =
     ((mid, vs), step_is h mid ts vs e x (All-head IsOfRun e all is) step, run_is mid k vs us all log (All-tail IsOfRun e all is) more)
 run_is h k ts us all log is run = absurd run
-
--- the lines of a log of the first events
-pub run_lines : (h k : History) (us : List (Option TicketValues)) (all : List ServerEvent) (n : ℕ) (log : List ServerEntry) → All IsOfRun all
-    → Run h [] (take n all) log k us → EventLines ServerLine (h, []) (take n (map event_seen all)) (map log_line log)
-run_lines h k us all n log is run =
-    subst (λ (es : List InputEvent). EventLines ServerLine (h, []) es (map log_line log)) (sym (take-map event_seen n all)) (run_is h k [] us (take n all) log (All-take IsOfRun n all is) run)

@@ -1,8 +1,6 @@
 -- What came of a server's start is what is printed of it.
 use Rattle.std.proofs.Common.{◌≡◌, ℕ, List, [], ◌∷◌, Option, Result, IfOk, ap, subst, ◌∙◌}
 use Rattle.osc_context.specs.SecurityContext.{SecurityContext}
-use Rattle.osc_context.specs.Views.{server_context_of}
-use Rattle.osc_context.specs.declared.parameters.Params.{Params}
 use Rattle.osc_window.specs.declared.window_size.WindowSize.{WindowSize}
 use Rattle.osc_endpoint.specs.Laws.{OneServerAnswer}
 use Rattle.osc_endpoint.specs.ServerAnswer.{ServerAnswer}
@@ -15,13 +13,12 @@ use Rattle.osc_text.specs.InputText.{InputText}
 use Rattle.osc_text.specs.Inputs.{IsFirstBadLine}
 use Rattle.osc_text.specs.Lines.{refused_line}
 use Rattle.osc_text.specs.Printing.{Prints}
-use Rattle.osc_text.specs.Serving.{HasBadLine, ServeText, ServerLine, ServerText, start_of}
+use Rattle.osc_text.specs.Serving.{ServerLine, ServerText}
 use Rattle.osc_text.specs.Serving.ServerText.{not_started as refused, served}
 use Rattle.osc_text.specs.Starting.{StartsBadly}
 use Rattle.osc_text.specs.Written.{Writes}
 use Rattle.osc_text.specs.declared.fault.Fault.{Fault}
-use Rattle.osc_text.specs.declared.serving.Serving.{Serving}
-use Rattle.osc_text.proofs.InputTexts.{BadInContext, Never, Refuses, prints_as, refusal_prints}
+use Rattle.osc_text.proofs.InputTexts.{Never, Refuses, prints_as, refusal_prints}
 
 -- the lines of a refused start
 abbrev refusal_lines : Entry → List (List ℕ)
@@ -56,11 +53,3 @@ module _ {X : Type 0} (law : OneServerAnswer) (contents : X → Option (List ℕ
 
       never : (n : ℕ) → StartsBadly s start size bytes n → ⊥
       never n bad = let same = law Begin (Add s start size) (NotAdded e) (Added bad.0) tt answer bad.1 in cc same
-
--- under the context that a call names
-pub serve_prints : {X : Type 0} (contents : X → Option (List ℕ)) (g : Params) (v : Serving) (bytes : List ℕ) (before after : X) (r : Result ℕ Fault)
-    → Prints contents (ServeText g v bytes) (BadInContext g (StartsBadly (server_context_of g) (start_of v) v.window bytes)) before after r
-    → Prints contents (ServeText g v bytes) (HasBadLine g v bytes) before after r
-serve_prints contents g v bytes before after r p =
-    prints_as contents before after r (ServeText g v bytes) (ServeText g v bytes) _ (HasBadLine g v bytes) p (λ lines n text. text) (λ lines n text. text)
-    (λ n bad. record { in_context = bad.0; index = bad.1.0; starts = bad.1.1; first_bad = bad.1.2 }) (λ n bad. (bad.in_context, (bad.index, bad.starts, bad.first_bad)))

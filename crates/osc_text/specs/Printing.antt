@@ -1,8 +1,15 @@
 -- For the proofs: what is promised of a call that prints. before and after are the writer, contents what it tells of its
 -- bytes, r is what is answered.
-use Rattle.std.specs.Prelude.{◌≡◌, ◌⊎◌, ℕ, List, Option, Result, Err, IfOk, length, take}
+use Rattle.std.specs.Prelude.{◌≡◌, ◌⊎◌, ℕ, List, [], ◌∷◌, Option, Result, Err, IfOk, length, take}
+use Rattle.osc_context.specs.ContextRefusal.{IsFirstParamsRefusal, RefusesParams, context_error_text}
+use Rattle.osc_context.specs.declared.context_error.ContextError.{ContextError}
+use Rattle.osc_context.specs.declared.parameters.Params.{Params}
 use Rattle.osc_text.specs.Contexts.{Told}
-use Rattle.osc_text.specs.InputText.{EventLines, RefusesLine}
+use Rattle.osc_text.specs.InputReading.{Misreads, lines_of}
+use Rattle.osc_text.specs.InputText.{InputText, RefusesLine}
+use Rattle.osc_text.specs.Inputs.{SpellEvents}
+use Rattle.osc_text.specs.KeptText.{FrontText, WroteBy}
+use Rattle.osc_text.specs.Lines.{refused_line}
 use Rattle.osc_text.specs.Written.{Writes}
 use Rattle.osc_text.specs.declared.fault.Fault.{Fault}
 use Rattle.osc_text.specs.declared.fault.Fault.TheVariants.{Line}
@@ -17,10 +24,30 @@ pub record Prints {X : Type 0} (contents : X → Option (List ℕ)) (tells : Tol
   pub refuses : (n : ℕ) → HasBad n → RefusesLine n r
   pub quiet : (n : ℕ) → HasBad n → after ≡ before
 
+-- what is promised of a call over any writer: what that tells, the writer before and after, and what is answered (how the code is seen)
+abbrev pub Promised : Type 1
+Promised = (X : Type 0) → (X → Option (List ℕ)) → X → X → Result ℕ Fault → Type 0
+
+-- what a call wrote over an input, with what is told around its text (how the code is seen)
+abbrev pub WroteAround : {S E : Type 0} → (List ℕ → E → Type 0) → (S → E → List ℕ → S → Type 0) → ((S → Told) → Told) → (ℕ → Type 0) → List ℕ → Promised
+WroteAround spells step around HasBad input X contents = WroteBy contents (around (λ s. InputText spells step s input)) (around (λ s. FrontText spells step s input)) HasBad
+
 -- the lines of the first n of these events are written, and at Ok they are all (how the code is seen)
-pub record RunsEvents {S E : Type 0} (step : S → E → List ℕ → S → Type 0) (s : S) (all : List E) (old new : Option (List ℕ)) (r : Result ℕ Fault) : Type 0 where
+pub record RunsEvents {V : Type 0} (AreLinesOf : List V → List (List ℕ) → Type 0) (all : List V) (old new : Option (List ℕ)) (r : Result ℕ Fault) : Type 0 where
   pub n : ℕ
   pub lines : List (List ℕ)
-  pub served : EventLines step s (take n all) lines
+  pub served : AreLinesOf (take n all) lines
   pub written : Writes old new lines r
   pub whole : IfOk r (λ status. (status ≡ 0) × (n ≡ length all))
+
+-- an input was not read, and nothing is written, or its events ran (how the code is seen)
+pub data RunsInput {X V : Type 0} (contents : X → Option (List ℕ)) (spells : List ℕ → V → Type 0) (IsBad : List ℕ → Type 0) (AreLinesOf : List V → List (List ℕ) → Type 0)
+    (input : List ℕ) (before after : X) (r : Result ℕ Fault) : Type 0 where
+  misread : (fault : Fault) → Misreads spells IsBad input fault → r ≡ Err fault → after ≡ before → RunsInput contents spells IsBad AreLinesOf input before after r
+  ran : (all : List V) → SpellEvents spells (lines_of input) all → RunsEvents AreLinesOf all (contents before) (contents after) r → RunsInput contents spells IsBad AreLinesOf input before after r
+
+-- a context is refused, and its line is written, or it is there, and this came under it (how the code is seen)
+pub data RunsContext (g : Params) (old new : Option (List ℕ)) (r : Result ℕ Fault) (Under : Type 0) : Type 0 where
+  refused : (e : ContextError) → IsFirstParamsRefusal g e → ((f : ContextError) → IsFirstParamsRefusal g f → f ≡ e) → Writes old new (refused_line (context_error_text e) ∷ []) r → IfOk r (λ s. s ≡ 2)
+      → RunsContext g old new r Under
+  derived : ((e : ContextError) → ¬ RefusesParams g e) → Under → RunsContext g old new r Under

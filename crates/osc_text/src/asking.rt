@@ -1,17 +1,15 @@
 //! What `run` prints of a client.
 
 ghost use Rattle.std.specs.Prelude.{◌≡◌, ◌⊎◌, ℕ, List, All, Err, IfOk, map};
-ghost use Rattle.osc_context.specs.Views.{as_client, number_of};
+ghost use Rattle.osc_context.specs.Views.{number_of};
 ghost use Rattle.osc_endpoint.specs.Agrees.{ClientAgrees};
-ghost use Rattle.osc_endpoint.specs.ClientHistory.{History};
-ghost use Rattle.osc_endpoint.specs.ClientLaws.{AllClientAnswers};
+ghost use Rattle.osc_endpoint.specs.ClientHistory.{History, New};
 
+use crate::ends::{Beginning, End, write_input, write_run};
 use crate::entry_lines::write_log;
 use crate::fault::Fault;
-use crate::input_lines::read_events;
-use crate::lines::put_refused;
 use osc_coap::one_datagram;
-use osc_context::{Context, Params, Piv, one_context_refusal};
+use osc_context::{Context, Params, Piv};
 use osc_endpoint::{Client, ClientEvent, one_client_answer, run_client};
 use std::alloc::Global;
 use std::io::Write;
@@ -27,10 +25,10 @@ pub struct Asking {
 
 ghost use Rattle.osc_text.specs.AskedEvents.{SpellsAsked};
 ghost use Rattle.osc_text.specs.AskedReading.{HasRoom, asked_seen};
-ghost use Rattle.osc_text.specs.Asking.{AskText, ClientLine, HasBadAskedLine, places};
-ghost use Rattle.osc_text.specs.InputText.{InputText, RefusesLine};
+ghost use Rattle.osc_text.specs.Asking.{AskText, ClientLine, HasBadAskedLine};
+ghost use Rattle.osc_text.specs.InputText.{EventLines, InputText, RefusesLine};
 ghost use Rattle.osc_text.specs.Inputs.{IsFirstBadLine};
-ghost use Rattle.osc_text.specs.Printing.{Prints, RunsEvents};
+ghost use Rattle.osc_text.specs.Printing.{Prints};
 ghost use Rattle.osc_text.specs.Written.{Writes};
 ghost use Rattle.osc_text.specs.declared.fault.Fault.TheVariants.{Line};
 
@@ -57,58 +55,41 @@ pub fn ask_text<W: Write>(
     ensures refuses { (n : ℕ) → HasBadAskedLine params.entry input.now n → RefusesLine n result }
     ensures quiet { (n : ℕ) → HasBadAskedLine params.entry input.now n → out.new ≡ out.old }
 {
-    write_asking(alloc, params, asking, input, out)
+    write_run(alloc, params, asking, input, out)
 }
 
-/// Writes what a client prints, or the refusal of its context.
-fn write_asking<W: Write>(
-    alloc: Global,
-    params: Params<'_>,
-    asking: Asking,
-    input: &[u8],
-    out: &mut W,
-) -> Result<u8, Fault>
-    ensures { Prints W.contents (AskText params.entry asking input.now) (HasBadAskedLine params.entry input.now)
-        out.old out.new result }
-{
-    one_context_refusal();
-    match Context::derive(params) {
-        Ok(context) => {
-            let mut client = Client::new(context, asking.next, asking.life_ms);
-            write_input(alloc, &mut client, input, out)
-        }
-        Err(refusal) => put_refused(alloc, refusal, out),
+impl Beginning for Asking {
+    ghost promised = { λ asking client server input X contents.
+        Prints contents (InputText SpellsAsked ClientLine (New client (number_of asking.next) asking.life_ms) input) (IsFirstBadLine SpellsAsked input) };
+
+    fn write_under<W: Write>(
+        self,
+        alloc: Global,
+        context: Context,
+        input: &[u8],
+        out: &mut W,
+    ) -> Result<u8, Fault> {
+        one_client_answer();
+        one_datagram();
+        let mut client = Client::<16>::new(context, self.next, self.life_ms);
+        write_input(alloc, &mut client, input, out)
     }
 }
 
-/// Reads the events of an input, runs a client over them, and writes the lines of their entries.
-fn write_input<W: Write>(
-    alloc: Global,
-    client: &mut Client<16>,
-    input: &[u8],
-    out: &mut W,
-) -> Result<u8, Fault>
-    ensures { (h : History) → ClientAgrees client.old h → AllClientAnswers places h
-        → Prints W.contents (InputText SpellsAsked ClientLine h input.now) (IsFirstBadLine SpellsAsked input.now)
-        out.old out.new result }
-{
-    one_client_answer();
-    one_datagram();
-    let mut events = read_events(alloc, input)?;
-    write_events(alloc, client, events.as_mut_slice(), out)
-}
+impl End for Client<16> {
+    type Event = ClientEvent;
 
-/// Runs a client over events, and writes the lines of their entries: of those before one for which no memory was left.
-fn write_events<W: Write>(
-    alloc: Global,
-    client: &mut Client<16>,
-    events: &mut [ClientEvent],
-    out: &mut W,
-) -> Result<u8, Fault>
-    ensures { (h : History) → ClientAgrees client.old h → All HasRoom events.old
-        → RunsEvents ClientLine h (map asked_seen events.old) (W.contents out.old) (W.contents out.new) result }
-{
-    let mut log = Vec::new(alloc);
-    let ran = run_client(alloc, client, events, &mut log);
-    write_log(alloc, log.as_slice(), ran, out)
+    ghost are_lines_of = { λ client events lines. (h : History) → ClientAgrees client h → All HasRoom events
+        → EventLines ClientLine h (map asked_seen events) lines };
+
+    fn write_events<W: Write>(
+        &mut self,
+        alloc: Global,
+        events: &mut [ClientEvent],
+        out: &mut W,
+    ) -> Result<u8, Fault> {
+        let mut log = Vec::new(alloc);
+        let ran = run_client(alloc, self, events, &mut log);
+        write_log(alloc, log.as_slice(), ran, out)
+    }
 }

@@ -1,17 +1,15 @@
 //! What `run` prints of a server.
 
 ghost use Rattle.std.specs.Prelude.{◌≡◌, ◌⊎◌, ℕ, [], List, All, Err, IfOk, map};
-ghost use Rattle.osc_context.specs.Views.{as_server};
 ghost use Rattle.osc_endpoint.specs.Agrees.{Agrees};
-ghost use Rattle.osc_endpoint.specs.Laws.{AllAnswers};
 ghost use Rattle.osc_endpoint.specs.ServerHistory.{History};
 
+use crate::ends::{Beginning, End, write_input, write_run};
 use crate::entry_lines::write_log;
 use crate::fault::Fault;
-use crate::input_lines::read_events;
 use crate::lines::put_refused;
 use osc_coap::one_datagram;
-use osc_context::{Context, Params, Piv, one_context_refusal};
+use osc_context::{Context, Params, Piv};
 use osc_endpoint::{Server, ServerEvent, Start, one_server_answer, run_server};
 use osc_window::WindowSize;
 use std::alloc::Global;
@@ -28,10 +26,8 @@ pub struct Serving {
     pub window: WindowSize,
 }
 
-ghost use Rattle.osc_text.specs.InputEvents.{SpellsEvent};
-ghost use Rattle.osc_text.specs.InputText.{InputText, RefusesLine};
-ghost use Rattle.osc_text.specs.Inputs.{IsFirstBadLine};
-ghost use Rattle.osc_text.specs.Printing.{Prints, RunsEvents};
+ghost use Rattle.osc_text.specs.InputText.{EventLines, RefusesLine};
+ghost use Rattle.osc_text.specs.Printing.{Prints};
 ghost use Rattle.osc_text.specs.ServedReading.{IsOfRun, event_seen};
 ghost use Rattle.osc_text.specs.Serving.{HasBadLine, ServeText, ServerLine, ServerText, start_of};
 ghost use Rattle.osc_text.specs.Starting.{StartsBadly};
@@ -74,74 +70,44 @@ pub fn serve_text<W: Write>(
     ensures refuses { (n : ℕ) → HasBadLine params.entry serving input.now n → RefusesLine n result }
     ensures quiet { (n : ℕ) → HasBadLine params.entry serving input.now n → out.new ≡ out.old }
 {
-    write_serving(alloc, params, serving, input, out)
+    write_run(alloc, params, serving, input, out)
 }
 
-/// Writes what a server prints, or the refusal of its context.
-fn write_serving<W: Write>(
-    alloc: Global,
-    params: Params<'_>,
-    serving: Serving,
-    input: &[u8],
-    out: &mut W,
-) -> Result<u8, Fault>
-    ensures { Prints W.contents (ServeText params.entry serving input.now) (HasBadLine params.entry serving input.now)
-        out.old out.new result }
-{
-    one_context_refusal();
-    match Context::derive(params) {
-        Ok(context) => write_served(alloc, context, serving, input, out),
-        Err(refusal) => put_refused(alloc, refusal, out),
+impl Beginning for Serving {
+    ghost promised = { λ serving client server input X contents.
+        Prints contents (ServerText server (start_of serving) serving.window input) (StartsBadly server (start_of serving) serving.window input) };
+
+    fn write_under<W: Write>(
+        self,
+        alloc: Global,
+        context: Context,
+        input: &[u8],
+        out: &mut W,
+    ) -> Result<u8, Fault> {
+        one_server_answer();
+        one_datagram();
+        let mut server = Server::new();
+        match server.add(context, self.start(), self.window) {
+            Ok(_index) => write_input(alloc, &mut server, input, out),
+            Err(refusal) => put_refused(alloc, refusal, out),
+        }
     }
 }
 
-/// Writes what a server prints under a context, or the refusal of its start.
-fn write_served<W: Write>(
-    alloc: Global,
-    context: Context,
-    serving: Serving,
-    input: &[u8],
-    out: &mut W,
-) -> Result<u8, Fault>
-    ensures { Prints W.contents (ServerText (as_server context) (start_of serving) serving.window input.now)
-        (StartsBadly (as_server context) (start_of serving) serving.window input.now) out.old out.new result }
-{
-    one_server_answer();
-    let mut server = Server::new();
-    match server.add(context, serving.start(), serving.window) {
-        Ok(_index) => write_input(alloc, &mut server, input, out),
-        Err(refusal) => put_refused(alloc, refusal, out),
+impl End for Server {
+    type Event = ServerEvent;
+
+    ghost are_lines_of = { λ server events lines. (h : History) → Agrees server h → All IsOfRun events
+        → EventLines ServerLine (h, []) (map event_seen events) lines };
+
+    fn write_events<W: Write>(
+        &mut self,
+        alloc: Global,
+        events: &mut [ServerEvent],
+        out: &mut W,
+    ) -> Result<u8, Fault> {
+        let mut log = Vec::new(alloc);
+        let ran = run_server(alloc, self, events, &mut log);
+        write_log(alloc, log.as_slice(), ran, out)
     }
-}
-
-/// Reads the events of an input, runs a server over them, and writes the lines of their entries.
-fn write_input<W: Write>(
-    alloc: Global,
-    server: &mut Server,
-    input: &[u8],
-    out: &mut W,
-) -> Result<u8, Fault>
-    ensures { (h : History) → Agrees server.old h → AllAnswers h
-        → Prints W.contents (InputText SpellsEvent ServerLine (h, []) input.now) (IsFirstBadLine SpellsEvent input.now)
-        out.old out.new result }
-{
-    one_server_answer();
-    one_datagram();
-    let mut events = read_events(alloc, input)?;
-    write_events(alloc, server, events.as_mut_slice(), out)
-}
-
-/// Runs a server over events, and writes the lines of their entries: of those before one for which no memory was left.
-fn write_events<W: Write>(
-    alloc: Global,
-    server: &mut Server,
-    events: &mut [ServerEvent],
-    out: &mut W,
-) -> Result<u8, Fault>
-    ensures { (h : History) → Agrees server.old h → All IsOfRun events.old
-        → RunsEvents ServerLine (h, []) (map event_seen events.old) (W.contents out.old) (W.contents out.new) result }
-{
-    let mut log = Vec::new(alloc);
-    let ran = run_server(alloc, server, events, &mut log);
-    write_log(alloc, log.as_slice(), ran, out)
 }

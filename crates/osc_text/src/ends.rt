@@ -1,0 +1,78 @@
+//! What all that `run` prints has in common: a context is derived, an end begins under it and runs over the events that an input
+//! spells, and each entry of its log is a line.
+
+ghost use Rattle.std.specs.Prelude.{ℕ, List};
+ghost use Rattle.osc_context.specs.SecurityContext.{SecurityContext};
+ghost use Rattle.osc_context.specs.Views.{as_client, as_server, client_context_of, server_context_of};
+ghost use Rattle.osc_text.specs.Printing.{Promised, RunsContext, RunsEvents, RunsInput};
+
+use crate::fault::Fault;
+use crate::input_lines::{LineEvent, read_events};
+use crate::lines::put_refused;
+use osc_context::{Context, Params, one_context_refusal};
+use std::alloc::Global;
+use std::io::Write;
+
+/// How an end begins under a context.
+pub(crate) trait Beginning: Drop {
+    // What is promised of a call over an input, by the context as a client's and as a server's.
+    ghost promised: { Self → SecurityContext → SecurityContext → List ℕ → Promised };
+
+    /// Writes what the end prints under a context, or the refusal of its start.
+    fn write_under<W: Write>(
+        self,
+        alloc: Global,
+        context: Context,
+        input: &[u8],
+        out: &mut W,
+    ) -> Result<u8, Fault>
+        ensures { promised self (as_client context) (as_server context) input.now W W.contents out.old out.new result };
+}
+
+/// An end that runs over events.
+pub(crate) trait End {
+    type Event: LineEvent;
+
+    // These are the lines of the entries of these events, from this end on.
+    ghost are_lines_of: { Self → List Self.Event → List (List ℕ) → Type 0 };
+
+    /// Runs over events, and writes the lines of their entries: of those before one for which no memory was left.
+    fn write_events<W: Write>(
+        &mut self,
+        alloc: Global,
+        events: &mut [Self::Event],
+        out: &mut W,
+    ) -> Result<u8, Fault>
+        ensures { RunsEvents (are_lines_of self.old) events.old (W.contents out.old) (W.contents out.new) result };
+}
+
+/// Derives a context and writes what an end prints that begins under it, or the refusal of the context.
+pub(crate) fn write_run<B: Beginning, W: Write>(
+    alloc: Global,
+    params: Params<'_>,
+    beginning: B,
+    input: &[u8],
+    out: &mut W,
+) -> Result<u8, Fault>
+    ensures { RunsContext params.entry (W.contents out.old) (W.contents out.new) result
+        (B.promised beginning (client_context_of params.entry) (server_context_of params.entry) input.now W W.contents out.old out.new result) }
+{
+    one_context_refusal();
+    match Context::derive(params) {
+        Ok(context) => beginning.write_under(alloc, context, input, out),
+        Err(refusal) => put_refused(alloc, refusal, out),
+    }
+}
+
+/// Reads the events of an input, runs an end over them, and writes the lines of their entries.
+pub(crate) fn write_input<E: End, W: Write>(
+    alloc: Global,
+    end: &mut E,
+    input: &[u8],
+    out: &mut W,
+) -> Result<u8, Fault>
+    ensures { RunsInput W.contents E.Event.spells E.Event.is_bad (E.are_lines_of end.old) input.now out.old out.new result }
+{
+    let mut events = read_events(alloc, input)?;
+    end.write_events(alloc, events.as_mut_slice(), out)
+}

@@ -1,0 +1,167 @@
+//! What `run` prints of a server and of a client whose numbers are kept.
+
+ghost use Rattle.std.specs.Mem.{FitsInMemory};
+ghost use Rattle.std.specs.Prelude.{◌≡◌, ◌⊎◌, ◌↔◌, [], All, IfOk, map, true};
+ghost use Rattle.osc_endpoint.specs.ClientHistory.{History as ClientHistory};
+ghost use Rattle.osc_endpoint.specs.ServerHistory.{History as ServerHistory};
+ghost use Rattle.osc_kept.specs.KeptAsking.{IsKept as IsKeptClient};
+ghost use Rattle.osc_kept.specs.KeptRuns.{client_state, server_state};
+ghost use Rattle.osc_kept.specs.KeptServing.{IsKept as IsKeptServer};
+ghost use Rattle.osc_kept.specs.Numbering.{upcoming};
+ghost use Rattle.osc_kept.specs.Owning.{own_in};
+ghost use Rattle.osc_text.specs.Asking.{places};
+ghost use Rattle.osc_text.specs.InputText.{EventLines};
+ghost use Rattle.osc_text.specs.KeptAskedEvents.{SpellsKeptAsked};
+ghost use Rattle.osc_text.specs.KeptAsking.{ClientStartText, HasBadKeptAskedLine, KeptAskFront, KeptAskText, KeptAskedLine};
+ghost use Rattle.osc_text.specs.KeptEvents.{SpellsKept};
+ghost use Rattle.osc_text.specs.KeptSeen.{IsRoomy, IsRoomyAsked, kept_asked_seen, kept_seen};
+ghost use Rattle.osc_text.specs.KeptServing.{HasBadKeptLine, KeptLine, KeptServeFront, KeptServeText, StartText};
+ghost use Rattle.osc_text.specs.KeptStarting.{StartsClientBadly, StartsKeptBadly};
+ghost use Rattle.osc_text.specs.KeptText.{WroteBy};
+ghost use Rattle.osc_text.specs.Printing.{WroteAround};
+
+use crate::ends::{Beginning, End, write_input, write_run};
+use crate::entry_lines::write_log;
+use crate::fault::Fault;
+use crate::lines::put_refused;
+use osc_context::{Context, Keeper, Params};
+use osc_kept::{
+    KeptClient, KeptClientEvent, KeptServer, KeptServerEvent, run_kept_client, run_kept_server,
+};
+use osc_window::WindowSize;
+use std::alloc::Global;
+use std::io::Write;
+use std::mem::{self, ManuallyDrop};
+
+/// How an end begins whose numbers are kept: by the keeper that loads its first, and by what else is said of it.
+#[derive(Drop)]
+struct Kept<K, T>(K, T);
+
+/// Derives a context, starts a server of it alone at the number that the keeper loads, runs it over the events that an input
+/// spells, one a line, and writes the line of each event's entry, or the one line of a refusal, of the context or of the start,
+/// before a line of the input is looked at. All lines are read before the first event runs. This end is the sender of the
+/// context. Answers the status: 0 where the events ran, 2 where the context or the start is refused. The first line that spells
+/// no event is a fault, and then nothing is written. Each line is made whole before it is written.
+pub fn serve_kept_text<K: Keeper + Drop, W: Write>(
+    alloc: Global,
+    params: Params<'_>,
+    keeper: K,
+    window: WindowSize,
+    input: &[u8],
+    out: &mut W,
+) -> Result<u8, Fault>
+    ensures written { WroteBy W.contents (KeptServeText K.Keeper params.entry window keeper input.now)
+        (KeptServeFront K.Keeper params.entry window keeper input.now)
+        (HasBadKeptLine K.Keeper params.entry window keeper input.now) out.old out.new result }
+    ensures two { IfOk result (λ s. (s ≡ 0) ⊎ (s ≡ 2)) }
+{
+    write_run(alloc, params, Kept(keeper, window), input, out)
+}
+
+impl<K: Keeper + Drop> Beginning for Kept<K, WindowSize> {
+    ghost promised = { λ kept client server input. WroteAround SpellsKept KeptLine
+        (StartText K.Keeper server kept.1 kept.0) (StartsKeptBadly K.Keeper server kept.1 kept.0 input) input };
+
+    fn write_under<W: Write>(
+        self,
+        alloc: Global,
+        context: Context,
+        input: &[u8],
+        out: &mut W,
+    ) -> Result<u8, Fault> {
+        let Kept(keeper, window) = self;
+        match KeptServer::start(context, keeper, window) {
+            Ok(mut server) => write_input(alloc, &mut server, input, out),
+            Err((refusal, _keeper)) => put_refused(alloc, refusal, out),
+        }
+    }
+}
+
+impl<K: Keeper + Drop> End for KeptServer<K> {
+    type Event = KeptServerEvent;
+
+    ghost are_lines_of = { λ server events lines. (h : ServerHistory) → IsKeptServer server.server (upcoming (own_in server.source)) h
+        → All IsRoomy events → EventLines KeptLine (server_state h server.source []) (map kept_seen events) lines };
+
+    fn write_events<W: Write>(
+        &mut self,
+        alloc: Global,
+        events: &mut [KeptServerEvent],
+        out: &mut W,
+    ) -> Result<u8, Fault> {
+        let mut log = Vec::new(alloc);
+        let ran = run_kept_server(alloc, self, events, &mut log);
+        write_log(alloc, log.as_slice(), ran, out)
+    }
+}
+
+/// Derives a context, starts a client of it at the number that the keeper loads, runs it over the events that an input spells,
+/// one a line, and writes the line of each event's entry, or the one line of a refusal, of the context or of the start, before a
+/// line of the input is looked at. All lines are read before the first event runs. This end is the sender of the context; up to
+/// 16 of its requests are pending at once, each for so many milliseconds. Answers the status: 0 where the events ran, 2 where the
+/// context or the start is refused. The first line that spells no event is a fault, and then nothing is written. Each line is
+/// made whole before it is written.
+pub fn ask_kept_text<K: Keeper + Drop, W: Write>(
+    alloc: Global,
+    params: Params<'_>,
+    keeper: K,
+    life_ms: u64,
+    input: &[u8],
+    out: &mut W,
+) -> Result<u8, Fault>
+    ensures written { WroteBy W.contents (KeptAskText K.Keeper params.entry life_ms keeper input.now)
+        (KeptAskFront K.Keeper params.entry life_ms keeper input.now)
+        (HasBadKeptAskedLine K.Keeper params.entry life_ms keeper input.now) out.old out.new result }
+    ensures two { IfOk result (λ s. (s ≡ 0) ⊎ (s ≡ 2)) }
+{
+    write_run(alloc, params, Kept(keeper, life_ms), input, out)
+}
+
+/// Whether a value of this type takes fewer than 2^63 bytes.
+fn is_of_a_size<T>(value: &T) -> bool
+    ensures { result ≡ true ↔ FitsInMemory T.row }
+{
+    mem::size_of_val(value) <= isize::MAX as usize
+}
+
+impl<K: Keeper + Drop> Beginning for Kept<K, u64> {
+    ghost promised = { λ kept client server input. WroteAround SpellsKeptAsked (KeptAskedLine places)
+        (ClientStartText K.Keeper client kept.1 kept.0) (StartsClientBadly K.Keeper client kept.1 kept.0 input) input };
+
+    fn write_under<W: Write>(
+        self,
+        alloc: Global,
+        context: Context,
+        input: &[u8],
+        out: &mut W,
+    ) -> Result<u8, Fault> {
+        // No type is larger, and the branch is none in the program: it tells the proof that a client over this keeper fits.
+        let none: Option<ManuallyDrop<KeptClient<K, 16>>> = None;
+        if !is_of_a_size(&none) {
+            return Err(Fault::Memory);
+        }
+        let Kept(keeper, life_ms) = self;
+        match KeptClient::<K, 16>::start(context, keeper, life_ms) {
+            Ok(mut client) => write_input(alloc, &mut client, input, out),
+            Err((refusal, _keeper)) => put_refused(alloc, refusal, out),
+        }
+    }
+}
+
+impl<K: Keeper + Drop, const N: usize> End for KeptClient<K, N> {
+    type Event = KeptClientEvent;
+
+    ghost are_lines_of = { λ client events lines. (h : ClientHistory) → IsKeptClient client.client (upcoming (own_in client.source)) h
+        → All IsRoomyAsked events → EventLines (KeptAskedLine N) (client_state h client.source) (map kept_asked_seen events) lines };
+
+    fn write_events<W: Write>(
+        &mut self,
+        alloc: Global,
+        events: &mut [KeptClientEvent],
+        out: &mut W,
+    ) -> Result<u8, Fault> {
+        let mut log = Vec::new(alloc);
+        let ran = run_kept_client(alloc, self, events, &mut log);
+        write_log(alloc, log.as_slice(), ran, out)
+    }
+}
