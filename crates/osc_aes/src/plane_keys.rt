@@ -13,7 +13,9 @@ use byteorder::{ByteOrder, LittleEndian};
 // Lanes 0, 8, 16 and 24, in which the bytes of a word stand.
 const LANES: u32 = 0x0101_0101;
 
-// Round keys 0 to 10 of a key, each in the lanes of both blocks, and as the state stands to which it is added.
+// Round keys 0 to 10 of a key, each in the lanes of both blocks, and as the state stands to which it is added. A call of its own,
+// as the rounds are.
+#[inline(never)]
 pub(crate) fn round_keys(key: &[u8; 16]) -> [[u32; 8]; 11]
     ensures { AreKeysOf result (expanded_key key.now) }
 {

@@ -1,6 +1,6 @@
 //! The cipher of a context's keys: by tables, or in constant time where the context asks for that.
 
-ghost use Rattle.std.specs.Prelude.{◌≡◌};
+ghost use Rattle.std.specs.Prelude.{◌≡◌, true};
 ghost use Rattle.osc_protect.specs.ContextCipher.{is_in_constant_time, key_under};
 
 use osc_aes::{BlockCipher, PlaneAes, TableAes};
@@ -19,10 +19,19 @@ impl ContextCipher {
         ensures chosen { is_in_constant_time result ≡ constant_time }
     {
         if constant_time {
-            ContextCipher::ConstantTime(PlaneAes::new(key))
+            ContextCipher::in_planes(key)
         } else {
             ContextCipher::ByTables(TableAes::new(key))
         }
+    }
+
+    /// The schedule of a key in planes. A call of its own, so that what goes by tables has no room for it on its stack.
+    #[inline(never)]
+    fn in_planes(key: &[u8; 16]) -> ContextCipher
+        ensures key { key_under result ≡ key.now }
+        ensures chosen { is_in_constant_time result ≡ true }
+    {
+        ContextCipher::ConstantTime(PlaneAes::new(key))
     }
 }
 
