@@ -1,5 +1,5 @@
 /* One message: RFC 8613, C.1 to C.8, both ways, by tables and in constant time; each status once; the layout of the structs; spoilt
-   datagrams and handles. Built with the sanitizers by .ci/run. */
+   datagrams and handles; what both ciphers seal. Built with the sanitizers by .ci/run. */
 #include "../oscore.h"
 #include <stdio.h>
 #include <stdlib.h>
@@ -217,6 +217,24 @@ static void spoils_handles(void) {
     }
 }
 
+/* Both ciphers seal alike, under 10,000 random keys and Common IVs, by random numbers, payloads of 1 to 100 random bytes. */
+static void ciphers_agree(void) {
+    uint8_t plain[105] = {0x40, 0x01, 0, 1, 0xff}, in_constant_time[160];
+    for (int i = 0; i < 10000; i++) {
+        oscore_context context = clients[C1];
+        size_t len = 6 + rand() % 100, len_in_constant_time;
+        uint64_t number = rand();
+        for (size_t k = 0; k < sizeof context.sender_key; k++) context.sender_key[k] = rand();
+        for (size_t k = 0; k < sizeof context.common_iv; k++) context.common_iv[k] = rand();
+        for (size_t k = 5; k < len; k++) plain[k] = rand();
+        context.constant_time = 0;
+        CHECK(!oscore_seal_request(&context, number, plain, len, out, sizeof out, &out_len, &detail));
+        context.constant_time = 1 + rand() % 255;
+        CHECK(!oscore_seal_request(&context, number, plain, len, in_constant_time, sizeof in_constant_time, &len_in_constant_time, &detail));
+        CHECK(len_in_constant_time == out_len && !memcmp(in_constant_time, out, out_len));
+    }
+}
+
 int main(void) {
     srand(1);
     for (int constant_time = 1; constant_time >= 0; constant_time--) {
@@ -230,6 +248,7 @@ int main(void) {
     has_sizes();
     spoils_datagrams();
     spoils_handles();
-    puts("messages: C.1 to C.8, each status, 20,000 spoilt datagrams and 20,000 spoilt handles");
+    ciphers_agree();
+    puts("messages: C.1 to C.8, each status, 20,000 spoilt datagrams and 20,000 spoilt handles, 10,000 messages sealed by both ciphers");
     return 0;
 }

@@ -1,0 +1,143 @@
+/* Whether a branch or an address depends on a key. To valgrind's memcheck the Master Secret is unknown, and so is all that comes of it; it
+   reports each branch and each address that depends on something unknown. Derived, sealed and opened are messages of 0 to 100 bytes of
+   payload, alone and by a server and a client. In constant time there is one report for each bad tag, the verdict on it, and none before;
+   behind a good tag there are those of what reads the message: bindings/c/check looks that they stand there. By tables there are many,
+   so that it is seen that memcheck sees. It takes a word, `constant` or `tables`. */
+#include "../oscore.h"
+#include <stdio.h>
+#include <stdlib.h>
+#include <string.h>
+#include <valgrind/memcheck.h>
+
+#define CHECK(condition) ((condition) ? (void)0 : fails(__LINE__, #condition))
+
+enum { LONGEST = 100, ROOM = 256 };
+
+static const uint8_t one = 1, salt[8] = {0x9e, 0x7c, 0xa9, 0x22, 0x23, 0x78, 0x63, 0x40}, echo[8] = {4, 4, 4, 4, 4, 4, 4, 4};
+
+/* The reports so far: before the verdict on a tag, and of calls that end with a bad one. */
+static unsigned long with_keys, with_bad_tags, bad_tags;
+
+static void fails(int line, const char *condition) {
+    printf("line %d: %s\n", line, condition);
+    exit(1);
+}
+
+/* How many reports there were since the last call. */
+static unsigned long reports(void) {
+    static unsigned long before;
+    unsigned long now = VALGRIND_COUNT_ERRORS, more = now - before;
+    before = now;
+    return more;
+}
+
+/* What everybody sees, or may: sent bytes, and what hangs on the verdict. */
+static void shown(void *bytes, size_t len) {
+    (void)VALGRIND_MAKE_MEM_DEFINED(bytes, len);
+}
+
+/* A message with a token of one byte and so many bytes of payload. */
+static size_t message(uint8_t *plain, uint8_t code, uint8_t token, size_t len) {
+    const uint8_t head[] = {0x41, code, 0, token, token};
+    memcpy(plain, head, sizeof head);
+    if (len == 0)
+        return sizeof head;
+    plain[sizeof head] = 0xff;
+    memset(plain + sizeof head + 1, 'x', len);
+    return sizeof head + 1 + len;
+}
+
+/* The contexts of both ends under a secret that memcheck takes for unknown. */
+static void derive(oscore_context *client, oscore_context *server, bool constant_time) {
+    uint8_t secret[16] = {1, 2, 3, 4, 5, 6, 7, 8, 9, 10, 11, 12, 13, 14, 15, 16};
+    (void)VALGRIND_MAKE_MEM_UNDEFINED(secret, sizeof secret);
+    CHECK(!oscore_derive(client, secret, sizeof secret, salt, sizeof salt, false, NULL, 0, NULL, 0, &one, 1, constant_time));
+    CHECK(!oscore_derive(server, secret, sizeof secret, salt, sizeof salt, false, NULL, 0, &one, 1, NULL, 0, constant_time));
+    CHECK(reports() == 0);
+    /* So the keys are unknown too. To ask is one more report. */
+    CHECK(VALGRIND_CHECK_MEM_IS_DEFINED(client->sender_key, 16) && VALGRIND_CHECK_MEM_IS_DEFINED(client->recipient_key, 16));
+    (void)reports();
+}
+
+/* A request and its response, sealed, opened with a turned tag, and opened. */
+static void messages(const oscore_context *client, const oscore_context *server, size_t len) {
+    uint8_t plain[ROOM], datagram[ROOM], turned[ROOM];
+    size_t sealed = 0, detail = 0;
+    oscore_option options[4];
+    oscore_opened opened;
+    for (int response = 0; response < 2; response++) {
+        size_t plain_len = message(plain, response ? 0x45 : 0x01, 7, len);
+        CHECK(!(response ? oscore_seal_response(server, len, len % 2, 5, plain, plain_len, datagram, ROOM, &sealed, &detail)
+                         : oscore_seal_request(client, len, plain, plain_len, datagram, ROOM, &sealed, &detail)));
+        with_keys += reports();
+        shown(datagram, sealed);
+        memcpy(turned, datagram, sealed);
+        turned[sealed - 1] ^= 1;
+        CHECK(response ? oscore_open_response(client, len, turned, sealed, options, 4, &opened, &detail)
+                       : oscore_open_request(server, turned, sealed, options, 4, &opened, &detail));
+        with_bad_tags += reports();
+        bad_tags++;
+        CHECK(!(response ? oscore_open_response(client, len, datagram, sealed, options, 4, &opened, &detail)
+                         : oscore_open_request(server, datagram, sealed, options, 4, &opened, &detail)));
+        (void)reports();
+    }
+}
+
+/* The same by both ends: a request that comes with a turned tag and then whole, and its response. */
+static void ends(oscore_client *client, oscore_server *server, size_t len) {
+    uint8_t plain[ROOM], datagram[ROOM], turned[ROOM], out[64];
+    size_t sealed = 0, out_len = 0, detail = 0;
+    uint64_t number = 0;
+    oscore_option options[4];
+    oscore_opened opened;
+    oscore_ticket ticket = {0};
+    size_t plain_len = message(plain, 0x01, (uint8_t)len, len);
+    CHECK(!oscore_client_request(client, len, plain, plain_len, datagram, ROOM, &sealed, &detail));
+    with_keys += reports();
+    shown(datagram, sealed);
+    memcpy(turned, datagram, sealed);
+    turned[sealed - 1] ^= 1;
+    CHECK(oscore_server_take(server, len, echo, 1, turned, sealed, options, 4, &opened, &ticket, out, &out_len, &detail));
+    with_bad_tags += reports();
+    bad_tags++;
+    CHECK(!oscore_server_take(server, len, echo, 1, datagram, sealed, options, 4, &opened, &ticket, out, &out_len, &detail));
+    (void)reports();
+    shown(&ticket, sizeof ticket);
+    shown(server->unanswered, sizeof server->unanswered);
+    shown(&server->clock, sizeof server->clock);
+    plain_len = message(plain, 0x45, (uint8_t)len, len);
+    CHECK(!oscore_server_reply(server, &ticket, len % 2, 1, plain, plain_len, datagram, ROOM, &sealed, &detail));
+    with_keys += reports();
+    shown(datagram, sealed);
+    memcpy(turned, datagram, sealed);
+    turned[sealed - 1] ^= 1;
+    CHECK(oscore_client_take(client, len, turned, sealed, options, 4, &opened, &number, &detail));
+    with_bad_tags += reports();
+    bad_tags++;
+    CHECK(!oscore_client_take(client, len, datagram, sealed, options, 4, &opened, &number, &detail));
+    (void)reports();
+}
+
+int main(int count, char **words) {
+    bool constant_time = count > 1 && !strcmp(words[1], "constant");
+    static oscore_server server;
+    static oscore_client client;
+    oscore_context client_context, server_context;
+    size_t index;
+    CHECK(RUNNING_ON_VALGRIND);
+    derive(&client_context, &server_context, constant_time);
+    oscore_server_begin(&server);
+    CHECK(!oscore_server_add(&server, &server_context, false, 0, 32, &index));
+    CHECK(!oscore_client_begin(&client, &client_context, 0, 60000));
+    with_keys += reports();
+    for (size_t len = 0; len <= LONGEST; len += constant_time ? 1 : LONGEST / 2) {
+        messages(&client_context, &server_context, len);
+        ends(&client, &server, len);
+    }
+    printf("%lu reports with keys, and %lu of %lu bad tags\n", with_keys, with_bad_tags, bad_tags);
+    if (constant_time)
+        CHECK(with_keys == 0 && with_bad_tags == bad_tags);
+    else
+        CHECK(with_keys > bad_tags && with_bad_tags > 2 * bad_tags);
+    return 0;
+}
