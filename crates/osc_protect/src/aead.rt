@@ -14,7 +14,7 @@ ghost use Rattle.osc_context.specs.Views.{number_of};
 ghost use Rattle.osc_protect.specs.Ends.{IsClientOf, IsServerOf};
 ghost use Rattle.osc_protect.specs.Protection.{request_cipher, response_cipher, response_nonce};
 
-use crate::context_cipher::ContextCipher;
+use crate::context_cipher::ContextCipher::{self, ByTables, ConstantTime};
 use crate::ends::End;
 use arrayvec::ArrayVec;
 use osc_ccm::{open, protection_length, seal};
@@ -89,7 +89,12 @@ impl<'a> Aead<'a> {
         ensures sealed { payload.new ≡ cipher_of self.now (take len payload.old) ++ drop (len + tag_length) payload.old }
     {
         let additional_data = self.additional_data.as_slice();
-        match seal(self.schedule, &self.nonce, additional_data, payload, len) {
+        let schedule = self.schedule;
+        let sealed = match schedule {
+            ByTables(cipher) => seal(cipher, &self.nonce, additional_data, payload, len),
+            ConstantTime(cipher) => seal(cipher, &self.nonce, additional_data, payload, len),
+        };
+        match sealed {
             Ok(sealed) => sealed,
             Err(_) => unreachable!(),
         }
@@ -107,7 +112,12 @@ impl<'a> Aead<'a> {
     {
         protection_length();
         let additional_data = self.additional_data.as_slice();
-        open(self.schedule, &self.nonce, additional_data, payload).ok()
+        let schedule = self.schedule;
+        let opened = match schedule {
+            ByTables(cipher) => open(cipher, &self.nonce, additional_data, payload),
+            ConstantTime(cipher) => open(cipher, &self.nonce, additional_data, payload),
+        };
+        opened.ok()
     }
 
     /// Opens the payload of a datagram, its last `len` bytes, where it lies.

@@ -3,9 +3,9 @@
 ghost use Rattle.std.specs.Prelude.{◌≡◌, true};
 ghost use Rattle.osc_protect.specs.ContextCipher.{is_in_constant_time, key_under};
 
-use osc_aes::{BlockCipher, PlaneAes, TableAes};
+use osc_aes::{PlaneAes, TableAes};
 
-/// AES-128 under one key of a context.
+/// AES-128 under one key of a context. `Aead` asks once a message which it is, and calls that cipher.
 #[derive(Drop)]
 pub(crate) enum ContextCipher {
     ByTables(TableAes),
@@ -33,26 +33,4 @@ impl ContextCipher {
     {
         ContextCipher::ConstantTime(PlaneAes::new(key))
     }
-}
-
-impl BlockCipher for ContextCipher {
-    ghost use Rattle.osc_protect.specs.declared.context_cipher.ContextCipher.TheVariants.{ByTables, ConstantTime};
-
-    ghost cipher_key = { key_under };
-
-    fn encrypt(&self, block: &mut [u8; 16]) {
-        match self {
-            ContextCipher::ByTables(cipher) => cipher.encrypt(block),
-            ContextCipher::ConstantTime(cipher) => cipher.encrypt(block),
-        }
-    }
-
-    fn encrypt_two(&self, first: &mut [u8; 16], second: &mut [u8; 16]) {
-        match self {
-            ContextCipher::ByTables(cipher) => cipher.encrypt_two(first, second),
-            ContextCipher::ConstantTime(cipher) => cipher.encrypt_two(first, second),
-        }
-    }
-
-    ghost key_len = { elim [ ByTables cipher ↦ cipher.key_len | ConstantTime cipher ↦ cipher.key_len ] };
 }
