@@ -35,8 +35,8 @@ OSCORE_ASSERT(sizeof(void *) == 8, "this library has pointers of 8 bytes: compil
    handle or of a datagram are, a call is safe, ends, and refuses by name what it can't use.
 
    What no call can see is left to the caller: a pointer leads to as many bytes as the length beside it says, or to a whole struct,
-   and stays so until the call returns, and nobody else writes there until then, no thread, no signal handler and no device: a call
-   tests a datagram, and then reads it again; what a call writes (`out`, `datagram`, `options`, `opened`, `head`, `server`, `index`,
+   and stays so until the call returns; until then nobody else writes there, no thread, no signal handler and no device, since a call
+   tests a datagram and then reads it again; what a call writes (`out`, `datagram`, `options`, `opened`, `head`, `server`, `index`,
    `ticket`, `out_len`, `detail`, `name`, `sizes`) overlaps nothing else that it is given; a struct is set to zero before it is given
    for the first time; a `bool` is 0 or 1. A pointer may be NULL where the length beside it is 0, and nowhere else. */
 
@@ -117,8 +117,8 @@ typedef struct oscore_option {
 } oscore_option;
 
 /* A message that was opened, in its datagram, where all slices lie: they hold for as long as the datagram stays there. Kind, message ID,
-   token, Uri-Host and Uri-Port weren't protected; code, payload and the options in the caller's array were. A slice of length 0 has a
-   pointer that leads nowhere, and needn't be NULL: whether Uri-Host is there is said by `has_uri_host`. */
+   token, Uri-Host and Uri-Port weren't protected; code, payload and the options in the caller's array were. The pointer of
+   a slice of length 0 isn't to be followed, and needn't be NULL: whether Uri-Host is there is said by `has_uri_host`. */
 typedef struct oscore_opened {
     uint8_t kind; /* 0 CON, 1 NON, 2 ACK */
     uint8_t code; /* 1 GET, 2 POST, 3 PUT, 4 DELETE .. ; 69 is 2.05 */
@@ -314,8 +314,9 @@ OSCORE_MUST_USE oscore_status oscore_client_request(oscore_client *client, uint6
 
 /* Answers a datagram, where it lies. 0: a response to a pending request, which is pending no more, and `request` is its number; that,
    `opened` and `options` are written at 0 alone. OSCORE_BAD_HANDLE leaves the client as it was, the others move its clock.
-   Each refusal says that this datagram isn't the response, and nothing of the one that may still come: the request stays pending, and
-   the caller keeps waiting, until 0 or the end of `life_ms`. Anybody can send what is refused, an error without protection too.
+   Each other refusal says that this datagram isn't the response, and nothing of the one that may still come: the request stays
+   pending, and the caller keeps waiting, until 0 or the end of `life_ms`. Anybody can send what is refused, an error without
+   protection too.
    A server that asks for an Echo value answers 0 with the code 129, 4.01, and the option 252: the request wasn't obeyed, and is asked
    anew with that option's value (RFC 9175, 2.3). Empty messages are OSCORE_NOT_THAT_KIND here: by their message ID they tell the caller
    that a request arrived (ACK), so that it isn't sent again, or that it isn't answered (RST), so that it can be forgotten.

@@ -20,7 +20,7 @@
 #include <time.h>
 
 enum { PUT = 3, CHANGED = 68, BAD_REQUEST = 128, BAD_OPTION = 130, NOT_FOUND = 132, NOT_ALLOWED = 133, URI_PATH = 11 };
-enum { EXCHANGE_LIFETIME_MS = 247000, REPLIES = 32, MOST_DATAGRAM = 1500, MOST_REPLY = 128 };
+enum { CON = 0, NON = 1, EXCHANGE_LIFETIME_MS = 247000, REPLIES = 32, MOST_DATAGRAM = 1500, MOST_REPLY = 128 };
 
 /* For a try only: a real secret is drawn at random for each pair, and kept safe. */
 static const uint8_t SECRET[] = "a secret for a try";
@@ -112,9 +112,13 @@ static void send_back(int udp, const struct sockaddr_in *to, const uint8_t *byte
     if (len > 0) sendto(udp, bytes, len, 0, (const struct sockaddr *)to, sizeof *to);
 }
 
-/* A confirmable message that came again gets what it got the first time, and isn't looked at (RFC 7252, 4.5). */
+static uint8_t kind_of(const received *datagram) {
+    return datagram->bytes[0] >> 4 & 3;
+}
+
+/* What a message got the first time, where it comes again (RFC 7252, 4.5). An ACK and an RST have a message ID of ours, not of theirs. */
 static const sent *find_reply(const received *datagram) {
-    for (size_t i = 0; datagram->len >= 4 && i < REPLIES; i++) {
+    for (size_t i = 0; datagram->len >= 4 && kind_of(datagram) <= NON && i < REPLIES; i++) {
         const sent *reply = &replies[i];
         bool ours = reply->to.sin_addr.s_addr == datagram->from.sin_addr.s_addr && reply->to.sin_port == datagram->from.sin_port;
         if (ours && !memcmp(reply->message_id, datagram->bytes + 2, 2) && milliseconds() < reply->until) return reply;
@@ -160,9 +164,10 @@ static void serve_one(oscore_server *server, int udp) {
         serve(server, udp, &datagram);
         return;
     }
-    puts("came again: sent the same reply");
+    bool again = kind_of(&datagram) == CON;
+    puts(again ? "came again: sent the same reply" : "came again: passed over");
     fflush(stdout);
-    send_back(udp, &reply->to, reply->bytes, reply->len);
+    if (again) send_back(udp, &reply->to, reply->bytes, reply->len);
 }
 
 int main(int count, char **words) {
