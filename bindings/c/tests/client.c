@@ -142,6 +142,8 @@ static void refuses(void) {
     CHECK(take(NOW, "64455d1f00003974ff01") == OSCORE_NO_OSCORE && take(NOW, "64445d1f0000397491e0ff01") == OSCORE_UNDECODABLE);
     CHECK(take(NOW, "64445d1f0000397490ffdbaad1e9a7e7b2a813d3c31524378303cdafae119107") == OSCORE_TAG && client->count == 1);
     CHECK(take(NOW, SEALED_GET) == OSCORE_INNER && *detail == 0 && client->count == 1);
+    /* An empty ACK and an RST of the request's message ID. */
+    CHECK(take(NOW, "60005d1f") == OSCORE_NOT_THAT_KIND && take(NOW, "70005d1f") == OSCORE_NOT_THAT_KIND && client->count == 1);
     CHECK(take(NOW, ANSWERS[0]) == OSCORE_DONE);
     begin((1ull << 40) - 1);
     CHECK(ask_with(NOW, 1) == OSCORE_DONE && client->next == 1ull << 40 && ask_with(NOW, 2) == OSCORE_SEQUENCE_EXHAUSTED);

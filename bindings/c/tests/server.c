@@ -202,6 +202,7 @@ static void refuses_datagrams(void) {
     CHECK(take_text("400100") == OSCORE_SHORT && *detail == 0 && !*reply_len);
     CHECK(take_text("40010001b161ff") == OSCORE_EMPTY_PAYLOAD && *detail == 6 && !*reply_len);
     CHECK(take_text(SEALED_ANSWERS[0]) == OSCORE_NOT_THAT_KIND && *detail == 0 && !*reply_len);
+    CHECK(take_text("40005d1f") == OSCORE_NOT_THAT_KIND && !*reply_len && take_text("70005d1f") == OSCORE_NOT_THAT_KIND && !*reply_len);
     CHECK(take_text(REQUEST) == OSCORE_NO_OSCORE && !*reply_len);
     CHECK(take_text("4002000191e0ff00") == OSCORE_UNDECODABLE && refuses_by("60820001", "Failed to decode COSE"));
     CHECK(take_text(ELSEWHERE) == OSCORE_NO_CONTEXT && refuses_by("648171c30000b932", "Security context not found"));
