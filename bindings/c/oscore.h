@@ -6,15 +6,37 @@
 #include <stddef.h>
 #include <stdint.h>
 
+/* Which library this is the header of. (OSCORE_VERSION is a status, below.) The number is 10,000 major + 100 minor + patch. */
+#define OSCORE_LIBRARY_VERSION 100
+#define OSCORE_LIBRARY_VERSION_STRING "0.1.0"
+
+/* What a struct or an array of structs is begun with, as `oscore_context context = OSCORE_ZERO;`: zero, without a warning. */
 #ifdef __cplusplus
+#define OSCORE_ZERO {}
+#define OSCORE_ASSERT(holds, why) static_assert(holds, why)
 extern "C" {
+#else
+#define OSCORE_ZERO {0}
+#define OSCORE_ASSERT(holds, why) _Static_assert(holds, why)
 #endif
+
+/* Who drops a status doesn't know whether anything was done. A definition of your own may stand before this header. */
+#ifndef OSCORE_MUST_USE
+#if defined(__GNUC__) || defined(__clang__)
+#define OSCORE_MUST_USE __attribute__((warn_unused_result))
+#else
+#define OSCORE_MUST_USE
+#endif
+#endif
+
+OSCORE_ASSERT(sizeof(void *) == 8, "this library has pointers of 8 bytes: compile for 64 bits");
 
 /* All memory is the caller's. Nothing is allocated, nothing is global, nothing is called back; no call waits. Whatever the bytes of a
    handle or of a datagram are, a call is safe, ends, and refuses by name what it can't use.
 
    What no call can see is left to the caller: a pointer leads to as many bytes as the length beside it says, or to a whole struct,
-   and stays so until the call returns; what a call writes (`out`, `datagram`, `options`, `opened`, `head`, `server`, `index`,
+   and stays so until the call returns; until then nobody else writes there, no thread, no signal handler and no device, since a call
+   tests a datagram and then reads it again; what a call writes (`out`, `datagram`, `options`, `opened`, `head`, `server`, `index`,
    `ticket`, `out_len`, `detail`, `name`, `sizes`) overlaps nothing else that it is given; a struct is set to zero before it is given
    for the first time; a `bool` is 0 or 1. A pointer may be NULL where the length beside it is 0, and nowhere else. */
 
@@ -66,6 +88,17 @@ typedef enum oscore_status {
     OSCORE_NOT_PENDING = 40        /* no request with this token is pending */
 } oscore_status;
 
+/* What calls return has the bytes of a uint32_t. */
+OSCORE_ASSERT(sizeof(oscore_status) == 4, "a status has 4 bytes: compile without -fshort-enums");
+
+/* So many bytes of `out` are enough to seal a plain datagram of so many bytes, whatever its options are, and the context, and the number.
+   59 are: 48 of the OSCORE option (RFC 8613, 6.1: its option byte, one more byte for its length, the flags, 5 of a Partial IV, a length
+   and 32 of a kid context, 7 of a kid); 10 of the marker, the code inside and the tag; and 1, since an inner option may come after Uri-Port
+   in the plain datagram, and after nothing inside, so that its delta is up to 7 more, and that can take an extended byte more (RFC
+   7252, 3.1). A response has no kid, so its option has at most 7 bytes, and the server puts the request's token of up to 8 bytes into
+   it. Tested, not proved, and 59 were seen. The sealed message has at most 65,535 bytes. */
+#define OSCORE_ROOM(plain_len) ((plain_len) + 59)
+
 /* A context as one of its two ends holds it (RFC 8613, 3.1): plain bytes, to be made by `oscore_derive` and copied as you like.
    It holds keys: wipe it when it isn't needed. No number is counted in it: whoever seals uses each number once. */
 typedef struct oscore_context {
@@ -83,8 +116,9 @@ typedef struct oscore_option {
     size_t value_len;
 } oscore_option;
 
-/* A message that was opened, in its datagram, where all slices lie. Kind, message ID, token, Uri-Host and Uri-Port weren't
-   protected; code, payload and the options in the caller's array were. */
+/* A message that was opened, in its datagram, where all slices lie: they hold for as long as the datagram stays there. Kind, message ID,
+   token, Uri-Host and Uri-Port weren't protected; code, payload and the options in the caller's array were. The pointer of
+   a slice of length 0 isn't to be followed, and needn't be NULL: whether Uri-Host is there is said by `has_uri_host`. */
 typedef struct oscore_opened {
     uint8_t kind; /* 0 CON, 1 NON, 2 ACK */
     uint8_t code; /* 1 GET, 2 POST, 3 PUT, 4 DELETE .. ; 69 is 2.05 */
@@ -188,33 +222,36 @@ void oscore_status_name(uint32_t status, char name[24]);
    says that there is one, the identifier of this end and that of the other (0 to 7 bytes each). Its keys are used by tables, whose
    times may tell of a key to who shares the machine; with `constant_time` by a cipher whose source has no look-up and no branch that
    depends on a key or a message, which is slower. What is sent is the same, and the other end may choose otherwise. */
-uint32_t oscore_derive(oscore_context *out, const uint8_t *secret, size_t secret_len, const uint8_t *salt, size_t salt_len,
-                       bool has_id_context, const uint8_t *id_context, size_t id_context_len, const uint8_t *sender,
-                       size_t sender_len, const uint8_t *recipient, size_t recipient_len, bool constant_time);
+OSCORE_MUST_USE oscore_status oscore_derive(oscore_context *out, const uint8_t *secret, size_t secret_len, const uint8_t *salt,
+                                            size_t salt_len, bool has_id_context, const uint8_t *id_context, size_t id_context_len,
+                                            const uint8_t *sender, size_t sender_len, const uint8_t *recipient,
+                                            size_t recipient_len, bool constant_time);
 
 /* Reads which context a request names. */
-uint32_t oscore_head(const uint8_t *datagram, size_t datagram_len, oscore_request_head *head, size_t *detail);
+OSCORE_MUST_USE oscore_status oscore_head(const uint8_t *datagram, size_t datagram_len, oscore_request_head *head, size_t *detail);
 
 /* Seals a request, as the client, under a number below 2^40 that this context never sealed under before. `plain` is the datagram of
    the message that is to be sealed; the sealed one is the first `out_len` bytes of `out`. */
-uint32_t oscore_seal_request(const oscore_context *context, uint64_t number, const uint8_t *plain, size_t plain_len,
-                             uint8_t *out, size_t out_room, size_t *out_len, size_t *detail);
+OSCORE_MUST_USE oscore_status oscore_seal_request(const oscore_context *context, uint64_t number, const uint8_t *plain,
+                                                  size_t plain_len, uint8_t *out, size_t out_room, size_t *out_len, size_t *detail);
 
 /* Seals the response to the request that had the number `request`, as the server: under an own number that this context never
    sealed under before, or under the request's, at most once for each request. */
-uint32_t oscore_seal_response(const oscore_context *context, uint64_t request, bool has_own, uint64_t own,
-                              const uint8_t *plain, size_t plain_len, uint8_t *out, size_t out_room, size_t *out_len,
-                              size_t *detail);
+OSCORE_MUST_USE oscore_status oscore_seal_response(const oscore_context *context, uint64_t request, bool has_own, uint64_t own,
+                                                   const uint8_t *plain, size_t plain_len, uint8_t *out, size_t out_room,
+                                                   size_t *out_len, size_t *detail);
 
 /* Opens a request, as the server, inside its datagram. Whether its number is new is the caller's to see. Refused with OSCORE_INNER,
    the datagram holds the plaintext, and the old tag behind it; refused otherwise, it is as it was. */
-uint32_t oscore_open_request(const oscore_context *context, uint8_t *datagram, size_t datagram_len, oscore_option *options,
-                             size_t options_room, oscore_opened *opened, size_t *detail);
+OSCORE_MUST_USE oscore_status oscore_open_request(const oscore_context *context, uint8_t *datagram, size_t datagram_len,
+                                                  oscore_option *options, size_t options_room, oscore_opened *opened,
+                                                  size_t *detail);
 
 /* Opens the response to the request that had the number `request`, as the client, inside its datagram. What a refusal leaves is
    said at `oscore_open_request`. */
-uint32_t oscore_open_response(const oscore_context *context, uint64_t request, uint8_t *datagram, size_t datagram_len,
-                              oscore_option *options, size_t options_room, oscore_opened *opened, size_t *detail);
+OSCORE_MUST_USE oscore_status oscore_open_response(const oscore_context *context, uint64_t request, uint8_t *datagram,
+                                                   size_t datagram_len, oscore_option *options, size_t options_room,
+                                                   oscore_opened *opened, size_t *detail);
 
 /* A server without contexts. */
 void oscore_server_begin(oscore_server *server);
@@ -223,51 +260,71 @@ void oscore_server_begin(oscore_server *server);
    lost: then no request is delivered until one brings back an Echo value (RFC 8613, B.1.2). `next` is its next own number, above each
    that it ever sealed under. A context that was never used begins with false and 0. Its window has 32 or 64 places. From then on the
    server counts the numbers of the context's sender: seal neither requests nor responses by `context` beside it. */
-uint32_t oscore_server_add(oscore_server *server, const oscore_context *context, bool restarted, uint64_t next,
-                           uint8_t window_places, size_t *index);
+OSCORE_MUST_USE oscore_status oscore_server_add(oscore_server *server, const oscore_context *context, bool restarted, uint64_t next,
+                                                uint8_t window_places, size_t *index);
 
 /* Begins a new life of a context, as if it had been added as restarted: its earlier tickets are stale, and the next request is
-   challenged. `next` is as at `oscore_server_add`. */
-uint32_t oscore_server_restart(oscore_server *server, size_t context, uint64_t next);
+   challenged. `next` is as at `oscore_server_add`. The server's clock stays as it is. */
+OSCORE_MUST_USE oscore_status oscore_server_restart(oscore_server *server, size_t context, uint64_t next);
 
 /* Answers a datagram, where it lies. 0: a request is delivered. `opened` and `options` show it, and `ticket` is the right to answer it;
    these three are written at 0 alone. `now` is the time in milliseconds, by a clock that doesn't go back; `echo` are 8 bytes that
    nobody can predict, and `mid` is a new message ID: hand in both anew with each datagram. `out_len` is always written: so many bytes
    of `out` go back to the sender, whatever the status; where it is 0, none do. So a replay, a bad tag and a challenge get the replies
    of RFC 8613, 7.4, 8.2 and B.1.2.
-   OSCORE_BAD_HANDLE leaves the server as it was, the others move its clock; OSCORE_INNER spends the request's number too, and
-   OSCORE_CHALLENGE an own number. From OSCORE_INNER on, the datagram's payload isn't what came. */
-uint32_t oscore_server_take(oscore_server *server, uint64_t now, const uint8_t echo[8], uint16_t mid, uint8_t *datagram,
-                            size_t datagram_len, oscore_option *options, size_t options_room, oscore_opened *opened,
-                            oscore_ticket *ticket, uint8_t out[64], size_t *out_len, size_t *detail);
+   OSCORE_BAD_HANDLE leaves the server as it was, the others move its clock; OSCORE_INNER spends the request's number too where the
+   context's window is open, but not in a context that waits for an Echo value; OSCORE_CHALLENGE spends an own number. From
+   OSCORE_INNER on, the datagram's payload isn't what came.
+   The clock is the latest `now`: an earlier one counts as that. So a moment from far ahead stays, also over `oscore_server_restart`,
+   and until the time has come there the clock stands: a challenge, which is good for 30 seconds, then doesn't end.
+   A request that comes again because its reply was lost is refused as a replay, though it was obeyed: whoever speaks over UDP keeps
+   each reply by sender and message ID for 247 seconds, and sends it again before it calls this (RFC 7252, 4.5 and 4.8.2). An empty
+   message, as an acknowledgment, a reset or a ping, is OSCORE_NOT_THAT_KIND. */
+OSCORE_MUST_USE oscore_status oscore_server_take(oscore_server *server, uint64_t now, const uint8_t echo[8], uint16_t mid,
+                                                 uint8_t *datagram, size_t datagram_len, oscore_option *options,
+                                                 size_t options_room, oscore_opened *opened, oscore_ticket *ticket, uint8_t out[64],
+                                                 size_t *out_len, size_t *detail);
 
 /* Seals the answer to the request of a ticket: under an own number where `own` says so, else under the request's. Of `plain`, which is
    a datagram, the code, the options and the payload are used; kind, message ID and token are those that the request asks for, and
    `mid` is the message ID where the request wasn't confirmable. A request is answered once: OSCORE_TICKET_SPENT where it has its
    answer, or where a number that lies 64 or more above its was delivered since. A refusal spends nothing. */
-uint32_t oscore_server_reply(oscore_server *server, const oscore_ticket *ticket, bool own, uint16_t mid, const uint8_t *plain,
-                             size_t plain_len, uint8_t *out, size_t out_room, size_t *out_len, size_t *detail);
+OSCORE_MUST_USE oscore_status oscore_server_reply(oscore_server *server, const oscore_ticket *ticket, bool own, uint16_t mid,
+                                                  const uint8_t *plain, size_t plain_len, uint8_t *out, size_t out_room,
+                                                  size_t *out_len, size_t *detail);
 
 /* A client with nothing pending. `next` is its next number, above each that the context ever sealed under; 0 for a context that was
    never used. A request is pending for `life_ms` milliseconds and no longer. From then on the client counts the numbers of the
    context's sender: seal neither requests nor responses by `context` beside it. */
-uint32_t oscore_client_begin(oscore_client *client, const oscore_context *context, uint64_t next, uint64_t life_ms);
+OSCORE_MUST_USE oscore_status oscore_client_begin(oscore_client *client, const oscore_context *context, uint64_t next,
+                                                  uint64_t life_ms);
 
-/* Drops every pending request, and goes on at a number. The clock stays. */
-uint32_t oscore_client_restart(oscore_client *client, uint64_t next);
+/* Drops every pending request, and goes on at a number. The clock stays as it is. */
+OSCORE_MUST_USE oscore_status oscore_client_restart(oscore_client *client, uint64_t next);
 
 /* Waits no more for the response to the request of a token; OSCORE_NOT_PENDING where there is none. */
-uint32_t oscore_client_forget(oscore_client *client, const uint8_t *token, size_t token_len);
+OSCORE_MUST_USE oscore_status oscore_client_forget(oscore_client *client, const uint8_t *token, size_t token_len);
 
 /* Seals a request with the client's next number. `plain` is its datagram, and its token is pending from then on. `now` is as at
-   `oscore_server_take`. A refusal from OSCORE_NOT_THAT_KIND on moves the clock, which ends what was pending for too long. */
-uint32_t oscore_client_request(oscore_client *client, uint64_t now, const uint8_t *plain, size_t plain_len, uint8_t *out,
-                               size_t out_room, size_t *out_len, size_t *detail);
+   `oscore_server_take`; a moment from far ahead ends all that is pending, and what is sealed after it is pending until the time has come
+   there. A refusal from OSCORE_NOT_THAT_KIND on moves the clock, which ends what was pending for too long. To send a request again
+   (RFC 7252, 4.2), send the same bytes: what is sealed anew is another request, and is obeyed once more. */
+OSCORE_MUST_USE oscore_status oscore_client_request(oscore_client *client, uint64_t now, const uint8_t *plain, size_t plain_len,
+                                                    uint8_t *out, size_t out_room, size_t *out_len, size_t *detail);
 
 /* Answers a datagram, where it lies. 0: a response to a pending request, which is pending no more, and `request` is its number; that,
-   `opened` and `options` are written at 0 alone. OSCORE_BAD_HANDLE leaves the client as it was, the others move its clock. */
-uint32_t oscore_client_take(oscore_client *client, uint64_t now, uint8_t *datagram, size_t datagram_len, oscore_option *options,
-                            size_t options_room, oscore_opened *opened, uint64_t *request, size_t *detail);
+   `opened` and `options` are written at 0 alone. OSCORE_BAD_HANDLE leaves the client as it was, the others move its clock.
+   Each other refusal says that this datagram isn't the response, and nothing of the one that may still come: the request stays
+   pending, and the caller keeps waiting, until 0 or the end of `life_ms`. Anybody can send what is refused, an error without
+   protection too.
+   A server that asks for an Echo value answers 0 with the code 129, 4.01, and the option 252: the request wasn't obeyed, and is asked
+   anew with that option's value (RFC 9175, 2.3). Empty messages are OSCORE_NOT_THAT_KIND here: by their message ID they tell the caller
+   that a request arrived (ACK), so that it isn't sent again, or that it isn't answered (RST), so that it can be forgotten.
+   Behind 0 and OSCORE_INNER the datagram holds what was inside, and the old tag behind it; else it is as it came. (What it holds is
+   tested, and proved of the call behind this one.) */
+OSCORE_MUST_USE oscore_status oscore_client_take(oscore_client *client, uint64_t now, uint8_t *datagram, size_t datagram_len,
+                                                 oscore_option *options, size_t options_room, oscore_opened *opened,
+                                                 uint64_t *request, size_t *detail);
 
 #ifdef __cplusplus
 }

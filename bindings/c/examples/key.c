@@ -4,7 +4,10 @@
 
    A client whose next number is NEXT, above each that this key ever used. It seals PUT /lock, says its next number then, which is the
    NEXT of its next run, sends the datagram to 127.0.0.1, and says what came back. Where the lock asks for an Echo value (RFC 9175), it
-   asks once more with the value, under the number behind. Each datagram that it sends is kept in FILE.NUMBER. */
+   asks once more with the value, under the number behind. Each datagram that it sends is kept in FILE.NUMBER.
+
+   While neither a reply nor an acknowledgment comes it sends the same bytes again (RFC 7252, 4.2), which the lock knows by the message
+   ID: a request that is sealed anew would be another one, and be obeyed once more. */
 #define _DEFAULT_SOURCE
 #include "oscore.h"
 #include <arpa/inet.h>
@@ -16,7 +19,12 @@
 #include <sys/socket.h>
 #include <time.h>
 
-enum { CON = 0, UNAUTHORIZED = 129, ECHO = 252, WAIT_MS = 5000 };
+/* RFC 7252, 4.8 and 4.8.2. A try in which datagrams are lost has a shorter first timeout. */
+#ifndef ACK_TIMEOUT_MS
+#define ACK_TIMEOUT_MS 2000
+#endif
+enum { MAX_RETRANSMIT = 4, EXCHANGE_LIFETIME_MS = 247000 };
+enum { CON = 0, ACK = 2, RST = 3, UNAUTHORIZED = 129, ECHO = 252 };
 
 /* As lock.c has them. */
 static const uint8_t SECRET[] = "a secret for a try";
@@ -24,6 +32,7 @@ static const uint8_t LOCK[] = {1}, KEY[] = {2};
 
 static oscore_client client;
 static uint8_t received[1500];
+static size_t received_len;
 
 static _Noreturn void stop(const char *why) {
     puts(why);
@@ -36,6 +45,10 @@ static uint64_t milliseconds(void) {
     return (uint64_t)now.tv_sec * 1000 + (uint64_t)now.tv_nsec / 1000000;
 }
 
+static void draw(void *random, size_t len) {
+    if (getrandom(random, len, 0) != (ssize_t)len) stop("no random bytes");
+}
+
 static size_t append(uint8_t *to, size_t len, const void *bytes, size_t bytes_len) {
     memcpy(to + len, bytes, bytes_len);
     return len + bytes_len;
@@ -44,7 +57,7 @@ static size_t append(uint8_t *to, size_t len, const void *bytes, size_t bytes_le
 /* The plain datagram: CON, PUT, Uri-Path (11) "lock", the Echo value where there is one, and the payload (RFC 7252, 3). */
 static size_t plain_put(const char *wish, const uint8_t *echo, size_t echo_len, uint8_t *plain) {
     uint8_t random[6];
-    if (getrandom(random, sizeof random, 0) != sizeof random) stop("no random bytes");
+    draw(random, sizeof random);
     size_t len = append(plain, 0, "\x44\x03", 2);
     len = append(plain, len, random, 6); /* message ID and token */
     len = append(plain, len, "\xb4lock", 5);
@@ -58,12 +71,19 @@ static size_t plain_put(const char *wish, const uint8_t *echo, size_t echo_len, 
     return append(plain, len, wish, strlen(wish));
 }
 
-static size_t receive(int udp) {
+static void transmit(int udp, const uint8_t *datagram, size_t len) {
+    if (send(udp, datagram, len, 0) < 0) stop("not sent");
+}
+
+/* Waits for a datagram until a moment. Answers whether one came. */
+static bool receive(int udp, uint64_t until) {
+    uint64_t now = milliseconds();
     struct pollfd readable = {.fd = udp, .events = POLLIN};
-    if (poll(&readable, 1, WAIT_MS) != 1) stop("no reply");
+    if (now >= until || poll(&readable, 1, (int)(until - now)) != 1) return false;
     ssize_t len = recv(udp, received, sizeof received, 0);
     if (len < 0) stop("no reply");
-    return (size_t)len;
+    received_len = (size_t)len;
+    return true;
 }
 
 static void keep(const char *file, uint64_t number, const uint8_t *datagram, size_t len) {
@@ -73,31 +93,61 @@ static void keep(const char *file, uint64_t number, const uint8_t *datagram, siz
     if (!to || fwrite(datagram, 1, len, to) != len || fclose(to)) stop("not kept");
 }
 
-/* Waits for the response while the request is pending. What else comes is passed over, since anybody may have sent it: an error without
-   protection too. */
-static oscore_opened take_reply(int udp, oscore_option options[8]) {
-    while (client.count > 0) {
-        oscore_opened reply = {0};
-        uint64_t request;
-        size_t detail, len = receive(udp);
-        uint32_t status = oscore_client_take(&client, milliseconds(), received, len, options, 8, &reply, &request, &detail);
-        if (status == OSCORE_DONE) return reply;
-        char name[24];
-        oscore_status_name(status, name);
-        printf("passed over: %s\n", name);
+/* Whether what was received is an empty message of this kind to the message ID of a datagram (RFC 7252, 3 and 4.2). It has no token, so
+   the library passes it over. */
+static bool is_empty(uint8_t kind, const uint8_t *datagram) {
+    return received_len == 4 && received[0] == (0x40 | kind << 4) && received[1] == 0 && !memcmp(received + 2, datagram + 2, 2);
+}
+
+/* What was received, where it is the response. All else is passed over, since anybody may have sent it: an error without protection too.
+   The request stays pending, and the response can still come. */
+static bool take(oscore_opened *response, oscore_option options[8]) {
+    char name[24];
+    uint64_t request;
+    size_t detail;
+    oscore_status status = oscore_client_take(&client, milliseconds(), received, received_len, options, 8, response, &request, &detail);
+    if (status == OSCORE_DONE) return true;
+    oscore_status_name(status, name);
+    printf("passed over: %s\n", name);
+    return false;
+}
+
+/* Sends a request, and again while nothing is heard, each time after twice the time. Behind an empty acknowledgment it waits for a
+   response that comes by itself (RFC 7252, 4.2 and 5.2.2). */
+static oscore_opened exchange(int udp, const uint8_t *datagram, size_t len, oscore_option options[8]) {
+    oscore_opened response = OSCORE_ZERO;
+    uint32_t random;
+    draw(&random, sizeof random);
+    uint64_t wait = ACK_TIMEOUT_MS + random % (ACK_TIMEOUT_MS / 2 + 1), until = milliseconds() + wait;
+    int retransmits = 0;
+    bool acknowledged = false;
+    transmit(udp, datagram, len);
+    for (;;) {
+        if (!receive(udp, until)) {
+            if (acknowledged || retransmits++ == MAX_RETRANSMIT) stop("no reply");
+            puts("no reply: sent the same bytes again");
+            transmit(udp, datagram, len);
+            wait *= 2, until = milliseconds() + wait;
+        } else if (is_empty(ACK, datagram)) {
+            if (!acknowledged) until = milliseconds() + EXCHANGE_LIFETIME_MS;
+            acknowledged = true;
+        } else if (is_empty(RST, datagram)) {
+            stop("reset");
+        } else if (take(&response, options)) {
+            return response;
+        }
     }
-    stop("no reply");
 }
 
 /* A response that came by itself and is confirmable gets an empty ACK (RFC 7252, 5.2.2). */
-static void acknowledge(int udp, const oscore_opened *reply) {
-    const uint8_t ack[] = {0x60, 0, (uint8_t)(reply->message_id >> 8), (uint8_t)reply->message_id};
-    if (reply->kind == CON && send(udp, ack, sizeof ack, 0) < 0) stop("not sent");
+static void acknowledge(int udp, const oscore_opened *response) {
+    const uint8_t ack[] = {0x60, 0, (uint8_t)(response->message_id >> 8), (uint8_t)response->message_id};
+    if (response->kind == CON) transmit(udp, ack, sizeof ack);
 }
 
 /* The length of the Echo value that a response asks for, or 0. */
-static size_t asked_echo(const oscore_opened *reply, const oscore_option *options, uint8_t echo[12]) {
-    for (size_t i = 0; reply->code == UNAUTHORIZED && i < reply->option_count; i++) {
+static size_t asked_echo(const oscore_opened *response, const oscore_option *options, uint8_t echo[12]) {
+    for (size_t i = 0; response->code == UNAUTHORIZED && i < response->option_count; i++) {
         if (options[i].number != ECHO || options[i].value_len == 0 || options[i].value_len > 12) continue;
         memcpy(echo, options[i].value, options[i].value_len);
         return options[i].value_len;
@@ -107,8 +157,8 @@ static size_t asked_echo(const oscore_opened *reply, const oscore_option *option
 
 /* Asks the lock, and once more where it wants an Echo value. Answers whether a reply came that wants none. */
 static bool ask(int udp, const char *wish, const char *file) {
-    uint8_t plain[128], datagram[256], echo[12];
-    oscore_option options[8] = {0};
+    uint8_t plain[64], datagram[OSCORE_ROOM(sizeof plain)], echo[12];
+    oscore_option options[8] = OSCORE_ZERO;
     size_t len, detail, echo_len = 0;
     for (int attempt = 0; attempt < 2; attempt++) {
         uint64_t number = client.next;
@@ -116,27 +166,28 @@ static bool ask(int udp, const char *wish, const char *file) {
         if (oscore_client_request(&client, milliseconds(), plain, plain_len, datagram, sizeof datagram, &len, &detail)) stop("not sealed");
         printf("next number %llu\n", (unsigned long long)client.next);
         if (file) keep(file, number, datagram, len);
-        if (send(udp, datagram, len, 0) < 0) stop("not sent");
-        oscore_opened reply = take_reply(udp, options);
-        acknowledge(udp, &reply);
-        echo_len = asked_echo(&reply, options, echo);
-        printf("%u.%02u %s%.*s\n", reply.code >> 5, reply.code & 31u, echo_len > 0 ? "asked for an Echo value" : "", (int)reply.payload_len,
-               (const char *)reply.payload);
+        oscore_opened response = exchange(udp, datagram, len, options);
+        acknowledge(udp, &response);
+        echo_len = asked_echo(&response, options, echo);
+        printf("%u.%02u %s%.*s\n", response.code >> 5, response.code & 31u, echo_len > 0 ? "asked for an Echo value" : "",
+               (int)response.payload_len, (const char *)response.payload);
         if (echo_len == 0) return true;
     }
     return false;
 }
 
 static void begin(uint64_t next) {
-    oscore_context context = {0};
-    uint32_t status = oscore_derive(&context, SECRET, sizeof SECRET, NULL, 0, false, NULL, 0, KEY, sizeof KEY, LOCK, sizeof LOCK, false);
-    if (!status) status = oscore_client_begin(&client, &context, next, WAIT_MS);
+    oscore_context context = OSCORE_ZERO;
+    oscore_status status = oscore_derive(&context, SECRET, sizeof SECRET, NULL, 0, false, NULL, 0, KEY, sizeof KEY, LOCK, sizeof LOCK,
+                                         false);
+    if (!status) status = oscore_client_begin(&client, &context, next, EXCHANGE_LIFETIME_MS);
     if (status) stop("no client");
 }
 
 int main(int count, char **words) {
     if ((count != 4 && count != 5) || strlen(words[3]) > 16) stop("key PORT NEXT open|shut [FILE]");
-    struct sockaddr_in lock = {.sin_family = AF_INET, .sin_port = htons((uint16_t)atoi(words[1])), .sin_addr.s_addr = htonl(INADDR_LOOPBACK)};
+    struct sockaddr_in lock = {.sin_family = AF_INET, .sin_addr.s_addr = htonl(INADDR_LOOPBACK)};
+    lock.sin_port = htons((uint16_t)atoi(words[1]));
     int udp = socket(AF_INET, SOCK_DGRAM, 0);
     if (udp < 0 || connect(udp, (struct sockaddr *)&lock, sizeof lock)) stop("no such port");
     begin(strtoull(words[2], NULL, 10));

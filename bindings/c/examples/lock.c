@@ -4,7 +4,10 @@
 
    It takes so many datagrams at 127.0.0.1 and ends. PORT 0 is one that the system picks; the first line says which. It keeps nothing:
    one that ran before, and so has lost which requests it saw, is started as `restarted`, with the next own number, which the last line
-   of the run before said. A real lock keeps a number ahead of that one before it uses it, so that a crash doesn't lose it. */
+   of the run before said. A real lock keeps a number ahead of that one before it uses it, so that a crash doesn't lose it.
+
+   A key whose reply was lost sends its request once more (RFC 7252, 4.2), which is a replay to the library. So the lock looks first
+   whether it knows the sender and the message ID, and then sends what it sent before. */
 #define _DEFAULT_SOURCE
 #include "oscore.h"
 #include <arpa/inet.h>
@@ -17,12 +20,31 @@
 #include <time.h>
 
 enum { PUT = 3, CHANGED = 68, BAD_REQUEST = 128, BAD_OPTION = 130, NOT_FOUND = 132, NOT_ALLOWED = 133, URI_PATH = 11 };
+enum { CON = 0, NON = 1, EXCHANGE_LIFETIME_MS = 247000, REPLIES = 32, MOST_DATAGRAM = 1500, MOST_REPLY = 128 };
 
 /* For a try only: a real secret is drawn at random for each pair, and kept safe. */
 static const uint8_t SECRET[] = "a secret for a try";
 static const uint8_t LOCK[] = {1}, KEY[] = {2};
 
+typedef struct received {
+    struct sockaddr_in from;
+    uint8_t bytes[MOST_DATAGRAM];
+    size_t len;
+} received;
+
+/* What was sent, to whom, and to which message ID. */
+typedef struct sent {
+    struct sockaddr_in to;
+    uint8_t message_id[2];
+    uint64_t until; /* when its request can't come again (RFC 7252, 4.8.2) */
+    uint8_t bytes[MOST_REPLY];
+    size_t len;
+} sent;
+
 static const char *state = "shut";
+/* The last replies. Where more are sent in their lifetime, the oldest is forgotten: its request, come again, is refused as a replay. */
+static sent replies[REPLIES];
+static size_t reply_count;
 
 static _Noreturn void stop(const char *why) {
     puts(why);
@@ -77,31 +99,75 @@ static void print(uint32_t status, const char *what) {
     fflush(stdout);
 }
 
-static void serve_one(oscore_server *server, int socket) {
-    uint8_t datagram[1500], out[1500], echo[8], plain[16];
-    oscore_option options[8] = {0};
-    oscore_opened request = {0};
-    oscore_ticket ticket = {0};
+static void receive(int udp, received *datagram) {
+    socklen_t from_len = sizeof datagram->from;
+    struct pollfd readable = {.fd = udp, .events = POLLIN};
+    if (poll(&readable, 1, 10000) != 1) stop("no datagram came");
+    ssize_t len = recvfrom(udp, datagram->bytes, sizeof datagram->bytes, 0, (struct sockaddr *)&datagram->from, &from_len);
+    if (len < 0) stop("no datagram could be read");
+    datagram->len = (size_t)len;
+}
+
+static void send_back(int udp, const struct sockaddr_in *to, const uint8_t *bytes, size_t len) {
+    if (len > 0) sendto(udp, bytes, len, 0, (const struct sockaddr *)to, sizeof *to);
+}
+
+static uint8_t kind_of(const received *datagram) {
+    return datagram->bytes[0] >> 4 & 3;
+}
+
+/* What a message got the first time, where it comes again (RFC 7252, 4.5). An ACK and an RST have a message ID of ours, not of theirs. */
+static const sent *find_reply(const received *datagram) {
+    for (size_t i = 0; datagram->len >= 4 && kind_of(datagram) <= NON && i < REPLIES; i++) {
+        const sent *reply = &replies[i];
+        bool ours = reply->to.sin_addr.s_addr == datagram->from.sin_addr.s_addr && reply->to.sin_port == datagram->from.sin_port;
+        if (ours && !memcmp(reply->message_id, datagram->bytes + 2, 2) && milliseconds() < reply->until) return reply;
+    }
+    return NULL;
+}
+
+/* Only what was delivered has its reply kept: an error that anybody can bring about must not stand in its place. */
+static void keep_reply(const received *request, const uint8_t *out, size_t len) {
+    sent *reply = &replies[reply_count++ % REPLIES];
+    *reply = (sent){.to = request->from, .until = milliseconds() + EXCHANGE_LIFETIME_MS, .len = len};
+    memcpy(reply->message_id, request->bytes + 2, 2);
+    memcpy(reply->bytes, out, len);
+}
+
+static void serve(oscore_server *server, int udp, received *datagram) {
+    uint8_t out[MOST_REPLY], echo[8], plain[16];
+    oscore_option options[8] = OSCORE_ZERO;
+    oscore_opened request = OSCORE_ZERO;
+    oscore_ticket ticket = OSCORE_ZERO;
     size_t out_len, detail;
     uint16_t mid = 0;
-    struct sockaddr_in from;
-    socklen_t from_len = sizeof from;
-    struct pollfd readable = {.fd = socket, .events = POLLIN};
-    if (poll(&readable, 1, 10000) != 1) stop("no datagram came");
-    ssize_t len = recvfrom(socket, datagram, sizeof datagram, 0, (struct sockaddr *)&from, &from_len);
-    if (len < 0) stop("no datagram could be read");
     if (getrandom(echo, sizeof echo, 0) != sizeof echo || getrandom(&mid, sizeof mid, 0) != sizeof mid) stop("no random bytes");
 
-    uint32_t status = oscore_server_take(server, milliseconds(), echo, mid, datagram, (size_t)len, options, 8, &request, &ticket, out,
-                                         &out_len, &detail);
+    oscore_status status = oscore_server_take(server, milliseconds(), echo, mid, datagram->bytes, datagram->len, options, 8, &request,
+                                              &ticket, out, &out_len, &detail);
     if (status == OSCORE_DONE) {
         uint8_t code = obey(&request, options);
         status = oscore_server_reply(server, &ticket, false, mid, plain, plain_reply(code, plain), out, sizeof out, &out_len, &detail);
         print(status, code == CHANGED ? state : "not obeyed");
+        if (status == OSCORE_DONE) keep_reply(datagram, out, out_len);
     } else {
         print(status, status == OSCORE_CHALLENGE ? "asked for its Echo value" : out_len > 0 ? "refused" : "passed over");
     }
-    if (out_len > 0) sendto(socket, out, out_len, 0, (struct sockaddr *)&from, from_len);
+    send_back(udp, &datagram->from, out, out_len);
+}
+
+static void serve_one(oscore_server *server, int udp) {
+    static received datagram;
+    receive(udp, &datagram);
+    const sent *reply = find_reply(&datagram);
+    if (!reply) {
+        serve(server, udp, &datagram);
+        return;
+    }
+    bool again = kind_of(&datagram) == CON;
+    puts(again ? "came again: sent the same reply" : "came again: passed over");
+    fflush(stdout);
+    if (again) send_back(udp, &reply->to, reply->bytes, reply->len);
 }
 
 int main(int count, char **words) {
@@ -111,15 +177,17 @@ int main(int count, char **words) {
     static oscore_context context;
     static oscore_server server;
     size_t index = 0;
-    uint32_t status = oscore_derive(&context, SECRET, sizeof SECRET, NULL, 0, false, NULL, 0, LOCK, sizeof LOCK, KEY, sizeof KEY, false);
+    oscore_status status = oscore_derive(&context, SECRET, sizeof SECRET, NULL, 0, false, NULL, 0, LOCK, sizeof LOCK, KEY, sizeof KEY,
+                                         false);
     oscore_server_begin(&server);
     if (!status) status = oscore_server_add(&server, &context, restarted, next, 32, &index);
     if (status) stop("no server");
 
-    struct sockaddr_in own = {.sin_family = AF_INET, .sin_port = htons((uint16_t)atoi(words[1])), .sin_addr.s_addr = htonl(INADDR_LOOPBACK)};
+    struct sockaddr_in own = {.sin_family = AF_INET, .sin_addr.s_addr = htonl(INADDR_LOOPBACK)};
+    own.sin_port = htons((uint16_t)atoi(words[1]));
     socklen_t own_len = sizeof own;
     int udp = socket(AF_INET, SOCK_DGRAM, 0);
-    if (udp < 0 || bind(udp, (struct sockaddr *)&own, sizeof own) || getsockname(udp, (struct sockaddr *)&own, &own_len)) stop("no such port");
+    if (udp < 0 || bind(udp, (struct sockaddr *)&own, own_len) || getsockname(udp, (struct sockaddr *)&own, &own_len)) stop("no such port");
     printf("port %u\n", ntohs(own.sin_port));
     fflush(stdout);
     for (int left = atoi(words[2]); left > 0; left--) serve_one(&server, udp);

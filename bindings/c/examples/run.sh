@@ -4,10 +4,13 @@
 set -euo pipefail
 cd "$(dirname "$0")"
 work=$(mktemp -d)
-lock=
-trap 'if [ -n "$lock" ]; then kill "$lock" 2> /dev/null || true; fi; rm -rf "$work"' EXIT
-for name in lock key; do
-    cc -std=c11 -Wall -Wextra -Werror -O1 -I .. "$@" "$name.c" ../../../crates/osc_c/out/libosc_c.a -o "$work/$name"
+library=${OSCORE_LIBRARY:-../../../crates/osc_c/out/libosc_c.a}
+lock='' between=''
+# What was said is shown also where it ends too early.
+trap '[ ! -e "$work/said" ] || cat "$work/said" >&2; [ -z "$lock$between" ] || kill $lock $between 2> /dev/null || true; rm -rf "$work"' EXIT
+# What is lost is sent again after one to one and a half seconds, not after two to three.
+for name in lock key between; do
+    cc -std=c11 -Wall -Wextra -Werror -O1 -D ACK_TIMEOUT_MS=1000 -I .. "$@" "$name.c" "$library" -o "$work/$name"
 done
 mkfifo "$work/says"
 
@@ -45,6 +48,20 @@ replay() {
     printf 'overheard: %u.%02u\n' "$((code >> 5))" "$((code & 31))"
 }
 
+# Lets the key speak to the lock through a network that loses its first request, or the first reply, or makes the reply two.
+key_behind() {
+    local port=$port how=$1
+    echo "-- between $how"
+    exec 5< <(exec "$work/between" "$port" "$how")
+    between=$!
+    read -r -t 10 _ port <&5
+    key "${@:2}"
+    [ "$how" != separate ] || { read -r -t 10 line <&5 && echo "between: $line"; }
+    kill "$between"
+    between=
+    exec 5<&-
+}
+
 says() {
     begin 3
     key 0 shut
@@ -57,11 +74,19 @@ says() {
     key 2 shut sent
     replay sent.1
     finish
+    # A datagram that is lost: the door opens once, and the key learns it. The second one's request comes twice.
+    begin 6 restarted "$(sed -n 's/^next own number //p' "$work/last")"
+    key 4 shut
+    key_behind request 6 open
+    key_behind reply 7 shut
+    key_behind separate 8 open
+    finish
 }
 
 says > "$work/said"
 cat "$work/said"
-diff expected "$work/said" || { echo "bindings/c/examples: the lock and the key don't print what is expected"; exit 1; }
+mv "$work/said" "$work/shown"
+diff expected "$work/shown" || { echo "bindings/c/examples: the lock and the key don't print what is expected"; exit 1; }
 
 # Wireshark's names: the key is the sender. Each datagram that was kept is a packet of its own.
 opened() {

@@ -1,25 +1,51 @@
 /* One message: RFC 8613, C.1 to C.8, both ways, by tables and in constant time; each status once; the layout of the structs; spoilt
-   datagrams and handles; what both ciphers seal. Built with the sanitizers by .ci/run. */
+   datagrams and handles; what both ciphers seal. All that is handed in lies against a guard page. Built with the sanitizers by .ci/run,
+   and run under valgrind's memcheck with fewer rounds, which its only word says. */
+#include "guarded.h"
 #include "../oscore.h"
-#include <stdio.h>
-#include <stdlib.h>
-#include <string.h>
 
 #define CHECK(holds) do { if (!(holds)) { printf("messages.c:%d: %s\n", __LINE__, #holds); exit(1); } } while (0)
 
 enum { C1, C2, C3, CONTEXTS };
-static oscore_context clients[CONTEXTS], servers[CONTEXTS];
-static oscore_option options[4];
-static oscore_opened opened;
-static oscore_request_head head;
-static uint8_t out[65600];
-static size_t out_len, detail;
+/* What is handed in, each at a place of its own. */
+enum { CLIENTS, SERVERS = CLIENTS + CONTEXTS, OPTIONS = SERVERS + CONTEXTS, OPENED, HEAD, OUT, SEALED_LEN, DETAIL, PLAIN, DATAGRAM, HANDLE,
+    SECRET, SALT, ID_CONTEXT, SENDER, RECIPIENT, NAME, SIZES };
+static oscore_context *clients[CONTEXTS], *servers[CONTEXTS];
+static oscore_option *options;
+static oscore_opened *opened;
+static oscore_request_head *head;
+static size_t *out_len, *detail;
+static int rounds = 20000;
+
+static void lay_out(bool before) {
+    guarded_before = before;
+    for (int i = 0; i < CONTEXTS; i++) {
+        clients[i] = guarded(CLIENTS + i, sizeof *clients[i]);
+        servers[i] = guarded(SERVERS + i, sizeof *servers[i]);
+    }
+    options = guarded(OPTIONS, 4 * sizeof *options);
+    opened = guarded(OPENED, sizeof *opened);
+    head = guarded(HEAD, sizeof *head);
+    out_len = guarded_room(SEALED_LEN, sizeof *out_len);
+    detail = guarded_room(DETAIL, sizeof *detail);
+}
 
 static size_t hex(const char *text, uint8_t *bytes) {
     size_t len = 0;
     unsigned byte;
-    for (; *text; text += 2, bytes[len++] = byte) CHECK(sscanf(text, "%2x", &byte) == 1);
+    for (; *text; text += 2, bytes[len++] = (uint8_t)byte) CHECK(sscanf(text, "%2x", &byte) == 1);
     return len;
+}
+
+/* The bytes of a text, and so many times the letter x behind them, at a place. */
+static uint8_t *bytes_at(size_t place, const char *text, size_t filled, size_t *len) {
+    uint8_t bytes[128], *laid;
+    *len = hex(text, bytes);
+    laid = guarded_room(place, *len + filled);
+    memcpy(laid, bytes, *len);
+    memset(laid + *len, 'x', filled);
+    *len += filled;
+    return laid;
 }
 
 /* RFC 8613, C.1 to C.3: what both ends derive from, and what is printed. */
@@ -41,124 +67,170 @@ static const char *ANSWER = "64455d1f00003974ff48656c6c6f20576f726c6421";
 static const char *SEALED_ANSWERS[2] = {"64445d1f0000397490ffdbaad1e9a7e7b2a813d3c31524378303cdafae119106",
                                         "64445d1f00003974920100ff4d4c13669384b67354b2b6175ff4b8658c666a6cf88e"};
 
+static uint32_t derive_into(oscore_context *context, const uint8_t *sender, size_t sender_len, const uint8_t *recipient, size_t recipient_len,
+                            int i, bool constant_time) {
+    size_t secret_len, salt_len, id_context_len = 0;
+    const uint8_t *secret = bytes_at(SECRET, "0102030405060708090a0b0c0d0e0f10", 0, &secret_len);
+    const uint8_t *salt = bytes_at(SALT, DERIVED[i].salt, 0, &salt_len), *id_context = NULL;
+    if (DERIVED[i].id_context) id_context = bytes_at(ID_CONTEXT, DERIVED[i].id_context, 0, &id_context_len);
+    return oscore_derive(context, secret, secret_len, salt, salt_len, id_context, id_context, id_context_len,
+                         guarded_copy(SENDER, sender, sender_len), sender_len, guarded_copy(RECIPIENT, recipient, recipient_len), recipient_len,
+                         constant_time);
+}
+
 static void derives(bool constant_time) {
-    uint8_t secret[16], salt[8], id_context[8], client[1], server[1], wanted[16];
-    hex("0102030405060708090a0b0c0d0e0f10", secret);
+    uint8_t client[1], server[1], wanted[16];
     for (int i = 0; i < CONTEXTS; i++) {
-        bool has = DERIVED[i].id_context;
-        size_t salt_len = hex(DERIVED[i].salt, salt), id_context_len = has ? hex(DERIVED[i].id_context, id_context) : 0;
         size_t client_len = hex(DERIVED[i].client, client), server_len = hex(DERIVED[i].server, server);
-        CHECK(!oscore_derive(&clients[i], secret, 16, salt, salt_len, has, id_context, id_context_len, client, client_len, server, server_len, constant_time));
-        CHECK(!oscore_derive(&servers[i], secret, 16, salt, salt_len, has, id_context, id_context_len, server, server_len, client, client_len, constant_time));
-        CHECK(hex(DERIVED[i].client_key, wanted) == 16 && !memcmp(clients[i].sender_key, wanted, 16) && !memcmp(servers[i].recipient_key, wanted, 16));
-        CHECK(hex(DERIVED[i].server_key, wanted) == 16 && !memcmp(clients[i].recipient_key, wanted, 16) && !memcmp(servers[i].sender_key, wanted, 16));
-        CHECK(hex(DERIVED[i].common_iv, wanted) == 13 && !memcmp(clients[i].common_iv, wanted, 13) && !memcmp(servers[i].common_iv, wanted, 13));
-        CHECK(clients[i].sender_len == client_len && clients[i].recipient_len == 1 && clients[i].recipient[0] == 1);
-        CHECK(clients[i].constant_time == constant_time && servers[i].constant_time == constant_time);
-        CHECK(clients[i].id_context_len == id_context_len && !memcmp(clients[i].id_context, id_context, id_context_len));
+        CHECK(!derive_into(clients[i], client, client_len, server, server_len, i, constant_time));
+        CHECK(!derive_into(servers[i], server, server_len, client, client_len, i, constant_time));
+        CHECK(hex(DERIVED[i].client_key, wanted) == 16 && !memcmp(clients[i]->sender_key, wanted, 16)
+            && !memcmp(servers[i]->recipient_key, wanted, 16));
+        CHECK(hex(DERIVED[i].server_key, wanted) == 16 && !memcmp(clients[i]->recipient_key, wanted, 16)
+            && !memcmp(servers[i]->sender_key, wanted, 16));
+        CHECK(hex(DERIVED[i].common_iv, wanted) == 13 && !memcmp(clients[i]->common_iv, wanted, 13)
+            && !memcmp(servers[i]->common_iv, wanted, 13));
+        CHECK(clients[i]->sender_len == client_len && clients[i]->recipient_len == 1 && clients[i]->recipient[0] == 1);
+        CHECK(clients[i]->constant_time == constant_time && servers[i]->constant_time == constant_time);
+        size_t id_context_len = DERIVED[i].id_context ? hex(DERIVED[i].id_context, wanted) : 0;
+        CHECK(clients[i]->id_context_len == id_context_len && !memcmp(clients[i]->id_context, wanted, id_context_len));
     }
 }
 
 static void exchanges_requests(void) {
-    uint8_t plain[64], wanted[64];
+    uint8_t wanted[64];
     for (int i = 0; i < CONTEXTS; i++) {
-        size_t plain_len = hex(REQUESTS[i].plain, plain), len = hex(REQUESTS[i].sealed, wanted);
-        CHECK(!oscore_seal_request(&clients[i], 20, plain, plain_len, out, sizeof out, &out_len, &detail));
-        CHECK(out_len == len && !memcmp(out, wanted, len));
-        CHECK(!oscore_head(out, len, &head, &detail));
-        CHECK(head.kind == 0 && head.message_id == REQUESTS[i].message_id && head.token_len == 4 && !memcmp(head.token, plain + 4, 4) && head.number == 20);
-        CHECK(head.kid_len == REQUESTS[i].kid_len && (!head.kid_len || head.kid[0] == 0) && head.has_kid_context == (i == C3));
-        CHECK(i != C3 || (head.kid_context_len == 8 && !memcmp(head.kid_context, servers[C3].id_context, 8)));
-        CHECK(!oscore_open_request(&servers[i], out, len, options, 4, &opened, &detail));
-        CHECK(opened.kind == 0 && opened.code == 1 && opened.message_id == REQUESTS[i].message_id && opened.has_number && opened.number == 20);
-        CHECK(opened.token_len == 4 && !memcmp(opened.token, plain + 4, 4) && opened.payload_len == 0 && !opened.has_uri_port);
-        CHECK(opened.has_uri_host && opened.uri_host_len == 9 && !memcmp(opened.uri_host, "localhost", 9));
-        CHECK(opened.option_count == 1 && !opened.has_more_options && options[0].number == 11 && options[0].value_len == 3 && !memcmp(options[0].value, "tv1", 3));
-        CHECK(options[0].value > out && options[0].value < out + len);
+        size_t plain_len, len = hex(REQUESTS[i].sealed, wanted);
+        uint8_t *plain = bytes_at(PLAIN, REQUESTS[i].plain, 0, &plain_len), *out = guarded_room(OUT, len);
+        CHECK(!oscore_seal_request(clients[i], 20, plain, plain_len, out, len, out_len, detail));
+        CHECK(*out_len == len && !memcmp(out, wanted, len) && len <= OSCORE_ROOM(plain_len));
+        CHECK(!oscore_head(out, len, head, detail));
+        CHECK(head->kind == 0 && head->message_id == REQUESTS[i].message_id && head->number == 20);
+        CHECK(head->token_len == 4 && !memcmp(head->token, plain + 4, 4));
+        CHECK(head->kid_len == REQUESTS[i].kid_len && (!head->kid_len || head->kid[0] == 0) && head->has_kid_context == (i == C3));
+        CHECK(i != C3 || (head->kid_context_len == 8 && !memcmp(head->kid_context, servers[C3]->id_context, 8)));
+        CHECK(!oscore_open_request(servers[i], out, len, options, 4, opened, detail));
+        CHECK(opened->kind == 0 && opened->code == 1 && opened->message_id == REQUESTS[i].message_id && opened->has_number
+            && opened->number == 20);
+        CHECK(opened->token_len == 4 && !memcmp(opened->token, plain + 4, 4) && opened->payload_len == 0 && !opened->has_uri_port);
+        CHECK(opened->has_uri_host && opened->uri_host_len == 9 && !memcmp(opened->uri_host, "localhost", 9));
+        CHECK(opened->option_count == 1 && !opened->has_more_options && options[0].number == 11);
+        CHECK(options[0].value_len == 3 && !memcmp(options[0].value, "tv1", 3) && options[0].value > out && options[0].value < out + len);
     }
 }
 
 static void exchanges_responses(void) {
-    uint8_t plain[64], wanted[64];
-    size_t plain_len = hex(ANSWER, plain);
+    uint8_t wanted[64];
     for (int own = 0; own < 2; own++) {
-        size_t len = hex(SEALED_ANSWERS[own], wanted);
-        CHECK(!oscore_seal_response(&servers[C1], 20, own, 0, plain, plain_len, out, sizeof out, &out_len, &detail));
-        CHECK(out_len == len && !memcmp(out, wanted, len));
-        CHECK(oscore_open_response(&clients[C1], 21, out, len, NULL, 0, &opened, &detail) == OSCORE_TAG && !memcmp(out, wanted, len));
-        CHECK(!oscore_open_response(&clients[C1], 20, out, len, NULL, 0, &opened, &detail));
-        CHECK(opened.kind == 2 && opened.code == 0x45 && opened.message_id == 0x5d1f && opened.has_number == own && opened.number == 0);
-        CHECK(opened.payload_len == 12 && !memcmp(opened.payload, "Hello World!", 12) && !opened.option_count && !opened.has_more_options);
+        size_t plain_len, len = hex(SEALED_ANSWERS[own], wanted);
+        uint8_t *plain = bytes_at(PLAIN, ANSWER, 0, &plain_len), *out = guarded_room(OUT, len);
+        CHECK(!oscore_seal_response(servers[C1], 20, own, 0, plain, plain_len, out, len, out_len, detail));
+        CHECK(*out_len == len && !memcmp(out, wanted, len) && len <= OSCORE_ROOM(plain_len));
+        CHECK(oscore_open_response(clients[C1], 21, out, len, NULL, 0, opened, detail) == OSCORE_TAG && !memcmp(out, wanted, len));
+        CHECK(!oscore_open_response(clients[C1], 20, out, len, NULL, 0, opened, detail));
+        CHECK(opened->kind == 2 && opened->code == 0x45 && opened->message_id == 0x5d1f && opened->has_number == own
+            && opened->number == 0);
+        CHECK(opened->payload_len == 12 && !memcmp(opened->payload, "Hello World!", 12) && !opened->option_count
+            && !opened->has_more_options);
     }
 }
 
 /* Three options where the array has room for two: Uri-Path a, b and c. */
 static void counts_options(void) {
-    uint8_t plain[16];
-    size_t len = hex("40010001b16101620163", plain);
-    CHECK(!oscore_seal_request(&clients[C1], 1, plain, len, out, sizeof out, &out_len, &detail));
-    CHECK(!oscore_open_request(&servers[C1], out, out_len, options, 2, &opened, &detail));
-    CHECK(opened.option_count == 2 && opened.has_more_options && *options[0].value == 'a' && *options[1].value == 'b' && options[1].number == 11);
+    size_t len;
+    uint8_t *plain = bytes_at(PLAIN, "40010001b16101620163", 0, &len), *out = guarded_room(OUT, 64);
+    CHECK(!oscore_seal_request(clients[C1], 1, plain, len, out, 64, out_len, detail));
+    uint8_t *datagram = guarded_copy(DATAGRAM, out, *out_len);
+    options = guarded(OPTIONS, 2 * sizeof *options);
+    CHECK(!oscore_open_request(servers[C1], datagram, *out_len, options, 2, opened, detail));
+    CHECK(opened->option_count == 2 && opened->has_more_options && *options[0].value == 'a' && *options[1].value == 'b'
+        && options[1].number == 11);
+    options = guarded(OPTIONS, 4 * sizeof *options);
+}
+
+/* What isn't there, behind an opened message in which everything was. */
+static void shows_what_is_not_there(void) {
+    size_t len;
+    uint8_t *plain = bytes_at(PLAIN, "40010001", 0, &len), *out = guarded_room(OUT, 64);
+    CHECK(!oscore_seal_request(clients[C1], 1, plain, len, out, 64, out_len, detail));
+    uint8_t *datagram = guarded_copy(DATAGRAM, out, *out_len);
+    memset(opened, 0xff, sizeof *opened), memset(head, 0xff, sizeof *head);
+    opened->has_uri_host = opened->has_uri_port = opened->has_more_options = opened->has_number = head->has_kid_context = true;
+    CHECK(!oscore_head(datagram, *out_len, head, detail)
+        && !oscore_open_request(servers[C1], datagram, *out_len, options, 4, opened, detail));
+    CHECK(!opened->has_uri_host && opened->uri_host_len == 0 && !opened->has_uri_port && opened->uri_port_len == 0
+        && opened->payload_len == 0);
+    CHECK(!head->has_kid_context && head->kid_context_len == 0 && head->kid_len == 0);
 }
 
 static uint32_t derive(size_t secret, size_t salt, size_t id, size_t id_context) {
     static const uint8_t bytes[66] = {1};
-    oscore_context context = {0}, none = {0};
-    uint32_t status = oscore_derive(&context, bytes, secret, bytes, salt, true, bytes, id_context, bytes, id, bytes, 1, true);
-    CHECK(!memcmp(&context, &none, sizeof none));
+    oscore_context *context = guarded(HANDLE, sizeof *context), none = OSCORE_ZERO;
+    uint32_t status = oscore_derive(context, guarded_copy(SECRET, bytes, secret), secret, guarded_copy(SALT, bytes, salt), salt, true,
+                                    guarded_copy(ID_CONTEXT, bytes, id_context), id_context, guarded_copy(SENDER, bytes, id), id,
+                                    guarded_copy(RECIPIENT, bytes, 1), 1, true);
+    CHECK(!memcmp(context, &none, sizeof none));
     return status;
 }
 
 static uint32_t seal(const char *text, size_t filled, size_t room) {
-    static uint8_t plain[65600];
-    size_t len = hex(text, plain);
-    memset(plain + len, 'x', filled);
-    return oscore_seal_request(&clients[C1], 20, plain, len + filled, out, room, &out_len, &detail);
+    size_t len;
+    uint8_t *plain = bytes_at(PLAIN, text, filled, &len), *out = guarded(OUT, room);
+    uint32_t status = oscore_seal_request(clients[C1], 20, plain, len, out, room, out_len, detail);
+    for (size_t i = status ? 0 : *out_len; i < room; i++) CHECK(!out[i]);
+    return status;
 }
 
-static uint32_t open(const char *text) {
-    uint8_t datagram[64], before[64];
+static uint32_t open_text(const char *text) {
+    uint8_t before[64];
     size_t len = hex(text, before);
-    memcpy(datagram, before, len);
-    memset(&opened, 0, sizeof opened);
-    uint32_t status = oscore_open_request(&servers[C1], datagram, len, options, 4, &opened, &detail);
+    uint8_t *datagram = guarded_copy(DATAGRAM, before, len);
+    opened = guarded(OPENED, sizeof *opened);
+    uint32_t status = oscore_open_request(servers[C1], datagram, len, options, 4, opened, detail);
     CHECK(status == OSCORE_INNER || !memcmp(datagram, before, len));
     return status;
 }
 
-/* Each status once, the faults with their places. Datagrams by RFC 7252, 3, and RFC 8613, C.4 and C.5, changed by hand. */
-static void refuses(void) {
-    oscore_context bad = clients[C1];
-    uint8_t plain[64];
-    size_t len = hex(REQUESTS[C1].plain, plain);
-    bad.sender_len = 8;
-    out_len = 99;
-    CHECK(oscore_seal_request(&bad, 20, plain, len, out, 64, &out_len, &detail) == OSCORE_BAD_HANDLE && detail == 0);
-    CHECK(oscore_seal_request(&clients[C1], 1ull << 40, plain, len, out, 64, &out_len, &detail) == OSCORE_BAD_NUMBER);
-    CHECK(oscore_seal_response(&servers[C1], 20, true, 1ull << 40, plain, len, out, 64, &out_len, &detail) == OSCORE_BAD_NUMBER && out_len == 99);
+static void refuses_arguments(void) {
+    size_t len;
+    oscore_context *bad = guarded_copy(HANDLE, clients[C1], sizeof *bad);
+    uint8_t *plain = bytes_at(PLAIN, REQUESTS[C1].plain, 0, &len), *out = guarded_room(OUT, 64);
+    bad->sender_len = 8;
+    *out_len = 99;
+    CHECK(oscore_seal_request(bad, 20, plain, len, out, 64, out_len, detail) == OSCORE_BAD_HANDLE && *detail == 0);
+    CHECK(oscore_seal_request(clients[C1], 1ull << 40, plain, len, out, 64, out_len, detail) == OSCORE_BAD_NUMBER);
+    CHECK(oscore_seal_response(servers[C1], 20, true, 1ull << 40, plain, len, out, 64, out_len, detail) == OSCORE_BAD_NUMBER
+        && *out_len == 99);
+    CHECK(oscore_head(plain, len, head, detail) == OSCORE_NO_OSCORE);
+    CHECK(oscore_head(guarded_copy(DATAGRAM, plain, 3), 3, head, detail) == OSCORE_SHORT);
     CHECK(derive(0, 65, 8, 0) == OSCORE_SECRET_LENGTH && derive(65, 0, 0, 1) == OSCORE_SECRET_LENGTH);
     CHECK(derive(1, 65, 8, 0) == OSCORE_SALT_LENGTH && derive(1, 0, 8, 0) == OSCORE_ID_TOO_LONG);
-    CHECK(derive(1, 0, 1, 0) == OSCORE_SAME_IDS && derive(1, 0, 0, 0) == OSCORE_ID_CONTEXT_LENGTH && derive(1, 0, 0, 33) == OSCORE_ID_CONTEXT_LENGTH);
-    CHECK(seal("40010001ff", 65531, 65600) == OSCORE_DATAGRAM_TOO_LONG && detail == 65535);
-    CHECK(open("400100") == OSCORE_SHORT && detail == 0);
-    CHECK(open("80010001") == OSCORE_VERSION && detail == 0);
-    CHECK(open("49010001") == OSCORE_TOKEN_LENGTH && detail == 0);
-    CHECK(open("4000000101") == OSCORE_EMPTY_WITH_REST && detail == 4);
-    CHECK(open("4401000101") == OSCORE_TOKEN_CUT && detail == 4);
-    CHECK(open("40010001b161f0") == OSCORE_NIBBLE15 && detail == 6);
-    CHECK(open("40010001b161036100") == OSCORE_OPTION_CUT && detail == 6);
-    CHECK(open("40010001e0ffff") == OSCORE_NUMBER_TOO_LARGE && detail == 4);
-    CHECK(open("40010001b161ff") == OSCORE_EMPTY_PAYLOAD && detail == 6);
-    CHECK(open(SEALED_ANSWERS[0]) == OSCORE_NOT_THAT_KIND && detail == 0);
-    CHECK(open(REQUESTS[C1].plain) == OSCORE_NO_OSCORE);
-    CHECK(open("4002000191e0ff00") == OSCORE_UNDECODABLE);
-    CHECK(open(REQUESTS[C2].sealed) == OSCORE_WRONG_CONTEXT);
-    CHECK(open("44025d1f00003974396c6f63616c686f7374620914ff612f1092f1776f1c1668b3825f") == OSCORE_TAG);
-    CHECK(open("44025d1f00003974920914ff256a22a25470d7a3b9") == OSCORE_INNER && !opened.code);
-    CHECK(seal("40010001d10e06", 0, 64) == OSCORE_UNSUPPORTED && detail == 27);
-    CHECK(seal("40010001ff", 65530, 65600) == OSCORE_TOO_LONG && seal(REQUESTS[C1].plain, 0, 34) == OSCORE_NO_ROOM && out_len == 99);
-    CHECK(oscore_head(plain, 3, &head, &detail) == OSCORE_SHORT && oscore_head(plain, len, &head, &detail) == OSCORE_NO_OSCORE);
-    CHECK(seal(REQUESTS[C1].plain, 0, 35) == OSCORE_DONE && out_len == 35);
+    CHECK(derive(1, 0, 1, 0) == OSCORE_SAME_IDS && derive(1, 0, 0, 0) == OSCORE_ID_CONTEXT_LENGTH
+        && derive(1, 0, 0, 33) == OSCORE_ID_CONTEXT_LENGTH);
+}
+
+/* Each status once, the faults with their places. Datagrams by RFC 7252, 3, and RFC 8613, C.4 and C.5, changed by hand. */
+static void refuses_messages(void) {
+    *out_len = 99;
+    CHECK(seal("40010001ff", 65531, 65600) == OSCORE_DATAGRAM_TOO_LONG && *detail == 65535);
+    CHECK(open_text("400100") == OSCORE_SHORT && *detail == 0);
+    CHECK(open_text("80010001") == OSCORE_VERSION && *detail == 0);
+    CHECK(open_text("49010001") == OSCORE_TOKEN_LENGTH && *detail == 0);
+    CHECK(open_text("4000000101") == OSCORE_EMPTY_WITH_REST && *detail == 4);
+    CHECK(open_text("4401000101") == OSCORE_TOKEN_CUT && *detail == 4);
+    CHECK(open_text("40010001b161f0") == OSCORE_NIBBLE15 && *detail == 6);
+    CHECK(open_text("40010001b161036100") == OSCORE_OPTION_CUT && *detail == 6);
+    CHECK(open_text("40010001e0ffff") == OSCORE_NUMBER_TOO_LARGE && *detail == 4);
+    CHECK(open_text("40010001b161ff") == OSCORE_EMPTY_PAYLOAD && *detail == 6);
+    CHECK(open_text(SEALED_ANSWERS[0]) == OSCORE_NOT_THAT_KIND && *detail == 0);
+    CHECK(open_text(REQUESTS[C1].plain) == OSCORE_NO_OSCORE);
+    CHECK(open_text("4002000191e0ff00") == OSCORE_UNDECODABLE);
+    CHECK(open_text(REQUESTS[C2].sealed) == OSCORE_WRONG_CONTEXT);
+    CHECK(open_text("44025d1f00003974396c6f63616c686f7374620914ff612f1092f1776f1c1668b3825f") == OSCORE_TAG);
+    CHECK(open_text("44025d1f00003974920914ff256a22a25470d7a3b9") == OSCORE_INNER && !opened->code);
+    CHECK(seal("40010001d10e06", 0, 64) == OSCORE_UNSUPPORTED && *detail == 27);
+    CHECK(seal("40010001ff", 65530, 65600) == OSCORE_TOO_LONG && seal(REQUESTS[C1].plain, 0, 34) == OSCORE_NO_ROOM && *out_len == 99);
+    CHECK(seal(REQUESTS[C1].plain, 0, 35) == OSCORE_DONE && *out_len == 35);
 }
 
 static void names_statuses(void) {
@@ -168,7 +240,7 @@ static void names_statuses(void) {
         "TicketSpent", "NotThatKind", "UnknownToken", "NoOscore", "Undecodable", "NoContext", "WrongContext", "Replay",
         "Tag", "Inner", "Challenge", "Unsupported", "TokenInUse", "PendingFull", "SequenceExhausted", "TooLong", "NoRoom",
         "NotPending", "Unknown"};
-    char name[24];
+    char *name = guarded_room(NAME, 24);
     for (uint32_t status = 0; status <= OSCORE_NOT_PENDING + 1; status++) {
         oscore_status_name(status, name);
         CHECK(!strcmp(name, NAMES[status]));
@@ -179,76 +251,146 @@ static void names_statuses(void) {
 
 /* The fields' places were seen above, where each had its own value; here the sizes. */
 static void has_sizes(void) {
-    oscore_struct_sizes sizes = {0};
-    oscore_sizes(&sizes);
-    CHECK(sizes.context == sizeof(oscore_context) && sizes.option == sizeof(oscore_option));
-    CHECK(sizes.opened == sizeof(oscore_opened) && sizes.request_head == sizeof(oscore_request_head));
+    oscore_struct_sizes *sizes = guarded(SIZES, sizeof *sizes);
+    oscore_sizes(sizes);
+    CHECK(sizes->context == sizeof(oscore_context) && sizes->option == sizeof(oscore_option));
+    CHECK(sizes->opened == sizeof(oscore_opened) && sizes->request_head == sizeof(oscore_request_head));
 }
 
-/* Each datagram lies in a block of its own length, so that a reader past its end is seen. */
 static void spoils_datagrams(void) {
     uint8_t sealed[64];
     size_t len = hex(REQUESTS[C1].sealed, sealed);
-    for (int i = 0; i < 20000; i++) {
-        size_t cut = rand() % (len + 1), turned = cut ? rand() % cut : 0;
-        uint8_t *block = malloc(cut);
-        memcpy(block, sealed, cut);
-        if (cut && i % 2) block[turned] ^= 1 << rand() % 8;
-        bool whole = !memcmp(block, sealed, cut) && cut == len;
-        uint32_t status = oscore_open_request(&servers[C1], block, cut, options, 4, &opened, &detail);
+    for (int i = 0; i < rounds; i++) {
+        size_t cut = (size_t)rand() % (len + 1), turned = cut ? (size_t)rand() % cut : 0;
+        uint8_t *datagram = guarded_copy(DATAGRAM, sealed, cut);
+        if (cut && i % 2) datagram[turned] ^= (uint8_t)(1 << rand() % 8);
+        bool whole = !memcmp(datagram, sealed, cut) && cut == len;
+        uint32_t status = oscore_open_request(servers[C1], datagram, cut, options, 4, opened, detail);
         bool ours = status <= OSCORE_EMPTY_PAYLOAD || (status >= OSCORE_NOT_THAT_KIND && status <= OSCORE_INNER);
         CHECK(whole ? status == OSCORE_DONE : ours && status != OSCORE_NO_CONTEXT && status != OSCORE_REPLAY);
-        free(block);
     }
 }
 
 /* A spoilt handle is another context, or none. */
 static void spoils_handles(void) {
-    uint8_t sealed[64], block[64];
+    uint8_t sealed[64];
     size_t len = hex(REQUESTS[C1].sealed, sealed);
-    for (int i = 0; i < 20000; i++) {
-        oscore_context spoilt = servers[C1];
-        ((uint8_t *)&spoilt)[rand() % sizeof spoilt] = rand();
-        bool bad = spoilt.sender_len > 7 || spoilt.recipient_len > 7 || spoilt.id_context_len > 32
-            || (spoilt.sender_len == spoilt.recipient_len && !memcmp(spoilt.sender, spoilt.recipient, spoilt.sender_len));
-        memcpy(block, sealed, len);
-        uint32_t status = oscore_open_request(&spoilt, block, len, options, 4, &opened, &detail);
+    for (int i = 0; i < rounds; i++) {
+        oscore_context *spoilt = guarded_copy(HANDLE, servers[C1], sizeof *spoilt);
+        ((uint8_t *)spoilt)[(size_t)rand() % sizeof *spoilt] = (uint8_t)rand();
+        bool bad = spoilt->sender_len > 7 || spoilt->recipient_len > 7 || spoilt->id_context_len > 32
+            || (spoilt->sender_len == spoilt->recipient_len && !memcmp(spoilt->sender, spoilt->recipient, spoilt->sender_len));
+        uint32_t status = oscore_open_request(spoilt, guarded_copy(DATAGRAM, sealed, len), len, options, 4, opened, detail);
         CHECK(bad ? status == OSCORE_BAD_HANDLE : status == OSCORE_DONE || status == OSCORE_WRONG_CONTEXT || status == OSCORE_TAG);
     }
 }
 
-/* Both ciphers seal alike, under 10,000 random keys and Common IVs, by random numbers, payloads of 1 to 100 random bytes. */
+/* Both ciphers seal alike, under random keys and Common IVs, by random numbers, payloads of 1 to 100 random bytes. */
 static void ciphers_agree(void) {
-    uint8_t plain[105] = {0x40, 0x01, 0, 1, 0xff}, in_constant_time[160];
-    for (int i = 0; i < 10000; i++) {
-        oscore_context context = clients[C1];
-        size_t len = 6 + rand() % 100, len_in_constant_time;
-        uint64_t number = rand();
-        for (size_t k = 0; k < sizeof context.sender_key; k++) context.sender_key[k] = rand();
-        for (size_t k = 0; k < sizeof context.common_iv; k++) context.common_iv[k] = rand();
-        for (size_t k = 5; k < len; k++) plain[k] = rand();
-        context.constant_time = 0;
-        CHECK(!oscore_seal_request(&context, number, plain, len, out, sizeof out, &out_len, &detail));
-        context.constant_time = 1 + rand() % 255;
-        CHECK(!oscore_seal_request(&context, number, plain, len, in_constant_time, sizeof in_constant_time, &len_in_constant_time, &detail));
-        CHECK(len_in_constant_time == out_len && !memcmp(in_constant_time, out, out_len));
+    uint8_t bytes[105] = {0x40, 0x01, 0, 1, 0xff}, by_tables[160];
+    for (int i = 0; i < rounds / 2; i++) {
+        oscore_context *context = guarded_copy(HANDLE, clients[C1], sizeof *context);
+        size_t len = 6 + (size_t)rand() % 100, len_by_tables;
+        uint64_t number = (uint64_t)rand();
+        for (size_t k = 0; k < sizeof context->sender_key; k++) context->sender_key[k] = (uint8_t)rand();
+        for (size_t k = 0; k < sizeof context->common_iv; k++) context->common_iv[k] = (uint8_t)rand();
+        for (size_t k = 5; k < len; k++) bytes[k] = (uint8_t)rand();
+        uint8_t *plain = guarded_copy(PLAIN, bytes, len), *out = guarded_room(OUT, OSCORE_ROOM(len));
+        context->constant_time = 0;
+        CHECK(!oscore_seal_request(context, number, plain, len, out, OSCORE_ROOM(len), out_len, detail));
+        len_by_tables = *out_len;
+        memcpy(by_tables, out, len_by_tables);
+        context->constant_time = (uint8_t)(1 + rand() % 255);
+        CHECK(!oscore_seal_request(context, number, plain, len, out, OSCORE_ROOM(len), out_len, detail));
+        CHECK(*out_len == len_by_tables && !memcmp(out, by_tables, len_by_tables));
     }
 }
 
-int main(void) {
-    srand(1);
-    for (int constant_time = 1; constant_time >= 0; constant_time--) {
-        derives(constant_time);
-        exchanges_requests();
-        exchanges_responses();
+/* Writes an option by its delta and the length of its value (RFC 7252, 3.1). */
+static size_t put_option(uint8_t *bytes, unsigned delta, unsigned value_len) {
+    unsigned parts[2] = {delta, value_len}, nibbles[2];
+    size_t len = 1;
+    for (int i = 0; i < 2; i++) {
+        nibbles[i] = parts[i] < 13 ? parts[i] : parts[i] < 269 ? 13 : 14;
+        if (nibbles[i] == 13) bytes[len++] = (uint8_t)(parts[i] - 13);
+        if (nibbles[i] == 14) bytes[len++] = (uint8_t)((parts[i] - 269) >> 8), bytes[len++] = (uint8_t)(parts[i] - 269);
     }
-    counts_options();
-    refuses();
-    names_statuses();
-    has_sizes();
-    spoils_datagrams();
-    spoils_handles();
-    ciphers_agree();
-    puts("messages: C.1 to C.8, each status, 20,000 spoilt datagrams and 20,000 spoilt handles, 10,000 messages sealed by both ciphers");
+    bytes[0] = (uint8_t)(nibbles[0] << 4 | nibbles[1]);
+    memset(bytes + len, 'v', value_len);
+    return len + value_len;
+}
+
+/* Up to the ranges of one byte, of one byte more, and of two bytes more, each as often. */
+static unsigned random_part(void) {
+    static const unsigned RANGES[3] = {13, 269, 700};
+    return (unsigned)rand() % RANGES[rand() % 3];
+}
+
+/* A plain message of this code: a token, options that can be sealed, a payload, all at random. */
+static size_t random_plain(uint8_t code, uint8_t *bytes) {
+    unsigned token_len = (unsigned)rand() % 9, number = 0, payload_len = random_part();
+    size_t len = 4 + token_len;
+    memset(bytes, 'x', len);
+    bytes[0] = (uint8_t)(0x40 | token_len), bytes[1] = code;
+    for (int left = rand() % 6; left > 0; left--) {
+        unsigned delta = random_part(), next = number + delta;
+        if (next == 6 || next == 9 || next == 23 || next == 27 || next == 35 || next == 39) continue;
+        len += put_option(bytes + len, delta, random_part());
+        number = next;
+    }
+    if (payload_len > 0) bytes[len++] = 0xff;
+    memset(bytes + len, 'p', payload_len);
+    return len + payload_len;
+}
+
+/* How many bytes a message grows by, as a request or as a response, in as much room as the header says, under a context and a number at
+   random. */
+static size_t growth(const uint8_t *bytes, size_t len, bool request, uint64_t number) {
+    uint8_t *plain = guarded_copy(PLAIN, bytes, len), *out = guarded_room(OUT, OSCORE_ROOM(len));
+    oscore_context *context = guarded_copy(HANDLE, clients[C1], sizeof *context);
+    context->sender_len = (uint8_t)(rand() % 8), context->recipient_len = (uint8_t)((context->sender_len + 1) % 8);
+    context->id_context_len = (uint8_t)(rand() % 33);
+    if (len == 7) context->sender_len = 7, context->recipient_len = 0, context->id_context_len = 32;
+    oscore_status status = request ? oscore_seal_request(context, number, plain, len, out, OSCORE_ROOM(len), out_len, detail)
+        : oscore_seal_response(context, 0, rand() % 2, number, plain, len, out, OSCORE_ROOM(len), out_len, detail);
+    CHECK(status == OSCORE_DONE && *out_len <= OSCORE_ROOM(len));
+    return *out_len - len;
+}
+
+/* The largest growth is that of Uri-Port and Uri-Query, with the longest identifiers and number. */
+static void has_room(void) {
+    static uint8_t bytes[8192];
+    size_t len = hex("40010001708161", bytes);
+    CHECK(growth(bytes, len, true, (1ull << 40) - 1) == OSCORE_ROOM(0));
+    for (int i = 0; i < rounds; i++) {
+        uint64_t number = ((uint64_t)rand() << 20 ^ (uint64_t)rand()) % (1ull << 40) >> rand() % 40;
+        len = random_plain(i % 2 ? 1 : 69, bytes);
+        growth(bytes, len, i % 2, number);
+    }
+}
+
+int main(int count, char **words) {
+    srand(1);
+    if (count > 1) rounds = atoi(words[1]);
+    for (int before = 0; before < 2; before++) {
+        lay_out(before);
+        for (int constant_time = 1; constant_time >= 0; constant_time--) {
+            derives(constant_time);
+            exchanges_requests();
+            exchanges_responses();
+        }
+        counts_options();
+        shows_what_is_not_there();
+        refuses_arguments();
+        refuses_messages();
+        names_statuses();
+        has_sizes();
+        spoils_datagrams();
+        spoils_handles();
+        ciphers_agree();
+        has_room();
+    }
+    printf("messages: C.1 to C.8, each status; behind a guard page and before one %d spoilt datagrams, %d spoilt handles, %d messages by both "
+           "ciphers, %d in the room that the header says\n", rounds, rounds, rounds / 2, rounds);
     return 0;
 }

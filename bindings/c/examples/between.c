@@ -1,0 +1,80 @@
+/* A network between a key and its lock that isn't as kind as 127.0.0.1 is, for run.sh.
+
+       between PORT request|reply|separate
+
+   It says at which port it listens, and hands datagrams on to PORT, and what comes from there back to whoever sent last. The first
+   request is lost, or the first reply; or a reply comes as of a lock that is slow: an empty acknowledgment, and then the response in a
+   confirmable message of its own (RFC 7252, 5.2.2), for OSCORE protects neither kind nor message ID. It ends where nothing came for ten
+   seconds. */
+#define _DEFAULT_SOURCE
+#include <arpa/inet.h>
+#include <poll.h>
+#include <stdbool.h>
+#include <stdint.h>
+#include <stdio.h>
+#include <stdlib.h>
+#include <string.h>
+#include <sys/socket.h>
+
+static int front, back;
+static struct sockaddr_in key;
+static uint8_t datagram[1500];
+static bool lose_request, lose_reply, separate;
+/* Of the response that comes by itself, and the key's acknowledgment of it. */
+static const uint8_t OWN_ID[2] = {0xab, 0xcd}, ACKNOWLEDGED[4] = {0x60, 0, 0xab, 0xcd};
+
+static _Noreturn void stop(const char *why) {
+    puts(why);
+    exit(1);
+}
+
+static struct sockaddr_in loopback(uint16_t port) {
+    return (struct sockaddr_in){.sin_family = AF_INET, .sin_port = htons(port), .sin_addr.s_addr = htonl(INADDR_LOOPBACK)};
+}
+
+static void to_key(const uint8_t *bytes, size_t len) {
+    sendto(front, bytes, len, 0, (struct sockaddr *)&key, sizeof key);
+}
+
+static void from_key(void) {
+    socklen_t key_len = sizeof key;
+    ssize_t len = recvfrom(front, datagram, sizeof datagram, 0, (struct sockaddr *)&key, &key_len);
+    if (len == 4 && !memcmp(datagram, ACKNOWLEDGED, 4)) {
+        puts("acknowledged");
+        fflush(stdout);
+    } else if (len >= 4 && !lose_request) {
+        send(back, datagram, (size_t)len, 0);
+    }
+    lose_request = false;
+}
+
+static void from_lock(void) {
+    ssize_t len = recv(back, datagram, sizeof datagram, 0);
+    if (len >= 4 && separate) {
+        const uint8_t ack[] = {0x60, 0, datagram[2], datagram[3]};
+        to_key(ack, sizeof ack);
+        datagram[0] &= 0xcf;
+        memcpy(datagram + 2, OWN_ID, 2);
+    }
+    if (len >= 4 && !lose_reply) to_key(datagram, (size_t)len);
+    lose_reply = false;
+}
+
+int main(int count, char **words) {
+    if (count != 3) stop("between PORT request|reply|separate");
+    lose_request = !strcmp(words[2], "request"), lose_reply = !strcmp(words[2], "reply"), separate = !strcmp(words[2], "separate");
+    struct sockaddr_in own = loopback(0), lock = loopback((uint16_t)atoi(words[1]));
+    socklen_t own_len = sizeof own;
+    front = socket(AF_INET, SOCK_DGRAM, 0), back = socket(AF_INET, SOCK_DGRAM, 0);
+    if (front < 0 || bind(front, (struct sockaddr *)&own, own_len) || getsockname(front, (struct sockaddr *)&own, &own_len)) stop("no port");
+    if (back < 0 || connect(back, (struct sockaddr *)&lock, sizeof lock)) stop("no such port");
+    printf("port %u\n", ntohs(own.sin_port));
+    fflush(stdout);
+
+    struct pollfd ends[2] = {{.fd = front, .events = POLLIN}, {.fd = back, .events = POLLIN}};
+    while (poll(ends, 2, 10000) > 0) {
+        if (ends[0].revents) from_key();
+        if (ends[1].revents) from_lock();
+    }
+    return 0;
+}

@@ -1,0 +1,151 @@
+/* Whether the other tests see a step too far: a shim in front of the library's calls, to be linked with --wrap. Of each pointer that a
+   test hands in it asks the system whether the byte behind that to which it leads can be read, and the one before. Where both can, a
+   library that reads or writes too far wouldn't be seen, and the test fails. */
+#define _DEFAULT_SOURCE
+#include "../oscore.h"
+#include <stdio.h>
+#include <stdlib.h>
+#include <unistd.h>
+
+#define STRUCT(name) lies_at_an_edge(__func__, #name, name, sizeof *name)
+#define BYTES(name) SOME(name, name##_len)
+#define SOME(name, len) lies_at_an_edge(__func__, #name, name, len)
+#define WRAP(name, type, parameters) \
+    type __real_oscore_##name parameters; \
+    type __wrap_oscore_##name parameters; \
+    type __wrap_oscore_##name parameters
+
+static int ends[2];
+static long before_a_guard, behind_a_guard;
+
+__attribute__((constructor)) static void begin(void) {
+    if (pipe(ends)) exit(1);
+}
+
+/* A test has to have laid things on both sides. */
+__attribute__((destructor)) static void finish(void) {
+    printf("guards: %ld things before a guard page, %ld behind one\n", before_a_guard, behind_a_guard);
+    fflush(stdout);
+    if (before_a_guard == 0 || behind_a_guard == 0) _exit(1);
+}
+
+/* The system refuses to write what can't be read. */
+static bool can_be_read(const uint8_t *byte) {
+    uint8_t same;
+    return write(ends[1], byte, 1) == 1 && read(ends[0], &same, 1) == 1;
+}
+
+static void lies_at_an_edge(const char *call, const char *name, const void *at, size_t len) {
+    const uint8_t *first = at;
+    if (!first) return;
+    bool before = !can_be_read(first + len), behind = !can_be_read(first - 1);
+    before_a_guard += before, behind_a_guard += behind;
+    if (before || behind) return;
+    printf("%s: %s doesn't lie against a guard page\n", call, name);
+    exit(1);
+}
+
+WRAP(sizes, void, (oscore_struct_sizes *sizes)) {
+    STRUCT(sizes);
+    __real_oscore_sizes(sizes);
+}
+
+WRAP(status_name, void, (uint32_t status, char name[24])) {
+    SOME(name, 24);
+    __real_oscore_status_name(status, name);
+}
+
+WRAP(derive, oscore_status, (oscore_context *out, const uint8_t *secret, size_t secret_len, const uint8_t *salt, size_t salt_len,
+                             bool has_id_context, const uint8_t *id_context, size_t id_context_len, const uint8_t *sender,
+                             size_t sender_len, const uint8_t *recipient, size_t recipient_len, bool constant_time)) {
+    STRUCT(out), BYTES(secret), BYTES(salt), BYTES(id_context), BYTES(sender), BYTES(recipient);
+    return __real_oscore_derive(out, secret, secret_len, salt, salt_len, has_id_context, id_context, id_context_len, sender, sender_len,
+                                recipient, recipient_len, constant_time);
+}
+
+WRAP(head, oscore_status, (const uint8_t *datagram, size_t datagram_len, oscore_request_head *head, size_t *detail)) {
+    BYTES(datagram), STRUCT(head), STRUCT(detail);
+    return __real_oscore_head(datagram, datagram_len, head, detail);
+}
+
+WRAP(seal_request, oscore_status, (const oscore_context *context, uint64_t number, const uint8_t *plain, size_t plain_len, uint8_t *out,
+                                   size_t out_room, size_t *out_len, size_t *detail)) {
+    STRUCT(context), BYTES(plain), SOME(out, out_room), STRUCT(out_len), STRUCT(detail);
+    return __real_oscore_seal_request(context, number, plain, plain_len, out, out_room, out_len, detail);
+}
+
+WRAP(seal_response, oscore_status, (const oscore_context *context, uint64_t request, bool has_own, uint64_t own, const uint8_t *plain,
+                                    size_t plain_len, uint8_t *out, size_t out_room, size_t *out_len, size_t *detail)) {
+    STRUCT(context), BYTES(plain), SOME(out, out_room), STRUCT(out_len), STRUCT(detail);
+    return __real_oscore_seal_response(context, request, has_own, own, plain, plain_len, out, out_room, out_len, detail);
+}
+
+WRAP(open_request, oscore_status, (const oscore_context *context, uint8_t *datagram, size_t datagram_len, oscore_option *options,
+                                   size_t options_room, oscore_opened *opened, size_t *detail)) {
+    STRUCT(context), BYTES(datagram), SOME(options, options_room * sizeof *options), STRUCT(opened), STRUCT(detail);
+    return __real_oscore_open_request(context, datagram, datagram_len, options, options_room, opened, detail);
+}
+
+WRAP(open_response, oscore_status, (const oscore_context *context, uint64_t request, uint8_t *datagram, size_t datagram_len,
+                                    oscore_option *options, size_t options_room, oscore_opened *opened, size_t *detail)) {
+    STRUCT(context), BYTES(datagram), SOME(options, options_room * sizeof *options), STRUCT(opened), STRUCT(detail);
+    return __real_oscore_open_response(context, request, datagram, datagram_len, options, options_room, opened, detail);
+}
+
+WRAP(server_begin, void, (oscore_server *server)) {
+    STRUCT(server);
+    __real_oscore_server_begin(server);
+}
+
+WRAP(server_add, oscore_status, (oscore_server *server, const oscore_context *context, bool restarted, uint64_t next,
+                                 uint8_t window_places, size_t *index)) {
+    STRUCT(server), STRUCT(context), STRUCT(index);
+    return __real_oscore_server_add(server, context, restarted, next, window_places, index);
+}
+
+WRAP(server_restart, oscore_status, (oscore_server *server, size_t context, uint64_t next)) {
+    STRUCT(server);
+    return __real_oscore_server_restart(server, context, next);
+}
+
+WRAP(server_take, oscore_status, (oscore_server *server, uint64_t now, const uint8_t echo[8], uint16_t mid, uint8_t *datagram,
+                                  size_t datagram_len, oscore_option *options, size_t options_room, oscore_opened *opened,
+                                  oscore_ticket *ticket, uint8_t out[64], size_t *out_len, size_t *detail)) {
+    STRUCT(server), SOME(echo, 8), BYTES(datagram), SOME(options, options_room * sizeof *options), STRUCT(opened), STRUCT(ticket),
+        SOME(out, 64), STRUCT(out_len), STRUCT(detail);
+    return __real_oscore_server_take(server, now, echo, mid, datagram, datagram_len, options, options_room, opened, ticket, out,
+                                     out_len, detail);
+}
+
+WRAP(server_reply, oscore_status, (oscore_server *server, const oscore_ticket *ticket, bool own, uint16_t mid, const uint8_t *plain,
+                                   size_t plain_len, uint8_t *out, size_t out_room, size_t *out_len, size_t *detail)) {
+    STRUCT(server), STRUCT(ticket), BYTES(plain), SOME(out, out_room), STRUCT(out_len), STRUCT(detail);
+    return __real_oscore_server_reply(server, ticket, own, mid, plain, plain_len, out, out_room, out_len, detail);
+}
+
+WRAP(client_begin, oscore_status, (oscore_client *client, const oscore_context *context, uint64_t next, uint64_t life_ms)) {
+    STRUCT(client), STRUCT(context);
+    return __real_oscore_client_begin(client, context, next, life_ms);
+}
+
+WRAP(client_restart, oscore_status, (oscore_client *client, uint64_t next)) {
+    STRUCT(client);
+    return __real_oscore_client_restart(client, next);
+}
+
+WRAP(client_forget, oscore_status, (oscore_client *client, const uint8_t *token, size_t token_len)) {
+    STRUCT(client), BYTES(token);
+    return __real_oscore_client_forget(client, token, token_len);
+}
+
+WRAP(client_request, oscore_status, (oscore_client *client, uint64_t now, const uint8_t *plain, size_t plain_len, uint8_t *out,
+                                     size_t out_room, size_t *out_len, size_t *detail)) {
+    STRUCT(client), BYTES(plain), SOME(out, out_room), STRUCT(out_len), STRUCT(detail);
+    return __real_oscore_client_request(client, now, plain, plain_len, out, out_room, out_len, detail);
+}
+
+WRAP(client_take, oscore_status, (oscore_client *client, uint64_t now, uint8_t *datagram, size_t datagram_len, oscore_option *options,
+                                  size_t options_room, oscore_opened *opened, uint64_t *request, size_t *detail)) {
+    STRUCT(client), BYTES(datagram), SOME(options, options_room * sizeof *options), STRUCT(opened), STRUCT(request), STRUCT(detail);
+    return __real_oscore_client_take(client, now, datagram, datagram_len, options, options_room, opened, request, detail);
+}
