@@ -1,0 +1,83 @@
+/* A short reader of datagrams (RFC 7252, 3), plaintexts (RFC 8613, 5.3) and values of the OSCORE option (RFC 8613, 6.1), and what writes
+   them. What is judged is judged by it, and by no layer of the library. */
+#ifndef HOSTILE_READER_H
+#define HOSTILE_READER_H
+
+#include "bytes.h"
+
+enum { CON, NON, ACK, RST };
+enum { URI_HOST = 3, URI_PORT = 7, OSCORE = 9, URI_PATH = 11, MAX_AGE = 14, BLOCK1 = 27, PROXY_SCHEME = 39, ECHO = 252 };
+/* The codes that a sealed request and a sealed response have outside: 0.02 and 2.04 (RFC 8613, 4.2). */
+enum { OUTER_REQUEST = 0x02, OUTER_RESPONSE = 0x44 };
+
+/* What stands in front of the options of a datagram. */
+struct head {
+    uint8_t kind, code;
+    uint16_t message_id;
+    struct bytes token;
+};
+
+/* Options, as they were spelled, and the payload. */
+struct body {
+    struct bytes options, payload;
+};
+
+struct seen {
+    struct head head;
+    struct body body;
+};
+
+/* An option, and what stands behind it. */
+struct option {
+    uint32_t number;
+    struct bytes value, rest;
+};
+
+/* What a value of the OSCORE option says; an empty one says nothing. */
+struct value {
+    bool has_number, has_kid_context, has_kid;
+    uint64_t number;
+    struct bytes kid_context, kid;
+};
+
+/* CON or NON with a request code, and all kinds but RST with a response code (RFC 7252, 12.1). */
+bool is_request(struct head head);
+bool is_response(struct head head);
+bool is_request_code(uint8_t code);
+bool is_response_code(uint8_t code);
+
+/* 0, or the first fault of what is no datagram, and its place. */
+uint32_t read_datagram(struct bytes datagram, struct seen *seen, size_t *place);
+/* Whether the bytes are a code, options that may stand inside, and a payload. */
+bool read_inner(struct bytes plaintext, uint8_t *code, struct body *body);
+bool read_value(struct bytes bytes, struct value *value);
+/* The one OSCORE value of a message that has a payload and no option for proxies, where it can be read. */
+bool usable_value(const struct body *body, struct value *value);
+
+/* The options of a body, one by one: the first call is given `begun`. False behind the last. */
+struct option begun(const struct body *body);
+bool next_of(struct option *option);
+size_t count_of(const struct body *body, uint32_t number);
+/* The first option of a number, where there is one. */
+bool first_of(const struct body *body, uint32_t number, struct bytes *value);
+/* Whether options of this number stand outside, in front of the OSCORE option's payload (RFC 8613, 4.1.2 and 4.1.3). */
+bool is_outer(uint32_t number);
+
+/* A datagram, or a plaintext, that is written, and its last option's number. */
+struct spelling {
+    struct text text;
+    uint32_t number;
+};
+
+struct spelling spell_datagram(struct head head);
+struct spelling spell_plaintext(uint8_t code);
+/* An option, whose number is none below the last one's. */
+void spell_option(struct spelling *spelling, uint32_t number, struct bytes value);
+/* Ends in a payload, where there is any. */
+struct text spell_end(struct spelling *spelling, struct bytes payload);
+/* A value that says this. */
+struct text spell_value(const struct value *value);
+/* Of a number the shortest bytes, high byte first; of 0 there is one (RFC 8613, 5). */
+struct text spell_number(uint64_t number);
+
+#endif

@@ -1,0 +1,136 @@
+/* What a server answers to a datagram, and to an answer that is asked for. */
+#include "judge.h"
+#include <string.h>
+
+/* What a reply has in front: of a confirmable request it is the acknowledgement (RFC 7252, 4.2 and 5.2.1). */
+static struct head reply_head(uint8_t code, uint8_t kind, uint16_t request_id, uint16_t fresh_id, struct bytes token) {
+    bool confirmable = kind == CON;
+    return (struct head){confirmable ? ACK : NON, code, confirmable ? request_id : fresh_id, token};
+}
+
+/* An error isn't protected, and has Max-Age 0, of no byte (RFC 8613, 7.4 and 8.2). */
+static void write_error(const struct handed *handed, struct judged *judged) {
+    static const struct {
+        uint32_t status;
+        uint8_t code;
+        const char *text;
+    } errors[] = {
+        {OSCORE_UNDECODABLE, 0x82, "Failed to decode COSE"},
+        {OSCORE_NO_CONTEXT, 0x81, "Security context not found"},
+        {OSCORE_REPLAY, 0x81, "Replay detected"},
+        {OSCORE_TAG, 0x80, "Decryption failed"},
+    };
+    struct head asked = judged->seen.head;
+    for (size_t i = 0; i < sizeof errors / sizeof *errors; i++) {
+        if (errors[i].status != judged->status) continue;
+        struct spelling reply = spell_datagram(reply_head(errors[i].code, asked.kind, asked.message_id, handed->message_id, asked.token));
+        spell_option(&reply, MAX_AGE, (struct bytes){NULL, 0});
+        judged->written = spell_end(&reply, (struct bytes){(const uint8_t *)errors[i].text, strlen(errors[i].text)});
+    }
+}
+
+/* A challenge is 4.01 with the Echo value, sealed under an own number (RFC 8613, B.1.2). */
+static void write_challenge(const struct life *life, const struct handed *handed, struct judged *judged) {
+    struct head asked = judged->seen.head;
+    struct sealed_as as = {true, true, judged->opened->as.context, judged->opened->as.request, life->next - 1};
+    struct spelling plain = spell_datagram((struct head){.code = 0x81});
+    spell_option(&plain, ECHO, (struct bytes){life->challenge.echo, sizeof life->challenge.echo});
+    struct head head = reply_head(OUTER_RESPONSE, asked.kind, asked.message_id, handed->message_id, asked.token);
+    seal_plain(as, head, bytes_of(&plain.text), &judged->sealed);
+    judged->has_sealed = true;
+    judged->written = judged->sealed.datagram;
+}
+
+/* The place of the context that a request names, by its kid and its kid context alike (RFC 8613, 8.2). */
+static size_t named(const struct value *value) {
+    for (size_t i = 0; i < CONTEXTS; i++) {
+        struct bytes id_context = AGREED[i].id_context;
+        bool is_its = value->has_kid_context == (id_context.len > 0) && is_same(value->kid_context, id_context);
+        if (is_its && is_same(value->kid, AGREED[i].client)) return i;
+    }
+    return CONTEXTS;
+}
+
+/* Opens a request, or tells what refuses it. */
+static uint32_t open_request(const struct server_judge *judge, const struct handed *handed, struct judged *judged) {
+    struct value value;
+    uint32_t fault = read_datagram(handed->datagram, &judged->seen, &judged->detail);
+    if (fault) return fault;
+    if (!is_request(judged->seen.head)) return OSCORE_NOT_THAT_KIND;
+    if (!count_of(&judged->seen.body, OSCORE)) return OSCORE_NO_OSCORE;
+    /* A request has a Partial IV and a kid (RFC 8613, 5). */
+    if (!usable_value(&judged->seen.body, &value) || !value.has_number || !value.has_kid) return OSCORE_UNDECODABLE;
+    size_t context = named(&value);
+    if (context == CONTEXTS) return OSCORE_NO_CONTEXT;
+    if (is_replay(&judge->lives[context], value.number)) return OSCORE_REPLAY;
+    struct sealed_as as = {.context = context, .request = value.number};
+    judged->opened = opens(as, judged->seen.body.payload);
+    return judged->opened ? OSCORE_DONE : OSCORE_TAG;
+}
+
+/* Judges what opened: what may not stand inside spends its number too. */
+static uint32_t admit(struct life *life, uint64_t clock, const struct handed *handed, struct judged *judged) {
+    uint8_t code = 0;
+    struct body inner;
+    struct bytes echo = {NULL, 0};
+    judged->request = judged->opened->as.request;
+    if (!read_inner(bytes_of(&judged->opened->plaintext), &code, &inner) || !is_request_code(code)) {
+        spend(life, judged->request);
+        return OSCORE_INNER;
+    }
+    bool has_echo = first_of(&inner, ECHO, &echo);
+    if (admits(life, clock, has_echo, echo)) {
+        deliver_in(life, judged->request);
+        return OSCORE_DONE;
+    }
+    if (!challenge_in(life, clock, handed->echo)) return OSCORE_SEQUENCE_EXHAUSTED;
+    write_challenge(life, handed, judged);
+    return OSCORE_CHALLENGE;
+}
+
+void judge_take(struct server_judge *judge, const struct handed *handed, struct judged *judged) {
+    *judged = (struct judged){.status = OSCORE_DONE};
+    if (judge->clock < handed->now) judge->clock = handed->now;
+    judged->status = open_request(judge, handed, judged);
+    if (!judged->status) judged->status = admit(&judge->lives[judged->opened->as.context], judge->clock, handed, judged);
+    write_error(handed, judged);
+}
+
+/* What refuses an answer before it is sealed. */
+static uint32_t refuses(const struct server_judge *judge, const struct answer *answer, struct judged *judged) {
+    const oscore_ticket *ticket = &answer->ticket;
+    struct seen *plain = &judged->seen;
+    if (ticket->number >= NUMBER_LIMIT) return OSCORE_BAD_HANDLE;
+    uint32_t fault = read_datagram(answer->plain, plain, &judged->detail);
+    if (fault) return fault;
+    if (ticket->context >= CONTEXTS || judge->lives[ticket->context].restarts != ticket->life) return OSCORE_STALE_TICKET;
+    const struct life *life = &judge->lives[ticket->context];
+    if (!is_waiting(life, ticket->number)) return OSCORE_TICKET_SPENT;
+    /* Of the plain head the code alone is used. */
+    if (!is_response_code(plain->head.code)) return OSCORE_NOT_THAT_KIND;
+    if (count_of(&plain->body, BLOCK1)) {
+        judged->detail = BLOCK1;
+        return OSCORE_UNSUPPORTED;
+    }
+    return answer->own && life->next >= NUMBER_LIMIT ? OSCORE_SEQUENCE_EXHAUSTED : OSCORE_DONE;
+}
+
+void judge_reply(struct server_judge *judge, const struct answer *answer, struct judged *judged) {
+    const oscore_ticket *ticket = &answer->ticket;
+    *judged = (struct judged){.status = OSCORE_DONE};
+    judged->status = refuses(judge, answer, judged);
+    if (judged->status) return;
+    struct life *life = &judge->lives[ticket->context];
+    struct sealed_as as = {true, answer->own, ticket->context, ticket->number, answer->own ? life->next : 0};
+    struct bytes token = {ticket->token, ticket->token_len};
+    struct head head = reply_head(OUTER_RESPONSE, ticket->kind, ticket->message_id, answer->message_id, token);
+    seal_plain(as, head, answer->plain, &judged->sealed);
+    judged->has_sealed = judged->sealed.datagram.len <= answer->room;
+    if (!judged->has_sealed) {
+        judged->status = OSCORE_NO_ROOM;
+        return;
+    }
+    judged->written = judged->sealed.datagram;
+    answered_in(life, ticket->number);
+    life->next += answer->own;
+}
