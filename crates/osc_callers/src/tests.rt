@@ -1,7 +1,6 @@
 //! Callers that prove a fact from the public contracts alone, and the values that they are run on; and what no contract and no
 //! row can say.
 
-mod command;
 mod file;
 mod folder;
 mod kept;

@@ -1,9 +1,9 @@
-//! What no clause says: what a file may hold, and what a save that stops leaves in it.
+//! What no clause says: what a keeper does where another program changes its file or has its name, and what a step that is refused leaves.
 
 mod refusing;
 
 use super::folder::{begin, end};
-use osc_context::{Keeper, KeeperError, Numbers, NumbersError};
+use osc_context::{Keeper, KeeperError};
 use osc_file::{FileKeeper, TryLock};
 use refusing::{Refusing, Step};
 use std::fs;
@@ -20,73 +20,6 @@ where
     } else {
         Err(KeeperError)
     }
-}
-
-/// The first number of a sender over this file.
-fn first_number<R: Files + Alloc>(rt: &R, name: &str) -> Result<u64, NumbersError>
-where
-    R::File: TryLock,
-{
-    let mut keeper = FileKeeper::new(rt, name);
-    let mut numbers = Numbers::start(&mut keeper)?;
-    Ok(numbers.next(&mut keeper)?.number())
-}
-
-// 64 numbers are reserved at a time, and those that no run used are skipped (RFC 8613, B.1.1).
-#[test]
-fn counts_over_starts(rt: HostRuntime) {
-    begin(&rt, "starts");
-    for first in [0, 64, 128] {
-        assert_eq!(rt; first_number(&rt, "starts/number"), Ok(first));
-    }
-    let text = fs::read_to_string(&rt, "starts/number").expect(&rt, "a file");
-    assert_eq!(rt; text.as_str(), "192\n");
-    end(&rt, "starts");
-}
-
-// Own rule: digits and a newline, below 2^64. What is above 2^40 is the business of `Numbers`.
-#[test]
-fn contents(rt: HostRuntime) {
-    let rows: [(&str, Option<u64>); 18] = [
-        ("64\n", Some(64)),
-        ("0\n", Some(0)),
-        ("00064\n", Some(64)),
-        ("000000000000000000000000000064\n", Some(64)),
-        ("1099511627776\n", Some(1_099_511_627_776)),
-        ("1099511627777\n", Some(1_099_511_627_777)),
-        ("18446744073709551615\n", Some(u64::MAX)),
-        ("18446744073709551616\n", None),
-        ("64", None),
-        ("64\r\n", None),
-        ("64\n\n", None),
-        ("", None),
-        ("\n", None),
-        ("-64\n", None),
-        ("+64\n", None),
-        (" 64\n", None),
-        ("64 \n", None),
-        ("sixty\n", None),
-    ];
-    begin(&rt, "contents");
-    for (text, number) in rows {
-        fs::write(&rt, "contents/number", text).expect(&rt, "a file");
-        let loaded = FileKeeper::new(&rt, "contents/number").load();
-        assert_eq!(rt; loaded, number.ok_or(KeeperError), "{text:?}");
-    }
-    end(&rt, "contents");
-}
-
-// A name that is a folder's, and one in a folder that isn't there.
-#[test]
-fn folders(rt: HostRuntime) {
-    begin(&rt, "folders");
-    fs::create_dir(&rt, "folders/number").expect(&rt, "a new folder");
-    for name in ["folders/number", "folders/none/number"] {
-        let mut keeper = FileKeeper::new(&rt, name);
-        assert_eq!(rt; keeper.load(), Err(KeeperError), "{name}");
-        assert_eq!(rt; save(&mut keeper, 64), Err(KeeperError), "{name}");
-    }
-    end(&rt, "folders");
 }
 
 /// Makes the file hold this text, or removes it.
@@ -168,48 +101,6 @@ fn two_keepers(rt: HostRuntime) {
         (Ok(()), Err(KeeperError))
     );
     end(&rt, "two");
-}
-
-// Own rule: a symbolic link is no file of a number, and no lock; one where a save makes its file is removed. What they lead to stays.
-#[test]
-fn links(rt: HostRuntime) {
-    begin(&rt, "links");
-    fs::write(&rt, "links/other", "64\n").expect(&rt, "a file");
-    let rows = [
-        ("links/a", "links/a", Err(KeeperError)),
-        ("links/b", "links/b.lock", Err(KeeperError)),
-        ("links/c", "links/c.new", Ok(())),
-    ];
-    for (name, link, saved) in rows {
-        rt.symlink("other", link).expect(&rt, "a new link");
-        assert_eq!(rt; save(&mut FileKeeper::new(&rt, name), 128), saved, "{link}");
-        assert!(rt; holds(&rt, "links/other", "64\n"), "{link}");
-    }
-    assert_eq!(rt; first_number(&rt, "links/c"), Ok(128));
-    end(&rt, "links");
-}
-
-// A save of 128 over 64 that stops: what NAME and NAME.new hold then, and what the next run loads, whose save writes over NAME.new.
-#[test]
-fn stops_of_a_save(rt: HostRuntime) {
-    let rows = [
-        ("created", "64\n", Some(""), 64),
-        ("written in part", "64\n", Some("12"), 64),
-        ("written, or synced", "64\n", Some("128\n"), 64),
-        ("renamed", "128\n", None, 128),
-        ("left by a power cut", "64\n", Some("\u{0}9999\n\n+"), 64),
-    ];
-    begin(&rt, "stops");
-    for (moment, text, new_text, number) in rows {
-        fs::write(&rt, "stops/number", text).expect(&rt, "a file");
-        if let Some(new_text) = new_text {
-            fs::write(&rt, "stops/number.new", new_text).expect(&rt, "a file");
-        }
-        assert_eq!(rt; first_number(&rt, "stops/number"), Ok(number), "{moment}");
-        let loaded = FileKeeper::new(&rt, "stops/number").load();
-        assert_eq!(rt; loaded, Ok(number + 64), "{moment}");
-    }
-    end(&rt, "stops");
 }
 
 // Each step of a load and of a save refused in turn, for a name in a folder and one in the working folder: what the load answers; the
