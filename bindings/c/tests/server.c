@@ -19,8 +19,9 @@ static const char *ELSEWHERE = "440271c30000b932396c6f63616c686f737463091400ff4e
 enum { NOW = 1000, MID = 0x1234 };
 static const uint64_t NUMBERS = 1ull << 40;
 static uint8_t echo[8] = {1, 2, 3, 4, 5, 6, 7, 8};
-/* Whether `derive` makes contexts in constant time. */
+/* Whether `derive` makes contexts in constant time, and the server's own identifier. */
 static bool constant_time;
+static uint8_t sender = 1;
 static oscore_context client, own;
 static oscore_server server;
 static oscore_option options[4];
@@ -38,12 +39,12 @@ static size_t hex(const char *text, uint8_t *bytes) {
 
 /* The context of RFC 8613, C.1, or C.3 with an ID Context, for both ends; other recipients for the server of eight. */
 static void derive(uint8_t recipient, size_t recipient_len, const char *id_context) {
-    uint8_t secret[16], salt[8], id[8], one = 1;
+    uint8_t secret[16], salt[8], id[8];
     size_t id_len = id_context ? hex(id_context, id) : 0;
     hex("0102030405060708090a0b0c0d0e0f10", secret);
     hex("9e7ca92223786340", salt);
-    CHECK(!oscore_derive(&client, secret, 16, salt, 8, id_context, id, id_len, &recipient, recipient_len, &one, 1, constant_time));
-    CHECK(!oscore_derive(&own, secret, 16, salt, 8, id_context, id, id_len, &one, 1, &recipient, recipient_len, constant_time));
+    CHECK(!oscore_derive(&client, secret, 16, salt, 8, id_context, id, id_len, &recipient, recipient_len, &sender, 1, constant_time));
+    CHECK(!oscore_derive(&own, secret, 16, salt, 8, id_context, id, id_len, &sender, 1, &recipient, recipient_len, constant_time));
 }
 
 static void begin(bool restarted, uint64_t next) {
@@ -277,6 +278,7 @@ static void has_eight_contexts(void) {
     size_t index = 99;
     oscore_server_begin(&server);
     for (uint8_t i = 0; i < 8; i++) {
+        sender = 16 + i;
         derive(2 + i, 1, NULL);
         CHECK(!oscore_server_add(&server, &own, false, i, 64, &index) && index == i);
         CHECK(!take_sealed(REQUEST, 5, NOW) && ticket.context == i && ticket.number == 5 && !answer(&ticket, true) && server.contexts[i].next == i + 1u);
@@ -284,6 +286,7 @@ static void has_eight_contexts(void) {
     oscore_server before = server;
     CHECK(oscore_server_add(&server, &own, false, 0, 32, &index) == OSCORE_FULL && index == 7 && same(&server, &before));
     /* An ID Context tells apart what the identifier doesn't (RFC 8613, C.3). */
+    sender = 1;
     begin(false, 0);
     before = server;
     CHECK(oscore_server_add(&server, &own, true, 5, 64, &index) == OSCORE_SAME_LOOKUP);
@@ -295,6 +298,23 @@ static void has_eight_contexts(void) {
     CHECK(!oscore_server_add(&server, &own, false, 0, 64, &index) && index == 1);
     CHECK(!take_sealed(REQUEST, 20, NOW) && ticket.context == 1);
     CHECK(!take_text(SEALED) && ticket.context == 0);
+}
+
+/* Two contexts of one Sender Key would share key and nonce (RFC 8613, 3.3): the second is refused, whichever of the others has the key. */
+static void refuses_same_senders(void) {
+    size_t index = 99;
+    begin(false, 7);
+    for (uint8_t i = 1; i < 4; i++) {
+        oscore_server before = server;
+        for (sender = 1; sender <= i; sender++) {
+            derive(8 + i, 1, NULL);
+            CHECK(oscore_server_add(&server, &own, false, 0, 64, &index) == OSCORE_SAME_SENDER && index == 99 && same(&server, &before));
+        }
+        derive(8 + i, 1, NULL);
+        CHECK(!oscore_server_add(&server, &own, false, 0, 64, &index) && index == i && server.count == i + 1u && server.contexts[0].next == 7);
+        index = 99;
+    }
+    sender = 1;
 }
 
 static void has_sizes(void) {
@@ -353,7 +373,9 @@ static void spoils_servers(void) {
     derive(0, 0, "37cbf3210017a2d3");
     CHECK(!oscore_server_add(&server, &own, true, 0, 64, &index) && take_sealed(REQUEST, 20, NOW) == OSCORE_CHALLENGE);
     oscore_server whole = server;
+    sender = 2;
     derive(3, 1, NULL);
+    sender = 1;
     for (int i = 0; i < 20000; i++) {
         server = whole;
         size_t used = offsetof(oscore_server, contexts) + 2 * sizeof(oscore_server_context);
@@ -405,6 +427,7 @@ int main(void) {
     restarts();
     spends_tickets();
     has_eight_contexts();
+    refuses_same_senders();
     has_sizes();
     spoils_datagrams();
     spoils_servers();
