@@ -37,7 +37,7 @@ static size_t hex(const char *text, uint8_t *bytes) {
     return len;
 }
 
-/* The context of RFC 8613, C.1, or C.3 with an ID Context, for both ends; other recipients for the server of eight. */
+/* The context of RFC 8613, C.1, or C.3 with an ID Context, for both ends; other identifiers for servers of several. */
 static void derive(uint8_t recipient, size_t recipient_len, const char *id_context) {
     uint8_t secret[16], salt[8], id[8];
     size_t id_len = id_context ? hex(id_context, id) : 0;

@@ -288,7 +288,7 @@ pub(crate) fn steps_over_bytes(text: &str, contexts: &[NamedContext<'_>], answer
     check(&steps, answer);
 }
 
-/// Makes the calls of a row's steps: by `take`, by its halves, where the steps are contexts of a Sender Key each that are added and
+/// Makes the calls of a row's steps: by `take`, by its halves, where the steps are contexts that are added, no two of one Sender Key, and
 /// events over the bytes of a server in both ways too, and where the contexts come first by both runs.
 pub(crate) fn steps(text: &str, contexts: &[NamedContext<'_>], answer: &mut Answer) {
     let steps = steps_of(text, answer);

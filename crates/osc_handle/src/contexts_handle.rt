@@ -102,7 +102,7 @@ impl ContextsHandle {
         if self.find(context.kid(), context.kid_context()).is_some() {
             return Err(AddRefusal::Refused(AddError::SameLookup));
         }
-        // By the key alone: two keys that HKDF made of different inputs are equal by a collision of it alone (RFC 8613, 3.2.1).
+        // By the key alone: contexts of one key and two Common IVs could still meet in a nonce (RFC 8613, 5.2).
         if self.has_sender_of(context) {
             return Err(AddRefusal::SameSender);
         }
