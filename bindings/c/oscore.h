@@ -85,7 +85,8 @@ typedef enum oscore_status {
     OSCORE_SEQUENCE_EXHAUSTED = 37, /* no own number below 2^40 is left */
     OSCORE_TOO_LONG = 38,          /* the sealed message would have more than 65,535 bytes */
     OSCORE_NO_ROOM = 39,           /* the buffer is shorter than the sealed message */
-    OSCORE_NOT_PENDING = 40        /* no request with this token is pending */
+    OSCORE_NOT_PENDING = 40,       /* no request with this token is pending */
+    OSCORE_SAME_SENDER = 41        /* a context of the server has this Sender Key; judged right after OSCORE_SAME_LOOKUP, though last */
 } oscore_status;
 
 /* What calls return has the bytes of a uint32_t. */
@@ -259,7 +260,9 @@ void oscore_server_begin(oscore_server *server);
 /* Adds a context, and writes its index. `restarted` says that it may have received requests before, so that what was seen of them is
    lost: then no request is delivered until one brings back an Echo value (RFC 8613, B.1.2). `next` is its next own number, above each
    that it ever sealed under. A context that was never used begins with false and 0. Its window has 32 or 64 places. From then on the
-   server counts the numbers of the context's sender: seal neither requests nor responses by `context` beside it. */
+   server counts the numbers of the context's sender: seal neither requests nor responses by `context` beside it. Two contexts of one
+   Sender Key would each count from their own `next`, and share key and nonce, so the second is OSCORE_SAME_SENDER: contexts of one
+   Master Secret are to differ in Sender ID, Master Salt or ID Context (RFC 8613, 3.3). */
 OSCORE_MUST_USE oscore_status oscore_server_add(oscore_server *server, const oscore_context *context, bool restarted, uint64_t next,
                                                 uint8_t window_places, size_t *index);
 

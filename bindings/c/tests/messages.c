@@ -239,9 +239,9 @@ static void names_statuses(void) {
         "NumberTooLarge", "EmptyPayload", "NoSuchContext", "LivesExhausted", "Full", "SameLookup", "StaleTicket",
         "TicketSpent", "NotThatKind", "UnknownToken", "NoOscore", "Undecodable", "NoContext", "WrongContext", "Replay",
         "Tag", "Inner", "Challenge", "Unsupported", "TokenInUse", "PendingFull", "SequenceExhausted", "TooLong", "NoRoom",
-        "NotPending", "Unknown"};
+        "NotPending", "SameSender", "Unknown"};
     char *name = guarded_room(NAME, 24);
-    for (uint32_t status = 0; status <= OSCORE_NOT_PENDING + 1; status++) {
+    for (uint32_t status = 0; status <= OSCORE_SAME_SENDER + 1; status++) {
         oscore_status_name(status, name);
         CHECK(!strcmp(name, NAMES[status]));
     }
@@ -255,6 +255,7 @@ static void has_sizes(void) {
     oscore_sizes(sizes);
     CHECK(sizes->context == sizeof(oscore_context) && sizes->option == sizeof(oscore_option));
     CHECK(sizes->opened == sizeof(oscore_opened) && sizes->request_head == sizeof(oscore_request_head));
+    CHECK(sizes->server == sizeof(oscore_server) && sizes->ticket == sizeof(oscore_ticket));
 }
 
 static void spoils_datagrams(void) {

@@ -112,6 +112,7 @@ impl<'t> Corpus<'t> {
                 command::run(row.verb, row.fields, &mut answer);
             }
             "server" => server::steps(row.fields, contexts, &mut answer),
+            "server-bytes" => server::steps_over_bytes(row.fields, contexts, &mut answer),
             "client" => client::steps(row.fields, contexts, &mut answer),
             "kept-server" => kept::steps::<KeptServer<Memory<'_>>>(
                 row.fields,

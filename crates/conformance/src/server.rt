@@ -2,7 +2,7 @@
 
 use crate::answer::Answer;
 use crate::fields::{Fields, NamedContext};
-use crate::server_bytes::by_bytes;
+use crate::server_bytes::{by_bytes, have_own_senders};
 use crate::server_entry::show;
 use crate::server_steps::{events_of, index, is_event};
 use crate::steps::{FILLED_WITH, Step, number, steps_of};
@@ -267,8 +267,29 @@ fn run(
     }
 }
 
-/// Makes the calls of a row's steps: by `take`, by its halves, where the steps are contexts that are added and events over the
-/// bytes of a server in both ways too, and where the contexts come first by both runs.
+/// Both ways over the bytes of a server.
+fn by_bytes_both_ways(steps: &[Step<'_>], contexts: &[NamedContext<'_>], answer: &mut Answer) {
+    by_bytes(steps, contexts, false, answer);
+    answer.again();
+    by_bytes(steps, contexts, true, answer);
+}
+
+/// A row whose steps went ill differs.
+fn check(steps: &[Step<'_>], answer: &mut Answer) {
+    if steps.iter().any(|step| step.fields.is_bad()) {
+        answer.is_whole = false;
+    }
+}
+
+/// Makes the calls of a row's steps over the bytes of a server alone.
+pub(crate) fn steps_over_bytes(text: &str, contexts: &[NamedContext<'_>], answer: &mut Answer) {
+    let steps = steps_of(text, answer);
+    by_bytes_both_ways(&steps, contexts, answer);
+    check(&steps, answer);
+}
+
+/// Makes the calls of a row's steps: by `take`, by its halves, where the steps are contexts that are added, no two of one Sender Key, and
+/// events over the bytes of a server in both ways too, and where the contexts come first by both runs.
 pub(crate) fn steps(text: &str, contexts: &[NamedContext<'_>], answer: &mut Answer) {
     let steps = steps_of(text, answer);
     by_calls(&steps, contexts, false, answer);
@@ -277,11 +298,10 @@ pub(crate) fn steps(text: &str, contexts: &[NamedContext<'_>], answer: &mut Answ
     if steps
         .iter()
         .all(|step| step.verb == "add" || is_event(step))
+        && have_own_senders(&steps, contexts)
     {
         answer.again();
-        by_bytes(&steps, contexts, false, answer);
-        answer.again();
-        by_bytes(&steps, contexts, true, answer);
+        by_bytes_both_ways(&steps, contexts, answer);
     }
     let added = steps.iter().take_while(|step| step.verb == "add").count();
     if steps.iter().skip(added).all(is_event) {
@@ -290,7 +310,5 @@ pub(crate) fn steps(text: &str, contexts: &[NamedContext<'_>], answer: &mut Answ
         answer.again();
         by_a_run(&steps, contexts, true, answer);
     }
-    if steps.iter().any(|step| step.fields.is_bad()) {
-        answer.is_whole = false;
-    }
+    check(&steps, answer);
 }

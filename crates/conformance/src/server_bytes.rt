@@ -8,7 +8,7 @@ use crate::server_steps::events_of;
 use crate::steps::Step;
 use osc_coap::parse;
 use osc_endpoint::{Answering, Arrival, Decided, ServerEntry, ServerEvent, Taken, Ticket};
-use osc_handle::{ContextHandle, ReplyRefusal, ServerHandle, TicketHandle};
+use osc_handle::{AddRefusal, ContextHandle, ReplyRefusal, ServerHandle, TicketHandle};
 
 /// The tickets of earlier events, as bytes. One whose reply was sealed is taken out.
 type Tickets = Vec<Option<TicketHandle>>;
@@ -18,22 +18,39 @@ fn add(
     server: &mut ServerHandle,
     step: &Step<'_>,
     contexts: &[NamedContext<'_>],
-    answer: &mut Answer,
-) {
-    let Some(
-        Addition {
-            context,
-            start,
-            size,
-        },
-    ) = read_addition(&step.fields, contexts)
-    else {
-        return;
-    };
-    match server.add(&ContextHandle::of(&context), start, size) {
-        Some(added) => show_added(added, answer),
-        None => step.fields.refuse(),
+) -> Option<Result<usize, AddRefusal>> {
+    let Addition {
+        context,
+        start,
+        size,
+    } = read_addition(&step.fields, contexts)?;
+    let added = server.add(&ContextHandle::of(&context), start, size);
+    if added.is_none() {
+        step.fields.refuse();
     }
+    added
+}
+
+/// The index of a context that was added, or the refusal.
+fn show_addition(added: Result<usize, AddRefusal>, answer: &mut Answer) {
+    match added {
+        Ok(index) => show_added(Ok(index), answer),
+        Err(AddRefusal::Refused(refusal)) => show_added(Err(refusal), answer),
+        Err(AddRefusal::SameSender) => answer.word("refused SameSender ;"),
+    }
+}
+
+/// Whether none of the contexts is refused for its Sender Key, by which a `Server` refuses none (RFC 8613, 3.3).
+pub(crate) fn have_own_senders(steps: &[Step<'_>], contexts: &[NamedContext<'_>]) -> bool {
+    let mut server = ServerHandle::new();
+    for step in steps {
+        if step.verb == "add" {
+            if let Some(Err(AddRefusal::SameSender)) = add(&mut server, step, contexts) {
+                return false;
+            }
+        }
+    }
+    true
 }
 
 /// A datagram, by one call or by its two halves.
@@ -131,7 +148,9 @@ pub(crate) fn by_bytes(
     let mut rest = events.as_mut_slice();
     for step in steps {
         if step.verb == "add" {
-            add(&mut server, step, contexts, answer);
+            if let Some(added) = add(&mut server, step, contexts) {
+                show_addition(added, answer);
+            }
             continue;
         }
         let Some((event, tail)) = rest.split_first_mut() else {

@@ -27,7 +27,7 @@ use Rattle.osc_c.specs.ClientCalls as asks
 use Rattle.osc_c.specs.ClientCalls.RefusesAsking.{bad_handle as ask_handle, malformed as ask_malformed, refused as ask_refused}
 use Rattle.osc_c.specs.ClientCalls.RefusesTaking.{bad_handle as take_handle, refused as take_refused}
 use Rattle.osc_c.specs.ServerCalls as serves
-use Rattle.osc_c.specs.ServerCalls.RefusesAdding.{bad_handle as add_handle, bad_number as add_number, refused as add_refused}
+use Rattle.osc_c.specs.ServerCalls.RefusesAdding.{bad_handle as add_handle, bad_number as add_number, refused as add_refused, same_sender as add_sender}
 use Rattle.osc_c.specs.ServerCalls.RefusesReplying.{bad_handle as reply_handle, malformed as reply_malformed, spent as reply_spent, refused as reply_refused}
 use Rattle.osc_c.specs.ServerCalls.RefusesRestarting.{bad_handle as restart_handle, bad_number as restart_number, refused as restart_refused}
 use Rattle.osc_c.specs.ServerCalls.RefusesServing.{bad_handle as serve_handle, refused as serve_refused}
@@ -50,17 +50,24 @@ are_addable next places number Places64 given = record { number = subst (λ n. n
 
 pub adding_read : OneServerAnswer → (s new : ServerHandle) (c : ContextHandle) (restarted : Bool) (next places : ℕ) (status : Status) (result index : ℕ) → serves.RefusesAdding s new c restarted next places status → result ≡ code status
     → IsTable s.contexts → IsContext c → (number : Piv) (size : WindowSize) → serves.AreGiven next places number size → (h : server.History) (entry : server.Entry) → Serves s h
-    → ServerAnswer h (server.Add (server_in c) (serves.start_given restarted number) size) entry → serves.ReadsAdding entry result index
+    → ServerAnswer h (server.Add (server_in c) (serves.start_given restarted number) size) entry → serves.ReadsAdding h (server_in c) entry result index
 adding_read one s new c restarted next places status result index (add_handle not is) says table context number size given h entry held y = absurd (not table context)
 adding_read one s new c restarted next places status result index (add_number t k not is) says table context number size given h entry held y = absurd (not (are_addable next places number size given))
 adding_read one s new c restarted next places status result index (add_refused t k other kind from e is holds) says table context number size given h entry held y =
-    carried one (λ x. serves.ReadsAdding x result index) h (server.Add (server_in c) (serves.start_given restarted number) size) (server.NotAdded e) entry held.answers (holds h held).0 y (says ∙ ap code is)
+    carried one (λ x. serves.ReadsAdding h (server_in c) x result index) h (server.Add (server_in c) (serves.start_given restarted number) size) (server.NotAdded e) entry held.answers (holds h held).0 y
+    (says ∙ ap code is)
+adding_read one s new c restarted next places status result index (add_sender t k can same is) says table context number size given h entry held y =
+    let (less, free, has) = same h held in
+    carried one (λ x. serves.ReadsAdding h (server_in c) x result index) h (server.Add (server_in c) (serves.start_given restarted number) size) (server.Added (server.added h)) entry held.answers
+    (y.0, (less, free, refl)) y
+    (record { same_sender = λ _. says ∙ ap code is; added = λ none. absurd (none has) })
 
 pub addable : (s new : ServerHandle) (c : ContextHandle) (restarted : Bool) (next places : ℕ) (status : Status) (result : ℕ) → serves.RefusesAdding s new c restarted next places status → result ≡ code status
     → IsTable s.contexts → IsContext c → (serves.AreAddable next places → ⊥) → result ≡ code BadNumber
 addable s new c restarted next places status result (add_handle not is) says table context bad = absurd (not table context)
 addable s new c restarted next places status result (add_number t k not is) says table context bad = says ∙ ap code is
 addable s new c restarted next places status result (add_refused t k number size given e is holds) says table context bad = absurd (bad (are_addable next places number size given))
+addable s new c restarted next places status result (add_sender t k can same is) says table context bad = absurd (bad can)
 
 pub restarting_read : OneServerAnswer → (s new : ServerHandle) (context next : ℕ) (status : Status) (result : ℕ) → serves.RefusesRestarting s new context next status → result ≡ code status
     → IsTable s.contexts → next < 2 ^ 40 → (h : server.History) (entry : server.Entry) → Serves s h → ServerAnswer h (server.Restart context next) entry → serves.ReadsRestarting entry result

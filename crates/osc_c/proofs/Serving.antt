@@ -1,19 +1,19 @@
 -- What a server answers, as C reads it. s are its bytes after the call, h is the history before it.
-use Rattle.std.proofs.Common.{◌≡◌, ◌∙◌, ap, sym, subst, ℕ, List, Result, Err}
+use Rattle.std.proofs.Common.{◌≡◌, ◌∙◌, ap, sym, subst, ℕ, IfSome, List, Result, Err}
 use Rattle.osc_context.specs.SecurityContext.{SecurityContext}
 use Rattle.osc_protect.specs.declared.opened.Opened.{Opened}
 use Rattle.osc_window.specs.declared.window_size.WindowSize.{WindowSize}
 use Rattle.osc_endpoint.specs.ServerHistory as server
-use Rattle.osc_endpoint.specs.Views.{Shows, added_entry, received_of, restarted_entry, values_of}
+use Rattle.osc_endpoint.specs.Views.{Shows, received_of, restarted_entry, values_of}
 use Rattle.osc_endpoint.specs.declared.outcome.Outcome.{Outcome}
 use Rattle.osc_endpoint.specs.declared.outcome.Outcome.TheVariants as outcomes
-use Rattle.osc_endpoint.specs.declared.server_error.AddError.{AddError}
 use Rattle.osc_endpoint.specs.declared.server_error.ReplyError.{ReplyError}
 use Rattle.osc_endpoint.specs.declared.server_error.RestartError.{RestartError}
 use Rattle.osc_endpoint.specs.declared.start.Fresh.{Fresh}
 use Rattle.osc_endpoint.specs.declared.start.Start.{Start}
 use Rattle.osc_endpoint.specs.declared.ticket.Ticket.{Ticket}
-use Rattle.osc_handle.specs.ServerBytes.{TakesIn}
+use Rattle.osc_handle.specs.ServerBytes.{AddsIn, TakesIn, entry_of_add}
+use Rattle.osc_handle.specs.declared.add_refusal.AddRefusal.{AddRefusal}
 use Rattle.osc_handle.specs.declared.reply_refusal.ReplyRefusal.{ReplyRefusal}
 use Rattle.osc_handle.specs.declared.reply_refusal.ReplyRefusal.TheVariants.{Refused}
 use Rattle.osc_handle.specs.declared.server_handle.ServerHandle.{ServerHandle}
@@ -23,10 +23,11 @@ use Rattle.osc_c.specs.Statuses.{format_status}
 use Rattle.osc_c.specs.declared.status.Status.{Status}
 
 -- an addition, by the same answer and start in other words
-pub added_so : (h : server.History) (s : ServerHandle) (c : SecurityContext) (start given : Start) (size : WindowSize) (r q : Result ℕ AddError) → start ≡ given → r ≡ q
-    → AnswersIn h (server.Add c start size) (added_entry r) s → AnswersIn h (server.Add c given size) (added_entry q) s
+pub added_so : (h : server.History) (s : ServerHandle) (c : SecurityContext) (start given : Start) (size : WindowSize) (r q : Result ℕ AddRefusal) → start ≡ given → r ≡ q
+    → IfSome (entry_of_add r) (λ entry. AddsIn h c start size entry s) → IfSome (entry_of_add q) (λ entry. AddsIn h c given size entry s)
 added_so h s c start given size r q same is x =
-    subst (λ (a : Result ℕ AddError). AnswersIn h (server.Add c given size) (added_entry a) s) is (subst (λ (b : Start). AnswersIn h (server.Add c b size) (added_entry r) s) same x)
+    subst (λ (a : Result ℕ AddRefusal). IfSome (entry_of_add a) (λ entry. AddsIn h c given size entry s)) is
+    (subst (λ (b : Start). IfSome (entry_of_add r) (λ entry. AddsIn h c b size entry s)) same x)
 
 -- a restart
 pub restarted_so : (h : server.History) (s : ServerHandle) (context next number : ℕ) (r q : Result Unit RestartError) → next ≡ number → r ≡ q

@@ -4,10 +4,12 @@ use Rattle.std.specs.Prelude.{◌≡◌, ℕ, ◌<◌, ◌^◌, ◌⊎◌, List,
 use Rattle.osc_coap.specs.Datagram.{Parts, IsDatagram}
 use Rattle.osc_coap.specs.Fault.{HasFault}
 use Rattle.osc_coap.specs.declared.format_error.Fault.{Fault}
+use Rattle.osc_context.specs.SecurityContext.{SecurityContext}
 use Rattle.osc_context.specs.Views.{number_of}
 use Rattle.osc_context.specs.declared.partial_iv.Piv.{Piv}
 use Rattle.osc_window.specs.Views.{places_of}
 use Rattle.osc_window.specs.declared.window_size.WindowSize.{WindowSize}
+use Rattle.osc_endpoint.specs.Senders.{HasSameSender}
 use Rattle.osc_endpoint.specs.ServerAnswer.{ServerAnswer}
 use Rattle.osc_endpoint.specs.ServerHistory.{Add, Added, Answer, BadInner, BadTag, Challenge as Challenged, Datagram, Deliver, Entry, Event, History, Malformed, NoContext as NoSuchKid, NotAdded, NotReplied, NotRequest, NotRestarted, Plain, Replay as Replayed, Replied, Restart, Restarted as LivesAnew, SequenceExhausted as NoOwnLeft, Then, TicketValues, Took, Undecodable as NotDecoded}
 use Rattle.osc_endpoint.specs.declared.outcome.Outcome.{Outcome}
@@ -21,7 +23,7 @@ use Rattle.osc_endpoint.specs.declared.server_error.RestartError.TheVariants as 
 use Rattle.osc_endpoint.specs.declared.start.Start.{Start}
 use Rattle.osc_endpoint.specs.declared.start.Start.TheVariants.{Fresh, Restarted}
 use Rattle.osc_handle.specs.ContextBytes.{IsContext, server_in}
-use Rattle.osc_handle.specs.ServerBytes.{IsSpent, RepliesIn, Serves}
+use Rattle.osc_handle.specs.ServerBytes.{IsSameSender, IsSpent, RepliesIn, Serves}
 use Rattle.osc_handle.specs.TableBytes.{IsTable}
 use Rattle.osc_handle.specs.TicketBytes.{IsTicket, ticket_in}
 use Rattle.osc_handle.specs.declared.context_handle.ContextHandle.{ContextHandle}
@@ -29,7 +31,7 @@ use Rattle.osc_handle.specs.declared.server_handle.ServerHandle.{ServerHandle}
 use Rattle.osc_handle.specs.declared.ticket_handle.TicketHandle.{TicketHandle}
 use Rattle.osc_c.specs.Statuses.{code, format_status}
 use Rattle.osc_c.specs.declared.status.Status.{Status}
-use Rattle.osc_c.specs.declared.status.Status.TheVariants.{BadHandle, BadNumber, NoSuchContext, LivesExhausted, Full, SameLookup, StaleTicket, TicketSpent, NotThatKind, NoOscore, Undecodable, NoContext, Replay, Tag, Inner, Challenge, Unsupported, SequenceExhausted, TooLong, NoRoom}
+use Rattle.osc_c.specs.declared.status.Status.TheVariants.{BadHandle, BadNumber, NoSuchContext, LivesExhausted, Full, SameLookup, SameSender, StaleTicket, TicketSpent, NotThatKind, NoOscore, Undecodable, NoContext, Replay, Tag, Inner, Challenge, Unsupported, SequenceExhausted, TooLong, NoRoom}
 
 -- the entry is the answer to the event after the history, and the bytes are as both say (RFC 8613, 8.2 and 8.3)
 abbrev pub AnswersIn : History → Event → Entry → ServerHandle → Type 0
@@ -105,6 +107,7 @@ pub data RefusesAdding (s new : ServerHandle) (c : ContextHandle) (restarted : B
   bad_number : IsTable s.contexts → IsContext c → (AreAddable next places → ⊥) → status ≡ BadNumber → RefusesAdding s new c restarted next places status
   refused : IsTable s.contexts → IsContext c → (number : Piv) (size : WindowSize) → AreGiven next places number size → (e : AddError) → status ≡ add_status e
       → ((h : History) → Serves s h → AnswersIn h (Add (server_in c) (start_given restarted number) size) (NotAdded e) new) → RefusesAdding s new c restarted next places status
+  same_sender : IsTable s.contexts → IsContext c → AreAddable next places → ((h : History) → Serves s h → IsSameSender h (server_in c)) → status ≡ SameSender → RefusesAdding s new c restarted next places status
 
 -- why a context isn't restarted; nothing changes (own rule)
 pub data RefusesRestarting (s new : ServerHandle) (context next : ℕ) (status : Status) : Type 0 where
@@ -131,11 +134,16 @@ pub data RefusesReplying (s new : ServerHandle) (t : TicketHandle) (own : Bool) 
   refused : IsTable s.contexts → IsTicket t → (p : Parts) → IsDatagram p plain → (e : ReplyError) → IsReplyStatus e status detail
       → ((h : History) → Serves s h → RepliesIn h (ticket_in t) own mid p room (NotReplied e) new) → RefusesReplying s new t own mid plain room status detail
 
--- what C reads of the answer to Add: 0 and the index, or the number of the refusal's status (own rule)
-abbrev pub ReadsAdding : Entry → ℕ → ℕ → Type 0
-ReadsAdding (Added i) result index = (result ≡ 0) × (index ≡ i)
-ReadsAdding (NotAdded e) result index = result ≡ code (add_status e)
-ReadsAdding entry result index = ⊥
+-- of a context that is added: the number of SameSender where one that is there has its Sender Key, else 0 and the index (RFC 8613, 3.3)
+pub record ReadsAdded (h : History) (s : SecurityContext) (i result index : ℕ) : Type 0 where
+  pub same_sender : HasSameSender h s → result ≡ code SameSender
+  pub added : (HasSameSender h s → ⊥) → (result ≡ 0) × (index ≡ i)
+
+-- what C reads of a server's answer to Add after the history; of a refusal the number of its status (own rule)
+abbrev pub ReadsAdding : History → SecurityContext → Entry → ℕ → ℕ → Type 0
+ReadsAdding h s (Added i) result index = ReadsAdded h s i result index
+ReadsAdding h s (NotAdded e) result index = result ≡ code (add_status e)
+ReadsAdding h s entry result index = ⊥
 
 -- of the answer to Restart (own rule)
 abbrev pub ReadsRestarting : Entry → ℕ → Type 0

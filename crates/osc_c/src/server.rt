@@ -32,7 +32,7 @@ use osc_context::Piv;
 use osc_endpoint::{
     AddError, Fresh, Outcome, ReplyError, RestartError, Start, Taken, Ticket, one_server_answer,
 };
-use osc_handle::{ContextHandle, ReplyRefusal, ServerHandle, TicketHandle, size_with};
+use osc_handle::{AddRefusal, ContextHandle, ReplyRefusal, ServerHandle, TicketHandle, size_with};
 use osc_protect::Opened;
 
 /// Begins a server with no context.
@@ -91,14 +91,15 @@ fn add_in(
     };
     match server.add(context, start_with(restarted, number), size) {
         Some(Ok(index)) => Ok(index),
-        Some(Err(error)) => Err(adding_status(error)),
+        Some(Err(AddRefusal::Refused(error))) => Err(adding_status(error)),
+        Some(Err(AddRefusal::SameSender)) => Err(Status::SameSender),
         None => Err(Status::BadHandle),
     }
 }
 
 /// Adds a context to a server, and tells its index (RFC 8613, B.1). `next` is its next own number; `restarted` says that it may have
-/// received requests in an earlier life. Its window has 32 or 64 places. A refusal is BadHandle, BadNumber, Full or SameLookup, in
-/// this order, and changes nothing.
+/// received requests in an earlier life. Its window has 32 or 64 places. A refusal is BadHandle, BadNumber, Full, SameLookup or
+/// SameSender, in this order, and changes nothing.
 #[unsafe(no_mangle)]
 pub extern "C" fn oscore_server_add(
     server: &mut ServerHandle,
@@ -115,7 +116,7 @@ pub extern "C" fn oscore_server_add(
     ensures bad_number { IsTable server.old.contexts → IsContext context.now → (AreAddable next window_places → ⊥) → result ≡ code BadNumber }
     ensures answers { IsTable server.old.contexts → IsContext context.now → (number : PivOf) (size : WindowSizeOf) → AreGiven next window_places number size
         → (h : History) (entry : Entry) → Serves server.old h → ServerAnswer h (Add (server_in context.now) (start_given restarted number) size) entry
-        → ReadsAdding entry result index.new }
+        → ReadsAdding h (server_in context.now) entry result index.new }
     ensures bytes { IsTable server.old.contexts → IsTable server.new.contexts }
     ensures unchanged { result ≢ 0 → (server.new ≡ server.old) × (index.new ≡ index.old) }
 {

@@ -11,7 +11,7 @@ use osc_protect::{HeadError, ProtectError, UnprotectError};
 pub(crate) const DONE: u32 = 0;
 
 /// The names of the statuses by their numbers, from that of 0 on.
-const NAMES: [&[u8]; 41] = [
+const NAMES: [&[u8]; 42] = [
     b"Done",
     b"BadHandle",
     b"BadNumber",
@@ -53,9 +53,11 @@ const NAMES: [&[u8]; 41] = [
     b"TooLong",
     b"NoRoom",
     b"NotPending",
+    b"SameSender",
 ];
 
-/// Why a call does nothing: the first refusal whose condition holds, in this order. A call that is done answers 0.
+/// Why a call does nothing: the first refusal whose condition holds, in this order, but that SameSender, which stands last, is judged
+/// right behind SameLookup. A call that is done answers 0.
 #[derive(Clone, Copy, Debug, PartialEq, Eq)]
 pub(crate) enum Status {
     /// The handle's bytes are none that a call wrote.
@@ -100,6 +102,7 @@ pub(crate) enum Status {
     TooLong = 38,
     NoRoom = 39,
     NotPending = 40,
+    SameSender = 41,
 }
 
 impl Status {

@@ -65,21 +65,33 @@ born_context : (s : SecurityContext) (start : Start) (size : WindowSize) (of : L
 born_context s (Fresh next) size of e = let f : born s (Fresh next) size ≡ of = cc in ap (λ (l : Life). l.context) f
 born_context s (Restarted next) size of e = let f : born s (Restarted next) size ≡ of = cc in ap (λ (l : Life). l.context) f
 
-pub one_more : (h : History) (s : SecurityContext) (start : Start) (size : WindowSize) (n : ℕ) → OneEach h → (IsTaken h s → ⊥) → OneEach (Then h (Add s start size) (Added n))
-one_more h s start size n each free i j of other e f same = elim (cases_eq i n) [
+-- no two contexts are so related, as OneEach says of one lookup
+abbrev pub OneBy : (SecurityContext → SecurityContext → Type 0) → History → Type 0
+OneBy R h = (i j : ℕ) (of other : Life) → life h i ≡ Some of → life h j ≡ Some other → R of.context other.context → i ≡ j
+
+-- a context is there that is so related to this one
+abbrev pub HasBy : (SecurityContext → SecurityContext → Type 0) → History → SecurityContext → Type 0
+HasBy R h s = (i : ℕ) × (of : Life) × (life h i ≡ Some of) × R of.context s
+
+pub one_more : (R : SecurityContext → SecurityContext → Type 0) → ((s t : SecurityContext) → R s t → R t s) → (h : History) (s : SecurityContext) (start : Start) (size : WindowSize) (n : ℕ)
+    → OneBy R h → (HasBy R h s → ⊥) → OneBy R (Then h (Add s start size) (Added n))
+one_more R turned h s start size n each free i j of other e f same = elim (cases_eq i n) [
   | inl a ↦ elim (cases_eq j n) [
     | inl b ↦ a ∙ sym b
     | inr c ↦
         let here = born_context s start size of (life_now h s start size n i of e true (eq-eqb i n a)) in
-        absurd (free (j, other, life_now h s start size n j other f false (ne_eqb j n c), subst (HaveSameLookup other.context) (sym here) (sym same.0, sym same.1)))
+        absurd (free (j, other, life_now h s start size n j other f false (ne_eqb j n c), subst (R other.context) (sym here) (turned of.context other.context same)))
   ]
   | inr a ↦ elim (cases_eq j n) [
     | inl b ↦
         let here = born_context s start size other (life_now h s start size n j other f true (eq-eqb j n b)) in
-        absurd (free (i, of, life_now h s start size n i of e false (ne_eqb i n a), subst (HaveSameLookup of.context) (sym here) same))
+        absurd (free (i, of, life_now h s start size n i of e false (ne_eqb i n a), subst (R of.context) (sym here) same))
     | inr c ↦ each i j of other (life_now h s start size n i of e false (ne_eqb i n a)) (life_now h s start size n j other f false (ne_eqb j n c)) same
   ]
 ]
+
+pub lookup_turned : (s t : SecurityContext) → HaveSameLookup s t → HaveSameLookup t s
+lookup_turned s t same = (sym same.0, sym same.1)
 
 pub agrees_added : (old new : Server) (h : History) (s : SecurityContext) (start : Start) (size : WindowSize) (slot : Slot) (n : ℕ) → Agrees old h → (IsTaken h s → ⊥)
     → new.clock ≡ old.clock → n ≡ length old.slots.items → new.slots.items ≡ old.slots.items ++ Some slot ∷ [] → SlotAgrees slot (born s start size)
@@ -88,5 +100,5 @@ agrees_added old new h s start size slot n a free same index items begins = reco
   clock_is = same ∙ a.clock_is;
   contexts = ap (λ (xs : List (Option Slot)). length xs) items ∙ length-append old.slots.items (Some slot ∷ []) ∙ ap (λ k. k + 1) a.contexts;
   places = subst (λ xs. TableAgrees xs (λ i. if i == n then Some (born s start size) else life h i)) (sym items) (table_push old.slots.items (life h) (Some slot) (born s start size) n a.places begins index);
-  one_each = one_more h s start size n a.one_each free;
+  one_each = one_more HaveSameLookup lookup_turned h s start size n a.one_each free;
 }

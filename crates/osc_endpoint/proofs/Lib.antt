@@ -34,3 +34,4 @@ pub mod EntriesStand
 pub mod ClientEntriesStand
 pub mod RequestNumbers
 pub mod Waiting
+pub mod SenderNonces

@@ -10,6 +10,7 @@ pub mod ClientAnswer
 pub mod ClientRun
 pub mod Laws
 pub mod Waiting
+pub mod Senders
 pub mod ClientLaws
 pub mod Headline
 pub mod ClientHeadline

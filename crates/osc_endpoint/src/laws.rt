@@ -3,6 +3,7 @@
 
 ghost use Rattle.osc_endpoint.specs.ClientLaws.{ClientNoncesOnce, OneClientAnswer, RequestNumbersOnce};
 ghost use Rattle.osc_endpoint.specs.Laws.{DeliveredOnce, OneServerAnswer, OwnNumbersOnce, ServerNoncesOnce, TicketOnce};
+ghost use Rattle.osc_endpoint.specs.Senders.{ServerKeysOrNoncesOnce, WaitingKeysOrNoncesOnce};
 ghost use Rattle.osc_endpoint.specs.Waiting.{AnsweredOnce, WaitingHasLife, WaitingNoncesOnce};
 
 use osc_coap::{one_datagram, one_text};
@@ -74,5 +75,16 @@ pub fn answered_once()
 {
     one_nonce();
     one_option_value();
+    protections_show_heads();
+}
+
+/// No two texts that a server seals share key and nonce, under whichever of its contexts, but those of two lives of one context, if no
+/// two of its contexts have one Sender Key (RFC 8613, 3.3 and 5.2): under the condition of [`ticket_once`], or of [`answered_once`].
+pub fn keys_or_nonces_once()
+    ensures server { ServerKeysOrNoncesOnce }
+    ensures nonces { WaitingKeysOrNoncesOnce }
+{
+    nonces_once();
+    answered_once();
     protections_show_heads();
 }

@@ -64,7 +64,9 @@ impl Server {
     }
 
     /// Adds a context, and answers its index. The first refusal in the order of `AddError` is answered; it drops the context and
-    /// changes nothing.
+    /// changes nothing. Two contexts of one Sender Key must not be added (RFC 8613, 3.3): no refusal says so, since the tables ask for
+    /// the lookup alone. Each counts its own numbers, so texts of the two may share key and nonce, and then neither is protected any
+    /// more (RFC 8613, D.4).
     pub fn add(
         &mut self,
         context: Context,

@@ -3,4 +3,5 @@ pub mod ClientPlaces
 pub mod Tables
 pub mod Bits
 pub mod Waits
+pub mod Senders
 pub mod Servers

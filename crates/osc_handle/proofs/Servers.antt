@@ -1,5 +1,5 @@
 -- A server in bytes after each call. s and t are the bytes before and after, h is the history.
-use Rattle.std.proofs.Common.{◌≡◌, ◌≢◌, ◌∙◌, ◌<◌, ◌≤◌, ◌+◌, sym, ap, subst, refl, arith, ℕ, zero, suc, Bool, true, false, not, ◌&&◌, ◌==◌, List, [], ◌∷◌, ◌++◌, Option, Some, None, Ok, length, take, slice_set, if◌then◌else◌}
+use Rattle.std.proofs.Common.{◌≡◌, ◌≢◌, ◌∙◌, ◌<◌, ◌≤◌, ◌+◌, sym, ap, subst, refl, arith, ℕ, zero, suc, Bool, true, false, not, ◌&&◌, ◌==◌, List, [], ◌∷◌, ◌++◌, Option, Some, None, IfSome, Ok, Err, length, take, slice_set, if◌then◌else◌}
 use Rattle.std.specs.Prelude.{slice_get}
 use Rattle.std.specs.Option.{option_map}
 use Rattle.std.proofs.lemmas.Bool.{both_ways, cond-false, cond-true, eq-eqb, eqb-true, ne_eqb}
@@ -21,12 +21,12 @@ use Rattle.osc_endpoint.specs.Life.{Answered, Life, born, marked, renewed}
 use Rattle.osc_endpoint.specs.Replies.{as_reply}
 use Rattle.osc_endpoint.specs.Replying.{reply_mark}
 use Rattle.osc_endpoint.specs.Restarting.{lives_after}
+use Rattle.osc_endpoint.specs.Senders.{SendersDiffer}
 use Rattle.osc_endpoint.specs.ServerAnswer.{HaveSameLookup, IsContext, IsPresent, IsTaken, LifeReply, LifeRestart, ReplyAnswer, ServerAnswer}
 use Rattle.osc_endpoint.specs.ServerHistory as server
 use Rattle.osc_endpoint.specs.Table.{FindsAt, context_of_place}
 use Rattle.osc_endpoint.specs.Waiting.{AnswersWaiting, WaitingHasLife, waits}
 use Rattle.osc_endpoint.specs.declared.decision.Decided.{Decided}
-use Rattle.osc_endpoint.specs.declared.server_error.AddError.{AddError}
 use Rattle.osc_endpoint.specs.declared.server_error.AddError.TheVariants.{Full, SameLookup}
 use Rattle.osc_endpoint.specs.declared.server_error.ReplyError.{ReplyError}
 use Rattle.osc_endpoint.specs.declared.server_error.RestartError.{RestartError}
@@ -35,16 +35,19 @@ use Rattle.osc_endpoint.specs.declared.slot.Slot.{Slot}
 use Rattle.osc_endpoint.specs.declared.start.Fresh.{Fresh}
 use Rattle.osc_endpoint.specs.declared.start.Start.{Start}
 use Rattle.osc_endpoint.specs.declared.start.Start.TheVariants as starts
+use Rattle.osc_handle.proofs.Senders.{sender_in_bytes, sender_there}
 use Rattle.osc_handle.proofs.Tables.{bytes_of, in_front, life_past, life_there}
 use Rattle.osc_handle.proofs.Waits.{none_waits_new, none_waits_next, remembers_begun, remembers_replied, remembers_took}
 use Rattle.osc_handle.specs.ContextBytes.{IsContext as IsContextBytes, server_in}
 use Rattle.osc_handle.specs.Held.{held}
 use Rattle.osc_handle.specs.Noting.{Notes}
-use Rattle.osc_handle.specs.ServerBytes.{DecidesIn, Remembers, RemembersAt, RemembersLife, RepliesIn, Serves}
+use Rattle.osc_handle.specs.ServerBytes.{AddsIn, DecidesIn, IsSameSender, Remembers, RemembersAt, RemembersLife, RepliesIn, Serves, entry_of_add}
 use Rattle.osc_handle.specs.SlotBytes.{IsSlotIn}
 use Rattle.osc_handle.specs.TableBytes.{IsPlaceIn, IsTableIn, bytes_at, places_in}
-use Rattle.osc_handle.specs.TableSteps.{ChangesAt, GrowsBy, RefusesToAdd, is_present_in, life_in}
+use Rattle.osc_handle.specs.TableSteps.{ChangesAt, GrowsBy, HasSenderIn, RefusesToAdd, is_present_in, life_in}
 use Rattle.osc_handle.specs.UnansweredBytes.{holds}
+use Rattle.osc_handle.specs.declared.add_refusal.AddRefusal.{AddRefusal}
+use Rattle.osc_handle.specs.declared.add_refusal.AddRefusal.TheVariants.{Refused as NotAddedBy, SameSender}
 use Rattle.osc_handle.specs.declared.context_handle.ContextHandle.{ContextHandle}
 use Rattle.osc_handle.specs.declared.contexts_handle.ContextsHandle.{ContextsHandle}
 use Rattle.osc_handle.specs.declared.server_handle.ServerHandle.{ServerHandle}
@@ -62,6 +65,7 @@ serves_new s clock count =
       remembers = record { at = λ i u e. tt };
       answers = tt;
       waiting = tt;
+      senders = tt;
     }
 
 -- ---- a context that is added
@@ -127,11 +131,11 @@ born_count s (starts.Restarted n) size = refl
 
 pub serves_added : WaitingHasLife → (s t : ServerHandle) (h : server.History) (context : ContextHandle) (start : Start) (size : WindowSize) (index : ℕ) (u : UnansweredHandle)
     → Serves s h → IsContextBytes context → s.contexts.count ≤ length s.contexts.slots → index ≡ s.contexts.count → index < 8
-    → ((i : ℕ) → FindsAt (bytes_at s.contexts) i (server_in context).client (server_in context).id_context → ⊥)
+    → ((i : ℕ) → FindsAt (bytes_at s.contexts) i (server_in context).client (server_in context).id_context → ⊥) → (HasSenderIn s.contexts (server_in context) → ⊥)
     → ((slots : List (Option Slot)) → IsTableIn s.contexts slots → GrowsBy slots (born (server_in context) start size) t.contexts)
     → ((n : ℕ) → holds u n ≡ false) → u.highest ≡ 0 → t.clock ≡ s.clock → t.unanswered ≡ slice_set s.unanswered index u
-    → ServerAnswer h (server.Add (server_in context) start size) (server.Added index) × Serves t (server.Then h (server.Add (server_in context) start size) (server.Added index))
-serves_added law s t h context start size index u serves bytes room is less none grows bare low clock numbers =
+    → AddsIn h (server_in context) start size (server.Added index) t
+serves_added law s t h context start size index u serves bytes room is less none apart grows bare low clock numbers =
     let c = server_in context in
     let g = server.Then h (server.Add c start size) (server.Added index) in
     let added_is : index ≡ server.added h = is ∙ count_added s h serves room in
@@ -151,6 +155,7 @@ serves_added law s t h context start size index u serves bytes room is less none
             (λ j other. cond-false (j == index) (Some (born c start size)) (server.life h j) (ne_eqb j index other)) serves.remembers);
         answers = (serves.answers, row);
         waiting = serves.waiting;
+        senders = (serves.senders, λ same. apart (sender_in_bytes s.contexts serves.slots h c serves.table serves.agrees.places same));
       },
     )
 
@@ -170,8 +175,8 @@ same_remembered : (u : UnansweredHandle) (o : Option Life) (w x : ℕ → ℕ �
 same_remembered u None w x same r = tt
 same_remembered u (Some of) w x same r = record { held = λ n. r.held n ∙ sym (same of.count n); reach = r.reach }
 
-serves_still : (s : ServerHandle) (h g : server.History) → Leaves h g → AllAnswers g → AnswersWaiting g → Serves s h → Serves s g
-serves_still s h g same answers waiting serves =
+serves_still : (s : ServerHandle) (h g : server.History) → Leaves h g → AllAnswers g → AnswersWaiting g → SendersDiffer g → Serves s h → Serves s g
+serves_still s h g same answers waiting senders serves =
     record {
       slots = serves.slots;
       table = serves.table;
@@ -186,6 +191,7 @@ serves_still s h g same answers waiting serves =
       };
       answers = answers;
       waiting = waiting;
+      senders = senders;
     }
 
 -- the contexts may be written once more as they were
@@ -199,21 +205,41 @@ serves_same s contexts h same serves =
       remembers = serves.remembers;
       answers = serves.answers;
       waiting = serves.waiting;
+      senders = serves.senders;
     }
 
-pub serves_not_added : (s : ServerHandle) (h : server.History) (context : ContextHandle) (start : Start) (size : WindowSize) (e : AddError) → Serves s h → IsContextBytes context
-    → s.contexts.count ≤ length s.contexts.slots → s.contexts.count ≤ 8 → RefusesToAdd s.contexts (server_in context) e
-    → ServerAnswer h (server.Add (server_in context) start size) (server.NotAdded e) × Serves s (server.Then h (server.Add (server_in context) start size) (server.NotAdded e))
-serves_not_added s h context start size Full serves bytes room most refuses =
+-- why a context isn't added, in the bytes and after the history
+pub serves_not_added : (s : ServerHandle) (contexts : ContextsHandle) (h : server.History) (context : ContextHandle) (start : Start) (size : WindowSize) (e : AddRefusal) → contexts ≡ s.contexts → Serves s h
+    → IsContextBytes context → s.contexts.count ≤ length s.contexts.slots → s.contexts.count ≤ 8 → RefusesToAdd s.contexts (server_in context) e
+    → IfSome (entry_of_add (Err e)) (λ entry. AddsIn h (server_in context) start size entry (record { clock = s.clock; contexts = contexts; unanswered = s.unanswered }))
+serves_not_added s contexts h context start size (NotAddedBy Full) same serves bytes room most refuses =
     let row : ServerAnswer h (server.Add (server_in context) start size) (server.NotAdded Full) = (usable context bytes, let count = count_added s h serves room in omega (arith, count, refuses)) in
-    (row, serves_still s h _ (record { clock = refl; added = refl; lives = λ i. refl; waiting = λ i c n. refl }) (serves.answers, row) serves.waiting serves)
-serves_not_added s h context start size SameLookup serves bytes room most (more, i, found) =
+    (row, serves_same s contexts _ same (serves_still s h _ (record { clock = refl; added = refl; lives = λ i. refl; waiting = λ i c n. refl }) (serves.answers, row) serves.waiting serves.senders serves))
+serves_not_added s contexts h context start size (NotAddedBy SameLookup) same serves bytes room most (more, i, found) =
     let count = count_added s h serves room in
     let row : ServerAnswer h (server.Add (server_in context) start size) (server.NotAdded SameLookup) = (
       usable context bytes,
       (omega (arith, count, more, most), taken s.contexts serves.slots h (server_in context) i serves.table serves.agrees.places found),
     ) in
-    (row, serves_still s h _ (record { clock = refl; added = refl; lives = λ i. refl; waiting = λ i c n. refl }) (serves.answers, row) serves.waiting serves)
+    (row, serves_same s contexts _ same (serves_still s h _ (record { clock = refl; added = refl; lives = λ i. refl; waiting = λ i c n. refl }) (serves.answers, row) serves.waiting serves.senders serves))
+serves_not_added s contexts h context start size SameSender same serves bytes room most refuses = tt
+
+pub same_sender : (s : ServerHandle) (h : server.History) (context : ContextHandle) (e : AddRefusal) → Serves s h → s.contexts.count ≤ length s.contexts.slots → s.contexts.count ≤ 8
+    → RefusesToAdd s.contexts (server_in context) e → e ≡ SameSender → IsSameSender h (server_in context)
+same_sender s h context e serves room most refuses is =
+    let (more, none, same) = subst (RefusesToAdd s.contexts (server_in context)) is refuses in
+    let count = count_added s h serves room in (
+      omega (arith, count, more, most),
+      not_taken s.contexts serves.slots h (server_in context) serves.table serves.agrees.places none,
+      sender_there s.contexts serves.slots h (server_in context) serves.table serves.agrees.places same,
+    )
+
+pub sender_refused : (s : ServerHandle) (h : server.History) (context : ContextHandle) (e : AddRefusal) → Serves s h → s.contexts.count ≤ length s.contexts.slots
+    → RefusesToAdd s.contexts (server_in context) e → IsSameSender h (server_in context) → e ≡ SameSender
+sender_refused s h context (NotAddedBy Full) serves room refuses same = absurd (let count = count_added s h serves room in let less = same.0 in omega (arith, count, refuses, less))
+sender_refused s h context (NotAddedBy SameLookup) serves room (more, i, found) same =
+    absurd (same.1 (taken s.contexts serves.slots h (server_in context) i serves.table serves.agrees.places found))
+sender_refused s h context SameSender serves room refuses same = refl
 
 -- ---- a restart
 
@@ -250,13 +276,14 @@ serves_restarted law s t h context next u serves row kept bare low clock numbers
             (λ j other. cond-false (j == context) (option_map (renewed next) (server.life h j)) (server.life h j) (ne_eqb j context other)) serves.remembers);
         answers = (serves.answers, row);
         waiting = serves.waiting;
+        senders = serves.senders;
       },
     )
 
 pub serves_not_restarted : (s : ServerHandle) (h : server.History) (context next : ℕ) (e : RestartError) → Serves s h → LifeRestart (server.life h context) (server.NotRestarted e)
     → ServerAnswer h (server.Restart context next) (server.NotRestarted e) × Serves s (server.Then h (server.Restart context next) (server.NotRestarted e))
 serves_not_restarted s h context next e serves row =
-    (row, serves_still s h _ (record { clock = refl; added = refl; lives = λ i. refl; waiting = λ i c n. refl }) (serves.answers, row) serves.waiting serves)
+    (row, serves_still s h _ (record { clock = refl; added = refl; lives = λ i. refl; waiting = λ i c n. refl }) (serves.answers, row) serves.waiting serves.senders serves)
 
 -- ---- a datagram
 
@@ -277,6 +304,7 @@ serves_took s t h now fresh d new reply decided clock contexts serves decides cl
         remembers = remembers_took s.unanswered t.unanswered h now fresh.mid fresh.echo d new decided.decision to.answer reply to.row to.decides notes serves.remembers;
         answers = (serves.answers, to.row);
         waiting = serves.waiting;
+        senders = serves.senders;
       };
     }
 
@@ -330,7 +358,7 @@ stale_row h t own p room none = none
 pub serves_stale : (s : ServerHandle) (h : server.History) (t : server.TicketValues) (own : Bool) (mid room : ℕ) (plain : Parts) → Serves s h → ((of : Life) → IsPresent h t of → ⊥)
     → RepliesIn h t own mid plain room (server.NotReplied replies.StaleTicket) s
 serves_stale s h t own mid room plain serves none =
-    (none, serves_still s h _ (record { clock = refl; added = refl; lives = λ i. refl; waiting = λ i c n. refl }) (serves.answers, none) serves.waiting serves)
+    (none, serves_still s h _ (record { clock = refl; added = refl; lives = λ i. refl; waiting = λ i c n. refl }) (serves.answers, none) serves.waiting serves.senders serves)
 
 -- the request of a ticket is answered as its parts say
 pub reply_as : (of : Life) (own : Bool) (mid room : ℕ) (plain : Parts) (entry : server.Entry) (n number : ℕ) (k kind : Kind) (m message_id : ℕ) (bytes token : List ℕ)
@@ -356,7 +384,7 @@ pub serves_not_replied : (s : ServerHandle) (h : server.History) (t : server.Tic
     → LifeReply of t.number own (as_reply t.kind t.message_id t.token mid plain) room (server.NotReplied e) → RepliesIn h t own mid plain room (server.NotReplied e) s
 serves_not_replied s h t own mid room plain of e serves present reply =
     let row = refused_row h t own (as_reply t.kind t.message_id t.token mid plain) room of e present reply in
-    (row, serves_still s h _ (record { clock = refl; added = refl; lives = λ i. refl; waiting = λ i c n. refl }) (serves.answers, row) serves.waiting serves)
+    (row, serves_still s h _ (record { clock = refl; added = refl; lives = λ i. refl; waiting = λ i c n. refl }) (serves.answers, row) serves.waiting serves.senders serves)
 
 and_true : (x y : Bool) → y ≡ true → (x && y) ≡ x
 and_true true true e = refl
@@ -394,5 +422,6 @@ serves_replied s t h ticket own mid room plain bytes of u v n serves present the
         remembers = subst (λ us. Remembers us g) (sym numbers) (remembers_replied s.unanswered h ticket own mid room plain bytes u v of there present.0 present.1 removes low serves.remembers);
         answers = (serves.answers, row);
         waiting = (serves.waiting, sym (bit_says s h ticket of u serves present there) ∙ has);
+        senders = serves.senders;
       },
     )

@@ -2,20 +2,26 @@
 use Rattle.std.specs.Prelude.{◌≡◌, ℕ, ◌<◌, Bool, false, List, Option, Some, None, Result, Ok, Err, slice_get, take}
 use Rattle.std.specs.List.{All}
 use Rattle.osc_coap.specs.Datagram.{Parts}
+use Rattle.osc_context.specs.SecurityContext.{SecurityContext}
+use Rattle.osc_window.specs.declared.window_size.WindowSize.{WindowSize}
 use Rattle.osc_endpoint.specs.Agrees.{Agrees, server_of}
 use Rattle.osc_endpoint.specs.Deciding.{Decides}
 use Rattle.osc_endpoint.specs.Laws.{AllAnswers}
 use Rattle.osc_endpoint.specs.Life.{Life, spent}
-use Rattle.osc_endpoint.specs.ServerAnswer.{IsPresent, ServerAnswer}
-use Rattle.osc_endpoint.specs.ServerHistory.{Answer, Datagram, Entry, History, NotReplied, Replied, Reply, Then, TicketValues, Took, life}
+use Rattle.osc_endpoint.specs.Senders.{HasSameSender, SendersDiffer}
+use Rattle.osc_endpoint.specs.ServerAnswer.{IsPresent, IsTaken, ServerAnswer}
+use Rattle.osc_endpoint.specs.ServerHistory.{Add, Added, Answer, Datagram, Entry, History, NotAdded, NotReplied, Replied, Reply, Then, TicketValues, Took, added, life}
 use Rattle.osc_endpoint.specs.Views.{Shows}
 use Rattle.osc_endpoint.specs.Waiting.{AnswersWaiting, waits}
 use Rattle.osc_endpoint.specs.declared.decision.Decision.{Decision}
 use Rattle.osc_endpoint.specs.declared.outcome.Outcome.{Outcome}
 use Rattle.osc_endpoint.specs.declared.slot.Slot.{Slot}
 use Rattle.osc_endpoint.specs.declared.start.Fresh.{Fresh}
+use Rattle.osc_endpoint.specs.declared.start.Start.{Start}
 use Rattle.osc_handle.specs.TableBytes.{IsTableIn}
 use Rattle.osc_handle.specs.UnansweredBytes.{holds}
+use Rattle.osc_handle.specs.declared.add_refusal.AddRefusal.{AddRefusal}
+use Rattle.osc_handle.specs.declared.add_refusal.AddRefusal.TheVariants.{Refused as NotAddedBy, SameSender}
 use Rattle.osc_handle.specs.declared.reply_refusal.ReplyRefusal.{ReplyRefusal}
 use Rattle.osc_handle.specs.declared.reply_refusal.ReplyRefusal.TheVariants.{BadHandle, TicketSpent, Refused}
 use Rattle.osc_handle.specs.declared.server_handle.ServerHandle.{ServerHandle}
@@ -35,8 +41,8 @@ RemembersAt u (Some of) waiting = RemembersLife u of (waiting of.count)
 pub record Remembers (us : List UnansweredHandle) (h : History) : Type 0 where
   pub at : (i : ℕ) (u : UnansweredHandle) → slice_get us i ≡ Some u → RemembersAt u (life h i) (waits h i)
 
--- the bytes stand for a server that is as its history says; each of its entries was the answer, and each reply one to a request that waited for
--- it (RFC 8613, 3.1 and 8.3)
+-- the bytes stand for a server that is as its history says; each of its entries was the answer, each reply one to a request that waited for
+-- it, and no context was added whose Sender Key another had (RFC 8613, 3.1, 3.3 and 8.3)
 pub record Serves (s : ServerHandle) (h : History) : Type 0 where
   pub slots : List (Option Slot)
   pub table : IsTableIn s.contexts slots
@@ -44,6 +50,21 @@ pub record Serves (s : ServerHandle) (h : History) : Type 0 where
   pub remembers : Remembers s.unanswered h
   pub answers : AllAnswers h
   pub waiting : AnswersWaiting h
+  pub senders : SendersDiffer h
+
+-- a `Server` would add the context, and one that is there has its Sender Key (RFC 8613, 3.3)
+abbrev pub IsSameSender : History → SecurityContext → Type 0
+IsSameSender h s = (added h < 8) × (IsTaken h s → ⊥) × HasSameSender h s
+
+-- the entry of an addition; the same Sender Key is no event of a server (how the code is seen)
+abbrev pub entry_of_add : Result ℕ AddRefusal → Option Entry
+entry_of_add (Ok index) = Some (Added index)
+entry_of_add (Err (NotAddedBy e)) = Some (NotAdded e)
+entry_of_add (Err SameSender) = None
+
+-- the entry is the answer to the addition after the history, and the bytes are as both say (RFC 8613, B.1)
+abbrev pub AddsIn : History → SecurityContext → Start → WindowSize → Entry → ServerHandle → Type 0
+AddsIn h c start size entry s = ServerAnswer h (Add c start size) entry × Serves s (Then h (Add c start size) entry)
 
 -- what was decided of a datagram is the answer after the history, and the bytes are as both say (how the code is seen)
 pub record DecidesIn (h : History) (now : ℕ) (fresh : Fresh) (d : List ℕ) (decision : Decision) (new reply : List ℕ) (s : ServerHandle) : Type 0 where

@@ -1,5 +1,6 @@
 -- To be believed: what holds of a server in bytes, however its tickets are copied or altered: the contract of server_laws.rt. s are the bytes, h is a history.
 use Rattle.osc_endpoint.specs.Laws.{AreApart, HaveTwoNonces, Pairwise, answered, texts}
+use Rattle.osc_endpoint.specs.Senders.{HaveTwoKeysOrNonces}
 use Rattle.osc_endpoint.specs.ServerHistory.{History}
 use Rattle.osc_handle.specs.ServerBytes.{Serves}
 use Rattle.osc_handle.specs.declared.server_handle.ServerHandle.{ServerHandle}
@@ -11,3 +12,7 @@ HandleAnswersOnce = (s : ServerHandle) (h : History) → Serves s h → Pairwise
 -- no two texts that it sealed in one life under one context share a nonce (RFC 8613, 5.2)
 abbrev pub HandleNoncesOnce : Type 0
 HandleNoncesOnce = (s : ServerHandle) (h : History) → Serves s h → Pairwise HaveTwoNonces (texts h)
+
+-- no two texts that it sealed share key and nonce, but those of two lives of one context (RFC 8613, 3.3 and 5.2)
+abbrev pub HandleKeysOrNoncesOnce : Type 0
+HandleKeysOrNoncesOnce = (s : ServerHandle) (h : History) → Serves s h → Pairwise HaveTwoKeysOrNonces (texts h)

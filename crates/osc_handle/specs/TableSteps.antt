@@ -3,11 +3,13 @@ use Rattle.std.specs.Prelude.{◌≡◌, ◌≢◌, ℕ, ◌==◌, List, [], ◌
 use Rattle.osc_context.specs.SecurityContext.{SecurityContext}
 use Rattle.osc_endpoint.specs.Agrees.{SlotAgrees, TableAgrees}
 use Rattle.osc_endpoint.specs.Life.{Life}
+use Rattle.osc_endpoint.specs.Senders.{HaveSameSender}
 use Rattle.osc_endpoint.specs.Table.{FindsAt}
-use Rattle.osc_endpoint.specs.declared.server_error.AddError.{AddError}
 use Rattle.osc_endpoint.specs.declared.server_error.AddError.TheVariants.{Full, SameLookup}
 use Rattle.osc_endpoint.specs.declared.slot.Slot.{Slot}
 use Rattle.osc_handle.specs.TableBytes.{IsTableIn, bytes_at, places_in}
+use Rattle.osc_handle.specs.declared.add_refusal.AddRefusal.{AddRefusal}
+use Rattle.osc_handle.specs.declared.add_refusal.AddRefusal.TheVariants.{Refused, SameSender}
 use Rattle.osc_handle.specs.declared.contexts_handle.ContextsHandle.{ContextsHandle}
 use Rattle.osc_handle.specs.declared.slot_handle.SlotHandle.{SlotHandle}
 
@@ -20,10 +22,15 @@ life_in (Some b) life = b.life == life
 abbrev pub is_present_in : ContextsHandle → ℕ → ℕ → Bool
 is_present_in t i life = life_in (slice_get (places_in t) i) life
 
--- why a context isn't added: there are eight, or one has the same lookup (own rule: eight; RFC 8613, 3.3)
-abbrev pub RefusesToAdd : ContextsHandle → SecurityContext → AddError → Type 0
-RefusesToAdd t s Full = t.count ≡ 8
-RefusesToAdd t s SameLookup = (t.count ≢ 8) × (i : ℕ) × FindsAt (bytes_at t) i s.client s.id_context
+-- one of the contexts has this one's Sender Key (RFC 8613, 3.3)
+abbrev pub HasSenderIn : ContextsHandle → SecurityContext → Type 0
+HasSenderIn t s = (i : ℕ) × (of : SecurityContext) × (bytes_at t i ≡ Some of) × HaveSameSender of s
+
+-- why a context isn't added: there are eight, or one has the same lookup, or the same Sender Key (own rule: eight; RFC 8613, 3.3)
+abbrev pub RefusesToAdd : ContextsHandle → SecurityContext → AddRefusal → Type 0
+RefusesToAdd t s (Refused Full) = t.count ≡ 8
+RefusesToAdd t s (Refused SameLookup) = (t.count ≢ 8) × (i : ℕ) × FindsAt (bytes_at t) i s.client s.id_context
+RefusesToAdd t s SameSender = (t.count ≢ 8) × ((i : ℕ) → FindsAt (bytes_at t) i s.client s.id_context → ⊥) × HasSenderIn t s
 
 -- behind these places there is one more, of this life (RFC 8613, B.1)
 abbrev pub GrowsBy : List (Option Slot) → Life → ContextsHandle → Type 0

@@ -1,9 +1,10 @@
 //! A context in the caller's memory: plain bytes, of which each may have any value.
 
-ghost use Rattle.std.specs.Prelude.{◌≡◌, ◌≤◌, ◌||◌, take, IfSome, IfNone, IsSome, length, true, false};
+ghost use Rattle.std.specs.Prelude.{◌≡◌, ◌≤◌, ◌||◌, ◌↔◌, take, IfSome, IfNone, IsSome, IsTrue, length, true, false};
 ghost use Rattle.osc_context.specs.SecurityContext.{AnswersTo};
 ghost use Rattle.osc_context.specs.Views.{as_client, as_server, is_constant_time};
 ghost use Rattle.osc_protect.specs.Views.{shown};
+ghost use Rattle.osc_endpoint.specs.Senders.{HaveSameSender};
 ghost use Rattle.osc_handle.specs.ContextBytes.{client_in, server_in, id_context_in, is_constant_time_in, IsContext};
 
 use osc_context::{Context, IdContext, Kid};
@@ -138,6 +139,24 @@ impl ContextHandle {
         };
         same && &self.recipient[..usize::from(self.recipient_len)] == kid
     }
+
+    /// Whether both have one Sender Key.
+    pub(crate) fn has_sender_of(&self, other: &ContextHandle) -> bool
+        ensures { IsTrue result ↔ HaveSameSender (server_in self.now) (server_in other.now) }
+    {
+        is_same_key(&self.sender_key, &other.sender_key)
+    }
+}
+
+/// Whether two keys are equal: the differences of all bytes are gathered, and tested once.
+fn is_same_key(key: &[u8; 16], other: &[u8; 16]) -> bool
+    ensures { IsTrue result ↔ (key.now ≡ other.now) }
+{
+    let mut differences = 0;
+    for k in 0..key.len() {
+        differences |= key[k] ^ other[k];
+    }
+    differences == 0
 }
 
 /// The identifier of so many of the bytes, or None where there are not so many.

@@ -1,6 +1,6 @@
 //! The contexts of a server, as bytes.
 
-ghost use Rattle.std.specs.Prelude.{◌≡◌, ◌≢◌, ◌<◌, ◌≤◌, ℕ, List, Option, Some, None, IfOk, IfErr, OnOk, OnErr, true, false, length, drop, slice_get};
+ghost use Rattle.std.specs.Prelude.{◌≡◌, ◌≢◌, ◌<◌, ◌≤◌, ◌↔◌, ℕ, List, Option, Some, None, IfOk, IfErr, IsTrue, OnOk, OnErr, true, false, length, drop, slice_get};
 ghost use Rattle.osc_context.specs.Views.{number_of};
 ghost use Rattle.osc_window.specs.declared.window_size.WindowSize.{WindowSize as WindowSizeOf};
 ghost use Rattle.osc_coap.specs.Views.{parts_of};
@@ -18,8 +18,9 @@ ghost use Rattle.osc_endpoint.specs.declared.slot.Slot.{Slot as SlotOf};
 ghost use Rattle.osc_handle.specs.ContextBytes.{IsContext, server_in};
 ghost use Rattle.osc_handle.specs.Held as lemmas;
 ghost use Rattle.osc_handle.specs.TableBytes.{IsTable, IsTableIn, bytes_at};
-ghost use Rattle.osc_handle.specs.TableSteps.{ChangesAt, GrowsBy, RefusesToAdd, is_present_in};
+ghost use Rattle.osc_handle.specs.TableSteps.{ChangesAt, GrowsBy, HasSenderIn, RefusesToAdd, is_present_in};
 
+use crate::add_refusal::AddRefusal;
 use crate::context_handle::ContextHandle;
 use crate::slot_handle::SlotHandle;
 use osc_coap::Message;
@@ -65,27 +66,45 @@ impl ContextsHandle {
         true
     }
 
+    /// Whether one of the contexts has this one's Sender Key.
+    fn has_sender_of(&self, context: &ContextHandle) -> bool
+        requires { IsTable self.now }
+        ensures { IsTrue result ↔ HasSenderIn self.now (server_in context.now) }
+    {
+        for index in 0..self.count {
+            if self.slots[index].context.has_sender_of(context) {
+                return true;
+            }
+        }
+        false
+    }
+
     /// Adds a context, and answers its index.
     pub(crate) fn add(
         &mut self,
         context: &ContextHandle,
         start: Start,
         size: WindowSize,
-    ) -> Result<usize, AddError>
+    ) -> Result<usize, AddRefusal>
         requires table { IsTable self.old }
         requires context { IsContext context.now }
         ensures added { IfOk result (λ index. (index ≡ self.old.count) × (index < 8)
-            × ((i : ℕ) → FindsAt (bytes_at self.old) i (server_in context.now).client (server_in context.now).id_context → ⊥)) }
+            × ((i : ℕ) → FindsAt (bytes_at self.old) i (server_in context.now).client (server_in context.now).id_context → ⊥)
+            × (HasSenderIn self.old (server_in context.now) → ⊥)) }
         ensures grows { (slots : List (Option SlotOf)) → IsTableIn self.old slots → IfOk result (λ index. GrowsBy slots (born (server_in context.now) start size) self.new) }
         ensures refused { IfErr result (λ e. RefusesToAdd self.old (server_in context.now) e) }
         ensures table { IsTable self.new }
         ensures same { OnErr result (self.new ≡ self.old) }
     {
         if self.count == 8 {
-            return Err(AddError::Full);
+            return Err(AddRefusal::Refused(AddError::Full));
         }
         if self.find(context.kid(), context.kid_context()).is_some() {
-            return Err(AddError::SameLookup);
+            return Err(AddRefusal::Refused(AddError::SameLookup));
+        }
+        // By the key alone: contexts of one key and two Common IVs could still meet in a nonce (RFC 8613, 5.2).
+        if self.has_sender_of(context) {
+            return Err(AddRefusal::SameSender);
         }
         let Some(made) = context.context() else {
             unreachable!();

@@ -1,6 +1,7 @@
 //! Both ends of OSCORE (RFC 8613) in plain bytes.
 #![tactic(auto)]
 
+mod add_refusal;
 mod client_handle;
 mod client_laws;
 mod context_handle;
@@ -13,6 +14,7 @@ mod slot_handle;
 mod ticket_handle;
 mod unanswered_handle;
 
+pub use add_refusal::AddRefusal;
 pub use client_handle::ClientHandle;
 pub use client_laws::{client_nonces_once, client_numbers_once};
 pub use context_handle::ContextHandle;
@@ -20,7 +22,7 @@ pub use contexts_handle::ContextsHandle;
 pub use pending_handle::PendingHandle;
 pub use reply_refusal::ReplyRefusal;
 pub use server_handle::ServerHandle;
-pub use server_laws::server_nonces_once;
+pub use server_laws::{server_keys_or_nonces_once, server_nonces_once};
 pub use slot_handle::{SlotHandle, size_with};
 pub use ticket_handle::TicketHandle;
 pub use unanswered_handle::UnansweredHandle;

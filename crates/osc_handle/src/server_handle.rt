@@ -1,22 +1,24 @@
 //! A server, as bytes.
 
-ghost use Rattle.std.specs.Prelude.{◌≡◌, ◌≢◌, ◌≤◌, ℕ, List, Option, Ok, Err, IfOk, IfErr, IfSome, IsSome, OnErr, true, false, length, take, drop};
+ghost use Rattle.std.specs.Prelude.{◌≡◌, ◌≢◌, ◌≤◌, ℕ, List, Option, Ok, Err, IfOk, IfErr, IfSome, IsSome, None, OnErr, Some, true, false, length, take, drop};
 ghost use Rattle.osc_coap.specs.Views.{parts_of};
 ghost use Rattle.osc_context.specs.Views.{number_of};
 ghost use Rattle.osc_endpoint.specs.Deciding.{CanShow, Leaves};
 ghost use Rattle.osc_endpoint.specs.ServerAnswer.{ServerAnswer};
-ghost use Rattle.osc_endpoint.specs.ServerHistory.{Add, Begin, History, Restart, Then};
-ghost use Rattle.osc_endpoint.specs.Views.{added_entry, restarted_entry, values_of};
+ghost use Rattle.osc_endpoint.specs.ServerHistory.{Begin, History, Restart, Then};
+ghost use Rattle.osc_endpoint.specs.Views.{restarted_entry, values_of};
 ghost use Rattle.osc_endpoint.specs.declared.outcome.Outcome.TheVariants.{KeeperFailed as KeeperFailedOutcome};
 ghost use Rattle.osc_endpoint.specs.declared.server_error.ReplyError.TheVariants.{KeeperFailed};
 ghost use Rattle.osc_endpoint.specs.declared.slot.Slot.{Slot as SlotOf};
 ghost use Rattle.osc_handle.specs.ContextBytes.{IsContext, server_in};
 ghost use Rattle.osc_handle.specs.Noting.{Notes, NotesTicket};
-ghost use Rattle.osc_handle.specs.ServerBytes.{DecidesIn, IsSpent, RepliesIn, Serves, TakesIn, entry_of_reply};
+ghost use Rattle.osc_handle.specs.ServerBytes.{AddsIn, DecidesIn, IsSameSender, IsSpent, RepliesIn, Serves, TakesIn, entry_of_add, entry_of_reply};
 ghost use Rattle.osc_handle.specs.TableBytes.{IsTable, IsTableIn};
 ghost use Rattle.osc_handle.specs.TicketBytes.{IsTicket, ticket_in};
+ghost use Rattle.osc_handle.specs.declared.add_refusal.AddRefusal.TheVariants.{SameSender};
 ghost use Rattle.osc_handle.specs.declared.reply_refusal.ReplyRefusal.TheVariants.{BadHandle, TicketSpent, Refused};
 
+use crate::add_refusal::AddRefusal;
 use crate::context_handle::ContextHandle;
 use crate::contexts_handle::ContextsHandle;
 use crate::reply_refusal::ReplyRefusal;
@@ -26,8 +28,7 @@ use osc_coap::Message;
 use osc_context::Piv;
 use osc_endpoint::siblings::decide_over;
 use osc_endpoint::{
-    AddError, Decided, Decision, Fresh, ReplyError, RestartError, Start, Taken, Ticket,
-    answered_once,
+    Decided, Decision, Fresh, ReplyError, RestartError, Start, Taken, Ticket, answered_once,
 };
 use osc_window::WindowSize;
 
@@ -54,19 +55,21 @@ impl ServerHandle {
         }
     }
 
-    /// Adds a context, and answers its index (RFC 8613, B.1); None where the bytes are none that a call may have written. The first
-    /// refusal in the order of `AddError` is answered, and changes nothing.
+    /// Adds a context, and answers its index (RFC 8613, B.1); None where the bytes are none that a call may have written. Judged in this
+    /// order: what a `Server` refuses, then a Sender Key that one of the contexts has (RFC 8613, 3.3); a refusal changes nothing.
     pub fn add(
         &mut self,
         context: &ContextHandle,
         start: Start,
         size: WindowSize,
-    ) -> Option<Result<usize, AddError>>
+    ) -> Option<Result<usize, AddRefusal>>
         ensures accepts { IsTable self.old.contexts → IsContext context.now → IsSome result }
         ensures accepted { IsSome result → IsTable self.old.contexts × IsContext context.now }
         ensures answered { IfSome result (λ r. (h : History) → Serves self.old h
-            → ServerAnswer h (Add (server_in context.now) start size) (added_entry r)
-            × Serves self.new (Then h (Add (server_in context.now) start size) (added_entry r))) }
+            → IfSome (entry_of_add r) (λ entry. AddsIn h (server_in context.now) start size entry self.new)) }
+        ensures refused { result ≡ Some (Err SameSender) → (h : History) → Serves self.old h → IsSameSender h (server_in context.now) }
+        ensures refuses { IsTable self.old.contexts → IsContext context.now → (h : History) → Serves self.old h
+            → IsSameSender h (server_in context.now) → result ≡ Some (Err SameSender) }
         ensures bytes { IfSome result (λ r. IsTable self.new.contexts) }
         ensures same { IfSome result (λ r. OnErr r (self.new ≡ self.old)) }
         ensures unchanged { result ≡ None → self.new ≡ self.old }

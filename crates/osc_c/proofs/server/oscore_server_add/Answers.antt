@@ -8,7 +8,9 @@ use Rattle.osc_c.proofs.server.oscore_server_add.Goals as goal
 pub returns-in-Ok-clause-answers : goal.returns-in-Ok-clause-answers
 returns-in-Ok-clause-answers c = λ table context number size given h entry held y.
     let x = c.in-Ok.ensures.added in
-    carried c.one_server_answer.ensures (λ e. ReadsAdding e 0 c.in-Ok.added) h (Add (server_in c.args.context.now) (start_given c.args.restarted number) size) (Added c.in-Ok.added) entry held.answers (x.3 h held).0 y (refl, refl)
+    let after = x.3 h held in
+    carried c.one_server_answer.ensures (λ e. ReadsAdding h (server_in c.args.context.now) e 0 c.in-Ok.added) h (Add (server_in c.args.context.now) (start_given c.args.restarted number) size) (Added c.in-Ok.added) entry held.answers after.0 y
+    (record { same_sender = λ same. absurd (after.1.senders.1 same); added = λ _. (refl, refl) })
 
 pub returns-in-Ok-clause-bad_number : goal.returns-in-Ok-clause-bad_number
 returns-in-Ok-clause-bad_number c = λ table context bad.

@@ -11,6 +11,13 @@ returns-then-is_some-clause-refused c =
     let found = found_by c.args.self.now (server_in c.args.context.now) c.kid.result.now _ c.find.result c.kid.ensures c.kid_context.ensures (search rules) c.find.ensures.found in
     (c.if-self-eq8.false, found.0, found.1)
 
+pub returns-then-has_sender_of-clause-refused : goal.returns-then-has_sender_of-clause-refused
+returns-then-has_sender_of-clause-refused c = (
+  c.if-self-eq8.false,
+  not_found_by c.args.self.now (server_in c.args.context.now) c.kid.result.now _ c.find.result c.kid.ensures c.kid_context.ensures (search rules) c.find.ensures.none,
+  c.if-has_sender_of.ensures.0 refl,
+)
+
 pub returns-clause-added : goal.returns-clause-added
 returns-clause-added c =
     let fits = c.requires.table.fits in
@@ -18,6 +25,7 @@ returns-clause-added c =
       refl,
       omega (arith, fits, more),
       not_found_by c.args.self.now (server_in c.args.context.now) c.kid.result.now _ c.find.result c.kid.ensures c.kid_context.ensures (search rules) c.find.ensures.none,
+      λ has. absurd (let found = c.if-has_sender_of.ensures.1 has in cc),
     )
 
 pub returns-clause-grows : goal.returns-clause-grows
