@@ -40,10 +40,10 @@ OSCORE_ASSERT(sizeof(void *) == 8, "this library has pointers of 8 bytes: compil
    `ticket`, `out_len`, `detail`, `name`, `sizes`) overlaps nothing else that it is given; a struct is set to zero before it is given
    for the first time; a `bool` is 0 or 1. A pointer may be NULL where the length beside it is 0, and nowhere else. */
 
-/* What a call answers: 0 where it is done, else the first refusal whose condition holds, in the order of this list. A call that
-   refuses writes `detail`: the place of a datagram's fault in bytes from 0, the number of an option, or 0. It leaves `out`,
-   `out_len`, `options`, `opened`, `head`, `index`, `ticket`, `request`, the server and the client as they were; where a call does more, it
-   says so. */
+/* What a call answers: 0 where it is done, else the first refusal whose condition holds, in the order of this list; OSCORE_SAME_SENDER
+   alone, which came last, is judged right after OSCORE_SAME_LOOKUP. A call that refuses writes `detail`: the place of a datagram's fault
+   in bytes from 0, the number of an option, or 0. It leaves `out`, `out_len`, `options`, `opened`, `head`, `index`, `ticket`, `request`,
+   the server and the client as they were; where a call does more, it says so. */
 typedef enum oscore_status {
     OSCORE_DONE = 0,
     OSCORE_BAD_HANDLE = 1,         /* no call wrote such a handle: as a length that is too large, or two identifiers that are one */
@@ -86,7 +86,7 @@ typedef enum oscore_status {
     OSCORE_TOO_LONG = 38,          /* the sealed message would have more than 65,535 bytes */
     OSCORE_NO_ROOM = 39,           /* the buffer is shorter than the sealed message */
     OSCORE_NOT_PENDING = 40,       /* no request with this token is pending */
-    OSCORE_SAME_SENDER = 41        /* a context of the server has this Sender Key; judged right after OSCORE_SAME_LOOKUP, though last */
+    OSCORE_SAME_SENDER = 41        /* a context of the server has this Sender Key */
 } oscore_status;
 
 /* What calls return has the bytes of a uint32_t. */
