@@ -19,7 +19,7 @@
 #include <sys/socket.h>
 #include <time.h>
 
-/* RFC 7252, 4.8 and 4.8.2. A try in which datagrams are lost has a shorter first timeout. */
+/* RFC 7252, 4.8 and 4.8.2. A try may have another first timeout. */
 #ifndef ACK_TIMEOUT_MS
 #define ACK_TIMEOUT_MS 2000
 #endif

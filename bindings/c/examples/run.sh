@@ -8,9 +8,9 @@ library=${OSCORE_LIBRARY:-../../../crates/osc_c/out/libosc_c.a}
 lock='' between=''
 # What was said is shown also where it ends too early.
 trap '[ ! -e "$work/said" ] || cat "$work/said" >&2; [ -z "$lock$between" ] || kill $lock $between 2> /dev/null || true; rm -rf "$work"' EXIT
-# What is lost is sent again after one to one and a half seconds, not after two to three.
+# What is lost is sent again after three to four and a half seconds, so that on a slow machine nothing is that is only late.
 for name in lock key between; do
-    cc -std=c11 -Wall -Wextra -Werror -O1 -D ACK_TIMEOUT_MS=1000 -I .. "$@" "$name.c" "$library" -o "$work/$name"
+    cc -std=c11 -Wall -Wextra -Werror -O1 -D ACK_TIMEOUT_MS=3000 -I .. "$@" "$name.c" "$library" -o "$work/$name"
 done
 mkfifo "$work/says"
 
