@@ -49,9 +49,9 @@ fn requests_of(alloc: Global) -> io::Result<Vec<Request>> {
     Ok(requests)
 }
 
-/// Adds the context of the client with this identifier.
-fn add(server: &mut Server, client: &[u8]) -> Option<usize> {
-    let context = context_of(SERVER, client).ok()?;
+/// Adds the context of the client with this identifier, under an identifier of the server's own.
+fn add(server: &mut Server, own: &[u8], client: &[u8]) -> Option<usize> {
+    let context = context_of(own, client).ok()?;
     let start = Start::Fresh(Piv::new(0)?);
     server.add(context, start, WindowSize::default()).ok()
 }
@@ -61,9 +61,9 @@ fn add(server: &mut Server, client: &[u8]) -> Option<usize> {
 fn renew(server: &mut Server, others: u8) -> Option<()> {
     *server = Server::new();
     for other in 0..others {
-        add(server, &[1, other])?;
+        add(server, &[1, other], &[other])?;
     }
-    add(server, &[])?;
+    add(server, SERVER, &[])?;
     Some(())
 }
 
