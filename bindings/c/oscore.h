@@ -29,6 +29,12 @@ extern "C" {
 #endif
 #endif
 
+/* More bytes of stack than any call takes (README.md), with 4,000 to spare, which `oscore_wipe_stack` sets to 0 and so needs. A definition
+   of your own may stand before this header. */
+#ifndef OSCORE_STACK
+#define OSCORE_STACK 12288
+#endif
+
 OSCORE_ASSERT(sizeof(void *) == 8, "this library has pointers of 8 bytes: compile for 64 bits");
 
 /* All memory is the caller's. Nothing is allocated, nothing is global, nothing is called back; no call waits. Whatever the bytes of a
@@ -101,7 +107,8 @@ OSCORE_ASSERT(sizeof(oscore_status) == 4, "a status has 4 bytes: compile without
 #define OSCORE_ROOM(plain_len) ((plain_len) + 59)
 
 /* A context as one of its two ends holds it (RFC 8613, 3.1): plain bytes, to be made by `oscore_derive` and copied as you like.
-   It holds keys: wipe it when it isn't needed. No number is counted in it: whoever seals uses each number once. */
+   It holds keys: `oscore_wipe(&context, sizeof context)` when it isn't needed, as behind `oscore_server_add` or `oscore_client_begin`,
+   which copy it. No number is counted in it: whoever seals uses each number once. */
 typedef struct oscore_context {
     uint8_t sender[7], sender_len;
     uint8_t recipient[7], recipient_len;
@@ -119,7 +126,8 @@ typedef struct oscore_option {
 
 /* A message that was opened, in its datagram, where all slices lie: they hold for as long as the datagram stays there. Kind, message ID,
    token, Uri-Host and Uri-Port weren't protected; code, payload and the options in the caller's array were. The pointer of
-   a slice of length 0 isn't to be followed, and needn't be NULL: whether Uri-Host is there is said by `has_uri_host`. */
+   a slice of length 0 isn't to be followed, and needn't be NULL: whether Uri-Host is there is said by `has_uri_host`. It and the options
+   hold no byte of a payload or of an option's value: the plaintext is in the datagram, and is wiped there. */
 typedef struct oscore_opened {
     uint8_t kind; /* 0 CON, 1 NON, 2 ACK */
     uint8_t code; /* 1 GET, 2 POST, 3 PUT, 4 DELETE .. ; 69 is 2.05 */
@@ -139,7 +147,7 @@ typedef struct oscore_opened {
     bool has_more_options; /* the array is full, and there are more */
 } oscore_opened;
 
-/* What a protected request says to whoever has no key. Nothing of it was protected yet. Its slices lie in the datagram. */
+/* What a protected request says to whoever has no key. Nothing of it was protected yet, or is secret. Its slices lie in the datagram. */
 typedef struct oscore_request_head {
     uint8_t kind; /* 0 CON, 1 NON */
     uint16_t message_id;
@@ -173,8 +181,8 @@ typedef struct oscore_unanswered {
 
 /* A server of up to eight contexts, which counts their numbers: plain bytes, begun by `oscore_server_begin`. Never copy one and go on
    with both, and never restore one from a copy: its own numbers would be rolled back, and a nonce used twice. What has lost its
-   server begins a new one, and adds each context as `restarted`. One call at a time works on a server. It holds keys: wipe it when
-   it isn't needed. */
+   server begins a new one, and adds each context as `restarted`. One call at a time works on a server. It holds keys:
+   `oscore_wipe(&server, sizeof server)` when it isn't needed. */
 typedef struct oscore_server {
     uint64_t clock; /* the latest moment that a call was given */
     size_t count;   /* how many of the contexts are in use */
@@ -182,7 +190,7 @@ typedef struct oscore_server {
     oscore_unanswered unanswered[8];
 } oscore_server;
 
-/* The right to answer one request that was delivered. It may be copied, and a copy gives no second answer. */
+/* The right to answer one request that was delivered. It may be copied, and a copy gives no second answer. It holds no secret. */
 typedef struct oscore_ticket {
     size_t context; /* its index, as `oscore_server_add` gave it */
     uint64_t life, number;
@@ -191,7 +199,7 @@ typedef struct oscore_ticket {
     uint8_t token[8], token_len;
 } oscore_ticket;
 
-/* A request of a client that waits for its response. */
+/* A request of a client that waits for its response. It holds no secret. */
 typedef struct oscore_pending {
     uint64_t number;
     uint64_t moment; /* when it was sealed */
@@ -199,7 +207,8 @@ typedef struct oscore_pending {
 } oscore_pending;
 
 /* A client of one context, which counts its numbers and knows which requests wait for their responses: plain bytes, begun by
-   `oscore_client_begin`. The calls write it: read it, and change nothing. What is said of copies of a server holds of a client too. */
+   `oscore_client_begin`. The calls write it: read it, and change nothing. What is said of copies of a server holds of a client too. It
+   holds keys: `oscore_wipe(&client, sizeof client)` when it isn't needed. */
 typedef struct oscore_client {
     oscore_context context;
     uint64_t life_ms; /* for how long a request is pending */
@@ -328,6 +337,42 @@ OSCORE_MUST_USE oscore_status oscore_client_request(oscore_client *client, uint6
 OSCORE_MUST_USE oscore_status oscore_client_take(oscore_client *client, uint64_t now, uint8_t *datagram, size_t datagram_len,
                                                  oscore_option *options, size_t options_room, oscore_opened *opened,
                                                  uint64_t *request, size_t *detail);
+
+/* The library wipes nothing: what a call was given is the caller's, and below the caller's stack pointer lies what the call left there,
+   keys among it (README.md, Wiping). The rest of this header wipes, and is code of the caller's program. */
+#if defined(__GNUC__) || defined(__clang__)
+#define OSCORE_BARRIER(bytes) __asm__ __volatile__("" : : "r"(bytes) : "memory")
+#else
+#define OSCORE_BARRIER(bytes) ((void)(bytes))
+#endif
+
+/* Sets bytes to 0, by writes that a compiler leaves where they stand, though nobody reads the bytes again. A context or a client that was
+   wiped is refused as OSCORE_BAD_HANDLE; a server that was wiped has no context. */
+static inline void oscore_wipe(void *bytes, size_t len) {
+    volatile uint8_t *at = (volatile uint8_t *)bytes;
+    while (len > 0) at[--len] = 0;
+    OSCORE_BARRIER(bytes);
+}
+
+/* The stack is wiped where a compiler has a way to say that a function is never made a part of its caller. */
+#if defined(__GNUC__) || defined(__clang__)
+/* For `oscore_wipe_stack` alone. Its array lies where a call's stack lay. */
+__attribute__((__noinline__, __unused__)) static void oscore_wipe_below(void) {
+    volatile uint64_t below[(OSCORE_STACK + 7) / 8];
+    for (size_t i = 0; i < sizeof below / sizeof below[0]; i++) below[i] = 0;
+    OSCORE_BARRIER(below);
+}
+
+/* Sets OSCORE_STACK bytes below the caller's stack pointer to 0, and so what earlier calls left there. Call it in the function that
+   called the library, or in one that called that one, where fewer than 4,000 bytes of stack lie between: called from deeper, it begins
+   too low. It reaches no other stack, as another thread's or a signal handler's, no register, and no copy that the system made. Under
+   AddressSanitizer and SafeStack it reaches nothing: they lay arrays elsewhere. */
+__attribute__((__always_inline__)) static inline void oscore_wipe_stack(void) {
+    oscore_wipe_below();
+    /* So the call isn't the last thing of a function, which would give up its own stack before it: then it would begin too high. */
+    OSCORE_BARRIER(0);
+}
+#endif
 
 #ifdef __cplusplus
 }

@@ -181,6 +181,7 @@ static void begin(uint64_t next) {
     oscore_status status = oscore_derive(&context, SECRET, sizeof SECRET, NULL, 0, false, NULL, 0, KEY, sizeof KEY, LOCK, sizeof LOCK,
                                          false);
     if (!status) status = oscore_client_begin(&client, &context, next, EXCHANGE_LIFETIME_MS);
+    oscore_wipe(&context, sizeof context); /* the client has a copy */
     if (status) stop("no client");
 }
 
@@ -191,5 +192,8 @@ int main(int count, char **words) {
     int udp = socket(AF_INET, SOCK_DGRAM, 0);
     if (udp < 0 || connect(udp, (struct sockaddr *)&lock, sizeof lock)) stop("no such port");
     begin(strtoull(words[2], NULL, 10));
-    return ask(udp, words[3], count == 5 ? words[4] : NULL) ? 0 : 1;
+    bool answered = ask(udp, words[3], count == 5 ? words[4] : NULL);
+    oscore_wipe(&client, sizeof client);
+    oscore_wipe_stack();
+    return answered ? 0 : 1;
 }

@@ -181,6 +181,7 @@ int main(int count, char **words) {
                                          false);
     oscore_server_begin(&server);
     if (!status) status = oscore_server_add(&server, &context, restarted, next, 32, &index);
+    oscore_wipe(&context, sizeof context); /* the server has a copy */
     if (status) stop("no server");
 
     struct sockaddr_in own = {.sin_family = AF_INET, .sin_addr.s_addr = htonl(INADDR_LOOPBACK)};
@@ -192,5 +193,7 @@ int main(int count, char **words) {
     fflush(stdout);
     for (int left = atoi(words[2]); left > 0; left--) serve_one(&server, udp);
     printf("next own number %llu\n", (unsigned long long)server.contexts[index].next);
+    oscore_wipe(&server, sizeof server);
+    oscore_wipe_stack();
     return 0;
 }

@@ -1,0 +1,298 @@
+/* What a call leaves below its caller's stack pointer, and that `oscore_wipe_stack` leaves nothing of it. Each call is made on a stack of
+   its own, by tables and in constant time, and that whole stack is then searched for the Master Secret, for what HKDF makes of it, for
+   the keys, the Common IV, and words of the schedules of the keys. Then the call and all it stands on is made under another Master
+   Secret: each byte of that stack that differs now depends on the secret. (Not all of these are secret: what is sent depends on it too.)
+   Once the stack was wiped none of these may be there. The counts without wiping are printed; they depend on the library's compiler.
+
+   Not for AddressSanitizer, which lays arrays elsewhere, so that the stack isn't as it is without it; nor for memcheck, which reports
+   each read of what lies below a stack pointer. */
+#define _DEFAULT_SOURCE
+#include "../oscore.h"
+#include <stdio.h>
+#include <stdlib.h>
+#include <string.h>
+#include <sys/mman.h>
+#include <ucontext.h>
+
+#define CHECK(holds) ((holds) ? (void)0 : fails(__LINE__, #holds))
+
+enum { AREA = 1 << 16, UNTOUCHED = 0xa5, ROOM = 128, NUMBER = 20, LIFE = 60000 };
+/* Of round keys 1 to 10: the words, and what they are in planes. So many words by chance are none. */
+enum { WORDS = 40, PLANES = 80, BY_CHANCE = 7 };
+
+/* RFC 8613, C.1, and another Master Secret. */
+static const uint8_t SECRETS[2][16] = {{1, 2, 3, 4, 5, 6, 7, 8, 9, 10, 11, 12, 13, 14, 15, 16},
+                                       {91, 7, 201, 44, 158, 3, 77, 230, 19, 142, 66, 250, 35, 181, 108, 9}};
+static const uint8_t SALT[8] = {0x9e, 0x7c, 0xa9, 0x22, 0x23, 0x78, 0x63, 0x40}, ONE = 1;
+/* What HKDF makes of the first (RFC 5869, 2.2), by Python's hmac and cryptography: the pseudorandom key (PRK). And SHA-256's states
+   behind the padded PRK, inner and outer (RFC 2104), from which the keys follow as well: by a SHA-256 in Python that goes on to them. */
+static const uint8_t PRK[3][32] = {{0xbf, 0x4f, 0x72, 0xde, 0x4e, 0xed, 0x44, 0xa4, 0x95, 0x13, 0x90, 0xe7, 0x12, 0x78, 0x49, 0xde,
+                                    0x97, 0xd6, 0x17, 0xb1, 0x94, 0x0f, 0x1a, 0xb6, 0xc1, 0x82, 0xb8, 0xa1, 0x47, 0xdb, 0x8d, 0xc4},
+                                   {0x03, 0x57, 0x85, 0x81, 0xc8, 0xe9, 0xb3, 0x6e, 0x97, 0x8a, 0xc9, 0x23, 0x4f, 0xf9, 0xd9, 0x33,
+                                    0xa6, 0xa6, 0xb8, 0xaa, 0xf6, 0x57, 0xfb, 0x57, 0xf2, 0x7f, 0x68, 0x7a, 0x56, 0x09, 0x13, 0xc4},
+                                   {0xb5, 0x30, 0xac, 0xf8, 0xa6, 0x31, 0xf4, 0xa9, 0x66, 0xa1, 0xf6, 0x17, 0x89, 0x05, 0xf9, 0x2a,
+                                    0x9a, 0x37, 0x08, 0x20, 0x6e, 0xff, 0x96, 0x8b, 0x7e, 0xd6, 0xba, 0x0c, 0x10, 0xf3, 0xd6, 0x8c}};
+/* PUT /lock with the token 07, and with 08; and an answer. */
+static const uint8_t ASKS[2][28] = {"\x41\3\0\1\7\xb4lock\xffthe door is shut", "\x41\3\0\2\x08\xb4lock\xffthe door is shut"};
+static const uint8_t ANSWER[23] = "\x61\x44\0\1\7\xffthe door is shut", RANDOM[8] = {4, 4, 4, 4, 4, 4, 4, 4};
+
+/* Who wipes the stack behind a call: nobody, the function that made it, or the one that called that. */
+static enum { NOBODY, CALLER, ITS_CALLER } wiping;
+static const uint8_t *secret;
+static bool constant_time;
+static oscore_context client_end, server_end;
+static oscore_client client;
+static oscore_server server;
+static oscore_ticket ticket;
+static oscore_opened opened;
+static oscore_option options[4];
+static uint8_t request[ROOM], response[ROOM], out[ROOM];
+static size_t request_len, response_len, out_len, at, detail;
+static uint64_t number;
+
+static void fails(int line, const char *condition) {
+    printf("residue.c:%d: %s\n", line, condition);
+    exit(1);
+}
+
+/* A function that makes one call. */
+#define CALL(name, ...) \
+    static oscore_status name(void) { \
+        oscore_status status = oscore_##name(__VA_ARGS__); \
+        if (wiping == CALLER) oscore_wipe_stack(); \
+        return status; \
+    }
+CALL(derive, &client_end, secret, 16, SALT, 8, false, NULL, 0, NULL, 0, &ONE, 1, constant_time)
+CALL(seal_request, &client_end, NUMBER, ASKS[0], sizeof ASKS[0] - 1, out, ROOM, &out_len, &detail)
+CALL(seal_response, &server_end, NUMBER, false, 0, ANSWER, sizeof ANSWER - 1, response, ROOM, &response_len, &detail)
+CALL(open_request, &server_end, request, request_len, options, 4, &opened, &detail)
+CALL(open_response, &client_end, NUMBER, response, response_len, options, 4, &opened, &detail)
+CALL(server_add, &server, &server_end, false, 0, 32, &at)
+CALL(server_restart, &server, 0, 5)
+CALL(server_take, &server, 0, RANDOM, 1, request, request_len, options, 4, &opened, &ticket, out, &out_len, &detail)
+CALL(server_reply, &server, &ticket, true, 1, ANSWER, sizeof ANSWER - 1, out, ROOM, &out_len, &detail)
+CALL(client_begin, &client, &client_end, NUMBER, LIFE)
+CALL(client_request, &client, 0, ASKS[1], sizeof ASKS[1] - 1, out, ROOM, &out_len, &detail)
+CALL(client_take, &client, 0, response, response_len, options, 4, &opened, &number, &detail)
+CALL(client_forget, &client, ASKS[0] + 4, 1)
+CALL(client_restart, &client, NUMBER + 1)
+
+/* What went before a call: a server has no context yet; a request was sent, turned on its way, or taken and comes again; or the server was
+   restarted. */
+typedef enum { EMPTY, SENT, TURNED, TAKEN, RESTARTED } before;
+typedef struct row {
+    const char *name;
+    oscore_status (*call)(void);
+    before before;
+    oscore_status wanted;
+} row;
+static const row ROWS[] = {
+    {"derive", derive, SENT, OSCORE_DONE},
+    {"seal_request", seal_request, SENT, OSCORE_DONE},
+    {"seal_response", seal_response, SENT, OSCORE_DONE},
+    {"open_request", open_request, SENT, OSCORE_DONE},
+    {"open_request, bad tag", open_request, TURNED, OSCORE_TAG},
+    {"open_response", open_response, SENT, OSCORE_DONE},
+    {"server_add", server_add, EMPTY, OSCORE_DONE},
+    {"server_restart", server_restart, SENT, OSCORE_DONE},
+    {"server_take", server_take, SENT, OSCORE_DONE},
+    {"server_take, bad tag", server_take, TURNED, OSCORE_TAG},
+    {"server_take, challenge", server_take, RESTARTED, OSCORE_CHALLENGE},
+    {"server_take, replay", server_take, TAKEN, OSCORE_REPLAY},
+    {"server_reply", server_reply, TAKEN, OSCORE_DONE},
+    {"client_begin", client_begin, SENT, OSCORE_DONE},
+    {"client_request", client_request, SENT, OSCORE_DONE},
+    {"client_take", client_take, SENT, OSCORE_DONE},
+    {"client_forget", client_forget, SENT, OSCORE_DONE},
+    {"client_restart", client_restart, SENT, OSCORE_DONE},
+};
+
+/* Makes all that a call stands on, under one of the secrets. */
+static void prepare(int which, before before) {
+    uint8_t sent[ROOM];
+    secret = SECRETS[which];
+    CHECK(!derive());
+    CHECK(!oscore_derive(&server_end, secret, 16, SALT, 8, false, NULL, 0, &ONE, 1, NULL, 0, constant_time));
+    oscore_server_begin(&server);
+    CHECK(!client_begin() && !seal_response() && (before == EMPTY || !server_add()));
+    CHECK(!oscore_client_request(&client, 0, ASKS[0], sizeof ASKS[0] - 1, request, ROOM, &request_len, &detail));
+    memcpy(sent, request, request_len);
+    if (before == TAKEN) CHECK(!server_take());
+    memcpy(request, sent, request_len);
+    if (before == TURNED) request[request_len - 1] ^= 1;
+    if (before == RESTARTED) CHECK(!server_restart());
+}
+
+/* The stack that calls are made on, and a copy of it. */
+static uint8_t *area, kept[AREA];
+static ucontext_t here, fresh, there;
+static const row *now;
+static oscore_status status;
+
+static void on_area(void) {
+    status = now->call();
+    if (wiping == ITS_CALLER) oscore_wipe_stack();
+}
+
+/* Makes a call on the area. It begins with the registers of `fresh`, which know of no secret. */
+static void run(const row *row, int which) {
+    prepare(which, row->before);
+    memset(area, UNTOUCHED, AREA);
+    now = row, there = fresh;
+    there.uc_stack.ss_sp = area, there.uc_stack.ss_size = AREA, there.uc_link = &here;
+    makecontext(&there, on_area, 0);
+    CHECK(!swapcontext(&here, &there) && status == row->wanted);
+}
+
+/* The deepest byte that was written. */
+static size_t deepest(void) {
+    size_t i = 0;
+    while (i < AREA && area[i] == UNTOUCHED) i++;
+    return i;
+}
+
+/* The substitution box (FIPS 197, 5.1.1): 3^i has the inverse 3^-i. */
+static uint8_t box[256] = {0x63};
+static void make_box(void) {
+    for (unsigned p = 1, q = 1, i = 0; i < 255; i++) {
+        unsigned twice = q | q << 8;
+        box[p] = (uint8_t)(q ^ twice >> 7 ^ twice >> 6 ^ twice >> 5 ^ twice >> 4 ^ 0x63);
+        p ^= p << 1 ^ (p & 0x80 ? 0x11b : 0);
+        q ^= q << 1, q ^= q << 2, q ^= q << 4, q &= 0xff;
+        if (q & 0x80) q ^= 0x09;
+    }
+}
+
+/* Words 4 to 43 of a key (FIPS 197, 5.2), and as osc_aes has them in planes: where the byte in row r and column c stands turned right by
+   r times the number of its round key, its bit t is bit 8r + 2c of plane t, and the next one, of the second block. */
+static void expand(const uint8_t key[16], uint32_t schedule[WORDS + PLANES]) {
+    uint8_t bytes[176], constant = 1;
+    memcpy(bytes, key, 16);
+    memset(schedule, 0, 4 * (WORDS + PLANES));
+    for (int i = 16; i < 176; i++) {
+        int round = i / 16, r = i % 4, c = (i / 4 + round * r) % 4;
+        uint8_t last = bytes[i - 4];
+        if (i % 16 < 4) last = box[bytes[r < 3 ? i - 3 : i - 7]];
+        if (i % 16 == 0) last ^= constant, constant = (uint8_t)(constant << 1 ^ (constant & 0x80 ? 0x1b : 0));
+        bytes[i] = bytes[i - 16] ^ last;
+        for (int t = 0; t < 8; t++) schedule[WORDS + 8 * (round - 1) + t] |= (bytes[i] >> t & 1u) * (3u << (8 * r + 2 * c));
+    }
+    memcpy(schedule, bytes + 16, 4 * WORDS);
+}
+
+static uint32_t turned(uint32_t word) {
+    return word >> 24 | (word >> 8 & 0xff00) | (word << 8 & 0xff0000) | word << 24;
+}
+
+/* How many words and planes of a key's schedule stand in the area, in either order of their bytes. */
+static size_t words_of(const uint8_t key[16]) {
+    uint32_t schedule[WORDS + PLANES], word;
+    size_t met = 0;
+    expand(key, schedule);
+    for (int i = 0; i < WORDS + PLANES; i++)
+        for (size_t place = deepest() / 4 * 4; place < AREA; place += 4) {
+            memcpy(&word, area + place, 4);
+            if (word != schedule[i] && turned(word) != schedule[i]) continue;
+            met++;
+            break;
+        }
+    return met;
+}
+
+/* At how many places of the area these bytes stand, each with `pad` added, as they are or with each four of them turned. */
+static size_t places(const uint8_t *bytes, size_t len, uint8_t pad) {
+    uint8_t plain[32], swapped[32];
+    size_t met = 0;
+    for (size_t i = 0; i < len; i++) plain[i] = bytes[i] ^ pad, swapped[i] = bytes[len % 4 ? i : i ^ 3] ^ pad;
+    for (size_t i = 0; i + len <= AREA; i++) met += !memcmp(area + i, plain, len) || !memcmp(area + i, swapped, len);
+    return met;
+}
+
+typedef struct left { size_t secret, prk, keys, iv, words, depending, stack; } left;
+
+static left search(void) {
+    left left = {.secret = places(SECRETS[0], 16, 0), .iv = places(client_end.common_iv, 13, 0), .stack = AREA - deepest()};
+    left.prk = places(PRK[0], 32, 0) + places(PRK[0], 32, 0x36) + places(PRK[0], 32, 0x5c) + places(PRK[1], 32, 0) + places(PRK[2], 32, 0);
+    left.keys = places(client_end.sender_key, 16, 0) + places(client_end.recipient_key, 16, 0);
+    size_t one = words_of(client_end.sender_key), other = words_of(client_end.recipient_key);
+    left.words = one > other ? one : other;
+    return left;
+}
+
+static left left_by(const row *row) {
+    run(row, 0);
+    memcpy(kept, area, AREA);
+    left left = search();
+    run(row, 1);
+    for (size_t i = 0; i < AREA; i++) left.depending += area[i] != kept[i];
+    return left;
+}
+
+/* Behind the wiping nothing is left of these, OSCORE_STACK bytes in a row are 0, and next to nothing was written deeper. */
+static void check_wiped(const row *row) {
+    left left = left_by(row);
+    size_t zeros = 0, most = 0;
+    for (size_t i = 0; i < AREA; i++) zeros = area[i] ? 0 : zeros + 1, most = zeros > most ? zeros : most;
+    CHECK(!left.secret && !left.prk && !left.keys && !left.iv && left.words <= BY_CHANCE && !left.depending);
+    CHECK(most >= OSCORE_STACK && left.stack < OSCORE_STACK + 1000);
+}
+
+/* The search finds what was laid there, and counts it. */
+static void check_search(void) {
+    static const uint8_t key[16] = {0x2b, 0x7e, 0x15, 0x16, 0x28, 0xae, 0xd2, 0xa6, 0xab, 0xf7, 0x15, 0x88, 0x09, 0xcf, 0x4f, 0x3c};
+    uint32_t schedule[WORDS + PLANES];
+    expand(key, schedule);
+    CHECK(!memcmp(schedule + WORDS - 1, "\xb6\x63\x0c\xa6", 4)); /* FIPS 197, A.1 */
+    prepare(0, SENT);
+    memset(area, UNTOUCHED, AREA);
+    memcpy(area + 101, SECRETS[0], 16);
+    memcpy(area + 201, PRK[0], 32), memcpy(area + 301, PRK[2], 32);
+    memcpy(area + 401, client_end.recipient_key, 16), memcpy(area + 501, client_end.common_iv, 13);
+    expand(client_end.sender_key, schedule);
+    memcpy(area + 600, schedule + WORDS - 2, 16);
+    left left = search();
+    CHECK(left.secret == 1 && left.prk == 2 && left.keys == 1 && left.iv == 1 && left.words == 4 && left.stack == AREA - 101);
+}
+
+/* All bytes are wiped, and none beside them. A handle that was wiped is refused, or has no context. */
+static void check_handles(void) {
+    static const uint8_t zeros[sizeof server];
+    memset(kept, UNTOUCHED, AREA);
+    oscore_wipe(kept + 1, sizeof zeros);
+    CHECK(kept[0] == UNTOUCHED && !memcmp(kept + 1, zeros, sizeof zeros) && kept[1 + sizeof zeros] == UNTOUCHED);
+    oscore_wipe(&client_end, sizeof client_end), oscore_wipe(&client, sizeof client), oscore_wipe(&server, sizeof server);
+    CHECK(client_begin() == OSCORE_BAD_HANDLE && client_request() == OSCORE_BAD_HANDLE && server_take() == OSCORE_NO_CONTEXT);
+}
+
+/* Answers what is left where nobody wipes. */
+static left check_row(const row *row) {
+    wiping = NOBODY;
+    left left = left_by(row);
+    printf("%-22s %-13s %6zu %3zu %4zu %9zu %18zu %17zu\n", row->name, constant_time ? "constant time" : "tables", left.secret, left.prk,
+           left.keys, left.iv, left.words, left.depending);
+    /* As oscore.h says of OSCORE_STACK. */
+    CHECK(left.stack + 4000 < OSCORE_STACK);
+    wiping = CALLER;
+    check_wiped(row);
+    wiping = ITS_CALLER;
+    check_wiped(row);
+    return left;
+}
+
+int main(void) {
+    area = mmap(NULL, AREA, PROT_READ | PROT_WRITE, MAP_PRIVATE | MAP_ANONYMOUS, -1, 0);
+    CHECK(area != MAP_FAILED && !getcontext(&fresh));
+    make_box(), check_search(), check_handles();
+    puts("                                     secret PRK keys Common IV words of a schedule bytes that depend");
+    for (int way = 0; way < 2; way++) {
+        bool seen = false;
+        constant_time = way;
+        for (size_t i = 0; i < sizeof ROWS / sizeof *ROWS; i++) {
+            left left = check_row(&ROWS[i]);
+            seen = seen || (left.keys > 0 && left.words > BY_CHANCE && left.depending > 0);
+        }
+        CHECK(seen);
+    }
+    puts("wiped: nothing of these");
+    return 0;
+}
