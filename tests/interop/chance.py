@@ -7,13 +7,11 @@ from typing import Iterator, List, NamedTuple, Optional, Tuple
 
 import oscore_reading
 from coap_reading import ACK, CON, NON, Message
-from oscore_reading import Context
+from oscore_reading import REFUSED, Context
 
 MESSAGES_OF_A_CONTEXT = 8
-LEFT_OUT = (6, 9, 23, 27, 35, 39)
-"""Observe, OSCORE, Block2, Block1, Proxy-Uri and Proxy-Scheme."""
 OPTIONS = (1, 3, 4, 5, 7, 8, 11, 12, 14, 15, 17, 20, 28, 60, 252, 258)
-"""The other options of RFC 8613, 4.1, with Echo (RFC 9175)."""
+"""The options of RFC 8613, 4.1, with Echo (RFC 9175), but for those that are refused."""
 MOST_NUMBER = 2**40 - 1
 
 
@@ -64,7 +62,7 @@ def make_options(chance: random.Random) -> List[Tuple[int, bytes]]:
     options = []
     for _ in range(chance.randint(0, 6)):
         number = chance.choice(OPTIONS) if chance.random() < 0.8 else chance.getrandbits(chance.randint(1, 16))
-        if number not in LEFT_OUT:
+        if number not in REFUSED:
             options += [(number, chance.randbytes(make_length(chance))) for _ in range(chance.choice((1, 1, 2, 3)))]
     return sorted(options, key=lambda option: option[0])
 

@@ -142,7 +142,7 @@ class Comparison:
 
     def compare_refusal(self, where: str, trial: Trial) -> None:
         """The same message with an option that can't be sealed: both say which."""
-        number = self.spoiling.choice(chance.LEFT_OUT)
+        number = self.spoiling.choice(oscore_reading.REFUSED)
         plain = coap_reading.write(trial.message._replace(options=trial.message.options + ((number, b"x"),)))
         wanted = outcome(lambda: self.peer.sealed(trial, plain))
         for name, answer in zip(CIPHERS, self.asked([seal_line(trial, cipher, plain) for cipher in range(len(CIPHERS))])):

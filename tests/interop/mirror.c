@@ -1,0 +1,119 @@
+/* A server over UDP that says back what each request was: its response holds the request's kind and code, as "CON 0.03 ", and behind that
+   the request's payload. Each second response is under an own number.
+
+       mirror (SECRET SALT ID_CONTEXT OWN THEIR)..
+
+   For each context five words in hex, "-" where there are no bytes, "none" for no ID Context. No context was in use before. It listens on
+   127.0.0.1 at a port that the system picks and its first line says, prints what it refuses, and ends when standard input ends. */
+#define _DEFAULT_SOURCE
+#include "oscore.h"
+#include <arpa/inet.h>
+#include <poll.h>
+#include <stdio.h>
+#include <stdlib.h>
+#include <string.h>
+#include <sys/random.h>
+#include <sys/socket.h>
+#include <time.h>
+#include <unistd.h>
+
+enum { GET = 1, DELETE = 4, FETCH = 5, CONTENT = 69, DELETED = 66, CHANGED = 68, MOST_DATAGRAM = 1500, MOST_WORD = 64 };
+
+static oscore_server server;
+
+static _Noreturn void stop(const char *why) {
+    puts(why);
+    exit(1);
+}
+
+static uint64_t milliseconds(void) {
+    struct timespec now;
+    clock_gettime(CLOCK_MONOTONIC, &now);
+    return (uint64_t)now.tv_sec * 1000 + (uint64_t)now.tv_nsec / 1000000;
+}
+
+static void draw(void *random, size_t len) {
+    if (getrandom(random, len, 0) != (ssize_t)len) stop("no random bytes");
+}
+
+static size_t hex(const char *word, uint8_t bytes[MOST_WORD]) {
+    size_t len = strcmp(word, "-") && strcmp(word, "none") ? strlen(word) / 2 : 0;
+    unsigned byte;
+    if (len > MOST_WORD) stop("a word is too long");
+    for (size_t i = 0; i < len; i++, bytes[i - 1] = (uint8_t)byte)
+        if (sscanf(word + 2 * i, "%2x", &byte) != 1) stop("bad hex");
+    return len;
+}
+
+static void add(char **words) {
+    uint8_t bytes[5][MOST_WORD];
+    size_t lens[5], index;
+    oscore_context context = OSCORE_ZERO;
+    for (int i = 0; i < 5; i++) lens[i] = hex(words[i], bytes[i]);
+    oscore_status status = oscore_derive(&context, bytes[0], lens[0], bytes[1], lens[1], strcmp(words[2], "none") != 0, bytes[2], lens[2],
+                                         bytes[3], lens[3], bytes[4], lens[4], false);
+    if (!status) status = oscore_server_add(&server, &context, false, 0, 32, &index);
+    if (status) stop("no context");
+}
+
+static uint8_t code_of_reply(uint8_t code) {
+    return code == GET || code == FETCH ? CONTENT : code == DELETE ? DELETED : CHANGED;
+}
+
+/* A plain reply: a head, of which the library takes the code alone, and the payload. */
+static size_t mirrored(const oscore_opened *request, uint8_t plain[MOST_DATAGRAM]) {
+    memcpy(plain, (uint8_t[]){0x60, code_of_reply(request->code), 0, 0, 0xff}, 5);
+    size_t len = 5 + (size_t)snprintf((char *)plain + 5, 16, "%s %d.%02d ", request->kind == 0 ? "CON" : "NON", request->code >> 5,
+                                      request->code & 31);
+    if (len + request->payload_len > MOST_DATAGRAM) stop("a payload is too long");
+    if (request->payload_len > 0) memcpy(plain + len, request->payload, request->payload_len);
+    return len + request->payload_len;
+}
+
+static void serve(int udp) {
+    static uint8_t datagram[MOST_DATAGRAM], plain[MOST_DATAGRAM], out[OSCORE_ROOM(MOST_DATAGRAM)], refusal[64];
+    static bool own;
+    struct sockaddr_in from;
+    socklen_t from_len = sizeof from;
+    ssize_t len = recvfrom(udp, datagram, sizeof datagram, 0, (struct sockaddr *)&from, &from_len);
+    oscore_option options[16] = OSCORE_ZERO;
+    oscore_opened request = OSCORE_ZERO;
+    oscore_ticket ticket = OSCORE_ZERO;
+    size_t out_len, detail;
+    uint8_t echo[8], *reply = refusal;
+    uint16_t mid;
+    if (len < 0) stop("no datagram could be read");
+    draw(echo, sizeof echo), draw(&mid, sizeof mid);
+    oscore_status status = oscore_server_take(&server, milliseconds(), echo, mid, datagram, (size_t)len, options, 16, &request, &ticket,
+                                              refusal, &out_len, &detail);
+    if (status == OSCORE_DONE) {
+        size_t plain_len = mirrored(&request, plain);
+        own = !own, reply = out;
+        status = oscore_server_reply(&server, &ticket, own, mid, plain, plain_len, out, sizeof out, &out_len, &detail);
+        if (status) stop("no reply");
+    } else {
+        char name[24];
+        oscore_status_name(status, name);
+        printf("%s\n", name);
+        fflush(stdout);
+    }
+    if (out_len > 0) sendto(udp, reply, out_len, 0, (struct sockaddr *)&from, from_len);
+}
+
+int main(int count, char **words) {
+    struct sockaddr_in at = {.sin_family = AF_INET, .sin_addr.s_addr = htonl(INADDR_LOOPBACK)};
+    socklen_t at_len = sizeof at;
+    int udp = socket(AF_INET, SOCK_DGRAM, 0);
+    if (count < 6 || count % 5 != 1) stop("mirror (SECRET SALT ID_CONTEXT OWN THEIR)..");
+    oscore_server_begin(&server);
+    for (int i = 1; i < count; i += 5) add(words + i);
+    if (udp < 0 || bind(udp, (struct sockaddr *)&at, at_len) || getsockname(udp, (struct sockaddr *)&at, &at_len)) stop("no port");
+    printf("port %u\n", ntohs(at.sin_port));
+    fflush(stdout);
+    for (;;) {
+        struct pollfd readable[] = {{.fd = udp, .events = POLLIN}, {.fd = STDIN_FILENO, .events = POLLIN}};
+        if (poll(readable, 2, -1) < 0) stop("no datagram could be waited for");
+        if (readable[0].revents) serve(udp);
+        if (readable[1].revents) return 0;
+    }
+}
