@@ -1,6 +1,6 @@
 //! A run of a server and one of a client over fixed inputs, small enough to have each of their growths refused in turn. Then the
-//! status is 1, standard error has one line, and standard output whole lines from the front of what the runs print, which
-//! `stdout` ends in. Before the runs come as many growths as standard input has bytes, so that one number can refuse each of theirs.
+//! status is 1, standard error has one line, and standard output whole lines from the front of what the runs print, which is
+//! `stdout`. Before the runs come as many growths as standard input has bytes, so that one number can refuse each of theirs.
 
 mod runs;
 

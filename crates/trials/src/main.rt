@@ -1,0 +1,38 @@
+//! Two trials of the layers that no row can make: runs whose memory is refused, and what calls cost. README.md tells what each does, and
+//! how to run it.
+#![tactic(auto)]
+
+mod example;
+mod scarce;
+mod speed;
+
+use std::process::ExitCode;
+use std::{env, io};
+
+const USAGE: &str = "usage: trials [scarce | speed WHAT]
+WHAT is all, schedule, block, ccm, message, parse, server, client, large or sizes.";
+
+/// Prints how the program is called, and answers its status.
+fn usage(rt: &impl Eprint) -> io::Result<u8> {
+    eprintln!(rt; "{USAGE}")?;
+    Ok(2)
+}
+
+/// Makes the trial that the program's words name, and answers the status. Without a word, as the gate runs it, that is `scarce`.
+fn run(rt: &HostRuntime) -> io::Result<u8> {
+    let mut words = env::args(rt)?;
+    let _name = words.next();
+    let Some(trial) = words.next() else {
+        return scarce::run(rt);
+    };
+    match (trial.as_str(), words.next()) {
+        ("scarce", None) => scarce::run(rt),
+        ("speed", Some(word)) => speed::run(rt, word.as_str()),
+        _ => usage(rt),
+    }
+}
+
+fn main(rt: HostRuntime) -> io::Result<ExitCode> {
+    let status = run(&rt)?;
+    Ok(ExitCode::from(status))
+}
