@@ -46,14 +46,15 @@ OSCORE_ASSERT(sizeof(void *) == 8, "this library has pointers of 8 bytes: compil
    `ticket`, `out_len`, `detail`, `name`, `sizes`) overlaps nothing else that it is given; a struct is set to zero before it is given
    for the first time; a `bool` is 0 or 1. A pointer may be NULL where the length beside it is 0, and nowhere else. */
 
-/* What a call answers: 0 where it is done, else the first refusal whose condition holds, in the order of this list; OSCORE_SAME_SENDER
-   alone, which came last, is judged right after OSCORE_SAME_LOOKUP. A call that refuses writes `detail`: the place of a datagram's fault
-   in bytes from 0, the number of an option, or 0. It leaves `out`, `out_len`, `options`, `opened`, `head`, `index`, `ticket`, `request`,
+/* What a call answers: 0 where it is done, else the first refusal whose condition holds, in the order of this list; those that came last
+   are judged elsewhere: OSCORE_SAME_SENDER right after OSCORE_SAME_LOOKUP, OSCORE_OPTION_ORDER and OSCORE_VALUE_TOO_LONG before
+   OSCORE_NO_ROOM. A call that refuses writes `detail`: the place of a datagram's fault in bytes from 0, the number of an option, the
+   index of one that was handed in, or 0. It leaves `out`, `out_len`, `options`, `opened`, `head`, `index`, `ticket`, `request`,
    the server and the client as they were; where a call does more, it says so. */
 typedef enum oscore_status {
     OSCORE_DONE = 0,
     OSCORE_BAD_HANDLE = 1,         /* no call wrote such a handle: as a length that is too large, or two identifiers that are one */
-    OSCORE_BAD_NUMBER = 2,         /* a number is 2^40 or more, or a window has neither 32 nor 64 places */
+    OSCORE_BAD_NUMBER = 2,         /* a number is 2^40 or more, a kind above 3, or a window has neither 32 nor 64 places */
     OSCORE_SECRET_LENGTH = 3,      /* the Master Secret has no byte, or more than 64 */
     OSCORE_SALT_LENGTH = 4,        /* the Master Salt has more than 64 bytes */
     OSCORE_ID_TOO_LONG = 5,        /* an identifier has more than 7 bytes */
@@ -90,9 +91,11 @@ typedef enum oscore_status {
     OSCORE_PENDING_FULL = 36,      /* eight requests are pending */
     OSCORE_SEQUENCE_EXHAUSTED = 37, /* no own number below 2^40 is left */
     OSCORE_TOO_LONG = 38,          /* the sealed message would have more than 65,535 bytes */
-    OSCORE_NO_ROOM = 39,           /* the buffer is shorter than the sealed message */
+    OSCORE_NO_ROOM = 39,           /* the buffer is shorter than the message */
     OSCORE_NOT_PENDING = 40,       /* no request with this token is pending */
-    OSCORE_SAME_SENDER = 41        /* a context of the server has this Sender Key */
+    OSCORE_SAME_SENDER = 41,       /* a context of the server has this Sender Key */
+    OSCORE_OPTION_ORDER = 43,      /* an option's number is below that of the one before it; `detail` is its index */
+    OSCORE_VALUE_TOO_LONG = 44     /* an option's value has more than 65,804 bytes; `detail` is its index */
 } oscore_status;
 
 /* What calls return has the bytes of a uint32_t. */
@@ -117,7 +120,7 @@ typedef struct oscore_context {
     uint8_t constant_time; /* by any value but 0 its keys are used in constant time */
 } oscore_context;
 
-/* An option of a message that was opened. Its value lies in the datagram. */
+/* An option of a message: of one that was opened its value lies in the datagram; of one that is to be written, anywhere but in `out`. */
 typedef struct oscore_option {
     uint16_t number;
     const uint8_t *value;
@@ -236,6 +239,19 @@ OSCORE_MUST_USE oscore_status oscore_derive(oscore_context *out, const uint8_t *
                                             size_t salt_len, bool has_id_context, const uint8_t *id_context, size_t id_context_len,
                                             const uint8_t *sender, size_t sender_len, const uint8_t *recipient,
                                             size_t recipient_len, bool constant_time);
+
+/* Writes a plain message, as it is to be sealed: its kind (0 CON, 1 NON, 2 ACK, 3 RST), its code (1 GET .. ; 69 is 2.05), message ID and
+   token, its options in ascending order of their numbers, and its payload, which is behind a marker where it isn't empty. The first
+   `out_len` bytes of `out` are the one datagram of such a message (RFC 7252, 3); how its options are spelled is no business of the
+   caller's. Options of one number stay as they are handed in.
+   Refused is, in this order: a kind above 3 (OSCORE_BAD_NUMBER); a token of more than 8 bytes (OSCORE_TOKEN_LENGTH); a message of code
+   0 with a token, an option or a payload (OSCORE_EMPTY_WITH_REST); the first option whose number is below that of the one before it
+   (OSCORE_OPTION_ORDER); the first whose value is longer than an option can say (OSCORE_VALUE_TOO_LONG); and a message that is longer
+   than `out`, or than 65,535 bytes (OSCORE_NO_ROOM). No refusal writes to `out`. */
+OSCORE_MUST_USE oscore_status oscore_write_message(uint8_t kind, uint8_t code, uint16_t message_id, const uint8_t *token,
+                                                   size_t token_len, const oscore_option *options, size_t option_count,
+                                                   const uint8_t *payload, size_t payload_len, uint8_t *out, size_t out_room,
+                                                   size_t *out_len, size_t *detail);
 
 /* Reads which context a request names. */
 OSCORE_MUST_USE oscore_status oscore_head(const uint8_t *datagram, size_t datagram_len, oscore_request_head *head, size_t *detail);

@@ -24,7 +24,7 @@
 #define ACK_TIMEOUT_MS 2000
 #endif
 enum { MAX_RETRANSMIT = 4, EXCHANGE_LIFETIME_MS = 247000 };
-enum { CON = 0, ACK = 2, RST = 3, UNAUTHORIZED = 129, ECHO = 252 };
+enum { CON = 0, ACK = 2, RST = 3, PUT = 3, UNAUTHORIZED = 129, URI_PATH = 11, ECHO = 252 };
 
 /* As lock.c has them. */
 static const uint8_t SECRET[] = "a secret for a try";
@@ -49,26 +49,17 @@ static void draw(void *random, size_t len) {
     if (getrandom(random, len, 0) != (ssize_t)len) stop("no random bytes");
 }
 
-static size_t append(uint8_t *to, size_t len, const void *bytes, size_t bytes_len) {
-    memcpy(to + len, bytes, bytes_len);
-    return len + bytes_len;
-}
-
-/* The plain datagram: CON, PUT, Uri-Path (11) "lock", the Echo value where there is one, and the payload (RFC 7252, 3). */
-static size_t plain_put(const char *wish, const uint8_t *echo, size_t echo_len, uint8_t *plain) {
-    uint8_t random[6];
-    draw(random, sizeof random);
-    size_t len = append(plain, 0, "\x44\x03", 2);
-    len = append(plain, len, random, 6); /* message ID and token */
-    len = append(plain, len, "\xb4lock", 5);
-    if (echo_len > 0) {
-        /* Echo is 252: a delta of 241, which is 13 and 228. A length of up to 12 stands in the same byte. */
-        uint8_t head[] = {(uint8_t)(0xd0 | echo_len), 228};
-        len = append(plain, len, head, 2);
-        len = append(plain, len, echo, echo_len);
-    }
-    len = append(plain, len, "\xff", 1);
-    return append(plain, len, wish, strlen(wish));
+/* The plain datagram: PUT /lock, with the Echo value where there is one, and the wish as its payload. */
+static size_t plain_put(const char *wish, const uint8_t *echo, size_t echo_len, uint8_t *plain, size_t room) {
+    uint16_t message_id;
+    uint8_t token[4];
+    size_t len, detail;
+    draw(&message_id, sizeof message_id), draw(token, sizeof token);
+    const oscore_option options[] = {{URI_PATH, (const uint8_t *)"lock", 4}, {ECHO, echo, echo_len}};
+    if (oscore_write_message(CON, PUT, message_id, token, sizeof token, options, echo_len > 0 ? 2 : 1, (const uint8_t *)wish,
+                             strlen(wish), plain, room, &len, &detail))
+        stop("not written");
+    return len;
 }
 
 static void transmit(int udp, const uint8_t *datagram, size_t len) {
@@ -141,8 +132,10 @@ static oscore_opened exchange(int udp, const uint8_t *datagram, size_t len, osco
 
 /* A response that came by itself and is confirmable gets an empty ACK (RFC 7252, 5.2.2). */
 static void acknowledge(int udp, const oscore_opened *response) {
-    const uint8_t ack[] = {0x60, 0, (uint8_t)(response->message_id >> 8), (uint8_t)response->message_id};
-    if (response->kind == CON) transmit(udp, ack, sizeof ack);
+    uint8_t ack[4];
+    size_t len, detail;
+    if (oscore_write_message(ACK, 0, response->message_id, NULL, 0, NULL, 0, NULL, 0, ack, sizeof ack, &len, &detail)) stop("not written");
+    if (response->kind == CON) transmit(udp, ack, len);
 }
 
 /* The length of the Echo value that a response asks for, or 0. */
@@ -162,7 +155,7 @@ static bool ask(int udp, const char *wish, const char *file) {
     size_t len, detail, echo_len = 0;
     for (int attempt = 0; attempt < 2; attempt++) {
         uint64_t number = client.next;
-        size_t plain_len = plain_put(wish, echo, echo_len, plain);
+        size_t plain_len = plain_put(wish, echo, echo_len, plain, sizeof plain);
         if (oscore_client_request(&client, milliseconds(), plain, plain_len, datagram, sizeof datagram, &len, &detail)) stop("not sealed");
         printf("next number %llu\n", (unsigned long long)client.next);
         if (file) keep(file, number, datagram, len);

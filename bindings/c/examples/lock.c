@@ -20,7 +20,7 @@
 #include <time.h>
 
 enum { PUT = 3, CHANGED = 68, BAD_REQUEST = 128, BAD_OPTION = 130, NOT_FOUND = 132, NOT_ALLOWED = 133, URI_PATH = 11 };
-enum { CON = 0, NON = 1, EXCHANGE_LIFETIME_MS = 247000, REPLIES = 32, MOST_DATAGRAM = 1500, MOST_REPLY = 128 };
+enum { CON = 0, NON = 1, ACK = 2, EXCHANGE_LIFETIME_MS = 247000, REPLIES = 32, MOST_DATAGRAM = 1500, MOST_REPLY = 128 };
 
 /* For a try only: a real secret is drawn at random for each pair, and kept safe. */
 static const uint8_t SECRET[] = "a secret for a try";
@@ -85,11 +85,11 @@ static uint8_t obey(const oscore_opened *request, const oscore_option *options) 
     return CHANGED;
 }
 
-/* The plain reply: a head, of which the library takes the code alone, and the state as its payload. */
+/* The plain reply, of whose head the library takes the code alone, with the state as its payload. */
 static size_t plain_reply(uint8_t code, uint8_t plain[16]) {
-    memcpy(plain, (uint8_t[]){0x60, code, 0, 0, 0xff}, 5);
-    memcpy(plain + 5, state, 4);
-    return 9;
+    size_t len, detail;
+    if (oscore_write_message(ACK, code, 0, NULL, 0, NULL, 0, (const uint8_t *)state, 4, plain, 16, &len, &detail)) stop("not written");
+    return len;
 }
 
 static void print(uint32_t status, const char *what) {

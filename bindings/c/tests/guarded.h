@@ -28,8 +28,8 @@
 #define VALGRIND_MAKE_MEM_DEFINED(at, len) ((void)0)
 #endif
 
-/* More bytes than a datagram can have. */
-enum { GUARDED_PLACES = 32, GUARDED_MOST = 65600 };
+/* More bytes than a datagram, or the value of an option, can have. */
+enum { GUARDED_PLACES = 32, GUARDED_MOST = 65900 };
 
 static bool guarded_before;
 static uint8_t *guarded_pages[GUARDED_PLACES];

@@ -63,6 +63,15 @@ WRAP(derive, oscore_status, (oscore_context *out, const uint8_t *secret, size_t 
                                 recipient, recipient_len, constant_time);
 }
 
+WRAP(write_message, oscore_status, (uint8_t kind, uint8_t code, uint16_t message_id, const uint8_t *token, size_t token_len,
+                                    const oscore_option *options, size_t option_count, const uint8_t *payload, size_t payload_len,
+                                    uint8_t *out, size_t out_room, size_t *out_len, size_t *detail)) {
+    BYTES(token), SOME(options, option_count * sizeof *options), BYTES(payload), SOME(out, out_room), STRUCT(out_len), STRUCT(detail);
+    for (size_t i = 0; i < option_count; i++) SOME(options[i].value, options[i].value_len);
+    return __real_oscore_write_message(kind, code, message_id, token, token_len, options, option_count, payload, payload_len, out, out_room,
+                                       out_len, detail);
+}
+
 WRAP(head, oscore_status, (const uint8_t *datagram, size_t datagram_len, oscore_request_head *head, size_t *detail)) {
     BYTES(datagram), STRUCT(head), STRUCT(detail);
     return __real_oscore_head(datagram, datagram_len, head, detail);

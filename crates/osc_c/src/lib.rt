@@ -12,3 +12,4 @@ mod sealing;
 mod server;
 mod sizes;
 mod status;
+mod writing;

@@ -11,7 +11,7 @@ use osc_protect::{HeadError, ProtectError, UnprotectError};
 pub(crate) const DONE: u32 = 0;
 
 /// The names of the statuses by their numbers, from that of 0 on.
-const NAMES: [&[u8]; 42] = [
+const NAMES: [&[u8]; 45] = [
     b"Done",
     b"BadHandle",
     b"BadNumber",
@@ -54,6 +54,9 @@ const NAMES: [&[u8]; 42] = [
     b"NoRoom",
     b"NotPending",
     b"SameSender",
+    b"Unknown",
+    b"OptionOrder",
+    b"ValueTooLong",
 ];
 
 /// Why a call does nothing: the first refusal whose condition holds, in this order, but that SameSender, which stands last, is judged
@@ -103,6 +106,8 @@ pub(crate) enum Status {
     NoRoom = 39,
     NotPending = 40,
     SameSender = 41,
+    OptionOrder = 43,
+    ValueTooLong = 44,
 }
 
 impl Status {
