@@ -5,3 +5,5 @@ mod Serving
 mod Read
 mod OptionLists
 mod Unwritten
+mod Growth
+mod Room

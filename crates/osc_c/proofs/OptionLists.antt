@@ -1,6 +1,6 @@
 -- Options in the order in which they are written. xs are options as C hands them in, entries are options, d is the number before the first,
 -- i the index of one.
-use Rattle.std.proofs.Common.{◌≡◌, ◌≢◌, ℕ, ◌+◌, ◌-◌, ◌<◌, ◌≤◌, List, [], ◌∷◌, ◌++◌, All, length, map, take, drop, get_or, refl, sym, ap, subst, ◌∙◌, arith, append_assoc, Result, Ok, Err, IsOk, suc, get_or-take, length-take}
+use Rattle.std.proofs.Common.{◌≡◌, ◌≢◌, ℕ, ◌+◌, ◌-◌, ◌<◌, ◌≤◌, List, [], ◌∷◌, ◌++◌, length, map, take, drop, get_or, refl, sym, ap, subst, ◌∙◌, arith, append_assoc, Result, Err, IsOk, suc, get_or-take, length-take}
 use Rattle.std.proofs.lemmas.List.{take-map, take-append-drop, drop_more, length-map}
 use Rattle.std.proofs.lemmas.List.Elements.{All-more}
 use Rattle.std.proofs.Math.ListN.{get_or-map}

@@ -1,9 +1,9 @@
 -- What isn't written has one refusal, and what can be written has none. kind is the number of a kind, p the message, entries are its options.
-use Rattle.std.proofs.Common.{◌≡◌, ℕ, ◌+◌, ◌<◌, ◌≤◌, zero, suc, List, [], ◌∷◌, All, length, take, get_or, refl, ap, sym, subst, ◌∙◌, arith}
+use Rattle.std.proofs.Common.{◌≡◌, ℕ, ◌+◌, ◌<◌, ◌≤◌, zero, suc, List, [], ◌∷◌, length, take, get_or, refl, ap, sym, subst, ◌∙◌, arith}
 use Rattle.std.proofs.lemmas.List.Elements.{All-take}
-use Rattle.osc_coap.specs.Datagram.{Parts, IsDatagram, datagram_length}
+use Rattle.osc_coap.specs.Datagram.{Parts, IsDatagram}
 use Rattle.osc_coap.specs.Laws.{DatagramHasItsLength, OptionsAscend}
-use Rattle.osc_coap.specs.OptionSpelling.{Ascends, Entry, marked, option_length, spelling_length}
+use Rattle.osc_coap.specs.OptionSpelling.{Ascends, Entry, marked, spelling_length}
 use Rattle.osc_c.specs.Writing.{HaveLengths, IsFirstBad, RefusesWriting, Says, SaysWhich, Unless}
 use Rattle.osc_c.specs.Writing.Unless.{here, further}
 use Rattle.osc_c.specs.declared.status.Status.{Status}

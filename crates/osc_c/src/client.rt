@@ -1,6 +1,6 @@
 //! A client, for C: its bytes are the caller's, and each call does what the client does.
 
-ghost use Rattle.std.specs.Prelude.{◌≡◌, ◌≢◌, ◌≤◌, ◌<◌, ◌^◌, ℕ, IfOk, IfErr, IsOk, OnErr, true, false, take, drop, map, length};
+ghost use Rattle.std.specs.Prelude.{◌≡◌, ◌≢◌, ◌≤◌, ◌<◌, ◌+◌, ◌^◌, ℕ, IfOk, IfErr, IsOk, OnErr, true, false, take, drop, map, length};
 ghost use Rattle.osc_coap.specs.Datagram.{Parts, IsDatagram};
 ghost use Rattle.osc_coap.specs.Fault.{HasFault};
 ghost use Rattle.osc_coap.specs.declared.format_error.Fault.{Fault as FaultOf};
@@ -18,9 +18,10 @@ ghost use Rattle.osc_c.specs.ClientCalls.{IsAskingStatus, IsOutcomeStatus, Reads
 ghost use Rattle.osc_c.specs.Opened.{option_in, Shows};
 ghost use Rattle.osc_c.specs.Statuses.{code, format_status};
 ghost use Rattle.osc_c.specs.declared.status.Status.{Status as StatusOf};
-ghost use Rattle.osc_c.specs.declared.status.Status.TheVariants.{BadHandle};
+ghost use Rattle.osc_c.specs.declared.status.Status.TheVariants.{BadHandle, NoRoom};
 
 use crate::opened_view::{OpenedView, OptionView, show};
+use crate::rooms::room_laws;
 use crate::status::{DONE, Refusal, Status};
 use osc_coap::{one_datagram, parse};
 use osc_context::Piv;
@@ -167,6 +168,7 @@ pub extern "C" fn oscore_client_request(
         × Asks client.new (Then h (Request now p (length out.old)) (Sent (take out_len.new out.new)))) }
     ensures within { result ≡ 0 → out_len.new ≤ length out.new }
     ensures behind { result ≡ 0 → drop out_len.new out.new ≡ drop out_len.new out.old }
+    ensures room { (h : History) → Asks client.old h → length plain.now + 59 ≤ length out.old → result ≢ code NoRoom }
     ensures whole { IsClient client.old → IsClient client.new }
     ensures refused { result ≢ 0 → (status : StatusOf) × (result ≡ code status) × RefusesAsking client.old client.new now plain.now (length out.old) status detail.new }
     ensures refuses { (IsClient client.old → ⊥) → result ≡ code BadHandle }
@@ -177,6 +179,7 @@ pub extern "C" fn oscore_client_request(
     ensures unchanged { result ≢ 0 → (out.new ≡ out.old) × (out_len.new ≡ out_len.old) }
 {
     one_client_answer();
+    room_laws();
     one_datagram();
     match request_in(client, now, plain, out) {
         Ok(len) => {

@@ -8,6 +8,7 @@ mod derivation;
 mod head_view;
 mod opened_view;
 mod opening;
+mod rooms;
 mod sealing;
 mod server;
 mod sizes;

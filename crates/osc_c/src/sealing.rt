@@ -1,6 +1,6 @@
 //! Sealing one request, or one response, for C.
 
-ghost use Rattle.std.specs.Prelude.{◌≡◌, ◌≢◌, ◌≤◌, ◌<◌, ◌^◌, ℕ, IsSome, IfSome, IsOk, IfOk, IfErr, IsErrAnd, OnErr, take, drop, length};
+ghost use Rattle.std.specs.Prelude.{◌≡◌, ◌≢◌, ◌≤◌, ◌<◌, ◌+◌, ◌^◌, ℕ, IsSome, IfSome, IsOk, IfOk, IfErr, IsErrAnd, OnErr, take, drop, length};
 ghost use Rattle.std.specs.Option.{option_map};
 ghost use Rattle.osc_context.specs.Views.{number_of};
 ghost use Rattle.osc_coap.specs.Datagram.{Parts, IsDatagram};
@@ -12,7 +12,9 @@ ghost use Rattle.osc_c.specs.Opened.{number_given};
 ghost use Rattle.osc_handle.specs.ContextBytes.{client_in, server_in, IsContext};
 ghost use Rattle.osc_c.specs.Statuses.{code};
 ghost use Rattle.osc_c.specs.declared.status.Status.{Status as StatusOf};
+ghost use Rattle.osc_c.specs.declared.status.Status.TheVariants.{NoRoom};
 
+use crate::rooms::room_laws;
 use crate::status::{DONE, Refusal, Status};
 use osc_coap::{one_datagram, parse};
 use osc_context::Piv;
@@ -69,6 +71,7 @@ pub extern "C" fn oscore_seal_request(
     ensures sealed { result ≡ 0 → (p : Parts) × IsDatagram p plain.now × SealsRequest (client_in context.now) number p (take out_len.new out.new) }
     ensures within { result ≡ 0 → out_len.new ≤ length out.new }
     ensures behind { result ≡ 0 → drop out_len.new out.new ≡ drop out_len.new out.old }
+    ensures room { length plain.now + 59 ≤ length out.old → result ≢ code NoRoom }
     ensures accepts { (p : Parts) → IsContext context.now → number < 2 ^ 40 → IsDatagram p plain.now
         → FitsToSeal (requests (client_in context.now)) number p (length out.old) → result ≡ 0 }
     ensures refused { result ≢ 0 → (status : StatusOf) × (result ≡ code status)
@@ -78,6 +81,7 @@ pub extern "C" fn oscore_seal_request(
         → (result ≡ code status) × (detail.new ≡ why) }
     ensures unchanged { result ≢ 0 → (out.new ≡ out.old) × (out_len.new ≡ out_len.old) }
 {
+    room_laws();
     match seal_request_in(context, number, plain, out) {
         Ok(len) => {
             *out_len = len;
@@ -163,6 +167,7 @@ pub extern "C" fn oscore_seal_response(
         × SealsResponse (server_in context.now) request (number_given has_own own) p (take out_len.new out.new) }
     ensures within { result ≡ 0 → out_len.new ≤ length out.new }
     ensures behind { result ≡ 0 → drop out_len.new out.new ≡ drop out_len.new out.old }
+    ensures room { length plain.now + 59 ≤ length out.old → result ≢ code NoRoom }
     ensures accepts { (p : Parts) → IsContext context.now → AreNumbers request has_own own → IsDatagram p plain.now
         → FitsToSeal (responses (server_in context.now) request) (number_given has_own own) p (length out.old) → result ≡ 0 }
     ensures refused { result ≢ 0 → (status : StatusOf) × (result ≡ code status)
@@ -173,6 +178,7 @@ pub extern "C" fn oscore_seal_response(
         → (result ≡ code status) × (detail.new ≡ why) }
     ensures unchanged { result ≢ 0 → (out.new ≡ out.old) × (out_len.new ≡ out_len.old) }
 {
+    room_laws();
     match seal_response_in(context, request, has_own, own, plain, out) {
         Ok(len) => {
             *out_len = len;

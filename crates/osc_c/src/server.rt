@@ -1,7 +1,7 @@
 //! A server, for C: its bytes are the caller's, and each call does what the server does. A request is answered once, however often its
 //! ticket is copied.
 
-ghost use Rattle.std.specs.Prelude.{◌≡◌, ◌≢◌, ◌≤◌, ◌<◌, ◌^◌, ℕ, IfOk, IfErr, IsOk, IsErrAnd, OnErr, true, false, take, drop, map, length, Err};
+ghost use Rattle.std.specs.Prelude.{◌≡◌, ◌≢◌, ◌≤◌, ◌<◌, ◌+◌, ◌^◌, ℕ, IfOk, IfErr, IsOk, IsErrAnd, OnErr, true, false, take, drop, map, length, Err};
 ghost use Rattle.osc_coap.specs.Datagram.{Parts, IsDatagram};
 ghost use Rattle.osc_coap.specs.Fault.{HasFault};
 ghost use Rattle.osc_coap.specs.declared.format_error.Fault.{Fault as FaultOf};
@@ -23,9 +23,10 @@ ghost use Rattle.osc_c.specs.Opened.{option_in, Shows};
 ghost use Rattle.osc_c.specs.ServerCalls.{AnswersIn, AreAddable, AreGiven, IsOutcomeStatus, IsReplyStatus, ReadsAdding, ReadsReplying, ReadsRestarting, ReadsServing, RefusesAdding, RefusesReplying, RefusesRestarting, RefusesServing, add_status, restart_status, start_given};
 ghost use Rattle.osc_c.specs.Statuses.{code, format_status};
 ghost use Rattle.osc_c.specs.declared.status.Status.{Status as StatusOf};
-ghost use Rattle.osc_c.specs.declared.status.Status.TheVariants.{BadHandle, BadNumber, TicketSpent};
+ghost use Rattle.osc_c.specs.declared.status.Status.TheVariants.{BadHandle, BadNumber, NoRoom, TicketSpent};
 
 use crate::opened_view::{OpenedView, OptionView, show};
+use crate::rooms::room_laws;
 use crate::status::{DONE, Refusal, Status};
 use osc_coap::{one_datagram, parse};
 use osc_context::Piv;
@@ -372,9 +373,11 @@ pub extern "C" fn oscore_server_reply(
     ensures bytes { IsTable server.old.contexts → IsTable server.new.contexts }
     ensures within { result ≡ 0 → out_len.new ≤ length out.new }
     ensures behind { result ≡ 0 → drop out_len.new out.new ≡ drop out_len.new out.old }
+    ensures room { (h : History) → Serves server.old h → length plain.now + 59 ≤ length out.old → result ≢ code NoRoom }
     ensures unchanged { result ≢ 0 → (server.new ≡ server.old) × (out.new ≡ out.old) × (out_len.new ≡ out_len.old) }
 {
     one_server_answer();
+    room_laws();
     one_datagram();
     match reply_in(server, ticket, own, mid, plain, out) {
         Ok(len) => {

@@ -1,10 +1,10 @@
 //! Writing a plain message, for C, so that nobody spells the deltas of options by hand.
 
 ghost use Rattle.std.specs.Prelude.{◌≡◌, ◌≢◌, ◌≤◌, ◌<◌, ◌+◌, ℕ, List, IfNone, IfSome, IsSome, IsOk, IfOk, IfErr, true, false, take, drop, length, map, []};
-ghost use Rattle.osc_coap.specs.Datagram.{IsDatagram, Parts, datagram_length};
+ghost use Rattle.osc_coap.specs.Datagram.{IsDatagram, datagram_length};
 ghost use Rattle.osc_coap.specs.OptionSpelling.{Ascends, spelling_length, marked};
 ghost use Rattle.osc_coap.specs.Writer.{Holds, buffer_of};
-ghost use Rattle.osc_coap.specs.Writing.{Draft, HasRoom, LacksRoom, with_options};
+ghost use Rattle.osc_coap.specs.Writing.{Draft, HasRoom, with_options};
 ghost use Rattle.osc_c.specs.Opened.{option_in};
 ghost use Rattle.osc_c.specs.Statuses.{code as status_code};
 ghost use Rattle.osc_c.specs.Writing.{HaveLengths, IsAloneWhereEmpty, IsFirstBad, RefusesWriting, kind_at, message_asked, message_of};

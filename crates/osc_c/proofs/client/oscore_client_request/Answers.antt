@@ -1,9 +1,10 @@
-use Rattle.std.proofs.Common.{length, refl, subst, take}
+use Rattle.std.proofs.Common.{length, refl, subst, take, ◌∙◌, sym}
 use Rattle.osc_coap.specs.Datagram.{Parts}
 use Rattle.osc_endpoint.specs.ClientAnswer.{ClientAnswer}
 use Rattle.osc_endpoint.specs.ClientHistory.{Request, Sent}
 use Rattle.osc_c.specs.ClientCalls.{ReadsAsking}
 use Rattle.osc_c.proofs.Read.{asking_read, carried_too, request_faulty}
+use Rattle.osc_c.proofs.Room.{asking_has_room}
 use Rattle.osc_c.proofs.client.oscore_client_request.Goals as goal
 
 pub returns-in-Ok-clause-answers : goal.returns-in-Ok-clause-answers
@@ -25,3 +26,7 @@ returns-in-Err-clause-answers c = asking_read c.one_client_answer.ensures c.one_
 pub returns-in-Err-clause-malformed : goal.returns-in-Err-clause-malformed
 returns-in-Err-clause-malformed c = request_faulty c.one_datagram.ensures.one_fault c.one_datagram.ensures.never_both c.args.client.now c.request_in.new.client c.args.now c.args.plain.now (length c.args.out.now)
     c.in-Err.refusal.status c.code.result c.in-Err.refusal.detail c.in-Err.ensures.refused c.code.ensures
+
+pub returns-in-Err-clause-room : goal.returns-in-Err-clause-room
+returns-in-Err-clause-room c = λ h held enough is.
+    asking_has_room c.room_laws.ensures.length c.room_laws.ensures.order c.room_laws.ensures.most c.args.client.now c.request_in.new.client c.args.now c.args.plain.now (length c.args.out.now) _ _ c.in-Err.ensures.refused h held enough (sym c.code.ensures ∙ is)

@@ -1,4 +1,4 @@
-use Rattle.std.proofs.Common.{◌∙◌, ap, length, refl, subst, take}
+use Rattle.std.proofs.Common.{◌∙◌, ap, length, refl, subst, take, sym}
 use Rattle.osc_coap.specs.Datagram.{Parts}
 use Rattle.osc_endpoint.specs.ServerAnswer.{ServerAnswer}
 use Rattle.osc_endpoint.specs.ServerHistory.{Replied, Reply}
@@ -6,6 +6,7 @@ use Rattle.osc_handle.specs.TicketBytes.{ticket_in}
 use Rattle.osc_c.specs.ServerCalls.{ReadsReplying}
 use Rattle.osc_c.specs.Statuses.{code}
 use Rattle.osc_c.proofs.Read.{carried, reply_faulty, replying_read}
+use Rattle.osc_c.proofs.Room.{reply_has_room}
 use Rattle.osc_c.proofs.server.oscore_server_reply.Goals as goal
 
 pub returns-in-Ok-clause-once : goal.returns-in-Ok-clause-once
@@ -34,3 +35,7 @@ returns-in-Err-clause-answers c = replying_read c.one_server_answer.ensures c.on
 pub returns-in-Err-clause-malformed : goal.returns-in-Err-clause-malformed
 returns-in-Err-clause-malformed c = reply_faulty c.one_datagram.ensures.one_fault c.one_datagram.ensures.never_both c.args.server.now c.reply_in.new.server c.args.ticket.now c.args.own c.args.mid c.args.plain.now (length c.args.out.now)
     c.in-Err.refusal.status c.code.result c.in-Err.refusal.detail c.in-Err.ensures.refused c.code.ensures
+
+pub returns-in-Err-clause-room : goal.returns-in-Err-clause-room
+returns-in-Err-clause-room c = λ h held enough is.
+    reply_has_room c.room_laws.ensures.length c.room_laws.ensures.order c.room_laws.ensures.most c.args.server.now c.reply_in.new.server c.args.ticket.now c.args.own c.args.mid c.args.plain.now (length c.args.out.now) _ _ c.in-Err.ensures.refused h held enough (sym c.code.ensures ∙ is)

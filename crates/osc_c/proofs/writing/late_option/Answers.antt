@@ -1,5 +1,5 @@
 use Rattle.osc_c.proofs.OptionLists.{first_late, in_order, last_more}
-use Rattle.std.proofs.Common.{◌≤◌, rules}
+use Rattle.std.proofs.Common.{rules}
 use Rattle.osc_c.proofs.writing.late_option.Goals as goal
 
 pub returns-then-options-index-clause-some : goal.returns-then-options-index-clause-some

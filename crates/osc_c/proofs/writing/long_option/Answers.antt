@@ -1,6 +1,5 @@
-use Rattle.std.proofs.Common.{rules, arith, subst, map, List}
+use Rattle.std.proofs.Common.{rules, arith, subst, map}
 use Rattle.std.proofs.lemmas.List.{length-map, take_all}
-use Rattle.osc_coap.specs.OptionSpelling.{Entry}
 use Rattle.osc_c.specs.Opened.{option_in}
 use Rattle.osc_c.specs.Writing.{HaveLengths}
 use Rattle.osc_c.proofs.OptionLists.{all_short, first_long}

@@ -1,9 +1,6 @@
-use Rattle.std.proofs.Common.{◌≡◌, ◌∙◌, List, length, map, sym, subst, arith}
-use Rattle.std.proofs.lemmas.List.{length-map, take_all}
-use Rattle.osc_coap.specs.OptionSpelling.{Entry}
+use Rattle.std.proofs.Common.{◌∙◌, length, subst}
 use Rattle.osc_coap.specs.Writer.{Holds}
-use Rattle.osc_coap.specs.Writing.{Draft, with_options}
-use Rattle.osc_c.specs.Opened.{option_in}
+use Rattle.osc_coap.specs.Writing.{Draft}
 use Rattle.osc_c.proofs.OptionLists.{not_refused, takes_next, with_next}
 use Rattle.osc_c.proofs.writing.write_options.Goals as goal
 

@@ -1,0 +1,150 @@
+-- So much room is enough: a sealing isn't refused for want of it. s are the bytes of a server before a call, c those of a client or of a context, t those
+-- of a ticket, new are the bytes afterwards, plain is the datagram of a plain message, room the length of the buffer.
+use Rattle.std.proofs.Common.{◌≡◌, ℕ, ◌+◌, ◌≤◌, Bool, List, Option, zero, suc, length, ap, sym, subst, arith, length-take}
+use Rattle.osc_coap.specs.Datagram.{Parts, IsDatagram}
+use Rattle.osc_coap.specs.Laws.{DatagramHasItsLength, OptionsAscend}
+use Rattle.osc_coap.specs.declared.message.Kind.{Kind}
+use Rattle.osc_coap.specs.declared.format_error.Fault.{Fault}
+use Rattle.osc_coap.specs.declared.format_error.Fault.TheVariants as faults
+use Rattle.osc_context.specs.Laws.{ValueMostLen}
+use Rattle.osc_context.specs.OscoreValue.{IsOscoreValue, kid_context_bytes}
+use Rattle.osc_context.specs.SecurityContext.{SecurityContext}
+use Rattle.osc_protect.specs.Protection.{Protection, requests, responses}
+use Rattle.osc_protect.specs.SealRefusals.{RefusesToSeal}
+use Rattle.osc_protect.specs.Usage.{value_of_request, value_of_response}
+use Rattle.osc_protect.specs.declared.protect_error.ProtectError.TheVariants as seals
+use Rattle.osc_endpoint.specs.ClientHistory as client
+use Rattle.osc_endpoint.specs.Replies.{reply_id, reply_kind}
+use Rattle.osc_endpoint.specs.ServerHistory as server
+use Rattle.osc_endpoint.specs.declared.client_outcome.RequestError.TheVariants as asks
+use Rattle.osc_endpoint.specs.declared.server_error.ReplyError.TheVariants as replies
+use Rattle.osc_handle.specs.ClientBytes.{Asks}
+use Rattle.osc_handle.specs.ContextBytes.{IsContext, client_in, id_context_in}
+use Rattle.osc_handle.specs.ServerBytes.{Serves}
+use Rattle.osc_handle.specs.TicketBytes.{ticket_in}
+use Rattle.osc_handle.specs.declared.client_handle.ClientHandle.{ClientHandle}
+use Rattle.osc_handle.specs.declared.context_handle.ContextHandle.{ContextHandle}
+use Rattle.osc_handle.specs.declared.server_handle.ServerHandle.{ServerHandle}
+use Rattle.osc_handle.specs.declared.ticket_handle.TicketHandle.{TicketHandle}
+use Rattle.osc_c.specs.Calls.{RefusesSealing}
+use Rattle.osc_c.specs.Calls.RefusesSealing.{bad_handle, bad_number, malformed, refused}
+use Rattle.osc_c.specs.ClientCalls.{RefusesAsking}
+use Rattle.osc_c.specs.ClientCalls.RefusesAsking.{bad_handle as ask_handle, malformed as ask_malformed, refused as ask_refused}
+use Rattle.osc_c.specs.ServerCalls.{RefusesReplying}
+use Rattle.osc_c.specs.ServerCalls.RefusesReplying.{bad_handle as reply_handle, malformed as reply_malformed, spent as reply_spent, refused as reply_refused}
+use Rattle.osc_c.specs.Statuses.{code, format_status}
+use Rattle.osc_c.specs.declared.status.Status.{Status}
+use Rattle.osc_c.proofs.Growth.{sealed_growth}
+
+-- ---- how long values are
+
+-- the value of a request's OSCORE option has 46 bytes at most
+pub request_value : ValueMostLen → (c : ContextHandle) (n : ℕ) → IsContext c → (value : List ℕ) → IsOscoreValue ((requests (client_in c)).parts n) value → length value ≤ 46
+request_value most c n whole value reads =
+    let all = most (value_of_request n (client_in c).id_context (client_in c).client) value reads in
+    let kid = length-take c.sender_len c.sender in
+    let kid_fits = whole.sender_fits in
+    let kid_context = context_fits c.id_context c.id_context_len whole.id_context_fits in
+    omega (arith, all, kid, kid_fits, kid_context)
+  where
+    context_fits : (bytes : List ℕ) (k : ℕ) → k ≤ 32 → length (kid_context_bytes (id_context_in bytes k)) ≤ 33
+    context_fits bytes zero le = omega arith
+    context_fits bytes (suc k) le = omega (arith, length-take (suc k) bytes)
+
+-- that of a response 6
+pub response_value : ValueMostLen → (s : SecurityContext) (asked : ℕ) (own : Option ℕ) (value : List ℕ) → IsOscoreValue ((responses s asked).parts own) value → length value ≤ 6
+response_value most s asked own value reads = let all = most (value_of_response own) value reads in omega (arith, all)
+
+-- ---- enough room
+
+-- a request is not refused for want of so much room
+request_room : DatagramHasItsLength → OptionsAscend → ValueMostLen → (c : ContextHandle) (n : ℕ) (p : Parts) (plain : List ℕ) (room : ℕ) → IsContext c → IsDatagram p plain → length plain + 59 ≤ room
+    → RefusesToSeal (requests (client_in c)) n p room seals.NoRoom → ⊥
+request_room long ascend most c n p plain room whole of enough refuses =
+    let value = refuses.1.0 in
+    let short = request_value most c n whole value refuses.1.1 in
+    let size = sealed_growth long ascend p plain value of refuses.0.1 short p.kind p.message_id p.token in
+    let less = refuses.1.2.1 in
+    omega (arith, size, short, less, enough)
+
+-- nor is a response, also under another head
+response_room : DatagramHasItsLength → OptionsAscend → ValueMostLen → (s : SecurityContext) (asked : ℕ) (own : Option ℕ) (p : Parts) (kind : Kind) (message_id : ℕ) (token plain : List ℕ) (room : ℕ) → IsDatagram p plain → length token ≤ 8
+    → length plain + 59 ≤ room → RefusesToSeal (responses s asked) own (record p { kind = kind; message_id = message_id; token = token }) room seals.NoRoom → ⊥
+response_room long ascend most s asked own p kind message_id token plain room of few enough refuses =
+    let value = refuses.1.0 in
+    let short = response_value most s asked own value refuses.1.1 in
+    let size = sealed_growth long ascend p plain value of refuses.0.1 (omega (arith, short)) kind message_id token in
+    let less = refuses.1.2.1 in
+    omega (arith, size, short, less, few, enough)
+
+-- ---- in C
+
+-- no fault of a datagram has the number of a want of room
+fault_code : (fault : Fault) → code (format_status fault) ≤ 17
+fault_code faults.DatagramTooLong = omega arith
+fault_code faults.Short = omega arith
+fault_code faults.Version = omega arith
+fault_code faults.TokenLength = omega arith
+fault_code faults.EmptyWithRest = omega arith
+fault_code faults.TokenCut = omega arith
+fault_code faults.Nibble15 = omega arith
+fault_code faults.OptionCut = omega arith
+fault_code faults.NumberTooLarge = omega arith
+fault_code faults.EmptyPayload = omega arith
+
+-- a single message isn't refused so where its protection isn't
+sealing_room : {I : Type 0} (A B : Type 0) (f : Protection I) (i : I) (plain : List ℕ) (room : ℕ) (status : Status) (detail : ℕ) → (A → (p : Parts) → IsDatagram p plain → RefusesToSeal f i p room seals.NoRoom → ⊥)
+    → RefusesSealing A B f i plain room status detail → code status ≡ 39 → ⊥
+sealing_room A B f i plain room status detail enough (bad_handle bad is at) says = let number = ap code is in omega (arith, number, says)
+sealing_room A B f i plain room status detail enough (bad_number a bad is at) says = let number = ap code is in omega (arith, number, says)
+sealing_room A B f i plain room status detail enough (malformed a b fault place has is at) says = let number = ap code is in let small = fault_code fault in omega (arith, number, small, says)
+sealing_room A B f i plain room status detail enough (refused a b p of seals.NotThatKind refuses is at) says = let number = ap code is in omega (arith, number, says)
+sealing_room A B f i plain room status detail enough (refused a b p of (seals.Unsupported k) refuses is at) says = let number = ap code is in omega (arith, number, says)
+sealing_room A B f i plain room status detail enough (refused a b p of seals.TooLong refuses is at) says = let number = ap code is in omega (arith, number, says)
+sealing_room A B f i plain room status detail enough (refused a b p of seals.NoRoom refuses is at) says = enough a p of refuses
+
+-- a request of a context has enough
+pub request_has_room : DatagramHasItsLength → OptionsAscend → ValueMostLen → (B : Type 0) (c : ContextHandle) (n : ℕ) (plain : List ℕ) (room : ℕ) (status : Status) (detail : ℕ)
+    → RefusesSealing (IsContext c) B (requests (client_in c)) n plain room status detail → length plain + 59 ≤ room → code status ≡ 39 → ⊥
+request_has_room long ascend most B c n plain room status detail refuses enough =
+    sealing_room (IsContext c) B (requests (client_in c)) n plain room status detail (λ whole p of. request_room long ascend most c n p plain room whole of enough) refuses
+
+-- a response too
+pub response_has_room : DatagramHasItsLength → OptionsAscend → ValueMostLen → (A B : Type 0) (s : SecurityContext) (asked : ℕ) (own : Option ℕ) (plain : List ℕ) (room : ℕ) (status : Status) (detail : ℕ)
+    → RefusesSealing A B (responses s asked) own plain room status detail → length plain + 59 ≤ room → code status ≡ 39 → ⊥
+response_has_room long ascend most A B s asked own plain room status detail refuses enough =
+    sealing_room A B (responses s asked) own plain room status detail (λ a p of. response_room long ascend most s asked own p p.kind p.message_id p.token plain room of of.token enough) refuses
+
+-- a reply of a server
+pub reply_has_room : DatagramHasItsLength → OptionsAscend → ValueMostLen → (s new : ServerHandle) (t : TicketHandle) (own : Bool) (mid : ℕ) (plain : List ℕ) (room : ℕ) (status : Status) (detail : ℕ)
+    → RefusesReplying s new t own mid plain room status detail → (h : server.History) → Serves s h → length plain + 59 ≤ room → code status ≡ 39 → ⊥
+reply_has_room long ascend most s new t own mid plain room status detail (reply_handle bad is at) h held enough says = let number = ap code is in omega (arith, number, says)
+reply_has_room long ascend most s new t own mid plain room status detail (reply_malformed a b fault place has is at) h held enough says = let number = ap code is in let small = fault_code fault in omega (arith, number, small, says)
+reply_has_room long ascend most s new t own mid plain room status detail (reply_spent a b p of spent is at) h held enough says = let number = ap code is in omega (arith, number, says)
+reply_has_room long ascend most s new t own mid plain room status detail (reply_refused a b p of replies.StaleTicket is holds) h held enough says = let number = ap code is.0 in omega (arith, number, says)
+reply_has_room long ascend most s new t own mid plain room status detail (reply_refused a b p of replies.NotThatKind is holds) h held enough says = let number = ap code is.0 in omega (arith, number, says)
+reply_has_room long ascend most s new t own mid plain room status detail (reply_refused a b p of (replies.Unsupported k) is holds) h held enough says = let number = ap code is.0 in omega (arith, number, says)
+reply_has_room long ascend most s new t own mid plain room status detail (reply_refused a b p of replies.SequenceExhausted is holds) h held enough says = let number = ap code is.0 in omega (arith, number, says)
+reply_has_room long ascend most s new t own mid plain room status detail (reply_refused a b p of replies.TooLong is holds) h held enough says = let number = ap code is.0 in omega (arith, number, says)
+reply_has_room long ascend most s new t own mid plain room status detail (reply_refused a b p of replies.KeeperFailed is holds) h held enough says = absurd is
+reply_has_room long ascend most s new t own mid plain room status detail (reply_refused a b p of replies.NoRoom is holds) h held enough says =
+    let row = (holds h held).0 in
+    let few = b.token in
+    response_room long ascend most row.0.context t.number _ p (reply_kind (ticket_in t).kind) (reply_id (ticket_in t).kind (ticket_in t).message_id mid) (ticket_in t).token plain room of (omega (arith, few, length-take t.token_len t.token)) enough row.2.1
+
+-- a request of a client
+pub asking_has_room : DatagramHasItsLength → OptionsAscend → ValueMostLen → (c new : ClientHandle) (now : ℕ) (plain : List ℕ) (room : ℕ) (status : Status) (detail : ℕ)
+    → RefusesAsking c new now plain room status detail → (h : client.History) → Asks c h → length plain + 59 ≤ room → code status ≡ 39 → ⊥
+asking_has_room long ascend most c new now plain room status detail (ask_handle bad same is at) h held enough says = let number = ap code is in omega (arith, number, says)
+asking_has_room long ascend most c new now plain room status detail (ask_malformed a same fault place has is at) h held enough says = let number = ap code is in let small = fault_code fault in omega (arith, number, small, says)
+asking_has_room long ascend most c new now plain room status detail (ask_refused a p of asks.NotThatKind is holds) h held enough says = let number = ap code is.0 in omega (arith, number, says)
+asking_has_room long ascend most c new now plain room status detail (ask_refused a p of (asks.Unsupported k) is holds) h held enough says = let number = ap code is.0 in omega (arith, number, says)
+asking_has_room long ascend most c new now plain room status detail (ask_refused a p of asks.TokenInUse is holds) h held enough says = let number = ap code is.0 in omega (arith, number, says)
+asking_has_room long ascend most c new now plain room status detail (ask_refused a p of asks.PendingFull is holds) h held enough says = let number = ap code is.0 in omega (arith, number, says)
+asking_has_room long ascend most c new now plain room status detail (ask_refused a p of asks.SequenceExhausted is holds) h held enough says = let number = ap code is.0 in omega (arith, number, says)
+asking_has_room long ascend most c new now plain room status detail (ask_refused a p of asks.TooLong is holds) h held enough says = let number = ap code is.0 in omega (arith, number, says)
+asking_has_room long ascend most c new now plain room status detail (ask_refused a p of asks.KeeperFailed is holds) h held enough says = absurd is
+asking_has_room long ascend most c new now plain room status detail (ask_refused a p of asks.NoRoom is holds) h held enough says =
+    let row = (holds h held).0 in
+    request_room long ascend most c.context (client.next h) p plain room a.context of enough
+    (subst (λ (s : SecurityContext). RefusesToSeal (requests s) (client.next h) p room seals.NoRoom) (sym held.context_is) row.1)
