@@ -16,12 +16,12 @@ abbrev pub kind_at : ℕ → Kind
 kind_at n = if n == 0 then Con else (if n == 1 then Non else (if n == 2 then Ack else Rst))
 
 -- the message of these parts, its options as C hands them in (RFC 7252, 3)
-abbrev pub message_of : Kind → ℕ → ℕ → List ℕ → List OptionView → List ℕ → Parts
-message_of kind code message_id token options payload = record { kind = kind; code = code; message_id = message_id; token = token; options = map option_in options; payload = payload }
+abbrev pub message_of_kind : Kind → ℕ → ℕ → List ℕ → List OptionView → List ℕ → Parts
+message_of_kind kind code message_id token options payload = record { kind = kind; code = code; message_id = message_id; token = token; options = map option_in options; payload = payload }
 
 -- the message that C asks for, by the number of its kind (RFC 7252, 3)
 abbrev pub message_asked : ℕ → ℕ → ℕ → List ℕ → List OptionView → List ℕ → Parts
-message_asked kind code message_id token options payload = message_of (kind_at kind) code message_id token options payload
+message_asked kind code message_id token options payload = message_of_kind (kind_at kind) code message_id token options payload
 
 -- it is its head alone where its code is 0.00 (RFC 7252, 4.1)
 abbrev pub IsAloneWhereEmpty : Parts → Type 0

@@ -7,7 +7,7 @@ ghost use Rattle.osc_coap.specs.Writer.{Holds, buffer_of};
 ghost use Rattle.osc_coap.specs.Writing.{Draft, HasRoom, with_options};
 ghost use Rattle.osc_c.specs.Opened.{option_in};
 ghost use Rattle.osc_c.specs.Statuses.{code as status_code};
-ghost use Rattle.osc_c.specs.Writing.{HaveLengths, IsAloneWhereEmpty, IsFirstBad, RefusesWriting, kind_at, message_asked, message_of};
+ghost use Rattle.osc_c.specs.Writing.{HaveLengths, IsAloneWhereEmpty, IsFirstBad, RefusesWriting, kind_at, message_asked, message_of_kind};
 ghost use Rattle.osc_c.specs.WritingSteps.{CanBeWritten, TakesAll};
 ghost use Rattle.osc_c.specs.declared.status.Status.{Status as StatusOf};
 
@@ -193,10 +193,10 @@ fn write_judged(
     payload: &[u8],
     out: &mut [u8],
 ) -> usize
-    requires alone { IsAloneWhereEmpty (message_of kind code message_id token.now.items options.now payload.now) }
+    requires alone { IsAloneWhereEmpty (message_of_kind kind code message_id token.now.items options.now payload.now) }
     requires order { Ascends 0 (map option_in options.now) }
-    requires room { HasRoom (length out.old) (datagram_length (message_of kind code message_id token.now.items options.now payload.now)) }
-    ensures written { IsDatagram (message_of kind code message_id token.now.items options.now payload.now) (take result out.new) }
+    requires room { HasRoom (length out.old) (datagram_length (message_of_kind kind code message_id token.now.items options.now payload.now)) }
+    ensures written { IsDatagram (message_of_kind kind code message_id token.now.items options.now payload.now) (take result out.new) }
     ensures behind { drop result out.new ≡ drop result out.old }
     ensures within { result ≤ length out.new }
 {
