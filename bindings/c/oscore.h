@@ -194,6 +194,14 @@ typedef struct oscore_server {
     oscore_unanswered unanswered[8];
 } oscore_server;
 
+/* A server of one context, which has the index 0, in the room of one: what a server does, its calls do that has this context alone. What
+   is said of copies of a server holds of it too. It holds keys: `oscore_wipe(&server, sizeof server)` when it isn't needed. */
+typedef struct oscore_server1 {
+    uint64_t clock; /* the latest moment that a call was given */
+    oscore_server_context context;
+    oscore_unanswered unanswered;
+} oscore_server1;
+
 /* The right to answer one request that was delivered. It may be copied, and a copy gives no second answer. It holds no secret. */
 typedef struct oscore_ticket {
     size_t context; /* its index, as `oscore_server_add` gave it */
@@ -224,7 +232,7 @@ typedef struct oscore_client {
 
 /* The sizes of the structs above, in bytes, as the library has them. */
 typedef struct oscore_struct_sizes {
-    size_t context, option, opened, request_head, server, ticket, client;
+    size_t context, option, opened, request_head, server, ticket, client, server1;
 } oscore_struct_sizes;
 
 void oscore_sizes(oscore_struct_sizes *sizes);
@@ -321,6 +329,26 @@ OSCORE_MUST_USE oscore_status oscore_server_take(oscore_server *server, uint64_t
 OSCORE_MUST_USE oscore_status oscore_server_reply(oscore_server *server, const oscore_ticket *ticket, bool own, uint16_t mid,
                                                   const uint8_t *plain, size_t plain_len, uint8_t *out, size_t out_room,
                                                   size_t *out_len, size_t *detail);
+
+/* A server of this one context: `oscore_server_begin` and `oscore_server_add` in one. Refused with OSCORE_BAD_HANDLE or
+   OSCORE_BAD_NUMBER, it leaves the server as it was. */
+OSCORE_MUST_USE oscore_status oscore_server1_begin(oscore_server1 *server, const oscore_context *context, bool restarted, uint64_t next,
+                                                   uint8_t window_places);
+
+/* Begins a new life of the context, as `oscore_server_restart` does. */
+OSCORE_MUST_USE oscore_status oscore_server1_restart(oscore_server1 *server, uint64_t next);
+
+/* Answers a datagram, as `oscore_server_take` does. */
+OSCORE_MUST_USE oscore_status oscore_server1_take(oscore_server1 *server, uint64_t now, const uint8_t echo[8], uint16_t mid,
+                                                  uint8_t *datagram, size_t datagram_len, oscore_option *options,
+                                                  size_t options_room, oscore_opened *opened, oscore_ticket *ticket,
+                                                  uint8_t out[64], size_t *out_len, size_t *detail);
+
+/* Seals the answer to the request of a ticket, as `oscore_server_reply` does. A ticket names no server: answer by the tickets that this
+   one gave. */
+OSCORE_MUST_USE oscore_status oscore_server1_reply(oscore_server1 *server, const oscore_ticket *ticket, bool own, uint16_t mid,
+                                                   const uint8_t *plain, size_t plain_len, uint8_t *out, size_t out_room,
+                                                   size_t *out_len, size_t *detail);
 
 /* A client with nothing pending. `next` is its next number, above each that the context ever sealed under; 0 for a context that was
    never used. A request is pending for `life_ms` milliseconds and no longer. From then on the client counts the numbers of the

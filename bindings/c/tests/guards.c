@@ -132,6 +132,32 @@ WRAP(server_reply, oscore_status, (oscore_server *server, const oscore_ticket *t
     return __real_oscore_server_reply(server, ticket, own, mid, plain, plain_len, out, out_room, out_len, detail);
 }
 
+WRAP(server1_begin, oscore_status, (oscore_server1 *server, const oscore_context *context, bool restarted, uint64_t next,
+                                    uint8_t window_places)) {
+    STRUCT(server), STRUCT(context);
+    return __real_oscore_server1_begin(server, context, restarted, next, window_places);
+}
+
+WRAP(server1_restart, oscore_status, (oscore_server1 *server, uint64_t next)) {
+    STRUCT(server);
+    return __real_oscore_server1_restart(server, next);
+}
+
+WRAP(server1_take, oscore_status, (oscore_server1 *server, uint64_t now, const uint8_t echo[8], uint16_t mid, uint8_t *datagram,
+                                   size_t datagram_len, oscore_option *options, size_t options_room, oscore_opened *opened,
+                                   oscore_ticket *ticket, uint8_t out[64], size_t *out_len, size_t *detail)) {
+    STRUCT(server), SOME(echo, 8), BYTES(datagram), SOME(options, options_room * sizeof *options), STRUCT(opened), STRUCT(ticket),
+        SOME(out, 64), STRUCT(out_len), STRUCT(detail);
+    return __real_oscore_server1_take(server, now, echo, mid, datagram, datagram_len, options, options_room, opened, ticket, out,
+                                      out_len, detail);
+}
+
+WRAP(server1_reply, oscore_status, (oscore_server1 *server, const oscore_ticket *ticket, bool own, uint16_t mid, const uint8_t *plain,
+                                    size_t plain_len, uint8_t *out, size_t out_room, size_t *out_len, size_t *detail)) {
+    STRUCT(server), STRUCT(ticket), BYTES(plain), SOME(out, out_room), STRUCT(out_len), STRUCT(detail);
+    return __real_oscore_server1_reply(server, ticket, own, mid, plain, plain_len, out, out_room, out_len, detail);
+}
+
 WRAP(client_begin, oscore_status, (oscore_client *client, const oscore_context *context, uint64_t next, uint64_t life_ms)) {
     STRUCT(client), STRUCT(context);
     return __real_oscore_client_begin(client, context, next, life_ms);

@@ -255,7 +255,7 @@ static void has_sizes(void) {
     oscore_sizes(sizes);
     CHECK(sizes->context == sizeof(oscore_context) && sizes->option == sizeof(oscore_option));
     CHECK(sizes->opened == sizeof(oscore_opened) && sizes->request_head == sizeof(oscore_request_head));
-    CHECK(sizes->server == sizeof(oscore_server) && sizes->ticket == sizeof(oscore_ticket));
+    CHECK(sizes->server == sizeof(oscore_server) && sizes->ticket == sizeof(oscore_ticket) && sizes->server1 == sizeof(oscore_server1));
 }
 
 static void spoils_datagrams(void) {

@@ -2,7 +2,7 @@
 
 use crate::answer::Answer;
 use crate::fields::{Fields, NamedContext};
-use crate::server_bytes::{by_bytes, have_own_senders};
+use crate::server_bytes::{by_bytes, by_bytes_of_one, have_own_senders};
 use crate::server_entry::show;
 use crate::server_steps::{events_of, index, is_event};
 use crate::steps::{FILLED_WITH, Step, number, steps_of};
@@ -267,11 +267,25 @@ fn run(
     }
 }
 
-/// Both ways over the bytes of a server.
+/// Whether the first step adds a context, and no other does.
+fn has_one_context(steps: &[Step<'_>]) -> bool {
+    match steps {
+        [first, rest @ ..] => first.verb == "add" && rest.iter().all(is_event),
+        [] => false,
+    }
+}
+
+/// Both ways over the bytes of a server, and where it has one context over those of a server of one.
 fn by_bytes_both_ways(steps: &[Step<'_>], contexts: &[NamedContext<'_>], answer: &mut Answer) {
     by_bytes(steps, contexts, false, answer);
     answer.again();
     by_bytes(steps, contexts, true, answer);
+    if has_one_context(steps) {
+        answer.again();
+        by_bytes_of_one(steps, contexts, false, answer);
+        answer.again();
+        by_bytes_of_one(steps, contexts, true, answer);
+    }
 }
 
 /// A row whose steps went ill differs.

@@ -1,4 +1,4 @@
-//! Calls of osc_handle: a server as bytes, step by step.
+//! Calls of osc_handle: a server as bytes, step by step, with room for eight contexts or of one alone.
 
 use crate::answer::Answer;
 use crate::fields::NamedContext;
@@ -6,29 +6,109 @@ use crate::server::{Addition, left, read_addition, show_added};
 use crate::server_entry::show;
 use crate::server_steps::events_of;
 use crate::steps::Step;
-use osc_coap::parse;
-use osc_endpoint::{Answering, Arrival, Decided, ServerEntry, ServerEvent, Taken, Ticket};
-use osc_handle::{AddRefusal, ContextHandle, ReplyRefusal, ServerHandle, TicketHandle};
+use osc_coap::{Message, parse};
+use osc_context::Piv;
+use osc_endpoint::{
+    Answering, Arrival, Decided, Fresh, RestartError, ServerEntry, ServerEvent, Taken, Ticket,
+};
+use osc_handle::{
+    AddRefusal, ContextHandle, ReplyRefusal, ServerHandle, SingleServerHandle, TicketHandle,
+};
 
 /// The tickets of earlier events, as bytes. One whose reply was sealed is taken out.
 type Tickets = Vec<Option<TicketHandle>>;
 
-/// Adds a context.
-fn add(
-    server: &mut ServerHandle,
-    step: &Step<'_>,
-    contexts: &[NamedContext<'_>],
-) -> Option<Result<usize, AddRefusal>> {
-    let Addition {
-        context,
-        start,
-        size,
-    } = read_addition(&step.fields, contexts)?;
-    let added = server.add(&ContextHandle::of(&context), start, size);
-    if added.is_none() {
-        step.fields.refuse();
+/// A server as bytes.
+#[derive(Drop)]
+enum Bytes {
+    Eight(ServerHandle),
+    One(SingleServerHandle),
+    NotBegun,
+}
+
+impl Bytes {
+    /// Adds a context; a server of one begins with it.
+    fn add(
+        &mut self,
+        step: &Step<'_>,
+        contexts: &[NamedContext<'_>],
+    ) -> Option<Result<usize, AddRefusal>> {
+        let Addition {
+            context,
+            start,
+            size,
+        } = read_addition(&step.fields, contexts)?;
+        let bytes = ContextHandle::of(&context);
+        let added = match self {
+            Bytes::Eight(server) => server.add(&bytes, start, size),
+            _ => None,
+        };
+        if added.is_some() {
+            return added;
+        }
+        let begun = SingleServerHandle::begin(&bytes, start, size);
+        match (self, begun) {
+            (place @ Bytes::NotBegun, Some(server)) => {
+                *place = Bytes::One(server);
+                Some(Ok(0))
+            }
+            _ => {
+                step.fields.refuse();
+                None
+            }
+        }
     }
-    added
+
+    fn restart(&mut self, context: usize, next: Piv) -> Option<Result<(), RestartError>> {
+        match self {
+            Bytes::Eight(server) => server.restart(context, next),
+            Bytes::One(server) if context == 0 => server.restart(next),
+            _ => Some(Err(RestartError::NoSuchContext)),
+        }
+    }
+
+    fn decide(
+        &mut self,
+        now: u64,
+        fresh: Fresh,
+        datagram: &mut [u8],
+        out: &mut [u8; 64],
+    ) -> Option<Decided> {
+        match self {
+            Bytes::Eight(server) => server.decide(now, fresh, datagram, out),
+            Bytes::One(server) => server.decide(now, fresh, datagram, out),
+            Bytes::NotBegun => None,
+        }
+    }
+
+    fn take<'b>(
+        &mut self,
+        now: u64,
+        fresh: Fresh,
+        datagram: &'b mut [u8],
+        out: &mut [u8; 64],
+    ) -> Option<Taken<'b>> {
+        match self {
+            Bytes::Eight(server) => server.take(now, fresh, datagram, out),
+            Bytes::One(server) => server.take(now, fresh, datagram, out),
+            Bytes::NotBegun => None,
+        }
+    }
+
+    fn reply(
+        &mut self,
+        ticket: &TicketHandle,
+        own: bool,
+        mid: u16,
+        plain: &Message<'_>,
+        out: &mut [u8],
+    ) -> Result<usize, ReplyRefusal> {
+        match self {
+            Bytes::Eight(server) => server.reply(ticket, own, mid, plain, out),
+            Bytes::One(server) => server.reply(ticket, own, mid, plain, out),
+            Bytes::NotBegun => Err(ReplyRefusal::BadHandle),
+        }
+    }
 }
 
 /// The index of a context that was added, or the refusal.
@@ -42,10 +122,10 @@ fn show_addition(added: Result<usize, AddRefusal>, answer: &mut Answer) {
 
 /// Whether none of the contexts is refused for its Sender Key, by which a `Server` refuses none (RFC 8613, 3.3).
 pub(crate) fn have_own_senders(steps: &[Step<'_>], contexts: &[NamedContext<'_>]) -> bool {
-    let mut server = ServerHandle::new();
+    let mut server = Bytes::Eight(ServerHandle::new());
     for step in steps {
         if step.verb == "add" {
-            if let Some(Err(AddRefusal::SameSender)) = add(&mut server, step, contexts) {
+            if let Some(Err(AddRefusal::SameSender)) = server.add(step, contexts) {
                 return false;
             }
         }
@@ -55,7 +135,7 @@ pub(crate) fn have_own_senders(steps: &[Step<'_>], contexts: &[NamedContext<'_>]
 
 /// A datagram, by one call or by its two halves.
 fn take<'a>(
-    server: &mut ServerHandle,
+    server: &mut Bytes,
     arrival: &'a mut Arrival,
     in_halves: bool,
 ) -> Option<(ServerEntry<'a>, Option<Ticket>)> {
@@ -79,7 +159,7 @@ fn take<'a>(
 
 /// A reply to the request of an earlier event. Behind it the same ticket is spent.
 fn reply<'a>(
-    server: &mut ServerHandle,
+    server: &mut Bytes,
     tickets: &mut Tickets,
     answering: &'a mut Answering,
     answer: &mut Answer,
@@ -108,7 +188,7 @@ fn reply<'a>(
                 answer.is_whole = false;
             }
             *place = None;
-            Some(ServerEntry::Replied(Ok(&out[..len])))
+            Some(ServerEntry::Replied(Ok(out.get(..len)?)))
         }
         Err(ReplyRefusal::Refused(refusal)) => Some(ServerEntry::Replied(Err(refusal))),
         Err(ReplyRefusal::BadHandle | ReplyRefusal::TicketSpent) => None,
@@ -117,7 +197,7 @@ fn reply<'a>(
 
 /// An event, by calls.
 fn call<'a>(
-    server: &mut ServerHandle,
+    server: &mut Bytes,
     tickets: &mut Tickets,
     event: &'a mut ServerEvent,
     in_halves: bool,
@@ -143,12 +223,38 @@ pub(crate) fn by_bytes(
     in_halves: bool,
     answer: &mut Answer,
 ) {
+    make(
+        Bytes::Eight(ServerHandle::new()),
+        steps,
+        contexts,
+        in_halves,
+        answer,
+    );
+}
+
+/// The same over the bytes of a server of one context, which the first step adds.
+pub(crate) fn by_bytes_of_one(
+    steps: &[Step<'_>],
+    contexts: &[NamedContext<'_>],
+    in_halves: bool,
+    answer: &mut Answer,
+) {
+    make(Bytes::NotBegun, steps, contexts, in_halves, answer);
+}
+
+fn make(
+    mut server: Bytes,
+    steps: &[Step<'_>],
+    contexts: &[NamedContext<'_>],
+    in_halves: bool,
+    answer: &mut Answer,
+) {
     let mut events = events_of(steps, answer);
-    let (mut server, mut tickets) = (ServerHandle::new(), Vec::new(answer.alloc));
+    let mut tickets = Vec::new(answer.alloc);
     let mut rest = events.as_mut_slice();
     for step in steps {
         if step.verb == "add" {
-            if let Some(added) = add(&mut server, step, contexts) {
+            if let Some(added) = server.add(step, contexts) {
                 show_addition(added, answer);
             }
             continue;

@@ -2,6 +2,7 @@ mod Moved
 mod Names
 mod Taking
 mod Serving
+mod Singles
 mod Read
 mod OptionLists
 mod Unwritten

@@ -11,6 +11,7 @@ mod opening;
 mod rooms;
 mod sealing;
 mod server;
+mod single_server;
 mod sizes;
 mod status;
 mod writing;

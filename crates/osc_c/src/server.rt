@@ -56,7 +56,7 @@ fn adding_status(error: AddError) -> Status
 }
 
 /// How a context begins.
-fn start_with(restarted: bool, next: Piv) -> Start
+pub(crate) fn start_with(restarted: bool, next: Piv) -> Start
     ensures { result ≡ start_given restarted next }
 {
     if restarted {
@@ -132,7 +132,7 @@ pub extern "C" fn oscore_server_add(
 }
 
 /// The status of a refusal to restart.
-fn restarting_status(error: RestartError) -> Status
+pub(crate) fn restarting_status(error: RestartError) -> Status
     ensures { result ≡ restart_status error }
 {
     match error {
@@ -184,7 +184,7 @@ pub extern "C" fn oscore_server_restart(server: &mut ServerHandle, context: usiz
 }
 
 /// What was delivered, and its ticket, or the refusal that C reads.
-fn delivery<'b>(outcome: Outcome<'b>) -> Result<(Opened<'b>, Ticket), Refusal>
+pub(crate) fn delivery<'b>(outcome: Outcome<'b>) -> Result<(Opened<'b>, Ticket), Refusal>
     requires { outcome ≢ KeeperFailedOutcome }
     ensures opened { IfOk result (λ o. outcome.entry ≡ Delivered o.0 o.1) }
     ensures refused { IfErr result (λ r. IsOutcomeStatus outcome.entry r.status r.detail) }
@@ -288,7 +288,7 @@ pub extern "C" fn oscore_server_take<'b>(
 }
 
 /// The refusal that C reads of what a server refuses to reply.
-fn replying_refusal(error: ReplyError) -> Refusal
+pub(crate) fn replying_refusal(error: ReplyError) -> Refusal
     requires { error ≢ KeeperFailed }
     ensures { IsReplyStatus error result.status result.detail }
 {

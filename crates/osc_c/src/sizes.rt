@@ -4,7 +4,7 @@ ghost use Rattle.std.specs.Prelude.{◌≡◌};
 
 use crate::head_view::HeadView;
 use crate::opened_view::{OpenedView, OptionView};
-use osc_handle::{ClientHandle, ContextHandle, ServerHandle, TicketHandle};
+use osc_handle::{ClientHandle, ContextHandle, ServerHandle, SingleServerHandle, TicketHandle};
 
 /// The sizes of the structs of `oscore.h` in bytes, as the library has them.
 #[repr(C)]
@@ -17,12 +17,13 @@ pub struct Sizes {
     pub server: usize,
     pub ticket: usize,
     pub client: usize,
+    pub server1: usize,
 }
 
 /// Tells the sizes, for a caller to compare with those that its compiler has.
 #[unsafe(no_mangle)]
 pub extern "C" fn oscore_sizes(sizes: &mut Sizes)
-    ensures { sizes.new ≡ record { context = 95; option = 24; opened = 104; request_head = 64; server = 1296; ticket = 40; client = 384 } }
+    ensures { sizes.new ≡ record { context = 95; option = 24; opened = 104; request_head = 64; server = 1296; ticket = 40; client = 384; server1 = 168 } }
 {
     *sizes = Sizes {
         context: size_of::<ContextHandle>(),
@@ -32,5 +33,6 @@ pub extern "C" fn oscore_sizes(sizes: &mut Sizes)
         server: size_of::<ServerHandle>(),
         ticket: size_of::<TicketHandle>(),
         client: size_of::<ClientHandle>(),
+        server1: size_of::<SingleServerHandle>(),
     };
 }

@@ -5,3 +5,4 @@ pub mod Bits
 pub mod Waits
 pub mod Senders
 pub mod Servers
+pub mod Singles

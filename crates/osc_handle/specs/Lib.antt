@@ -4,6 +4,7 @@ pub mod SlotBytes
 pub mod TableBytes
 pub mod UnansweredBytes
 pub mod TicketBytes
+pub mod SingleServerBytes
 pub mod ClientBytes
 pub mod ServerLaws
 -- how the code is seen

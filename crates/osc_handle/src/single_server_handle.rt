@@ -1,0 +1,225 @@
+//! A server of one context, as bytes: what a `ServerHandle` does that has one context, in the room of one.
+
+ghost use Rattle.std.specs.Prelude.{◌≡◌, ◌≢◌, ◌≤◌, ◌∷◌, [], ℕ, List, Option, Err, IfOk, IfSome, IsSome, None, OnErr, length, take, drop};
+ghost use Rattle.osc_coap.specs.Views.{parts_of};
+ghost use Rattle.osc_context.specs.Views.{number_of};
+ghost use Rattle.osc_endpoint.specs.Deciding.{CanShow, Leaves};
+ghost use Rattle.osc_endpoint.specs.ServerAnswer.{ServerAnswer};
+ghost use Rattle.osc_endpoint.specs.ServerHistory.{Added, Begin, History, Restart, Then};
+ghost use Rattle.osc_endpoint.specs.Views.{restarted_entry, values_of};
+ghost use Rattle.osc_endpoint.specs.declared.outcome.Outcome.TheVariants.{KeeperFailed as KeeperFailedOutcome};
+ghost use Rattle.osc_endpoint.specs.declared.server_error.ReplyError.TheVariants.{KeeperFailed};
+ghost use Rattle.osc_endpoint.specs.declared.slot.Slot.{Slot as SlotOf};
+ghost use Rattle.osc_handle.specs.ContextBytes.{IsContext, server_in};
+ghost use Rattle.osc_handle.specs.Noting.{Notes, NotesTicket};
+ghost use Rattle.osc_handle.specs.ServerBytes.{AddsIn, DecidesIn, IsSpent, RepliesIn, Serves, TakesIn, entry_of_reply};
+ghost use Rattle.osc_handle.specs.SingleServerBytes.{server_of_one, table_of};
+ghost use Rattle.osc_handle.specs.SlotBytes.{IsSlotBytes};
+ghost use Rattle.osc_handle.specs.TableBytes.{IsTableIn};
+ghost use Rattle.osc_handle.specs.TableSteps.{is_present_in};
+ghost use Rattle.osc_handle.specs.TicketBytes.{IsTicket, ticket_in};
+ghost use Rattle.osc_handle.specs.declared.reply_refusal.ReplyRefusal.TheVariants.{BadHandle, TicketSpent, Refused};
+
+use crate::context_handle::ContextHandle;
+use crate::reply_refusal::ReplyRefusal;
+use crate::slot_handle::SlotHandle;
+use crate::ticket_handle::TicketHandle;
+use crate::unanswered_handle::UnansweredHandle;
+use osc_coap::Message;
+use osc_context::Piv;
+use osc_endpoint::siblings::{Slot, decide_over};
+use osc_endpoint::{
+    Decided, Decision, Fresh, ReplyError, RestartError, Start, Taken, Ticket, answered_once,
+};
+use osc_window::WindowSize;
+
+/// A server of one context, which has index 0: its clock, the context, and which of its requests wait for their answers.
+#[repr(C)]
+#[derive(Clone, Copy)]
+pub struct SingleServerHandle {
+    pub clock: u64,
+    pub slot: SlotHandle,
+    pub unanswered: UnansweredHandle,
+}
+
+impl SingleServerHandle {
+    /// A server with this context (RFC 8613, B.1), as `ServerHandle::add` adds the first one; None where the bytes of the context are
+    /// none that a call may have written.
+    pub fn begin(
+        context: &ContextHandle,
+        start: Start,
+        size: WindowSize,
+    ) -> Option<SingleServerHandle>
+        ensures added { IfSome result (λ s. AddsIn Begin (server_in context.now) start size (Added 0) (server_of_one s)) }
+        ensures accepts { IsContext context.now → IsSome result }
+        ensures accepted { IsSome result → IsContext context.now }
+        ensures bytes { IfSome result (λ s. IsSlotBytes s.slot) }
+    {
+        if !context.is_whole() {
+            return None;
+        }
+        let Some(made) = context.context() else {
+            unreachable!();
+        };
+        answered_once();
+        Some(SingleServerHandle {
+            clock: 0,
+            slot: SlotHandle::of(context, &Slot::begin(made, start, size)),
+            unanswered: UnansweredHandle::none(),
+        })
+    }
+
+    /// Begins a new life of the context (RFC 8613, B.1); None where the bytes are none that a call may have written. `LivesExhausted`
+    /// is the one refusal, and changes nothing.
+    pub fn restart(&mut self, next: Piv) -> Option<Result<(), RestartError>>
+        ensures accepts { IsSlotBytes self.old.slot → IsSome result }
+        ensures accepted { IsSome result → IsSlotBytes self.old.slot }
+        ensures answered { IfSome result (λ r. (h : History) → Serves (server_of_one self.old) h
+            → ServerAnswer h (Restart 0 (number_of next)) (restarted_entry r)
+            × Serves (server_of_one self.new) (Then h (Restart 0 (number_of next)) (restarted_entry r))) }
+        ensures bytes { IfSome result (λ r. IsSlotBytes self.new.slot) }
+        ensures same { IfSome result (λ r. OnErr r (self.new ≡ self.old)) }
+        ensures unchanged { result ≡ None → self.new ≡ self.old }
+    {
+        if !self.slot.is_whole() {
+            return None;
+        }
+        answered_once();
+        match self.slot.restart_alone(next) {
+            Ok(()) => {
+                self.unanswered = UnansweredHandle::none();
+                Some(Ok(()))
+            }
+            Err(error) => Some(Err(error)),
+        }
+    }
+
+    /// Notes the request of a ticket.
+    fn note_ticket(&mut self, ticket: &Ticket)
+        ensures notes { NotesTicket (self.old.unanswered ∷ []) (self.new.unanswered ∷ []) (values_of ticket.now) }
+        ensures clock { self.new.clock ≡ self.old.clock }
+        ensures slot { self.new.slot ≡ self.old.slot }
+    {
+        let context = ticket.context();
+        if context == 0 {
+            self.unanswered.add(ticket.number().number());
+        }
+    }
+
+    /// Notes a request that was delivered.
+    fn note(&mut self, decision: &Decision)
+        ensures notes { Notes (self.old.unanswered ∷ []) (self.new.unanswered ∷ []) decision.now }
+        ensures clock { self.new.clock ≡ self.old.clock }
+        ensures slot { self.new.slot ≡ self.old.slot }
+    {
+        if let Decision::Deliver(_, ticket) = decision {
+            self.note_ticket(ticket);
+        }
+    }
+
+    /// Decides what a datagram is answered, or None where the bytes are none that a call may have written: the first half of `take`.
+    pub fn decide(
+        &mut self,
+        now: u64,
+        fresh: Fresh,
+        datagram: &mut [u8],
+        out: &mut [u8; 64],
+    ) -> Option<Decided>
+        ensures accepts { IsSlotBytes self.old.slot → IsSome result }
+        ensures accepted { IsSome result → IsSlotBytes self.old.slot }
+        ensures answered { IfSome result (λ decided. (h : History) → Serves (server_of_one self.old) h
+            → DecidesIn h now fresh datagram.old decided.decision datagram.new (take decided.reply out.new) (server_of_one self.new)) }
+        ensures bytes { IfSome result (λ decided. IsSlotBytes self.new.slot) }
+        ensures shown { IfSome result (λ decided. CanShow decided.decision datagram.new) }
+        ensures left { IfSome result (λ decided. (slots : List (Option SlotOf)) → IsTableIn (table_of self.old.slot) slots
+            → Leaves slots decided.decision datagram.old datagram.new) }
+        ensures within { IfSome result (λ decided. decided.reply ≤ 64) }
+        ensures behind { IfSome result (λ decided. drop decided.reply out.new ≡ drop decided.reply out.old) }
+        ensures unchanged { result ≡ None → (self.new ≡ self.old) × (datagram.new ≡ datagram.old) × (out.new ≡ out.old) }
+    {
+        if !self.slot.is_whole() {
+            return None;
+        }
+        let decided = decide_over(&mut self.clock, &mut self.slot, now, fresh, datagram, out);
+        self.note(&decided.decision);
+        Some(decided)
+    }
+
+    /// Answers a datagram, where it lies (RFC 8613, 8.2), or None where the bytes are none that a call may have written: `decide`, and
+    /// what was decided as an outcome. The first `reply` bytes of `out` are the reply.
+    pub fn take<'b>(
+        &mut self,
+        now: u64,
+        fresh: Fresh,
+        datagram: &'b mut [u8],
+        out: &mut [u8; 64],
+    ) -> Option<Taken<'b>>
+        ensures accepts { IsSlotBytes self.old.slot → IsSome result }
+        ensures accepted { IsSome result → IsSlotBytes self.old.slot }
+        ensures answered { IfSome result (λ taken. (h : History) → Serves (server_of_one self.old) h
+            → TakesIn h now fresh datagram.old taken.outcome (take taken.reply out.new) (server_of_one self.new)) }
+        ensures bytes { IfSome result (λ taken. IsSlotBytes self.new.slot) }
+        ensures within { IfSome result (λ taken. taken.reply ≤ 64) }
+        ensures behind { IfSome result (λ taken. drop taken.reply out.new ≡ drop taken.reply out.old) }
+        ensures no_keeper_failed { IfSome result (λ taken. taken.outcome ≢ KeeperFailedOutcome) }
+        ensures unchanged { result ≡ None → (self.new ≡ self.old) × (out.new ≡ out.old) }
+    {
+        let Some(Decided { decision, reply }) = self.decide(now, fresh, datagram, out) else {
+            return None;
+        };
+        let outcome = decision.outcome(datagram);
+        Some(Taken { outcome, reply })
+    }
+
+    /// Whether a ticket is of the context's present life.
+    fn is_of(&self, ticket: &TicketHandle) -> bool
+        ensures { result ≡ is_present_in (table_of self.now.slot) ticket.now.context ticket.now.life }
+    {
+        ticket.context == 0 && self.slot.life == ticket.life
+    }
+
+    /// Seals a reply to the request of a ticket into `out`, and answers how many bytes at its front it takes (RFC 8613, 8.3). Of the
+    /// plain message the code, options and payload are used. Judged in this order: bad bytes, a stale ticket, a spent one, and what else
+    /// a `Server` refuses in the order of `ReplyError`; a refusal changes nothing.
+    pub fn reply(
+        &mut self,
+        ticket: &TicketHandle,
+        own: bool,
+        mid: u16,
+        plain: &Message<'_>,
+        out: &mut [u8],
+    ) -> Result<usize, ReplyRefusal>
+        ensures bad { result ≡ Err BadHandle → IsSlotBytes self.old.slot → IsTicket ticket.now → ⊥ }
+        ensures accepted { result ≢ Err BadHandle → IsSlotBytes self.old.slot × IsTicket ticket.now }
+        ensures answered { (h : History) → Serves (server_of_one self.old) h
+            → IfSome (entry_of_reply result out.new) (λ entry. RepliesIn h (ticket_in ticket.now) own mid (parts_of plain.now) (length out.old) entry (server_of_one self.new)) }
+        ensures spent { result ≡ Err TicketSpent → (h : History) → Serves (server_of_one self.old) h → IsSpent h (ticket_in ticket.now) }
+        ensures once { IsSlotBytes self.old.slot → IsTicket ticket.now → (h : History) → Serves (server_of_one self.old) h → IsSpent h (ticket_in ticket.now)
+            → result ≡ Err TicketSpent }
+        ensures bytes { IsSlotBytes self.old.slot → IsSlotBytes self.new.slot }
+        ensures within { IfOk result (λ n. n ≤ length out.new) }
+        ensures behind { IfOk result (λ n. drop n out.new ≡ drop n out.old) }
+        ensures unchanged { OnErr result ((out.new ≡ out.old) × (self.new ≡ self.old)) }
+        ensures no_keeper_failed { result ≢ Err (Refused KeeperFailed) }
+    {
+        if !self.slot.is_whole() {
+            return Err(ReplyRefusal::BadHandle);
+        }
+        let Some((number, asker)) = ticket.parts() else {
+            return Err(ReplyRefusal::BadHandle);
+        };
+        if !self.is_of(ticket) {
+            return Err(ReplyRefusal::Refused(ReplyError::StaleTicket));
+        }
+        if !self.unanswered.has(ticket.number) {
+            return Err(ReplyRefusal::TicketSpent);
+        }
+        match self.slot.reply_alone(number, &asker, own, mid, plain, out) {
+            Ok(len) => {
+                self.unanswered.remove(ticket.number);
+                Ok(len)
+            }
+            Err(error) => Err(ReplyRefusal::Refused(error)),
+        }
+    }
+}

@@ -1,0 +1,100 @@
+//! One context in its present life, as the table of a server that has this context alone.
+
+ghost use Rattle.std.specs.Prelude.{◌≡◌, ◌≢◌, ◌≤◌, ℕ, List, Option, Some, IfOk, IfErr, OnErr, length, drop};
+ghost use Rattle.osc_context.specs.Views.{number_of};
+ghost use Rattle.osc_coap.specs.Views.{parts_of};
+ghost use Rattle.osc_endpoint.specs.Agrees.{TableAgrees};
+ghost use Rattle.osc_endpoint.specs.Life.{Life, marked};
+ghost use Rattle.osc_endpoint.specs.Replies.{as_reply};
+ghost use Rattle.osc_endpoint.specs.Replying.{reply_entry, reply_mark};
+ghost use Rattle.osc_endpoint.specs.Restarting.{lives_after};
+ghost use Rattle.osc_endpoint.specs.ServerAnswer.{LifeReply, LifeRestart};
+ghost use Rattle.osc_endpoint.specs.Views.{restarted_entry};
+ghost use Rattle.osc_endpoint.specs.declared.server_error.ReplyError.TheVariants.{KeeperFailed};
+ghost use Rattle.osc_endpoint.specs.declared.slot.Slot.{Slot as SlotOf};
+ghost use Rattle.osc_handle.specs.Held as lemmas;
+ghost use Rattle.osc_handle.specs.SingleServerBytes.{table_of};
+ghost use Rattle.osc_handle.specs.SlotBytes.{IsSlotBytes};
+ghost use Rattle.osc_handle.specs.TableBytes.{IsTableIn, bytes_at};
+ghost use Rattle.osc_handle.specs.TableSteps.{ChangesAt};
+
+use crate::slot_handle::SlotHandle;
+use osc_coap::Message;
+use osc_context::Piv;
+use osc_endpoint::siblings::{Asker, Contexts, Named, is_replay, refuse_replay};
+use osc_endpoint::{Decided, ReplyError, RestartError};
+
+impl SlotHandle {
+    /// Begins a new life of the context, which has index 0.
+    pub(crate) fn restart_alone(&mut self, next: Piv) -> Result<(), RestartError>
+        requires { IsSlotBytes self.old }
+        ensures answer { (slots : List (Option SlotOf)) (lives : ℕ → Option Life) → IsTableIn (table_of self.old) slots → TableAgrees slots lives
+            → LifeRestart (lives 0) (restarted_entry result) }
+        ensures kept { (slots : List (Option SlotOf)) (lives : ℕ → Option Life) → IsTableIn (table_of self.old) slots → TableAgrees slots lives
+            → (new : List (Option SlotOf)) × IsTableIn (table_of self.new) new × (length new ≡ length slots) × TableAgrees new (lives_after result 0 (number_of next) lives) }
+        ensures bytes { IsSlotBytes self.new }
+        ensures same { OnErr result (self.new ≡ self.old) }
+    {
+        if !self.can_renew() {
+            return Err(RestartError::LivesExhausted);
+        }
+        self.renew(next);
+        Ok(())
+    }
+
+    /// Seals a reply to a request of the context's present life.
+    pub(crate) fn reply_alone(
+        &mut self,
+        number: Piv,
+        asker: &Asker,
+        own: bool,
+        mid: u16,
+        plain: &Message<'_>,
+        out: &mut [u8],
+    ) -> Result<usize, ReplyError>
+        requires { IsSlotBytes self.old }
+        ensures answer { (slots : List (Option SlotOf)) (lives : ℕ → Option Life) (l : Life) → IsTableIn (table_of self.old) slots → TableAgrees slots lives → lives 0 ≡ Some l
+            → LifeReply l (number_of number) own (as_reply asker.now.kind asker.now.message_id asker.now.token.items mid (parts_of plain.now)) (length out.old) (reply_entry result out.new) }
+        ensures kept { (slots : List (Option SlotOf)) (lives : ℕ → Option Life) (l : Life) → IsTableIn (table_of self.old) slots → TableAgrees slots lives → lives 0 ≡ Some l
+            → ChangesAt slots lives 0 (marked (reply_mark result own) l) (table_of self.new) }
+        ensures bytes { IsSlotBytes self.new }
+        ensures within { IfOk result (λ n. n ≤ length out.new) }
+        ensures behind { IfOk result (λ n. drop n out.new ≡ drop n out.old) }
+        ensures unchanged { OnErr result (out.new ≡ out.old) }
+        ensures same { OnErr result (self.new ≡ self.old) }
+        ensures no_keeper_failed { IfErr result (λ e. e ≢ KeeperFailed) }
+    {
+        self.reply_to(number, asker, own, mid, plain, out)
+    }
+}
+
+impl Contexts for SlotHandle {
+    ghost is_table = { IsSlotBytes };
+
+    ghost holds = { λ b slots. IsTableIn (table_of b) slots };
+
+    ghost context_at = { λ b i. bytes_at (table_of b) i };
+
+    fn find(&self, kid: &[u8], kid_context: Option<&[u8]>) -> Option<usize> {
+        if self.context.answers_to(kid, kid_context) {
+            return Some(0);
+        }
+        None
+    }
+
+    fn judge_at(&mut self, request: Named, datagram: &mut [u8], out: &mut [u8; 64]) -> Decided {
+        let Some(gate) = self.gate() else {
+            unreachable!();
+        };
+        // A replay wants no key schedule.
+        if is_replay(&gate, request.number) {
+            return refuse_replay(&request, out);
+        }
+        let mut slot = self.slot_with(gate);
+        let decided = slot.judge_new(request, datagram, out);
+        self.keep(&slot);
+        decided
+    }
+
+    ghost held = { λ b slots i same. lemmas.held (table_of b) slots i same };
+}
