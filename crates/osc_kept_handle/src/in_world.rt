@@ -3,7 +3,7 @@
 //! the longer list meets the premises too, and all of it is as `both_ends` says. Nothing else is done here. What a caller sees to is
 //! that the number of an accepted `saved` is saved durably before that call, and that what it loads is no less than what it saved last.
 
-ghost use Rattle.std.specs.Prelude.{◌≡◌, ◌≢◌, ◌≤◌, ℕ, Err, IfOk, IfSome, OnErr, Some, true, length, take};
+ghost use Rattle.std.specs.Prelude.{◌≡◌, ◌≢◌, ◌≤◌, ℕ, IfOk, IfSome, None, OnErr, Some, true, length, take};
 ghost use Rattle.osc_coap.specs.Views.{parts_of};
 ghost use Rattle.osc_context.specs.SecurityContext.{SecurityContext};
 ghost use Rattle.osc_context.specs.Views.{number_of};
@@ -21,7 +21,6 @@ ghost use Rattle.osc_kept.specs.World.{World, Client as ClientEnd, Server as Ser
 ghost use Rattle.osc_kept_handle.specs.BytesInWorld.{ClientAfter, ClientDecidesInWorld, ClientRunsWith, ClientSavesInWorld, ClientStartsInWorld, ClientTakesInWorld, DecidesInWorld, IsUnsaved, RunsWith, SavesInWorld, ServerAfter, StartsInWorld, TakesInWorld};
 ghost use Rattle.osc_kept_handle.specs.KeptClientBytes.{entry_of_kept_request};
 ghost use Rattle.osc_kept_handle.specs.KeptServerBytes.{entry_of_kept_reply};
-ghost use Rattle.osc_kept_handle.specs.declared.kept_refusal.KeptRequestRefusal.TheVariants.{SaveFirst};
 ghost use Rattle.osc_window.specs.declared.window_size.WindowSize.{WindowSize as WindowSizeOf};
 
 use crate::kept_client_handle::KeptClientHandle;
@@ -148,7 +147,7 @@ pub fn request_bytes_in_world(
 ) -> Result<usize, KeptRequestRefusal>
     ensures answered { (s : SecurityContext) (w : World) → IsLawful 8 s w → ClientRunsWith s w client.old → IfSome (entry_of_kept_request result out.new) (λ entry.
         ClientAfter s w (asked.Request now (parts_of plain.now) (length out.old)) entry client.new) }
-    ensures same { (number : ℕ) → result ≡ Err (SaveFirst number) → client.new ≡ client.old }
+    ensures same { entry_of_kept_request result out.new ≡ None → client.new ≡ client.old }
     ensures unchanged { OnErr result (out.new ≡ out.old) }
 {
     kept_ends_in_world();

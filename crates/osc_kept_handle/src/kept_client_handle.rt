@@ -110,7 +110,7 @@ impl KeptClientHandle {
             → result ≡ Err (refusals.SaveFirst (next_limit self.old.reserved)) }
         ensures bad { result ≡ Err refusals.BadHandle → IsKeptClient self.old → ⊥ }
         ensures accepted { result ≢ Err refusals.BadHandle → IsKeptClient self.old }
-        ensures same { (number : ℕ) → result ≡ Err (refusals.SaveFirst number) → self.new ≡ self.old }
+        ensures same { entry_of_kept_request result out.new ≡ None → self.new ≡ self.old }
         ensures limit_stays { self.new.reserved ≡ self.old.reserved }
         ensures within { IfOk result (λ n. n ≤ length out.new) }
         ensures behind { IfOk result (λ n. drop n out.new ≡ drop n out.old) }
