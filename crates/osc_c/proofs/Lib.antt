@@ -3,3 +3,5 @@ mod Names
 mod Taking
 mod Serving
 mod Read
+pub mod KeptServing
+pub mod KeptRead

@@ -4,3 +4,5 @@ pub mod Calls
 pub mod Opened
 pub mod ClientCalls
 pub mod ServerCalls
+pub mod KeptServerCalls
+pub mod KeptClientCalls

@@ -183,7 +183,7 @@ pub extern "C" fn oscore_server_restart(server: &mut ServerHandle, context: usiz
 }
 
 /// What was delivered, and its ticket, or the refusal that C reads.
-fn delivery<'b>(outcome: Outcome<'b>) -> Result<(Opened<'b>, Ticket), Refusal>
+pub(crate) fn delivery<'b>(outcome: Outcome<'b>) -> Result<(Opened<'b>, Ticket), Refusal>
     requires { outcome ≢ KeeperFailedOutcome }
     ensures opened { IfOk result (λ o. outcome.entry ≡ Delivered o.0 o.1) }
     ensures refused { IfErr result (λ r. IsOutcomeStatus outcome.entry r.status r.detail) }
@@ -287,7 +287,7 @@ pub extern "C" fn oscore_server_take<'b>(
 }
 
 /// The refusal that C reads of what a server refuses to reply.
-fn replying_refusal(error: ReplyError) -> Refusal
+pub(crate) fn replying_refusal(error: ReplyError) -> Refusal
     requires { error ≢ KeeperFailed }
     ensures { IsReplyStatus error result.status result.detail }
 {

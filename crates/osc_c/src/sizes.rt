@@ -5,6 +5,7 @@ ghost use Rattle.std.specs.Prelude.{◌≡◌};
 use crate::head_view::HeadView;
 use crate::opened_view::{OpenedView, OptionView};
 use osc_handle::{ClientHandle, ContextHandle, ServerHandle, TicketHandle};
+use osc_kept_handle::{KeptClientHandle, KeptServerHandle};
 
 /// The sizes of the structs of `oscore.h` in bytes, as the library has them.
 #[repr(C)]
@@ -17,12 +18,14 @@ pub struct Sizes {
     pub server: usize,
     pub ticket: usize,
     pub client: usize,
+    pub kept_server: usize,
+    pub kept_client: usize,
 }
 
 /// Tells the sizes, for a caller to compare with those that its compiler has.
 #[unsafe(no_mangle)]
 pub extern "C" fn oscore_sizes(sizes: &mut Sizes)
-    ensures { sizes.new ≡ record { context = 95; option = 24; opened = 104; request_head = 64; server = 1296; ticket = 40; client = 384 } }
+    ensures { sizes.new ≡ record { context = 95; option = 24; opened = 104; request_head = 64; server = 1296; ticket = 40; client = 384; kept_server = 1304; kept_client = 392 } }
 {
     *sizes = Sizes {
         context: size_of::<ContextHandle>(),
@@ -32,5 +35,7 @@ pub extern "C" fn oscore_sizes(sizes: &mut Sizes)
         server: size_of::<ServerHandle>(),
         ticket: size_of::<TicketHandle>(),
         client: size_of::<ClientHandle>(),
+        kept_server: size_of::<KeptServerHandle>(),
+        kept_client: size_of::<KeptClientHandle>(),
     };
 }

@@ -11,7 +11,7 @@ use osc_protect::{HeadError, ProtectError, UnprotectError};
 pub(crate) const DONE: u32 = 0;
 
 /// The names of the statuses by their numbers, from that of 0 on.
-const NAMES: [&[u8]; 42] = [
+const NAMES: [&[u8]; 43] = [
     b"Done",
     b"BadHandle",
     b"BadNumber",
@@ -54,10 +54,11 @@ const NAMES: [&[u8]; 42] = [
     b"NoRoom",
     b"NotPending",
     b"SameSender",
+    b"SaveFirst",
 ];
 
-/// Why a call does nothing: the first refusal whose condition holds, in this order, but that SameSender, which stands last, is judged
-/// right behind SameLookup. A call that is done answers 0.
+/// Why a call does nothing: the first refusal whose condition holds, in this order, but for the last two: SameSender is judged right behind
+/// SameLookup, and SaveFirst right before NoSuchContext, of a datagram right behind BadHandle. A call that is done answers 0.
 #[derive(Clone, Copy, Debug, PartialEq, Eq)]
 pub(crate) enum Status {
     /// The handle's bytes are none that a call wrote.
@@ -103,6 +104,8 @@ pub(crate) enum Status {
     NoRoom = 39,
     NotPending = 40,
     SameSender = 41,
+    /// A number has to be saved first.
+    SaveFirst = 42,
 }
 
 impl Status {
@@ -114,7 +117,7 @@ impl Status {
     }
 }
 
-/// Why nothing was done, and its detail: the place of a fault, or the number of an option; else 0.
+/// Why nothing was done, and its detail: the place of a fault, the number of an option, or the number to save; else 0.
 #[derive(Clone, Copy, Debug, PartialEq, Eq)]
 pub(crate) struct Refusal {
     pub(crate) status: Status,
