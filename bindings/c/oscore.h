@@ -47,9 +47,10 @@ OSCORE_ASSERT(sizeof(void *) == 8, "this library has pointers of 8 bytes: compil
    for the first time; a `bool` is 0 or 1. A pointer may be NULL where the length beside it is 0, and nowhere else. */
 
 /* What a call answers: 0 where it is done, else the first refusal whose condition holds, in the order of this list; those that came last
-   are judged elsewhere: OSCORE_SAME_SENDER right after OSCORE_SAME_LOOKUP, OSCORE_OPTION_ORDER and OSCORE_VALUE_TOO_LONG before
+   are judged elsewhere: OSCORE_SAME_SENDER right after OSCORE_SAME_LOOKUP; OSCORE_SAVE_FIRST right before OSCORE_NO_SUCH_CONTEXT, except
+   that `oscore_kept_server_take` judges it right after OSCORE_BAD_HANDLE; OSCORE_OPTION_ORDER and OSCORE_VALUE_TOO_LONG before
    OSCORE_NO_ROOM. A call that refuses writes `detail`: the place of a datagram's fault in bytes from 0, the number of an option, the
-   index of one that was handed in, or 0. It leaves `out`, `out_len`, `options`, `opened`, `head`, `index`, `ticket`, `request`,
+   index of one that was handed in, the number to save, or 0. It leaves `out`, `out_len`, `options`, `opened`, `head`, `index`, `ticket`, `request`,
    the server and the client as they were; where a call does more, it says so. */
 typedef enum oscore_status {
     OSCORE_DONE = 0,
@@ -94,6 +95,7 @@ typedef enum oscore_status {
     OSCORE_NO_ROOM = 39,           /* the buffer is shorter than the message */
     OSCORE_NOT_PENDING = 40,       /* no request with this token is pending */
     OSCORE_SAME_SENDER = 41,       /* a context of the server has this Sender Key */
+    OSCORE_SAVE_FIRST = 42,        /* a number has to be saved first: `detail` is that number */
     OSCORE_OPTION_ORDER = 43,      /* an option's number is below that of the one before it; `detail` is its index */
     OSCORE_VALUE_TOO_LONG = 44     /* an option's value has more than 65,804 bytes; `detail` is its index */
 } oscore_status;
@@ -230,9 +232,23 @@ typedef struct oscore_client {
     oscore_pending pending[8];
 } oscore_client;
 
+/* A server of one context whose own numbers outlive it, begun by `oscore_kept_server_begin`. It tells when a number has to be saved, and
+   uses none that wasn't; so a power cut at any moment costs some numbers, and no nonce is used twice. What is said of copies of a
+   server, and of its keys, holds of it too. */
+typedef struct oscore_kept_server {
+    oscore_server server;
+    uint64_t reserved; /* its own numbers below this one may be used */
+} oscore_kept_server;
+
+/* The same of a client. */
+typedef struct oscore_kept_client {
+    oscore_client client;
+    uint64_t reserved; /* its numbers below this one may be used */
+} oscore_kept_client;
+
 /* The sizes of the structs above, in bytes, as the library has them. */
 typedef struct oscore_struct_sizes {
-    size_t context, option, opened, request_head, server, ticket, client, server1;
+    size_t context, option, opened, request_head, server, ticket, client, server1, kept_server, kept_client;
 } oscore_struct_sizes;
 
 void oscore_sizes(oscore_struct_sizes *sizes);
@@ -382,6 +398,60 @@ OSCORE_MUST_USE oscore_status oscore_client_request(oscore_client *client, uint6
 OSCORE_MUST_USE oscore_status oscore_client_take(oscore_client *client, uint64_t now, uint8_t *datagram, size_t datagram_len,
                                                  oscore_option *options, size_t options_room, oscore_opened *opened,
                                                  uint64_t *request, size_t *detail);
+
+/* Ends whose numbers outlive them. A number is kept where it survives a power cut, as in a file or in flash, one for each end; where none
+   was ever saved, it is 0. An end begins with the number that was saved last. A call that needs a number which isn't reserved answers
+   OSCORE_SAVE_FIRST, with the number to save in `detail`, and leaves all else as it was: the end, its clock, the datagram, `out`. Then
+
+       save the number durably: when that returns, a power cut can't take it back;
+       tell the end by `.._saved`;
+       make the same call again.
+
+   In this order: a number that was told before it was saved can be used twice. A save reserves 64 numbers, so that one comes with each 64
+   messages that need a number, and with the first of a life. Never begin from an older save, nor an end beside another with the same
+   context. What can't be saved isn't told: then the call answers the same once more. There is no restart: a new life is a new begin. */
+
+/* Begins a server of a context, with the number that was saved last. With 0 it never received a request, and it takes nothing before its
+   first save; else it begins a new life, as a context that is added as `restarted`: no request is delivered until one brings back an
+   Echo value. Its window has 32 or 64 places. A refusal is OSCORE_BAD_HANDLE or OSCORE_BAD_NUMBER, and leaves the server. */
+OSCORE_MUST_USE oscore_status oscore_kept_server_begin(oscore_kept_server *server, const oscore_context *context, uint64_t loaded,
+                                                       uint8_t window_places);
+
+/* Says that a number is saved: that of the last OSCORE_SAVE_FIRST. Of any other it is OSCORE_BAD_NUMBER, and the server stays. */
+OSCORE_MUST_USE oscore_status oscore_kept_server_saved(oscore_kept_server *server, uint64_t number);
+
+/* Answers a datagram, as `oscore_server_take` does. It needs a number while no request was delivered in this life, since a challenge may
+   be the answer. `out_len` is 0 at OSCORE_SAVE_FIRST: the same datagram is handed in again. */
+OSCORE_MUST_USE oscore_status oscore_kept_server_take(oscore_kept_server *server, uint64_t now, const uint8_t echo[8], uint16_t mid,
+                                                      uint8_t *datagram, size_t datagram_len, oscore_option *options,
+                                                      size_t options_room, oscore_opened *opened, oscore_ticket *ticket,
+                                                      uint8_t out[64], size_t *out_len, size_t *detail);
+
+/* Seals the answer to the request of a ticket, as `oscore_server_reply` does. It needs a number where `own` says so. */
+OSCORE_MUST_USE oscore_status oscore_kept_server_reply(oscore_kept_server *server, const oscore_ticket *ticket, bool own, uint16_t mid,
+                                                       const uint8_t *plain, size_t plain_len, uint8_t *out, size_t out_room,
+                                                       size_t *out_len, size_t *detail);
+
+/* Begins a client with nothing pending, with the number that was saved last. A request is pending for `life_ms` milliseconds and no
+   longer. A refusal is OSCORE_BAD_HANDLE or OSCORE_BAD_NUMBER, and leaves the client. */
+OSCORE_MUST_USE oscore_status oscore_kept_client_begin(oscore_kept_client *client, const oscore_context *context, uint64_t loaded,
+                                                       uint64_t life_ms);
+
+/* Says that a number is saved, as `oscore_kept_server_saved` does. */
+OSCORE_MUST_USE oscore_status oscore_kept_client_saved(oscore_kept_client *client, uint64_t number);
+
+/* Seals a request, as `oscore_client_request` does. It needs a number always. */
+OSCORE_MUST_USE oscore_status oscore_kept_client_request(oscore_kept_client *client, uint64_t now, const uint8_t *plain,
+                                                         size_t plain_len, uint8_t *out, size_t out_room, size_t *out_len,
+                                                         size_t *detail);
+
+/* Answers a datagram, as `oscore_client_take` does. It needs no number. */
+OSCORE_MUST_USE oscore_status oscore_kept_client_take(oscore_kept_client *client, uint64_t now, uint8_t *datagram, size_t datagram_len,
+                                                      oscore_option *options, size_t options_room, oscore_opened *opened,
+                                                      uint64_t *request, size_t *detail);
+
+/* Waits no more for the response to the request of a token, as `oscore_client_forget` does. */
+OSCORE_MUST_USE oscore_status oscore_kept_client_forget(oscore_kept_client *client, const uint8_t *token, size_t token_len);
 
 /* The library wipes nothing: what a call was given is the caller's, and below the caller's stack pointer lies what the call left there,
    keys among it (README.md, Wiping). The rest of this header wipes, and is code of the caller's program. */

@@ -1,14 +1,15 @@
 /* The key to lock.c.
 
-       key PORT NEXT open|shut [FILE]
+       key PORT FILE open|shut [SENT]
 
-   A client whose next number is NEXT, above each that this key ever used. It seals PUT /lock, says its next number then, which is the
-   NEXT of its next run, sends the datagram to 127.0.0.1, and says what came back. Where the lock asks for an Echo value (RFC 9175), it
-   asks once more with the value, under the number behind. Each datagram that it sends is kept in FILE.NUMBER.
+   FILE is where it keeps a number over its runs, ahead of each number that it uses, so that a crash doesn't lose it. It seals PUT /lock,
+   says under which number, sends the datagram to 127.0.0.1, and says what came back. Where the lock asks for an Echo value (RFC 9175), it
+   asks once more with the value, under the number behind. Each datagram that it sends is kept in SENT.NUMBER.
 
    While neither a reply nor an acknowledgment comes it sends the same bytes again (RFC 7252, 4.2), which the lock knows by the message
    ID: a request that is sealed anew would be another one, and be obeyed once more. */
 #define _DEFAULT_SOURCE
+#include "number.h"
 #include "oscore.h"
 #include <arpa/inet.h>
 #include <poll.h>
@@ -30,7 +31,8 @@ enum { CON = 0, ACK = 2, RST = 3, PUT = 3, UNAUTHORIZED = 129, URI_PATH = 11, EC
 static const uint8_t SECRET[] = "a secret for a try";
 static const uint8_t LOCK[] = {1}, KEY[] = {2};
 
-static oscore_client client;
+static oscore_kept_client client;
+static const char *number_file;
 static uint8_t received[1500];
 static size_t received_len;
 
@@ -96,7 +98,7 @@ static bool take(oscore_opened *response, oscore_option options[8]) {
     char name[24];
     uint64_t request;
     size_t detail;
-    oscore_status status = oscore_client_take(&client, milliseconds(), received, received_len, options, 8, response, &request, &detail);
+    oscore_status status = oscore_kept_client_take(&client, milliseconds(), received, received_len, options, 8, response, &request, &detail);
     if (status == OSCORE_DONE) return true;
     oscore_status_name(status, name);
     printf("passed over: %s\n", name);
@@ -148,17 +150,30 @@ static size_t asked_echo(const oscore_opened *response, const oscore_option *opt
     return 0;
 }
 
+/* Seals a request. A number that has to be saved first is saved, and then the client is told, in this order: told before, it could be used
+   again after a crash. */
+static size_t seal(const uint8_t *plain, size_t plain_len, uint8_t *out, size_t room) {
+    size_t len, detail;
+    oscore_status status;
+    while ((status = oscore_kept_client_request(&client, milliseconds(), plain, plain_len, out, room, &len, &detail)) == OSCORE_SAVE_FIRST) {
+        if (!save_number(number_file, detail)) stop("no number saved");
+        if (oscore_kept_client_saved(&client, detail)) stop("not the number that was asked for");
+        printf("saved %llu\n", (unsigned long long)detail);
+    }
+    if (status) stop("not sealed");
+    return len;
+}
+
 /* Asks the lock, and once more where it wants an Echo value. Answers whether a reply came that wants none. */
-static bool ask(int udp, const char *wish, const char *file) {
+static bool ask(int udp, const char *wish, const char *sent) {
     uint8_t plain[64], datagram[OSCORE_ROOM(sizeof plain)], echo[12];
     oscore_option options[8] = OSCORE_ZERO;
-    size_t len, detail, echo_len = 0;
+    size_t echo_len = 0;
     for (int attempt = 0; attempt < 2; attempt++) {
-        uint64_t number = client.next;
-        size_t plain_len = plain_put(wish, echo, echo_len, plain, sizeof plain);
-        if (oscore_client_request(&client, milliseconds(), plain, plain_len, datagram, sizeof datagram, &len, &detail)) stop("not sealed");
-        printf("next number %llu\n", (unsigned long long)client.next);
-        if (file) keep(file, number, datagram, len);
+        uint64_t number = client.client.next;
+        size_t len = seal(plain, plain_put(wish, echo, echo_len, plain, sizeof plain), datagram, sizeof datagram);
+        printf("number %llu\n", (unsigned long long)number);
+        if (sent) keep(sent, number, datagram, len);
         oscore_opened response = exchange(udp, datagram, len, options);
         acknowledge(udp, &response);
         echo_len = asked_echo(&response, options, echo);
@@ -169,22 +184,25 @@ static bool ask(int udp, const char *wish, const char *file) {
     return false;
 }
 
-static void begin(uint64_t next) {
+static void begin(void) {
     oscore_context context = OSCORE_ZERO;
+    uint64_t loaded;
+    if (!load_number(number_file, &loaded)) stop("no number in FILE");
     oscore_status status = oscore_derive(&context, SECRET, sizeof SECRET, NULL, 0, false, NULL, 0, KEY, sizeof KEY, LOCK, sizeof LOCK,
                                          false);
-    if (!status) status = oscore_client_begin(&client, &context, next, EXCHANGE_LIFETIME_MS);
+    if (!status) status = oscore_kept_client_begin(&client, &context, loaded, EXCHANGE_LIFETIME_MS);
     oscore_wipe(&context, sizeof context); /* the client has a copy */
     if (status) stop("no client");
 }
 
 int main(int count, char **words) {
-    if ((count != 4 && count != 5) || strlen(words[3]) > 16) stop("key PORT NEXT open|shut [FILE]");
+    if ((count != 4 && count != 5) || strlen(words[3]) > 16) stop("key PORT FILE open|shut [SENT]");
     struct sockaddr_in lock = {.sin_family = AF_INET, .sin_addr.s_addr = htonl(INADDR_LOOPBACK)};
     lock.sin_port = htons((uint16_t)atoi(words[1]));
     int udp = socket(AF_INET, SOCK_DGRAM, 0);
     if (udp < 0 || connect(udp, (struct sockaddr *)&lock, sizeof lock)) stop("no such port");
-    begin(strtoull(words[2], NULL, 10));
+    number_file = words[2];
+    begin();
     bool answered = ask(udp, words[3], count == 5 ? words[4] : NULL);
     oscore_wipe(&client, sizeof client);
     oscore_wipe_stack();

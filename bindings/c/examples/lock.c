@@ -1,14 +1,15 @@
 /* A lock on the network: it obeys PUT /lock with "open" or "shut" where the request is protected by its context, and is new.
 
-       lock PORT DATAGRAMS [restarted NEXT]
+       lock PORT DATAGRAMS FILE
 
-   It takes so many datagrams at 127.0.0.1 and ends. PORT 0 is one that the system picks; the first line says which. It keeps nothing:
-   one that ran before, and so has lost which requests it saw, is started as `restarted`, with the next own number, which the last line
-   of the run before said. A real lock keeps a number ahead of that one before it uses it, so that a crash doesn't lose it.
+   It takes so many datagrams at 127.0.0.1 and ends. PORT 0 is one that the system picks; the first line says which. FILE is where it
+   keeps a number over its runs, ahead of each own number that it uses, so that a crash doesn't lose it. One that ran before has lost
+   which requests it saw; by the number in FILE it knows that, and asks for an Echo value before it obeys.
 
    A key whose reply was lost sends its request once more (RFC 7252, 4.2), which is a replay to the library. So the lock looks first
    whether it knows the sender and the message ID, and then sends what it sent before. */
 #define _DEFAULT_SOURCE
+#include "number.h"
 #include "oscore.h"
 #include <arpa/inet.h>
 #include <poll.h>
@@ -41,7 +42,7 @@ typedef struct sent {
     size_t len;
 } sent;
 
-static const char *state = "shut";
+static const char *state = "shut", *number_file;
 /* The last replies. Where more are sent in their lifetime, the oldest is forgotten: its request, come again, is refused as a replay. */
 static sent replies[REPLIES];
 static size_t reply_count;
@@ -134,7 +135,14 @@ static void keep_reply(const received *request, const uint8_t *out, size_t len) 
     memcpy(reply->bytes, out, len);
 }
 
-static void serve(oscore_server *server, int udp, received *datagram) {
+/* Saves a number, and then tells the server, in this order: told before, it could be used again after a crash. */
+static void save_first(oscore_kept_server *server, uint64_t number) {
+    if (!save_number(number_file, number)) stop("no number saved");
+    if (oscore_kept_server_saved(server, number)) stop("not the number that was asked for");
+    printf("saved %llu\n", (unsigned long long)number);
+}
+
+static void serve(oscore_kept_server *server, int udp, received *datagram) {
     uint8_t out[MOST_REPLY], echo[8], plain[16];
     oscore_option options[8] = OSCORE_ZERO;
     oscore_opened request = OSCORE_ZERO;
@@ -143,11 +151,15 @@ static void serve(oscore_server *server, int udp, received *datagram) {
     uint16_t mid = 0;
     if (getrandom(echo, sizeof echo, 0) != sizeof echo || getrandom(&mid, sizeof mid, 0) != sizeof mid) stop("no random bytes");
 
-    oscore_status status = oscore_server_take(server, milliseconds(), echo, mid, datagram->bytes, datagram->len, options, 8, &request,
-                                              &ticket, out, &out_len, &detail);
+    oscore_status status;
+    while ((status = oscore_kept_server_take(server, milliseconds(), echo, mid, datagram->bytes, datagram->len, options, 8, &request, &ticket,
+                                             out, &out_len, &detail)) == OSCORE_SAVE_FIRST)
+        save_first(server, detail);
     if (status == OSCORE_DONE) {
         uint8_t code = obey(&request, options);
-        status = oscore_server_reply(server, &ticket, false, mid, plain, plain_reply(code, plain), out, sizeof out, &out_len, &detail);
+        size_t len = plain_reply(code, plain);
+        while ((status = oscore_kept_server_reply(server, &ticket, false, mid, plain, len, out, sizeof out, &out_len, &detail)) == OSCORE_SAVE_FIRST)
+            save_first(server, detail);
         print(status, code == CHANGED ? state : "not obeyed");
         if (status == OSCORE_DONE) keep_reply(datagram, out, out_len);
     } else {
@@ -156,7 +168,7 @@ static void serve(oscore_server *server, int udp, received *datagram) {
     send_back(udp, &datagram->from, out, out_len);
 }
 
-static void serve_one(oscore_server *server, int udp) {
+static void serve_one(oscore_kept_server *server, int udp) {
     static received datagram;
     receive(udp, &datagram);
     const sent *reply = find_reply(&datagram);
@@ -171,16 +183,15 @@ static void serve_one(oscore_server *server, int udp) {
 }
 
 int main(int count, char **words) {
-    if (count != 3 && count != 5) stop("lock PORT DATAGRAMS [restarted NEXT]");
-    bool restarted = count == 5 && !strcmp(words[3], "restarted");
-    uint64_t next = restarted ? strtoull(words[4], NULL, 10) : 0;
+    if (count != 4) stop("lock PORT DATAGRAMS FILE");
     static oscore_context context;
-    static oscore_server server;
-    size_t index = 0;
+    static oscore_kept_server server;
+    uint64_t loaded;
+    number_file = words[3];
+    if (!load_number(number_file, &loaded)) stop("no number in FILE");
     oscore_status status = oscore_derive(&context, SECRET, sizeof SECRET, NULL, 0, false, NULL, 0, LOCK, sizeof LOCK, KEY, sizeof KEY,
                                          false);
-    oscore_server_begin(&server);
-    if (!status) status = oscore_server_add(&server, &context, restarted, next, 32, &index);
+    if (!status) status = oscore_kept_server_begin(&server, &context, loaded, 32);
     oscore_wipe(&context, sizeof context); /* the server has a copy */
     if (status) stop("no server");
 
@@ -192,7 +203,7 @@ int main(int count, char **words) {
     printf("port %u\n", ntohs(own.sin_port));
     fflush(stdout);
     for (int left = atoi(words[2]); left > 0; left--) serve_one(&server, udp);
-    printf("next own number %llu\n", (unsigned long long)server.contexts[index].next);
+    printf("next own number %llu\n", (unsigned long long)server.server.contexts[0].next);
     oscore_wipe(&server, sizeof server);
     oscore_wipe_stack();
     return 0;

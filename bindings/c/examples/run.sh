@@ -17,7 +17,7 @@ mkfifo "$work/says"
 # Starts a lock for so many datagrams; its first line says its port.
 begin() {
     echo "== lock $*"
-    "$work/lock" 0 "$@" > "$work/says" &
+    (cd "$work" && exec ./lock 0 "$@") > "$work/says" &
     lock=$!
     exec 3< "$work/says"
     read -r -t 10 _ port <&3
@@ -25,7 +25,7 @@ begin() {
 
 # Shows what the lock printed until it ended.
 finish() {
-    timeout 20 cat <&3 | tee "$work/last" | sed 's/^/lock: /'
+    timeout 20 cat <&3 | sed 's/^/lock: /'
     exec 3<&-
     wait "$lock"
     lock=
@@ -63,24 +63,25 @@ key_behind() {
 }
 
 says() {
-    begin 3
-    key 0 shut
-    key 1 open sent
-    replay sent.1
+    begin 3 lock.number
+    key key.number shut
+    key key.number open sent
+    replay sent.64
     finish
-    # The number that a lock must not fall behind is all that is carried over.
-    begin 4 restarted "$(sed -n 's/^next own number //p' "$work/last")"
-    replay sent.1
-    key 2 shut sent
-    replay sent.1
+    # A lock that ran before knows it by its number.
+    begin 4 lock.number
+    replay sent.64
+    key key.number shut sent
+    replay sent.64
     finish
     # A datagram that is lost: the door opens once, and the key learns it. The second one's request comes twice.
-    begin 6 restarted "$(sed -n 's/^next own number //p' "$work/last")"
-    key 4 shut
-    key_behind request 6 open
-    key_behind reply 7 shut
-    key_behind separate 8 open
+    begin 6 lock.number
+    key key.number shut
+    key_behind request key.number open
+    key_behind reply key.number shut
+    key_behind separate key.number open
     finish
+    echo "numbers kept: $(cat "$work/lock.number") of the lock, $(cat "$work/key.number") of the key"
 }
 
 says > "$work/said"

@@ -184,3 +184,57 @@ WRAP(client_take, oscore_status, (oscore_client *client, uint64_t now, uint8_t *
     STRUCT(client), BYTES(datagram), SOME(options, options_room * sizeof *options), STRUCT(opened), STRUCT(request), STRUCT(detail);
     return __real_oscore_client_take(client, now, datagram, datagram_len, options, options_room, opened, request, detail);
 }
+
+WRAP(kept_server_begin, oscore_status, (oscore_kept_server *server, const oscore_context *context, uint64_t loaded, uint8_t window_places)) {
+    STRUCT(server), STRUCT(context);
+    return __real_oscore_kept_server_begin(server, context, loaded, window_places);
+}
+
+WRAP(kept_server_saved, oscore_status, (oscore_kept_server *server, uint64_t number)) {
+    STRUCT(server);
+    return __real_oscore_kept_server_saved(server, number);
+}
+
+WRAP(kept_server_take, oscore_status, (oscore_kept_server *server, uint64_t now, const uint8_t echo[8], uint16_t mid, uint8_t *datagram,
+                                       size_t datagram_len, oscore_option *options, size_t options_room, oscore_opened *opened,
+                                       oscore_ticket *ticket, uint8_t out[64], size_t *out_len, size_t *detail)) {
+    STRUCT(server), SOME(echo, 8), BYTES(datagram), SOME(options, options_room * sizeof *options), STRUCT(opened), STRUCT(ticket),
+        SOME(out, 64), STRUCT(out_len), STRUCT(detail);
+    return __real_oscore_kept_server_take(server, now, echo, mid, datagram, datagram_len, options, options_room, opened, ticket, out,
+                                          out_len, detail);
+}
+
+WRAP(kept_server_reply, oscore_status, (oscore_kept_server *server, const oscore_ticket *ticket, bool own, uint16_t mid,
+                                        const uint8_t *plain, size_t plain_len, uint8_t *out, size_t out_room, size_t *out_len,
+                                        size_t *detail)) {
+    STRUCT(server), STRUCT(ticket), BYTES(plain), SOME(out, out_room), STRUCT(out_len), STRUCT(detail);
+    return __real_oscore_kept_server_reply(server, ticket, own, mid, plain, plain_len, out, out_room, out_len, detail);
+}
+
+WRAP(kept_client_begin, oscore_status, (oscore_kept_client *client, const oscore_context *context, uint64_t loaded, uint64_t life_ms)) {
+    STRUCT(client), STRUCT(context);
+    return __real_oscore_kept_client_begin(client, context, loaded, life_ms);
+}
+
+WRAP(kept_client_saved, oscore_status, (oscore_kept_client *client, uint64_t number)) {
+    STRUCT(client);
+    return __real_oscore_kept_client_saved(client, number);
+}
+
+WRAP(kept_client_request, oscore_status, (oscore_kept_client *client, uint64_t now, const uint8_t *plain, size_t plain_len, uint8_t *out,
+                                          size_t out_room, size_t *out_len, size_t *detail)) {
+    STRUCT(client), BYTES(plain), SOME(out, out_room), STRUCT(out_len), STRUCT(detail);
+    return __real_oscore_kept_client_request(client, now, plain, plain_len, out, out_room, out_len, detail);
+}
+
+WRAP(kept_client_take, oscore_status, (oscore_kept_client *client, uint64_t now, uint8_t *datagram, size_t datagram_len,
+                                       oscore_option *options, size_t options_room, oscore_opened *opened, uint64_t *request,
+                                       size_t *detail)) {
+    STRUCT(client), BYTES(datagram), SOME(options, options_room * sizeof *options), STRUCT(opened), STRUCT(request), STRUCT(detail);
+    return __real_oscore_kept_client_take(client, now, datagram, datagram_len, options, options_room, opened, request, detail);
+}
+
+WRAP(kept_client_forget, oscore_status, (oscore_kept_client *client, const uint8_t *token, size_t token_len)) {
+    STRUCT(client), BYTES(token);
+    return __real_oscore_kept_client_forget(client, token, token_len);
+}

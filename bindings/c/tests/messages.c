@@ -239,9 +239,9 @@ static void names_statuses(void) {
         "NumberTooLarge", "EmptyPayload", "NoSuchContext", "LivesExhausted", "Full", "SameLookup", "StaleTicket",
         "TicketSpent", "NotThatKind", "UnknownToken", "NoOscore", "Undecodable", "NoContext", "WrongContext", "Replay",
         "Tag", "Inner", "Challenge", "Unsupported", "TokenInUse", "PendingFull", "SequenceExhausted", "TooLong", "NoRoom",
-        "NotPending", "SameSender", "Unknown"};
+        "NotPending", "SameSender", "SaveFirst", "Unknown"};
     char *name = guarded_room(NAME, 24);
-    for (uint32_t status = 0; status <= OSCORE_SAME_SENDER + 1; status++) {
+    for (uint32_t status = 0; status <= OSCORE_SAVE_FIRST + 1; status++) {
         oscore_status_name(status, name);
         CHECK(!strcmp(name, NAMES[status]));
     }

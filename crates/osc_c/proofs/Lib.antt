@@ -8,3 +8,5 @@ mod OptionLists
 mod Unwritten
 mod Growth
 mod Room
+pub mod KeptServing
+pub mod KeptRead

@@ -82,7 +82,7 @@ restartable s new context next status result (restart_number t not is) says tabl
 restartable s new context next status result (restart_refused t below e is holds) says table bad = absurd (bad below)
 
 -- the number of the status that an answer has is read of it
-status_read : (answer : server.Answer) (status : Status) (result detail : ℕ) (ticket : server.TicketValues) (reply : List ℕ) → serves.IsAnswerStatus answer status detail → result ≡ code status
+pub status_read : (answer : server.Answer) (status : Status) (result detail : ℕ) (ticket : server.TicketValues) (reply : List ℕ) → serves.IsAnswerStatus answer status detail → result ≡ code status
     → serves.ReadsServing (server.Took answer reply) result detail ticket reply
 status_read (server.Malformed fault place) status result detail ticket reply is says = (status, says, is, refl)
 status_read server.NotRequest status result detail ticket reply is says = (status, says, is, refl)
@@ -141,7 +141,7 @@ request_faulty first never c new now plain room status result detail (ask_malfor
 request_faulty first never c new now plain room status result detail (ask_refused a q from e is holds) says whole fault place has = absurd (never q plain fault place from has)
 
 -- the number of the status that a client's answer has is read of it
-status_taken : (answer : client.Answer) (status : Status) (result detail request : ℕ) → asks.IsAnswerStatus answer status detail → result ≡ code status → asks.ReadsTaking (client.Took answer) result detail request
+pub status_taken : (answer : client.Answer) (status : Status) (result detail request : ℕ) → asks.IsAnswerStatus answer status detail → result ≡ code status → asks.ReadsTaking (client.Took answer) result detail request
 status_taken (client.Malformed fault place) status result detail request is says = (status, says, is)
 status_taken client.NotResponse status result detail request is says = (status, says, is)
 status_taken client.UnknownToken status result detail request is says = (status, says, is)

@@ -36,7 +36,7 @@ restarted_so h s context next number r q same is x =
     subst (λ (a : Result Unit RestartError). AnswersIn h (server.Restart context number) (restarted_entry a) s) is (subst (λ n. AnswersIn h (server.Restart context n) (restarted_entry r) s) same x)
 
 -- the answer that an outcome shows has its status
-says_too : (outcome : Outcome) (answer : server.Answer) (status : Status) (detail : ℕ) → Shows outcome answer → IsOutcomeStatus outcome status detail → IsAnswerStatus answer status detail
+pub says_too : (outcome : Outcome) (answer : server.Answer) (status : Status) (detail : ℕ) → Shows outcome answer → IsOutcomeStatus outcome status detail → IsAnswerStatus answer status detail
 says_too (outcomes.Malformed e) (server.Malformed fault place) status detail shows says = (says.0 ∙ ap format_status shows.0, says.1 ∙ shows.1)
 says_too outcomes.NotRequest server.NotRequest status detail shows says = says
 says_too outcomes.Plain server.Plain status detail shows says = says

@@ -6,3 +6,5 @@ pub mod ClientCalls
 pub mod ServerCalls
 pub mod Writing
 pub mod WritingSteps
+pub mod KeptServerCalls
+pub mod KeptClientCalls

@@ -98,7 +98,7 @@ pub extern "C" fn oscore_client_forget(client: &mut ClientHandle, token: &[u8]) 
 }
 
 /// The refusal that C reads of a request that isn't sealed.
-fn asking_refusal(error: RequestError) -> Refusal
+pub(crate) fn asking_refusal(error: RequestError) -> Refusal
     requires { error ≢ KeeperFailed }
     ensures { IsAskingStatus error result.status result.detail }
 {
@@ -194,7 +194,7 @@ pub extern "C" fn oscore_client_request(
 }
 
 /// What was delivered, and the number of its request, or the refusal that C reads.
-fn delivery<'b>(outcome: ClientOutcome<'b>) -> Result<(Opened<'b>, Piv), Refusal>
+pub(crate) fn delivery<'b>(outcome: ClientOutcome<'b>) -> Result<(Opened<'b>, Piv), Refusal>
     ensures opened { IfOk result (λ o. outcome.entry ≡ Delivered o.0 o.1) }
     ensures refused { IfErr result (λ r. IsOutcomeStatus outcome.entry r.status r.detail) }
 {

@@ -6,6 +6,8 @@
 mod client;
 mod derivation;
 mod head_view;
+mod kept_client;
+mod kept_server;
 mod opened_view;
 mod opening;
 mod rooms;

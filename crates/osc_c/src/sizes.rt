@@ -5,6 +5,7 @@ ghost use Rattle.std.specs.Prelude.{◌≡◌};
 use crate::head_view::HeadView;
 use crate::opened_view::{OpenedView, OptionView};
 use osc_handle::{ClientHandle, ContextHandle, ServerHandle, SingleServerHandle, TicketHandle};
+use osc_kept_handle::{KeptClientHandle, KeptServerHandle};
 
 /// The sizes of the structs of `oscore.h` in bytes, as the library has them.
 #[repr(C)]
@@ -18,12 +19,14 @@ pub struct Sizes {
     pub ticket: usize,
     pub client: usize,
     pub server1: usize,
+    pub kept_server: usize,
+    pub kept_client: usize,
 }
 
 /// Tells the sizes, for a caller to compare with those that its compiler has.
 #[unsafe(no_mangle)]
 pub extern "C" fn oscore_sizes(sizes: &mut Sizes)
-    ensures { sizes.new ≡ record { context = 95; option = 24; opened = 104; request_head = 64; server = 1296; ticket = 40; client = 384; server1 = 168 } }
+    ensures { sizes.new ≡ record { context = 95; option = 24; opened = 104; request_head = 64; server = 1296; ticket = 40; client = 384; server1 = 168; kept_server = 1304; kept_client = 392 } }
 {
     *sizes = Sizes {
         context: size_of::<ContextHandle>(),
@@ -34,5 +37,7 @@ pub extern "C" fn oscore_sizes(sizes: &mut Sizes)
         ticket: size_of::<TicketHandle>(),
         client: size_of::<ClientHandle>(),
         server1: size_of::<SingleServerHandle>(),
+        kept_server: size_of::<KeptServerHandle>(),
+        kept_client: size_of::<KeptClientHandle>(),
     };
 }

@@ -54,13 +54,14 @@ const NAMES: [&[u8]; 45] = [
     b"NoRoom",
     b"NotPending",
     b"SameSender",
-    b"Unknown",
+    b"SaveFirst",
     b"OptionOrder",
     b"ValueTooLong",
 ];
 
-/// Why a call does nothing: the first refusal whose condition holds, in this order, but that SameSender, which stands last, is judged
-/// right behind SameLookup. A call that is done answers 0.
+/// Why a call does nothing: the first refusal whose condition holds, in this order, but for those that came last: SameSender is judged
+/// right after SameLookup; SaveFirst right before NoSuchContext, and of a datagram right after BadHandle; OptionOrder and ValueTooLong
+/// before NoRoom. A call that is done answers 0.
 #[derive(Clone, Copy, Debug, PartialEq, Eq)]
 pub(crate) enum Status {
     /// The handle's bytes are none that a call wrote.
@@ -106,6 +107,8 @@ pub(crate) enum Status {
     NoRoom = 39,
     NotPending = 40,
     SameSender = 41,
+    /// A number has to be saved first.
+    SaveFirst = 42,
     OptionOrder = 43,
     ValueTooLong = 44,
 }
@@ -119,7 +122,7 @@ impl Status {
     }
 }
 
-/// Why nothing was done, and its detail: the place of a fault, or the number of an option; else 0.
+/// Why nothing was done, and its detail: the place of a fault, the number of an option, or the number to save; else 0.
 #[derive(Clone, Copy, Debug, PartialEq, Eq)]
 pub(crate) struct Refusal {
     pub(crate) status: Status,

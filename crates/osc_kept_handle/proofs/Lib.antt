@@ -1,0 +1,4 @@
+pub mod NumberSteps
+pub mod ServerSteps
+pub mod ClientSteps
+pub mod BytesInWorld

@@ -1,0 +1,244 @@
+//! A server of one context whose own numbers outlive it, as bytes.
+
+ghost use Rattle.std.specs.Prelude.{◌≡◌, ◌≢◌, ◌≤◌, ℕ, List, Option, Ok, Err, IfOk, IfSome, IsSome, None, OnErr, Some, true, false, not, length, take, drop};
+ghost use Rattle.osc_coap.specs.Views.{parts_of};
+ghost use Rattle.osc_context.specs.Reserving.{next_limit};
+ghost use Rattle.osc_context.specs.Views.{number_of};
+ghost use Rattle.osc_endpoint.specs.Deciding.{CanShow, Leaves};
+ghost use Rattle.osc_endpoint.specs.Life.{is_open_life};
+ghost use Rattle.osc_endpoint.specs.ServerHistory.{Add, Added, Begin, History, Reply, Then, life};
+ghost use Rattle.osc_endpoint.specs.declared.outcome.Outcome.TheVariants.{KeeperFailed as KeeperFailedOutcome};
+ghost use Rattle.osc_endpoint.specs.declared.server_error.ReplyError.TheVariants.{KeeperFailed};
+ghost use Rattle.osc_endpoint.specs.declared.slot.Slot.{Slot as SlotOf};
+ghost use Rattle.osc_endpoint.specs.declared.start.Start.{Start as StartOf};
+ghost use Rattle.osc_handle.specs.ContextBytes.{IsContext, server_in};
+ghost use Rattle.osc_handle.specs.ServerBytes.{IsSpent};
+ghost use Rattle.osc_handle.specs.TableBytes.{IsTableIn};
+ghost use Rattle.osc_handle.specs.TicketBytes.{IsTicket, ticket_in};
+ghost use Rattle.osc_kept.specs.KeptServing.{IsStart};
+ghost use Rattle.osc_kept.specs.Numbering.{Allowed, Goes, Load, Own, Reserve, after, nothing_drawn, upcoming};
+ghost use Rattle.osc_kept_handle.specs.KeptServerBytes.{DecidesWith, IsKeptServer, ServesWith, StepsServer, TakesWith, entry_of_kept_reply};
+ghost use Rattle.osc_kept_handle.specs.Reserved.{WantsSave};
+ghost use Rattle.osc_kept_handle.specs.declared.kept_refusal.KeptRefusal.TheVariants as refusals;
+ghost use Rattle.osc_kept_handle.specs.declared.kept_refusal.KeptReplyRefusal.TheVariants as replies;
+
+use crate::kept_refusal::{KeptRefusal, KeptReplyRefusal};
+use crate::reserving::save_first;
+use osc_coap::Message;
+use osc_context::Piv;
+use osc_endpoint::{Decided, Fresh, Start, Taken};
+use osc_handle::{ContextHandle, ReplyRefusal, ServerHandle, TicketHandle};
+use osc_window::WindowSize;
+
+/// A server of one context, and the first of its own numbers that isn't reserved: it seals with reserved numbers alone, and tells its
+/// caller when a number has to be saved first.
+#[repr(C)]
+#[derive(Clone, Copy)]
+pub struct KeptServerHandle {
+    pub server: ServerHandle,
+    pub reserved: u64,
+}
+
+/// How a server starts at the number that was loaded.
+fn start_at(loaded: Piv) -> Start
+    ensures { IsStart result (number_of loaded) }
+{
+    if loaded.number() == 0 {
+        Start::Fresh(loaded)
+    } else {
+        Start::Restarted(loaded)
+    }
+}
+
+impl KeptServerHandle {
+    /// A server of a context that starts at the number that was loaded: fresh exactly if that is 0, else as after a restart. None where
+    /// the bytes of the context are none that a call may have written. A new life is a new server: there is no other restart.
+    pub fn begin(context: &ContextHandle, loaded: Piv, size: WindowSize) -> Option<KeptServerHandle>
+        ensures begins { IfSome result (λ k. (start : StartOf) × IsStart start (number_of loaded)
+            × ((floor : ℕ) → floor ≤ number_of loaded → ServesWith k (after (Load (number_of loaded)) (nothing_drawn floor))
+            (Then Begin (Add (server_in context.now) start size) (Added 0)))) }
+        ensures accepts { IsContext context.now → IsSome result }
+        ensures accepted { IsSome result → IsContext context.now }
+    {
+        if !context.is_whole() {
+            return None;
+        }
+        let mut server = ServerHandle::new();
+        match server.add(context, start_at(loaded), size) {
+            Some(Ok(_)) => {
+                let reserved = loaded.number();
+                Some(KeptServerHandle { server, reserved })
+            }
+            _ => unreachable!(),
+        }
+    }
+
+    /// Whether the bytes are ones that a call may have written.
+    #[must_use]
+    pub fn is_whole(&self) -> bool
+        ensures yes { result ≡ true → IsKeptServer self.now }
+        ensures no { result ≡ false → IsKeptServer self.now → ⊥ }
+    {
+        let contexts = &self.server.contexts;
+        let next = contexts.slots[0].next;
+        if !contexts.is_whole() {
+            return false;
+        }
+        if contexts.count != 1 {
+            return false;
+        }
+        next <= self.reserved && self.reserved <= 1 << 40
+    }
+
+    /// Whether the gate of the context is closed, so that a challenge may be the answer.
+    fn is_closed(&self) -> bool
+        ensures { (h : History) (o : Own) → ServesWith self.now o h → result ≡ not (is_open_life (life h 0)) }
+    {
+        self.server.contexts.slots[0].gate < 2
+    }
+
+    /// The number to save before the server goes on, if there is one; `asked` says that it needs a number.
+    fn save_first(&self, asked: bool) -> Option<u64>
+        requires { IsKeptServer self.now }
+        ensures refused { IfSome result (λ number. (number ≡ next_limit self.now.reserved)
+            × ((h : History) (o : Own) → ServesWith self.now o h → WantsSave asked (upcoming o) self.now.reserved)) }
+        ensures accepted { result ≡ None → (h : History) (o : Own) → ServesWith self.now o h → WantsSave asked (upcoming o) self.now.reserved → ⊥ }
+    {
+        save_first(asked, self.server.contexts.slots[0].next, self.reserved)
+    }
+
+    /// Goes on, now that this number is saved durably: answers whether it is the one that has to be saved next, and where it isn't,
+    /// changes nothing. None where the bytes are none that a call may have written.
+    pub fn saved(&mut self, number: u64) -> Option<bool>
+        ensures saved { result ≡ Some true → (h : History) (o : Own) → ServesWith self.old o h
+            → Goes Reserve o (after Reserve o) × (number ≡ next_limit o.limit) × ServesWith self.new (after Reserve o) h }
+        ensures refused { result ≡ Some false → (h : History) (o : Own) → ServesWith self.old o h
+            → Allowed Reserve o → number ≡ next_limit o.limit → ⊥ }
+        ensures accepts { IsKeptServer self.old → IsSome result }
+        ensures accepted { IsSome result → IsKeptServer self.old }
+        ensures unchanged { result ≢ Some true → self.new ≡ self.old }
+    {
+        if !self.is_whole() {
+            return None;
+        }
+        let Some(wanted) = self.save_first(true) else {
+            return Some(false);
+        };
+        if number != wanted {
+            return Some(false);
+        }
+        self.reserved = number;
+        Some(true)
+    }
+
+    /// Decides what a datagram is answered, as `ServerHandle::decide` does: the first half of `take`. Where a number has to be saved
+    /// first, it answers which, and the datagram is decided when it is handed in again. A refusal changes nothing.
+    pub fn decide(
+        &mut self,
+        now: u64,
+        fresh: Fresh,
+        datagram: &mut [u8],
+        out: &mut [u8; 64],
+    ) -> Result<Decided, KeptRefusal>
+        ensures answered { IfOk result (λ decided. (h : History) (old : Own) → ServesWith self.old old h
+            → DecidesWith h now fresh datagram.old decided.decision datagram.new (take decided.reply out.new) old self.new) }
+        ensures refused { (number : ℕ) → result ≡ Err (refusals.SaveFirst number) → (number ≡ next_limit self.old.reserved)
+            × ((h : History) (o : Own) → ServesWith self.old o h → WantsSave (not (is_open_life (life h 0))) (upcoming o) self.old.reserved) }
+        ensures refuses { (h : History) (o : Own) → ServesWith self.old o h → WantsSave (not (is_open_life (life h 0))) (upcoming o) self.old.reserved
+            → result ≡ Err (refusals.SaveFirst (next_limit self.old.reserved)) }
+        ensures bad { result ≡ Err refusals.BadHandle → IsKeptServer self.old → ⊥ }
+        ensures accepted { result ≢ Err refusals.BadHandle → IsKeptServer self.old }
+        ensures limit_stays { self.new.reserved ≡ self.old.reserved }
+        ensures shown { IfOk result (λ decided. CanShow decided.decision datagram.new) }
+        ensures left { IfOk result (λ decided. (slots : List (Option SlotOf)) → IsTableIn self.old.server.contexts slots
+            → Leaves slots decided.decision datagram.old datagram.new) }
+        ensures within { IfOk result (λ decided. decided.reply ≤ 64) }
+        ensures behind { IfOk result (λ decided. drop decided.reply out.new ≡ drop decided.reply out.old) }
+        ensures unchanged { OnErr result ((self.new ≡ self.old) × (datagram.new ≡ datagram.old) × (out.new ≡ out.old)) }
+    {
+        if !self.is_whole() {
+            return Err(KeptRefusal::BadHandle);
+        }
+        if let Some(number) = self.save_first(self.is_closed()) {
+            return Err(KeptRefusal::SaveFirst(number));
+        }
+        match self.server.decide(now, fresh, datagram, out) {
+            Some(decided) => Ok(decided),
+            None => unreachable!(),
+        }
+    }
+
+    /// Answers a datagram, where it lies (RFC 8613, 8.2): `decide`, and what was decided as an outcome. The first `reply` bytes of `out`
+    /// are the reply. A refusal changes nothing; what else is left in the datagram, `decide` says.
+    pub fn take<'b>(
+        &mut self,
+        now: u64,
+        fresh: Fresh,
+        datagram: &'b mut [u8],
+        out: &mut [u8; 64],
+    ) -> Result<Taken<'b>, KeptRefusal>
+        ensures answered { IfOk result (λ taken. (h : History) (old : Own) → ServesWith self.old old h
+            → TakesWith h now fresh datagram.old taken.outcome (take taken.reply out.new) old self.new) }
+        ensures refused { (number : ℕ) → result ≡ Err (refusals.SaveFirst number) → (number ≡ next_limit self.old.reserved)
+            × ((h : History) (o : Own) → ServesWith self.old o h → WantsSave (not (is_open_life (life h 0))) (upcoming o) self.old.reserved) }
+        ensures refuses { (h : History) (o : Own) → ServesWith self.old o h → WantsSave (not (is_open_life (life h 0))) (upcoming o) self.old.reserved
+            → result ≡ Err (refusals.SaveFirst (next_limit self.old.reserved)) }
+        ensures bad { result ≡ Err refusals.BadHandle → IsKeptServer self.old → ⊥ }
+        ensures accepted { result ≢ Err refusals.BadHandle → IsKeptServer self.old }
+        ensures limit_stays { self.new.reserved ≡ self.old.reserved }
+        ensures within { IfOk result (λ taken. taken.reply ≤ 64) }
+        ensures behind { IfOk result (λ taken. drop taken.reply out.new ≡ drop taken.reply out.old) }
+        ensures no_keeper_failed { IfOk result (λ taken. taken.outcome ≢ KeeperFailedOutcome) }
+        ensures unchanged { OnErr result ((self.new ≡ self.old) × (out.new ≡ out.old)) }
+    {
+        match self.decide(now, fresh, datagram, out) {
+            Ok(Decided { decision, reply }) => {
+                let outcome = decision.outcome(datagram);
+                Ok(Taken { outcome, reply })
+            }
+            Err(refusal) => Err(refusal),
+        }
+    }
+
+    /// Seals a reply to the request of a ticket into `out`, as `ServerHandle::reply` does, and answers how many bytes at its front it
+    /// takes. With `own` it needs a number; where one has to be saved first, it answers which. Judged in the order of `KeptReplyRefusal`;
+    /// a refusal changes nothing.
+    pub fn reply(
+        &mut self,
+        ticket: &TicketHandle,
+        own: bool,
+        mid: u16,
+        plain: &Message<'_>,
+        out: &mut [u8],
+    ) -> Result<usize, KeptReplyRefusal>
+        ensures answered { (h : History) (old : Own) → ServesWith self.old old h → IfSome (entry_of_kept_reply result out.new) (λ entry.
+            StepsServer h (Reply (ticket_in ticket.now) own mid (parts_of plain.now) (length out.old)) entry old self.new) }
+        ensures refused { (number : ℕ) → result ≡ Err (replies.SaveFirst number) → (number ≡ next_limit self.old.reserved)
+            × ((h : History) (o : Own) → ServesWith self.old o h → WantsSave own (upcoming o) self.old.reserved) }
+        ensures refuses { (h : History) (o : Own) → ServesWith self.old o h → IsTicket ticket.now → WantsSave own (upcoming o) self.old.reserved
+            → result ≡ Err (replies.SaveFirst (next_limit self.old.reserved)) }
+        ensures spent { result ≡ Err replies.TicketSpent → (h : History) (o : Own) → ServesWith self.old o h → IsSpent h (ticket_in ticket.now) }
+        ensures once { IsTicket ticket.now → (h : History) (o : Own) → ServesWith self.old o h → IsSpent h (ticket_in ticket.now)
+            → (WantsSave own (upcoming o) self.old.reserved → ⊥) → result ≡ Err replies.TicketSpent }
+        ensures bad { result ≡ Err replies.BadHandle → IsKeptServer self.old → IsTicket ticket.now → ⊥ }
+        ensures accepted { result ≢ Err replies.BadHandle → IsKeptServer self.old × IsTicket ticket.now }
+        ensures limit_stays { self.new.reserved ≡ self.old.reserved }
+        ensures within { IfOk result (λ n. n ≤ length out.new) }
+        ensures behind { IfOk result (λ n. drop n out.new ≡ drop n out.old) }
+        ensures unchanged { OnErr result ((out.new ≡ out.old) × (self.new ≡ self.old)) }
+        ensures no_keeper_failed { result ≢ Err (replies.Refused KeeperFailed) }
+    {
+        if !self.is_whole() || !ticket.is_whole() {
+            return Err(KeptReplyRefusal::BadHandle);
+        }
+        if let Some(number) = self.save_first(own) {
+            return Err(KeptReplyRefusal::SaveFirst(number));
+        }
+        match self.server.reply(ticket, own, mid, plain, out) {
+            Ok(len) => Ok(len),
+            Err(ReplyRefusal::TicketSpent) => Err(KeptReplyRefusal::TicketSpent),
+            Err(ReplyRefusal::Refused(error)) => Err(KeptReplyRefusal::Refused(error)),
+            Err(ReplyRefusal::BadHandle) => unreachable!(),
+        }
+    }
+}

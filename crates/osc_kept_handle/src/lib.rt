@@ -1,0 +1,18 @@
+//! Both ends of OSCORE (RFC 8613) in plain bytes, with numbers that outlive them and no callback.
+#![tactic(auto)]
+
+mod in_world;
+mod kept_client_handle;
+mod kept_refusal;
+mod kept_server_handle;
+mod reserving;
+
+pub use in_world::{
+    begin_client_in_world, begin_server_in_world, client_saved_in_world, decide_bytes_in_world,
+    decide_response_bytes_in_world, forget_bytes_in_world, reply_bytes_in_world,
+    request_bytes_in_world, server_saved_in_world, take_bytes_in_world,
+    take_response_bytes_in_world,
+};
+pub use kept_client_handle::KeptClientHandle;
+pub use kept_refusal::{KeptRefusal, KeptReplyRefusal, KeptRequestRefusal};
+pub use kept_server_handle::KeptServerHandle;

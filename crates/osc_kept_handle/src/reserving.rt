@@ -1,0 +1,24 @@
+//! Numbers that are reserved 64 at a time, before they are used (RFC 8613, B.1.1).
+
+ghost use Rattle.std.specs.Prelude.{◌≡◌, ◌≤◌, ◌^◌, IfSome, None};
+ghost use Rattle.osc_context.specs.Reserving.{next_limit};
+ghost use Rattle.osc_kept_handle.specs.Reserved.{WantsSave};
+
+/// No number is this large (RFC 8613, 7.2.1).
+const NUMBER_LIMIT: u64 = 1 << 40;
+
+/// How many numbers one save reserves.
+const STEP: u64 = 64;
+
+/// The number to save before the end goes on, if there is one. `asked` says that it needs a number, `next` is the next one, and
+/// `reserved` the first that isn't reserved.
+pub(crate) fn save_first(asked: bool, next: u64, reserved: u64) -> Option<u64>
+    requires { reserved ≤ 2 ^ 40 }
+    ensures refused { IfSome result (λ number. (number ≡ next_limit reserved) × WantsSave asked next reserved) }
+    ensures accepted { result ≡ None → WantsSave asked next reserved → ⊥ }
+{
+    if next == reserved && reserved < NUMBER_LIMIT && (asked || reserved == 0) {
+        return Some((reserved + STEP).min(NUMBER_LIMIT));
+    }
+    None
+}
