@@ -236,7 +236,7 @@ typedef struct oscore_client {
    uses none that wasn't; so a power cut at any moment costs some numbers, and no nonce is used twice. What is said of copies of a
    server, and of its keys, holds of it too. */
 typedef struct oscore_kept_server {
-    oscore_server server;
+    oscore_server1 server;
     uint64_t reserved; /* its own numbers below this one may be used */
 } oscore_kept_server;
 

@@ -84,16 +84,16 @@ static void begin_client(uint64_t loaded) {
 static void begin_server(uint64_t loaded) {
     derive();
     CHECK(!oscore_kept_server_begin(server, own, loaded, 32));
-    CHECK(server->reserved == loaded && server->server.contexts[0].next == loaded && server->server.count == 1);
-    CHECK(server->server.contexts[0].gate == (loaded ? 0 : 2) && server->server.clock == 0);
+    CHECK(server->reserved == loaded && server->server.context.next == loaded);
+    CHECK(server->server.context.gate == (loaded ? 0 : 2) && server->server.clock == 0);
 }
 
 /* Padding isn't compared. */
 static bool same_server(const oscore_kept_server *k, const oscore_kept_server *l) {
-    const oscore_server *a = &k->server, *b = &l->server;
-    const oscore_server_context *x = &a->contexts[0], *y = &b->contexts[0];
-    return k->reserved == l->reserved && a->clock == b->clock && a->count == b->count
-        && !memcmp(a->unanswered, b->unanswered, sizeof a->unanswered) && !memcmp(x, y, offsetof(oscore_server_context, echo) + 8) && x->at == y->at && x->spent_mask == y->spent_mask
+    const oscore_server1 *a = &k->server, *b = &l->server;
+    const oscore_server_context *x = &a->context, *y = &b->context;
+    return k->reserved == l->reserved && a->clock == b->clock && !memcmp(&a->unanswered, &b->unanswered, sizeof a->unanswered)
+        && !memcmp(x, y, offsetof(oscore_server_context, echo) + 8) && x->at == y->at && x->spent_mask == y->spent_mask
         && x->next == y->next && x->life == y->life;
 }
 
@@ -192,7 +192,7 @@ static void begins(void) {
     oscore_kept_server before = *server;
     CHECK(oscore_kept_server_begin(server, own, NUMBERS, 32) == OSCORE_BAD_NUMBER && same_server(server, &before));
     CHECK(oscore_kept_server_begin(server, own, 0, 33) == OSCORE_BAD_NUMBER && same_server(server, &before));
-    CHECK(oscore_kept_server_begin(server, own, NUMBERS - 1, 64) == OSCORE_DONE && server->server.contexts[0].places == 64);
+    CHECK(oscore_kept_server_begin(server, own, NUMBERS - 1, 64) == OSCORE_DONE && server->server.context.places == 64);
     begin_client(7);
     oscore_kept_client asked = *client;
     CHECK(oscore_kept_client_begin(client, context, NUMBERS, LIFE) == OSCORE_BAD_NUMBER && same_client(client, &asked));
@@ -226,9 +226,9 @@ static void serves_fresh(void) {
         begin_server(0);
         CHECK(!oscore_kept_server_saved(server, BATCH) && !take_text(SEALED) && opened->number == 20 && !*reply_len);
         CHECK(!answer(ANSWER, by_own, 64) && is(out, *out_len, SEALED_ANSWERS[by_own]));
-        CHECK(server->server.contexts[0].next == (uint64_t)by_own && answer(ANSWER, by_own, 64) == OSCORE_TICKET_SPENT);
+        CHECK(server->server.context.next == (uint64_t)by_own && answer(ANSWER, by_own, 64) == OSCORE_TICKET_SPENT);
         CHECK(take_text(SEALED) == OSCORE_REPLAY && *reply_len);
-        CHECK(server->server.contexts[0].context.constant_time == constant_time);
+        CHECK(server->server.context.context.constant_time == constant_time);
     }
 }
 
@@ -237,7 +237,7 @@ static void replies(void) {
     begin_server(0);
     CHECK(!oscore_kept_server_saved(server, BATCH));
     for (uint64_t under = 0; under < BATCH; under++) CHECK(!take_sealed(REQUEST, under) && !answer(ANSWER, true, 64));
-    CHECK(server->server.contexts[0].next == BATCH && !take_sealed(REQUEST, BATCH));
+    CHECK(server->server.context.next == BATCH && !take_sealed(REQUEST, BATCH));
     CHECK(answer("604500", true, 64) == OSCORE_SHORT && *detail == 0 && answer("60450001d10e06", true, 64) == OSCORE_SAVE_FIRST);
     CHECK(*detail == 2 * BATCH && answer(ANSWER, true, 64) == OSCORE_SAVE_FIRST);
     oscore_ticket kept = *ticket;
@@ -250,8 +250,8 @@ static void replies(void) {
     *ticket = kept;
     server_is_told(2 * BATCH);
     CHECK(answer(REQUEST, true, 64) == OSCORE_NOT_THAT_KIND && answer("60450001d10e06", true, 64) == OSCORE_UNSUPPORTED && *detail == 27);
-    CHECK(answer(ANSWER, true, 33) == OSCORE_NO_ROOM && !answer(ANSWER, true, 64) && server->server.contexts[0].next == BATCH + 1);
-    CHECK(!take_sealed(REQUEST, BATCH + 1) && !answer(ANSWER, false, 64) && server->server.contexts[0].next == BATCH + 1);
+    CHECK(answer(ANSWER, true, 33) == OSCORE_NO_ROOM && !answer(ANSWER, true, 64) && server->server.context.next == BATCH + 1);
+    CHECK(!take_sealed(REQUEST, BATCH + 1) && !answer(ANSWER, false, 64) && server->server.context.next == BATCH + 1);
 }
 
 /* A life behind another is closed: each datagram needs a number, and each challenge uses one. */
@@ -259,20 +259,20 @@ static void serves_again(void) {
     begin_server(BATCH);
     CHECK(take_text(SEALED) == OSCORE_SAVE_FIRST && *detail == 2 * BATCH && take_text("4001") == OSCORE_SAVE_FIRST);
     server_is_told(2 * BATCH);
-    CHECK(take_text("4001") == OSCORE_SHORT && server->server.contexts[0].next == BATCH);
+    CHECK(take_text("4001") == OSCORE_SHORT && server->server.context.next == BATCH);
     for (uint64_t i = 1; i <= BATCH; i++)
-        CHECK(take_text(SEALED) == OSCORE_CHALLENGE && *reply_len && server->server.contexts[0].next == BATCH + i);
+        CHECK(take_text(SEALED) == OSCORE_CHALLENGE && *reply_len && server->server.context.next == BATCH + i);
     CHECK(take_sealed(ECHOED, 21) == OSCORE_SAVE_FIRST && *detail == 3 * BATCH);
     server_is_told(3 * BATCH);
-    CHECK(!take_sealed(ECHOED, 21) && server->server.contexts[0].next == 2 * BATCH && opened->option_count == 2);
-    CHECK(!answer(ANSWER, true, 64) && server->server.contexts[0].next == 2 * BATCH + 1 && take_text(SEALED) == OSCORE_REPLAY);
+    CHECK(!take_sealed(ECHOED, 21) && server->server.context.next == 2 * BATCH && opened->option_count == 2);
+    CHECK(!answer(ANSWER, true, 64) && server->server.context.next == 2 * BATCH + 1 && take_text(SEALED) == OSCORE_REPLAY);
 }
 
 static void serves_to_the_last_number(void) {
     begin_server(NUMBERS - 2);
     CHECK(take_text(SEALED) == OSCORE_SAVE_FIRST && *detail == NUMBERS);
     server_is_told(NUMBERS);
-    CHECK(take_text(SEALED) == OSCORE_CHALLENGE && take_text(SEALED) == OSCORE_CHALLENGE && server->server.contexts[0].next == NUMBERS);
+    CHECK(take_text(SEALED) == OSCORE_CHALLENGE && take_text(SEALED) == OSCORE_CHALLENGE && server->server.context.next == NUMBERS);
     CHECK(take_text(SEALED) == OSCORE_SEQUENCE_EXHAUSTED && !*reply_len && oscore_kept_server_saved(server, NUMBERS) == OSCORE_BAD_NUMBER);
     CHECK(!take_sealed(ECHOED, 21) && answer(ANSWER, true, 64) == OSCORE_SEQUENCE_EXHAUSTED && !answer(ANSWER, false, 64));
 }
@@ -395,9 +395,7 @@ static void refuses_bytes(void) {
     CHECK(oscore_kept_server_saved(server, BATCH) == OSCORE_BAD_HANDLE);
     server->reserved = NUMBERS + 1;
     CHECK(take_text(SEALED) == OSCORE_BAD_HANDLE);
-    *server = kept, server->server.count = 0;
-    CHECK(take_text(SEALED) == OSCORE_BAD_HANDLE);
-    server->server.count = 2, server->server.contexts[1] = server->server.contexts[0];
+    *server = kept, server->server.context.gate = 4;
     CHECK(take_text(SEALED) == OSCORE_BAD_HANDLE && *detail == 0);
     begin_client(BATCH);
     client->reserved = BATCH - 1;
@@ -415,7 +413,7 @@ static void spoils_ends(void) {
         CHECK(!oscore_kept_server_saved(server, i % 3 ? 2 * BATCH : BATCH));
         ((uint8_t *)server)[(size_t)rand() % sizeof *server] = (uint8_t)rand();
         uint32_t status = take_text(SEALED);
-        CHECK(status == OSCORE_BAD_HANDLE || server->server.contexts[0].next <= server->reserved);
+        CHECK(status == OSCORE_BAD_HANDLE || server->server.context.next <= server->reserved);
         begin_client(20);
         CHECK(!oscore_kept_client_saved(client, 20 + BATCH));
         ((uint8_t *)client)[(size_t)rand() % sizeof *client] = (uint8_t)rand();

@@ -1,5 +1,8 @@
 //! Calls of osc_handle: a server as bytes, step by step, with room for eight contexts or of one alone.
 
+ghost use Rattle.std.specs.Prelude.{IfSome};
+ghost use Rattle.osc_endpoint.specs.Deciding.{CanShow};
+
 use crate::answer::Answer;
 use crate::fields::NamedContext;
 use crate::server::{Addition, left, read_addition, show_added};
@@ -73,7 +76,9 @@ impl Bytes {
         fresh: Fresh,
         datagram: &mut [u8],
         out: &mut [u8; 64],
-    ) -> Option<Decided> {
+    ) -> Option<Decided>
+        ensures { IfSome result (λ decided. CanShow decided.decision datagram.new) }
+    {
         match self {
             Bytes::Eight(server) => server.decide(now, fresh, datagram, out),
             Bytes::One(server) => server.decide(now, fresh, datagram, out),

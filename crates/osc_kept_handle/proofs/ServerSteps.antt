@@ -12,12 +12,11 @@ use Rattle.osc_endpoint.specs.declared.server_error.ReplyError.{ReplyError}
 use Rattle.osc_endpoint.specs.declared.slot.Slot.{Slot}
 use Rattle.osc_endpoint.specs.declared.start.Start.{Start}
 use Rattle.osc_endpoint.specs.declared.start.Start.TheVariants as starts
-use Rattle.osc_handle.proofs.Tables.{life_there, read_at}
-use Rattle.osc_handle.specs.ServerBytes.{AddsIn, RepliesIn, Serves, entry_of_add}
-use Rattle.osc_handle.specs.TableBytes.{IsTable, IsPlaceIn, places_in}
-use Rattle.osc_handle.specs.declared.add_refusal.AddRefusal.{AddRefusal}
-use Rattle.osc_handle.specs.declared.server_handle.ServerHandle.{ServerHandle}
-use Rattle.osc_handle.specs.declared.slot_handle.SlotHandle.{SlotHandle}
+use Rattle.osc_handle.proofs.Tables.{life_there}
+use Rattle.osc_handle.specs.ServerBytes.{AddsIn, RepliesIn, Serves}
+use Rattle.osc_handle.specs.SingleServerBytes.{server_of_one, table_of}
+use Rattle.osc_handle.specs.SlotBytes.{IsSlotBytes}
+use Rattle.osc_handle.specs.declared.single_server_handle.SingleServerHandle.{SingleServerHandle}
 use Rattle.osc_kept.proofs.ServerSteps.{IsChallenge, IsNoChallenge, reply_own, reply_refused, reply_shared, took_sealed, took_unsealed}
 use Rattle.osc_kept.specs.KeptServing.{IsKept, IsStart}
 use Rattle.osc_context.specs.Reserving.{next_limit}
@@ -33,32 +32,20 @@ use Rattle.osc_kept_handle.specs.declared.kept_server_handle.KeptServerHandle.{K
 life_next : (o : Option Life) (of : Life) (next : ℕ) → option_map next_own o ≡ Some next → o ≡ Some of → next_own of ≡ next
 life_next o of next is e = ap (λ (x : Option ℕ). unwrap_or x next) (sym (ap (option_map next_own) e) ∙ is)
 
--- the next number in the bytes of the one context
-pub next_in : (k : KeptServerHandle) (h : History) (next : ℕ) (b : SlotHandle) → Serves k.server h → option_map next_own (life h 0) ≡ Some next
-    → slice_get (places_in k.server.contexts) 0 ≡ Some b → b.next ≡ next
-next_in k h next b serves is there =
-    let (of, life_is, slot, holds, agrees) = life_there k.server.contexts serves.slots (life h) 0 b serves.table serves.agrees.places there in
+-- the next number in the bytes of the context
+pub next_in : (k : KeptServerHandle) (h : History) (next : ℕ) → Serves (server_of_one k.server) h → option_map next_own (life h 0) ≡ Some next → k.server.slot.next ≡ next
+next_in k h next serves is =
+    let (of, life_is, slot, holds, agrees) = life_there (table_of k.server.slot) serves.slots (life h) 0 k.server.slot serves.table serves.agrees.places refl in
     holds.next ∙ (agrees.next ∙ life_next (life h 0) of next is life_is)
 
-lengths : (bs : List SlotHandle) (ps : List (Option Slot)) → ((i : ℕ) → IsPlaceIn (slice_get bs i) (slice_get ps i)) → length bs ≡ length ps
-lengths [] [] h = refl
-lengths [] (p ∷ ps) h = absurd (h 0)
-lengths (b ∷ bs) [] h = absurd (h 0)
-lengths (b ∷ bs) (p ∷ ps) h = ap suc (lengths bs ps (λ i. h (suc i)))
-
--- there is one place in use
-one_used : (k : KeptServerHandle) (h : History) → Serves k.server h → added h ≡ 1 → length (places_in k.server.contexts) ≡ 1
-one_used k h serves one = lengths (places_in k.server.contexts) serves.slots serves.table.at ∙ (serves.agrees.contexts ∙ one)
-
-pub serves_with : (k : KeptServerHandle) (o : Own) (h : History) → Serves k.server h → IsTable k.server.contexts → added h ≡ 1
+pub serves_with : (k : KeptServerHandle) (o : Own) (h : History) → Serves (server_of_one k.server) h → IsSlotBytes k.server.slot → added h ≡ 1
     → option_map next_own (life h 0) ≡ Some (upcoming o) → AreReserved o k.reserved → k.reserved ≤ 2 ^ 40 → ServesWith k o h
-serves_with k o h serves table one next numbers top =
+serves_with k o h serves bytes one next numbers top =
     record {
       whole = record {
-        table = table;
-        one = one_used k h serves one;
-        next = λ b there.
-            let is : b.next ≡ upcoming o = next_in k h (upcoming o) b serves next there in
+        bytes = bytes;
+        next =
+            let is : k.server.slot.next ≡ upcoming o = next_in k h (upcoming o) serves next in
             let within : upcoming o ≤ k.reserved = upcoming_within o k.reserved numbers in
             omega (arith, is, within);
         reserved = top;
@@ -69,26 +56,18 @@ serves_with k o h serves table one next numbers top =
       numbers = numbers;
     }
 
--- its next number, as it is read, isn't above the first that isn't reserved
-pub next_read : (k : KeptServerHandle) (other : SlotHandle) → IsKeptServer k → k.server.contexts.count ≡ 1 → 0 < length k.server.contexts.slots
-    → k.reserved < (slice_index_or k.server.contexts.slots 0 other).next → ⊥
-next_read k other w one room above =
-    let least = w.next (slice_index_or k.server.contexts.slots 0 other) (read_at k.server.contexts 0 other (omega (arith, one)) room) in
-    omega (arith, least, above)
-
 -- ---- a start, and a save
 
 first_own : (context : SecurityContext) (start : Start) (size : WindowSize) (n : ℕ) → IsStart start n → next_own (born context start size) ≡ n
 first_own context (starts.Fresh first) size n is = let same = is.0 in omega (arith, same)
 first_own context (starts.Restarted first) size n is = let same = is.0 in omega (arith, same)
 
-pub begun : (t : ServerHandle) (context : SecurityContext) (start : Start) (size : WindowSize) (index n floor reserved : ℕ) (r : Result ℕ AddRefusal) → r ≡ Ok index
-    → IfSome (entry_of_add r) (λ entry. AddsIn Begin context start size entry t) → IsTable t.contexts → IsStart start n → n < 2 ^ 40 → floor ≤ n → reserved ≡ n
+pub begun : (t : SingleServerHandle) (context : SecurityContext) (start : Start) (size : WindowSize) (n floor reserved : ℕ)
+    → AddsIn Begin context start size (Added 0) (server_of_one t) → IsSlotBytes t.slot → IsStart start n → n < 2 ^ 40 → floor ≤ n → reserved ≡ n
     → ServesWith (record { server = t; reserved = reserved }) (after (Load n) (nothing_drawn floor)) (Then Begin (Add context start size) (Added 0))
-begun t context start size index n floor reserved r is adds table starts below least same =
-    let (row, serves) = subst (λ (x : Result ℕ AddRefusal). IfSome (entry_of_add x) (λ entry. AddsIn Begin context start size entry t)) is adds in
+begun t context start size n floor reserved (row, serves) bytes starts below least same =
     serves_with (record { server = t; reserved = reserved }) (after (Load n) (nothing_drawn floor)) (Then Begin (Add context start size) (Added 0))
-    (subst (λ i. Serves t (Then Begin (Add context start size) (Added i))) row.1.2 serves) table refl (ap Some (first_own context start size n starts)) (subst (AreReserved (after (Load n) (nothing_drawn floor))) (sym same) (loaded n floor least)) (omega (arith, below, same))
+    serves bytes refl (ap Some (first_own context start size n starts)) (subst (AreReserved (after (Load n) (nothing_drawn floor))) (sym same) (loaded n floor least)) (omega (arith, below, same))
 
 pub saved : (k : KeptServerHandle) (number : ℕ) (h : History) (o : Own) → ServesWith k o h → WantsSave true (upcoming o) k.reserved → number ≡ next_limit k.reserved
     → Goes Reserve o (after Reserve o) × (number ≡ next_limit o.limit) × ServesWith (record { server = k.server; reserved = number }) (after Reserve o) h
@@ -100,9 +79,8 @@ saved k number h o w wants is =
       is ∙ ap next_limit (sym w.numbers.limit_is),
       record {
         whole = record {
-          table = w.whole.table;
-          one = w.whole.one;
-          next = λ b there. let within : b.next ≤ k.reserved = w.whole.next b there in omega (arith, within, is, below);
+          bytes = w.whole.bytes;
+          next = let within : k.server.slot.next ≤ k.reserved = w.whole.next in omega (arith, within, is, below);
           reserved = omega (arith, is);
         };
         serves = w.serves;
@@ -132,7 +110,7 @@ challenge_or_not (Deliver received ticket) = inr tt
 
 pub took : (k t : KeptServerHandle) (h : History) (now : ℕ) (echo : List ℕ) (m : ℕ) (d : List ℕ) (answer : Answer) (reply : List ℕ) (old : Own) → ServesWith k old h
     → (WantsSave (not (is_open_life (life h 0))) (upcoming old) k.reserved → ⊥) → ServerAnswer h (Datagram now echo m d) (Took answer reply)
-    → Serves t.server (Then h (Datagram now echo m d) (Took answer reply)) → IsTable t.server.contexts → t.reserved ≡ k.reserved
+    → Serves (server_of_one t.server) (Then h (Datagram now echo m d) (Took answer reply)) → IsSlotBytes t.server.slot → t.reserved ≡ k.reserved
     → StepsServer h (Datagram now echo m d) (Took answer reply) old t
 took k t h now echo m d answer reply old w wants row serves table same =
     let (mid, drawn, numbers) = drawn_by (not (is_open_life (life h 0))) old k.reserved w.numbers w.whole.reserved wants in
@@ -162,7 +140,7 @@ took k t h now echo m d answer reply old w wants row serves table same =
 -- ---- replies
 
 pub not_replied : (k t : KeptServerHandle) (h : History) (v : TicketValues) (own : Bool) (m : ℕ) (p : Parts) (room : ℕ) (e : ReplyError) (old : Own) → ServesWith k old h
-    → (WantsSave own (upcoming old) k.reserved → ⊥) → RepliesIn h v own m p room (NotReplied e) t.server → IsTable t.server.contexts
+    → (WantsSave own (upcoming old) k.reserved → ⊥) → RepliesIn h v own m p room (NotReplied e) (server_of_one t.server) → IsSlotBytes t.server.slot
     → t.reserved ≡ k.reserved → StepsServer h (Reply v own m p room) (NotReplied e) old t
 not_replied k t h v own m p room e old w wants (row, serves) table same =
     let (mid, drawn, numbers) = drawn_by own old k.reserved w.numbers w.whole.reserved wants in
@@ -178,7 +156,7 @@ not_replied k t h v own m p room e old w wants (row, serves) table same =
     }
 
 pub replied : (k t : KeptServerHandle) (h : History) (v : TicketValues) (own : Bool) (m : ℕ) (p : Parts) (room : ℕ) (bytes : List ℕ) (old : Own) → ServesWith k old h
-    → (WantsSave own (upcoming old) k.reserved → ⊥) → RepliesIn h v own m p room (Replied bytes) t.server → IsTable t.server.contexts
+    → (WantsSave own (upcoming old) k.reserved → ⊥) → RepliesIn h v own m p room (Replied bytes) (server_of_one t.server) → IsSlotBytes t.server.slot
     → t.reserved ≡ k.reserved → StepsServer h (Reply v own m p room) (Replied bytes) old t
 replied k t h v false m p room bytes old w wants (row, serves) table same =
     let top : t.reserved ≤ 2 ^ 40 = let was : k.reserved ≤ 2 ^ 40 = w.whole.reserved in omega (arith, same, was) in

@@ -1,6 +1,6 @@
 -- To be believed: what the bytes of a kept server say (RFC 8613, 7.2.1 and B.1). k are the bytes, h is a history, o, old and new are the numbers of the
 -- server, before and after a call.
-use Rattle.std.specs.Prelude.{◌≡◌, ℕ, ◌≤◌, ◌^◌, List, Option, Some, None, Result, Ok, Err, length, slice_get, take}
+use Rattle.std.specs.Prelude.{◌≡◌, ℕ, ◌≤◌, ◌^◌, List, Option, Some, None, Result, Ok, Err, take}
 use Rattle.std.specs.Option.{option_map}
 use Rattle.osc_endpoint.specs.Deciding.{Decides}
 use Rattle.osc_endpoint.specs.Life.{next_own}
@@ -11,8 +11,8 @@ use Rattle.osc_endpoint.specs.declared.decision.Decision.{Decision}
 use Rattle.osc_endpoint.specs.declared.outcome.Outcome.{Outcome}
 use Rattle.osc_endpoint.specs.declared.start.Fresh.{Fresh}
 use Rattle.osc_handle.specs.ServerBytes.{Serves}
-use Rattle.osc_handle.specs.TableBytes.{IsTable, places_in}
-use Rattle.osc_handle.specs.declared.slot_handle.SlotHandle.{SlotHandle}
+use Rattle.osc_handle.specs.SingleServerBytes.{server_of_one}
+use Rattle.osc_handle.specs.SlotBytes.{IsSlotBytes}
 use Rattle.osc_kept.specs.KeptServing.{draws, uses}
 use Rattle.osc_kept.specs.Numbering.{Own, Steps, upcoming}
 use Rattle.osc_kept_handle.specs.Reserved.{AreReserved}
@@ -20,17 +20,16 @@ use Rattle.osc_kept_handle.specs.declared.kept_refusal.KeptReplyRefusal.{KeptRep
 use Rattle.osc_kept_handle.specs.declared.kept_refusal.KeptReplyRefusal.TheVariants.{BadHandle, SaveFirst, TicketSpent, Refused}
 use Rattle.osc_kept_handle.specs.declared.kept_server_handle.KeptServerHandle.{KeptServerHandle}
 
--- bytes that a call may have written: of one context, whose next own number isn't above the first that isn't reserved (RFC 8613, 7.2.1; own rule: one)
+-- bytes that a call may have written: the next own number of the context isn't above the first that isn't reserved (RFC 8613, 7.2.1)
 pub record IsKeptServer (k : KeptServerHandle) : Type 0 where
-  pub table : IsTable k.server.contexts
-  pub one : length (places_in k.server.contexts) ≡ 1
-  pub next : (b : SlotHandle) → slice_get (places_in k.server.contexts) 0 ≡ Some b → b.next ≤ k.reserved
+  pub bytes : IsSlotBytes k.server.slot
+  pub next : k.server.slot.next ≤ k.reserved
   pub reserved : k.reserved ≤ 2 ^ 40
 
 -- the bytes stand for a server of one context that is as its history says, and has these numbers (RFC 8613, 7.2.1 and B.1.1)
 pub record ServesWith (k : KeptServerHandle) (o : Own) (h : History) : Type 0 where
   pub whole : IsKeptServer k
-  pub serves : Serves k.server h
+  pub serves : Serves (server_of_one k.server) h
   pub one : added h ≡ 1
   pub next_is : option_map next_own (life h 0) ≡ Some (upcoming o)
   pub numbers : AreReserved o k.reserved

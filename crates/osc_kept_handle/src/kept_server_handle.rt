@@ -13,6 +13,7 @@ ghost use Rattle.osc_endpoint.specs.declared.slot.Slot.{Slot as SlotOf};
 ghost use Rattle.osc_endpoint.specs.declared.start.Start.{Start as StartOf};
 ghost use Rattle.osc_handle.specs.ContextBytes.{IsContext, server_in};
 ghost use Rattle.osc_handle.specs.ServerBytes.{IsSpent};
+ghost use Rattle.osc_handle.specs.SingleServerBytes.{table_of};
 ghost use Rattle.osc_handle.specs.TableBytes.{IsTableIn};
 ghost use Rattle.osc_handle.specs.TicketBytes.{IsTicket, ticket_in};
 ghost use Rattle.osc_kept.specs.KeptServing.{IsStart};
@@ -27,7 +28,7 @@ use crate::reserving::save_first;
 use osc_coap::Message;
 use osc_context::Piv;
 use osc_endpoint::{Decided, Fresh, Start, Taken};
-use osc_handle::{ContextHandle, ReplyRefusal, ServerHandle, TicketHandle};
+use osc_handle::{ContextHandle, ReplyRefusal, SingleServerHandle, TicketHandle};
 use osc_window::WindowSize;
 
 /// A server of one context, and the first of its own numbers that isn't reserved: it seals with reserved numbers alone, and tells its
@@ -35,7 +36,7 @@ use osc_window::WindowSize;
 #[repr(C)]
 #[derive(Clone, Copy)]
 pub struct KeptServerHandle {
-    pub server: ServerHandle,
+    pub server: SingleServerHandle,
     pub reserved: u64,
 }
 
@@ -60,16 +61,12 @@ impl KeptServerHandle {
         ensures accepts { IsContext context.now → IsSome result }
         ensures accepted { IsSome result → IsContext context.now }
     {
-        if !context.is_whole() {
-            return None;
-        }
-        let mut server = ServerHandle::new();
-        match server.add(context, start_at(loaded), size) {
-            Some(Ok(_)) => {
+        match SingleServerHandle::begin(context, start_at(loaded), size) {
+            Some(server) => {
                 let reserved = loaded.number();
                 Some(KeptServerHandle { server, reserved })
             }
-            _ => unreachable!(),
+            None => None,
         }
     }
 
@@ -79,22 +76,16 @@ impl KeptServerHandle {
         ensures yes { result ≡ true → IsKeptServer self.now }
         ensures no { result ≡ false → IsKeptServer self.now → ⊥ }
     {
-        let contexts = &self.server.contexts;
-        let next = contexts.slots[0].next;
-        if !contexts.is_whole() {
-            return false;
-        }
-        if contexts.count != 1 {
-            return false;
-        }
-        next <= self.reserved && self.reserved <= 1 << 40
+        self.server.slot.is_whole()
+            && self.server.slot.next <= self.reserved
+            && self.reserved <= 1 << 40
     }
 
     /// Whether the gate of the context is closed, so that a challenge may be the answer.
     fn is_closed(&self) -> bool
         ensures { (h : History) (o : Own) → ServesWith self.now o h → result ≡ not (is_open_life (life h 0)) }
     {
-        self.server.contexts.slots[0].gate < 2
+        self.server.slot.gate < 2
     }
 
     /// The number to save before the server goes on, if there is one; `asked` says that it needs a number.
@@ -104,7 +95,7 @@ impl KeptServerHandle {
             × ((h : History) (o : Own) → ServesWith self.now o h → WantsSave asked (upcoming o) self.now.reserved)) }
         ensures accepted { result ≡ None → (h : History) (o : Own) → ServesWith self.now o h → WantsSave asked (upcoming o) self.now.reserved → ⊥ }
     {
-        save_first(asked, self.server.contexts.slots[0].next, self.reserved)
+        save_first(asked, self.server.slot.next, self.reserved)
     }
 
     /// Goes on, now that this number is saved durably: answers whether it is the one that has to be saved next, and where it isn't,
@@ -131,7 +122,7 @@ impl KeptServerHandle {
         Some(true)
     }
 
-    /// Decides what a datagram is answered, as `ServerHandle::decide` does: the first half of `take`. Where a number has to be saved
+    /// Decides what a datagram is answered, as `SingleServerHandle::decide` does: the first half of `take`. Where a number has to be saved
     /// first, it answers which, and the datagram is decided when it is handed in again. A refusal changes nothing.
     pub fn decide(
         &mut self,
@@ -150,7 +141,7 @@ impl KeptServerHandle {
         ensures accepted { result ≢ Err refusals.BadHandle → IsKeptServer self.old }
         ensures limit_stays { self.new.reserved ≡ self.old.reserved }
         ensures shown { IfOk result (λ decided. CanShow decided.decision datagram.new) }
-        ensures left { IfOk result (λ decided. (slots : List (Option SlotOf)) → IsTableIn self.old.server.contexts slots
+        ensures left { IfOk result (λ decided. (slots : List (Option SlotOf)) → IsTableIn (table_of self.old.server.slot) slots
             → Leaves slots decided.decision datagram.old datagram.new) }
         ensures within { IfOk result (λ decided. decided.reply ≤ 64) }
         ensures behind { IfOk result (λ decided. drop decided.reply out.new ≡ drop decided.reply out.old) }
@@ -200,7 +191,7 @@ impl KeptServerHandle {
         }
     }
 
-    /// Seals a reply to the request of a ticket into `out`, as `ServerHandle::reply` does, and answers how many bytes at its front it
+    /// Seals a reply to the request of a ticket into `out`, as `SingleServerHandle::reply` does, and answers how many bytes at its front it
     /// takes. With `own` it needs a number; where one has to be saved first, it answers which. Judged in the order of `KeptReplyRefusal`;
     /// a refusal changes nothing.
     pub fn reply(
