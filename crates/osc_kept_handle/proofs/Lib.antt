@@ -1,4 +1,5 @@
 pub mod NumberSteps
 pub mod ServerSteps
 pub mod ClientSteps
+pub mod GivenTickets
 pub mod BytesInWorld

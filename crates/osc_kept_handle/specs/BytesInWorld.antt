@@ -1,6 +1,6 @@
 -- To be believed: the calls of kept ends in bytes within the list of what happens at both ends (RFC 8613, 7.4, 8.1 to 8.4 and B.1), each as a step of it.
 -- w is the world before, v the one after, s the security context, n for how many pending requests the client has room, k are the bytes after the call.
-use Rattle.std.specs.Prelude.{◌≡◌, ℕ, ◌<◌, ◌≤◌, List}
+use Rattle.std.specs.Prelude.{◌≡◌, ℕ, ◌<◌, ◌≤◌, List, Some}
 use Rattle.osc_context.specs.SecurityContext.{SecurityContext}
 use Rattle.osc_window.specs.declared.window_size.WindowSize.{WindowSize}
 use Rattle.osc_endpoint.specs.declared.client_outcome.ClientOutcome.{ClientOutcome}
@@ -12,13 +12,14 @@ use Rattle.osc_endpoint.specs.declared.start.Start.{Start}
 use Rattle.osc_endpoint.specs.ClientDeciding as client_deciding
 use Rattle.osc_endpoint.specs.ClientHistory as client
 use Rattle.osc_endpoint.specs.Deciding as deciding
+use Rattle.osc_endpoint.specs.Laws.{delivered}
 use Rattle.osc_endpoint.specs.ServerHistory as server
 use Rattle.osc_endpoint.specs.Views.{ClientShows, Shows}
 use Rattle.osc_kept.specs.GoingOn.{ClientRuns, GoesOn, ServerRuns, server_started}
 use Rattle.osc_kept.specs.InWorld.{ClientStays, IsAsClaimed, ServerStays}
 use Rattle.osc_kept.specs.KeptServing.{IsStart}
 use Rattle.osc_kept.specs.Numbering.{Own, Load, after, nothing_drawn}
-use Rattle.osc_kept.specs.World.{World, Then, Client, Server, ClientStarts, Reserves, AtClient, AtServer, numbers}
+use Rattle.osc_kept.specs.World.{World, Then, Client, Server, ClientStarts, Reserves, AtClient, AtServer, Has, numbers, server_history}
 use Rattle.osc_kept_handle.specs.KeptClientBytes.{AsksWith}
 use Rattle.osc_kept_handle.specs.KeptServerBytes.{ServesWith}
 use Rattle.osc_kept_handle.specs.declared.kept_client_handle.KeptClientHandle.{KeptClientHandle}
@@ -44,6 +45,10 @@ DecidesInWorld n s w now fresh d decision left reply k = (answer : server.Answer
 abbrev pub TakesInWorld : ℕ → SecurityContext → World → ℕ → Fresh → List ℕ → Outcome → List ℕ → KeptServerHandle → Type 0
 TakesInWorld n s w now fresh d outcome reply k = (answer : server.Answer) × Shows outcome answer
     × ServerAfter n s w (server.Datagram now fresh.echo fresh.mid d) (server.Took answer reply) k
+
+-- a delivery of the server that runs gave this very ticket; that no reply took it yet the server sees to itself (own rule)
+abbrev pub GivesTicket : SecurityContext → World → server.TicketValues → Type 0
+GivesTicket s w t = (h : server.History) → server_history s w ≡ Some h → Has t (delivered h)
 
 -- so does a save, behind which the number that was saved is the floor (RFC 8613, B.1.1)
 abbrev pub SavesInWorld : ℕ → SecurityContext → World → ℕ → KeptServerHandle → Type 0

@@ -12,13 +12,13 @@ ghost use Rattle.osc_endpoint.specs.ServerHistory as served;
 ghost use Rattle.osc_endpoint.specs.declared.start.Start.{Start as StartOf};
 ghost use Rattle.osc_handle.specs.ContextBytes.{client_in, server_in};
 ghost use Rattle.osc_handle.specs.TicketBytes.{ticket_in};
-ghost use Rattle.osc_kept.specs.CallsInWorld.{HoldsTicket, NobodyForgesTo};
+ghost use Rattle.osc_kept.specs.CallsInWorld.{NobodyForgesTo};
 ghost use Rattle.osc_kept.specs.GoingOn.{HasSavedFirst};
 ghost use Rattle.osc_kept.specs.InWorld.{IsUnseen};
 ghost use Rattle.osc_kept.specs.KeptServing.{IsStart};
 ghost use Rattle.osc_kept.specs.Premises.{IsLawful, NobodyForgesRequests};
 ghost use Rattle.osc_kept.specs.World.{World, Client as ClientEnd, Server as ServerEnd, numbers};
-ghost use Rattle.osc_kept_handle.specs.BytesInWorld.{ClientAfter, ClientDecidesInWorld, ClientRunsWith, ClientSavesInWorld, ClientStartsInWorld, ClientTakesInWorld, DecidesInWorld, IsUnsaved, RunsWith, SavesInWorld, ServerAfter, StartsInWorld, TakesInWorld};
+ghost use Rattle.osc_kept_handle.specs.BytesInWorld.{ClientAfter, ClientDecidesInWorld, ClientRunsWith, ClientSavesInWorld, ClientStartsInWorld, ClientTakesInWorld, DecidesInWorld, GivesTicket, IsUnsaved, RunsWith, SavesInWorld, ServerAfter, StartsInWorld, TakesInWorld};
 ghost use Rattle.osc_kept_handle.specs.KeptClientBytes.{entry_of_kept_request};
 ghost use Rattle.osc_kept_handle.specs.KeptServerBytes.{entry_of_kept_reply};
 ghost use Rattle.osc_window.specs.declared.window_size.WindowSize.{WindowSize as WindowSizeOf};
@@ -28,7 +28,7 @@ use crate::kept_refusal::{KeptRefusal, KeptReplyRefusal, KeptRequestRefusal};
 use crate::kept_server_handle::KeptServerHandle;
 use osc_coap::Message;
 use osc_context::Piv;
-use osc_endpoint::{ClientDecision, ClientOutcome, Decided, Fresh, Taken};
+use osc_endpoint::{ClientDecision, ClientOutcome, Decided, Fresh, Taken, answered_once};
 use osc_handle::{ContextHandle, TicketHandle};
 use osc_kept::{both_ends, kept_ends_in_world};
 use osc_window::WindowSize;
@@ -96,7 +96,7 @@ pub fn take_bytes_in_world<'b>(
     server.take(now, fresh, datagram, out)
 }
 
-/// `KeptServerHandle::reply`, by a ticket that a delivery gave and that no reply took.
+/// `KeptServerHandle::reply`, by a ticket that a delivery gave. It may have been copied: an accepted reply is the first to its request.
 pub fn reply_bytes_in_world(
     server: &mut KeptServerHandle,
     ticket: &TicketHandle,
@@ -105,11 +105,12 @@ pub fn reply_bytes_in_world(
     plain: &Message<'_>,
     out: &mut [u8],
 ) -> Result<usize, KeptReplyRefusal>
-    ensures answered { (n : ℕ) (s : SecurityContext) (w : World) → IsLawful n s w → RunsWith s w server.old → HoldsTicket s w (ticket_in ticket.now)
+    ensures answered { (n : ℕ) (s : SecurityContext) (w : World) → IsLawful n s w → RunsWith s w server.old → GivesTicket s w (ticket_in ticket.now)
         → IfSome (entry_of_kept_reply result out.new) (λ entry.
         ServerAfter n s w (served.Reply (ticket_in ticket.now) own mid (parts_of plain.now) (length out.old)) entry server.new) }
     ensures unchanged { OnErr result ((out.new ≡ out.old) × (server.new ≡ server.old)) }
 {
+    answered_once();
     kept_ends_in_world();
     server.reply(ticket, own, mid, plain, out)
 }
