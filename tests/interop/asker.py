@@ -1,4 +1,5 @@
-"""A client of the C library over UDP, which asks a server one request at a time (RFC 7252, 4.2, 4.3 and 5.2)."""
+"""A client over UDP, which asks a server one request at a time (RFC 7252, 4.2, 4.3 and 5.2): by calls of the C library, or by another end
+that seals and opens."""
 
 from __future__ import annotations
 
@@ -6,33 +7,65 @@ import socket
 from typing import List, NamedTuple, Optional, Tuple
 
 import coap_reading
+from bench import GIVEN_UP_S, Words
 from coap_reading import ACK, CON, NON, Message
 from library import CIPHERS, CLIENT, Library, answer_of, shown
 
 URI_PATH, CONTENT_FORMAT, ECHO = 11, 12, 252
 TEXT = (CONTENT_FORMAT, b"")
 """Text, whose number is 0, without which a FETCH is refused (RFC 8132, 2.3.1)."""
-EMPTY, UNAUTHORIZED = 0, 0x81
+EMPTY, UNAUTHORIZED = 0, "4.01"
 KINDS = {"CON": CON, "NON": NON}
+Options = List[Tuple[int, bytes]]
 
 
-class Words(NamedTuple):
-    """What a context is derived from, in hex; no salt is "-", and no ID Context "none"."""
+def code_name(code: int) -> str:
+    return f"{code >> 5}.{code & 31:02}"
 
-    secret: str
-    salt: str
-    id_context: str
-    client: str
-    server: str
+
+class Response(NamedTuple):
+    code: str
+    payload: bytes
+    options: Options
+    has_own: bool
+
+
+class Calls:
+    """Seals and opens by the C library, by tables and in constant time by turns, under one count of numbers."""
+
+    def __init__(self, program: str, words: Words, number: int = 0):
+        self.library, self.number = Library(program), number
+        ends = f"{words.secret} {words.salt} {words.id_context} {words.client} {words.server}"
+        self.library.ask([f"derive {CLIENT + cipher} {cipher} {ends}" for cipher in range(len(CIPHERS))])
+
+    def answer_to(self, line: str):
+        return answer_of(self.library.ask([line])[0])
+
+    def seal_under(self, number: int, message: Message) -> bytes:
+        return self.answer_to(f"seal-request {CLIENT + number % len(CIPHERS)} {number} {shown(coap_reading.write(message))}").datagram
+
+    def seal(self, message: Message) -> Tuple[int, bytes]:
+        """Under the next number, which is answered too."""
+        self.number += 1
+        return self.number - 1, self.seal_under(self.number - 1, message)
+
+    def open(self, number: int, datagram: bytes) -> Optional[Response]:
+        """The response to the request of a number; a refusal's code is its name."""
+        answer = self.answer_to(f"open-response {CLIENT + number % len(CIPHERS)} {number} {shown(datagram)}")
+        if answer.opened is None:
+            message = coap_reading.read(datagram)
+            return Response(f"{answer.status} of a {code_name(message.code)}", message.payload, [], False)
+        opened = answer.opened
+        return Response(code_name(opened.code), opened.payload, list(opened.options), opened.number is not None)
+
+    def end(self) -> None:
+        self.library.end()
 
 
 class Asker:
-    """It goes by tables and in constant time by turns, under one count of numbers."""
-
-    def __init__(self, program: str, words: Words, port: int, number: int, given_up_s: int):
-        self.library, self.number, self.challenges = Library(program), number, 0
-        ends = f"{words.secret} {words.salt} {words.id_context} {words.client} {words.server}"
-        self.library.ask([f"derive {CLIENT + cipher} {cipher} {ends}" for cipher in range(len(CIPHERS))])
+    def __init__(self, end, port: int, given_up_s: float = GIVEN_UP_S):
+        self.end, self.message_id, self.sent = end, 0, b""
+        self.challenges = self.own_numbers = self.separate = 0
         self.udp = socket.socket(socket.AF_INET, socket.SOCK_DGRAM)
         self.udp.settimeout(given_up_s)
         self.udp.connect(("127.0.0.1", port))
@@ -42,35 +75,40 @@ class Asker:
 
     def __exit__(self, *_: object) -> None:
         self.udp.close()
-        self.library.end()
+        self.end.end()
 
-    def answer_to(self, line: str):
-        return answer_of(self.library.ask([line])[0])
-
-    def receive(self, token: bytes) -> Tuple[Message, bytes]:
+    def receive(self, token: bytes) -> bytes:
         """The first message with this token, acknowledged where it is confirmable. An empty ACK says that one comes later."""
+        acknowledged = False
         while True:
             datagram = self.udp.recv(2000)
             message = coap_reading.read(datagram)
             if message.kind == CON:
                 self.udp.send(coap_reading.write(Message(ACK, EMPTY, message.message_id, b"", (), b"")))
+            acknowledged |= message.code == EMPTY
             if message.code != EMPTY and message.token == token:
-                return message, datagram
+                self.separate += acknowledged
+                return datagram
 
-    def ask(self, kind: str, code: int, path: str, payload: bytes, echo: Optional[bytes] = None) -> Tuple[str, bytes]:
-        """The code and the payload of the response, or the library's refusal. It asks again where the server wants its Echo value."""
-        number, slot, token = self.number, CLIENT + self.number % len(CIPHERS), self.number.to_bytes(5, "big")
-        options = [(URI_PATH, path.encode())] + ([TEXT] if payload else []) + ([] if echo is None else [(ECHO, echo)])
-        plain = coap_reading.write(Message(KINDS[kind], code, number % 65536, token, tuple(options), payload))
-        sealed = self.answer_to(f"seal-request {slot} {number} {shown(plain)}")
-        self.number += 1
-        self.udp.send(sealed.datagram)
-        message, datagram = self.receive(token)
-        answer = self.answer_to(f"open-response {slot} {number} {shown(datagram)}")
-        if answer.opened is None:
-            return answer.status + f" of a {message.code >> 5}.{message.code & 31:02}", message.payload
-        values: List[bytes] = [value for option, value in answer.opened.options if option == ECHO]
-        if answer.opened.code == UNAUTHORIZED and values and echo is None:
+    def request(self, kind: str, code: int, token_len: int, options: Options, payload: bytes) -> Message:
+        """A message ID and a token that weren't there before."""
+        self.message_id += 1
+        token = self.message_id.to_bytes(8, "big")[8 - token_len:]
+        return Message(KINDS[kind], code, self.message_id, token, tuple(options), payload)
+
+    def exchange(self, message: Message) -> Response:
+        number, self.sent = self.end.seal(message)
+        self.udp.send(self.sent)
+        response = self.end.open(number, self.receive(message.token))
+        self.own_numbers += response.has_own
+        return response
+
+    def ask(self, kind: str, code: int, path: str, payload: bytes, token_len: int = 5) -> Tuple[str, bytes]:
+        """The code and the payload of the response, or a refusal. It asks again where the server wants its Echo value."""
+        options = [(URI_PATH, path.encode())] + ([TEXT] if payload else [])
+        response = self.exchange(self.request(kind, code, token_len, options, payload))
+        echoes = [value for option, value in response.options if option == ECHO]
+        if response.code == UNAUTHORIZED and echoes:
             self.challenges += 1
-            return self.ask(kind, code, path, payload, values[0])
-        return f"{answer.opened.code >> 5}.{answer.opened.code & 31:02}", answer.opened.payload
+            response = self.exchange(self.request(kind, code, token_len, options + [(ECHO, echoes[0])], payload))
+        return response.code, response.payload

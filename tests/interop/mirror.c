@@ -1,5 +1,6 @@
-/* A server over UDP that says back what each request was: its response holds the request's kind and code, as "CON 0.03 ", and behind that
-   the request's payload. Each second response is under an own number.
+/* A server over UDP that says back what each request was: its response holds the request's kind, its code and the length of its token, as
+   "CON 0.03 token 8 ", and behind that the request's payload. A request to /long gets so many bytes as it says. Each second response is
+   under an own number.
 
        mirror (SECRET SALT ID_CONTEXT OWN THEIR)..
 
@@ -17,7 +18,7 @@
 #include <time.h>
 #include <unistd.h>
 
-enum { GET = 1, DELETE = 4, FETCH = 5, CONTENT = 69, DELETED = 66, CHANGED = 68, MOST_DATAGRAM = 1500, MOST_WORD = 64 };
+enum { GET = 1, DELETE = 4, FETCH = 5, CONTENT = 69, DELETED = 66, CHANGED = 68, URI_PATH = 11, MOST_DATAGRAM = 1500, MOST_WORD = 64 };
 
 static oscore_server server;
 
@@ -60,11 +61,26 @@ static uint8_t code_of_reply(uint8_t code) {
     return code == GET || code == FETCH ? CONTENT : code == DELETE ? DELETED : CHANGED;
 }
 
+/* To /long, so many bytes as the payload says in decimal digits. */
+static size_t long_payload(const oscore_opened *request, const oscore_option *options, uint8_t *at) {
+    char digits[8] = {0};
+    if (request->option_count == 0 || options[0].number != URI_PATH || options[0].value_len != 4 || memcmp(options[0].value, "long", 4))
+        return 0;
+    if (request->payload_len >= sizeof digits) stop("too many digits");
+    if (request->payload_len > 0) memcpy(digits, request->payload, request->payload_len);
+    size_t len = strtoul(digits, NULL, 10);
+    if (len > MOST_DATAGRAM - 5) stop("too long a payload was asked for");
+    memset(at, 'x', len);
+    return len;
+}
+
 /* A plain reply: a head, of which the library takes the code alone, and the payload. */
-static size_t mirrored(const oscore_opened *request, uint8_t plain[MOST_DATAGRAM]) {
+static size_t mirrored(const oscore_opened *request, const oscore_option *options, uint8_t plain[MOST_DATAGRAM]) {
+    size_t long_len = long_payload(request, options, plain + 5);
     memcpy(plain, (uint8_t[]){0x60, code_of_reply(request->code), 0, 0, 0xff}, 5);
-    size_t len = 5 + (size_t)snprintf((char *)plain + 5, 16, "%s %d.%02d ", request->kind == 0 ? "CON" : "NON", request->code >> 5,
-                                      request->code & 31);
+    if (long_len > 0) return 5 + long_len;
+    size_t len = 5 + (size_t)snprintf((char *)plain + 5, 32, "%s %d.%02d token %d ", request->kind == 0 ? "CON" : "NON", request->code >> 5,
+                                      request->code & 31, request->token_len);
     if (len + request->payload_len > MOST_DATAGRAM) stop("a payload is too long");
     if (request->payload_len > 0) memcpy(plain + len, request->payload, request->payload_len);
     return len + request->payload_len;
@@ -87,7 +103,7 @@ static void serve(int udp) {
     oscore_status status = oscore_server_take(&server, milliseconds(), echo, mid, datagram, (size_t)len, options, 16, &request, &ticket,
                                               refusal, &out_len, &detail);
     if (status == OSCORE_DONE) {
-        size_t plain_len = mirrored(&request, plain);
+        size_t plain_len = mirrored(&request, options, plain);
         own = !own, reply = out;
         status = oscore_server_reply(&server, &ticket, own, mid, plain, plain_len, out, sizeof out, &out_len, &detail);
         if (status) stop("no reply");

@@ -2,7 +2,7 @@
    and refuses what isn't new as a replay. Of the table's orders a row says by hand what has to come; of the others, which are made at
    random, the server's numbers in a list say it. By that list a number is new where it is above all that were seen, or is none of these
    and less than the window's size below the highest (RFC 8613, 3.2.2 and 7.4). The rows are compared with the list too. A replay to CON
-   is answered by 4.01 without protection (RFC 8613, 8.2).
+   is answered by 4.01 without protection (RFC 8613, 8.2). Behind a restart an Echo value of which one byte is another delivers nothing.
 
        replays [ORDERS [SEED]] */
 #include "oscore.h"
@@ -76,6 +76,8 @@ typedef struct trial {
 static oscore_context client, servers[CIPHERS];
 /* Each number's request, and one that brings the Echo value back. (No client may seal both under one number. Here one of them is sent.) */
 static datagram requests[MOST_NUMBERS], echoing[MOST_NUMBERS];
+/* A request that brings a value back of which one byte is another, for each of its bytes. */
+static datagram spoilt[ECHO_LEN];
 static uint16_t next_mid;
 static uint64_t chance;
 static long steps;
@@ -91,13 +93,13 @@ static void need(oscore_status status, const char *what) {
     if (status != OSCORE_DONE) fail(what, 0, "Done", name);
 }
 
-/* A CON request, with an Echo option (252, a delta of 13 and 239) where it is told to. */
-static void seal(datagram *sealed, uint64_t number, bool with_echo) {
+/* A CON request, with an Echo option (252, a delta of 13 and 239) where there is a value. */
+static void seal(datagram *sealed, uint64_t number, const uint8_t *echo) {
     uint8_t plain[32] = {0x41, GET, 0, 0, (uint8_t)number};
     size_t len = 5, detail;
-    if (with_echo) {
+    if (echo) {
         plain[len++] = 0xd0 | ECHO_LEN, plain[len++] = 239;
-        memcpy(plain + len, CHALLENGE, ECHO_LEN);
+        memcpy(plain + len, echo, ECHO_LEN);
         len += ECHO_LEN;
     }
     need(oscore_seal_request(&client, number, plain, len, sealed->bytes, sizeof sealed->bytes, &sealed->len, &detail), "sealing");
@@ -109,8 +111,14 @@ static void prepare(void) {
         need(oscore_derive(&servers[cipher], SECRET, sizeof SECRET, NULL, 0, false, NULL, 0, SERVER, 1, CLIENT, 1, cipher == 1),
              "a server's context");
     for (uint64_t number = 0; number < MOST_NUMBERS; number++) {
-        seal(&requests[number], number, false);
-        seal(&echoing[number], number, true);
+        seal(&requests[number], number, NULL);
+        seal(&echoing[number], number, CHALLENGE);
+    }
+    for (int place = 0; place < ECHO_LEN; place++) {
+        uint8_t echo[ECHO_LEN];
+        memcpy(echo, CHALLENGE, ECHO_LEN);
+        echo[place] ^= 1;
+        seal(&spoilt[place], MOST_NUMBERS, echo);
     }
 }
 
@@ -163,6 +171,11 @@ static void open_by_echo(trial *at, const char *where, int number) {
         oscore_status status = take(at, &requests[other], &code);
         oscore_status_name(status, name);
         if (status != OSCORE_CHALLENGE) fail(where, other, "Challenge", name);
+    }
+    for (int place = 0; place < ECHO_LEN; place++) {
+        oscore_status status = take(at, &spoilt[place], &code);
+        oscore_status_name(status, name);
+        if (status != OSCORE_CHALLENGE) fail(where, MOST_NUMBERS, "Challenge to an Echo value of which one byte is another", name);
     }
     oscore_status status = take(at, &echoing[number], &code);
     oscore_status_name(status, name);

@@ -1,0 +1,142 @@
+"""What the exchanges over UDP share: the contexts, the count of what was looked at, and our programs as servers on 127.0.0.1. Each program
+that waits is given up after some seconds, so that nothing rests on how fast they are."""
+
+from __future__ import annotations
+
+import contextlib
+import pathlib
+import random
+import socket
+import subprocess
+import time
+from typing import Iterator, List, NamedTuple, Sequence, Tuple
+
+GIVEN_UP_S = 20
+METHODS = ("get", "post", "put", "delete", "fetch", "patch", "ipatch")
+"""The codes 0.01 to 0.07."""
+WITHOUT_PAYLOAD = ("get", "delete")
+KINDS = ("CON", "NON")
+PAYLOAD_LENGTHS, SPLIT_LENGTH = (0, 1, 12, 13, 255, 600, 1024), 1100
+"""What is longer than 1,024 bytes both peers send in parts, by Block1 or Block2, which are left out here."""
+MOST_TOKEN = 8
+MOST_SHOWN, MOST_FAILURES = 200, 12
+PING = b"\x40\0\0\1"
+
+
+class Words(NamedTuple):
+    """What a context is derived from, in hex; no salt is "-", no byte too, and no ID Context "none"."""
+
+    secret: str
+    salt: str
+    id_context: str
+    client: str
+    server: str
+
+
+THE_LOCK = Words((b"a secret for a try" + b"\0").hex(), "-", "none", "02", "01")
+"""As bindings/c/examples/lock.c has it."""
+CONTEXTS = (
+    Words("0102030405060708090a0b0c0d0e0f10", "-", "none", "02", "01"),
+    Words("102132435465768798a9bacbdcedfe0f", "9e7ca92223786340", "37cbf3210017a2d3", "01020304050607", "a1"),
+    Words("f1" * 64, "-", "00", "-", "00010203040506"),
+    Words("0f", "5a" * 64, "e0" * 32, "ff00", "-"),
+)
+"""Secrets of 1 to 64 bytes, salts of 0, 8 and 64, ID Contexts of none, 8, 1 and 32, identifiers of 0 to 7."""
+
+
+def mirrored(kind: str, method: str, token_len: int, payload: bytes) -> bytes:
+    """What mirror.c says to a request."""
+    return f"{kind} 0.{METHODS.index(method) + 1:02} token {token_len} ".encode() + payload
+
+
+def answer_code(method: str) -> str:
+    return {"get": "2.05", "fetch": "2.05", "delete": "2.02"}.get(method, "2.04")
+
+
+def free_port() -> int:
+    with socket.socket(socket.AF_INET, socket.SOCK_DGRAM) as free:
+        free.bind(("127.0.0.1", 0))
+        return free.getsockname()[1]
+
+
+def wait_for(port: int, process: subprocess.Popen) -> None:
+    """Until a server answers a ping there, an empty CON, by its RST (RFC 7252, 4.3)."""
+    until = time.monotonic() + GIVEN_UP_S
+    with socket.socket(socket.AF_INET, socket.SOCK_DGRAM) as ours:
+        ours.settimeout(0.2)
+        ours.connect(("127.0.0.1", port))
+        while time.monotonic() < until and process.poll() is None:
+            try:
+                ours.send(PING)
+                ours.recv(100)
+                return
+            except OSError:
+                time.sleep(0.05)
+    raise SystemExit(f"{process.args[0]} doesn't listen")
+
+
+@contextlib.contextmanager
+def ended(process: subprocess.Popen) -> Iterator[subprocess.Popen]:
+    """A program that is ended, whatever becomes of the rest."""
+    try:
+        yield process
+    finally:
+        process.kill()
+        process.wait()
+
+
+class TooMany(Exception):
+    """So many answers are otherwise that the rest isn't waited for."""
+
+
+class Bench:
+    """Our programs lock, key, mirror and calls, in one folder, and what was seen of them."""
+
+    def __init__(self, ours: str, work: pathlib.Path):
+        self.ours, self.work = pathlib.Path(ours), work
+        self.chance = random.Random(7)
+        self.looked = self.failures = self.token_len = 0
+
+    def check(self, what: str, wanted: object, came: object) -> None:
+        self.looked += 1
+        if wanted != came:
+            self.failures += 1
+            print(f"{what}\n    wanted: {str(wanted)[:MOST_SHOWN]}\n    came:   {str(came)[:MOST_SHOWN]}", flush=True)
+            if self.failures == MOST_FAILURES:
+                raise TooMany
+
+    def letters(self, length: int) -> bytes:
+        return bytes(self.chance.choices(b"abcdefghijklmnopqrstuvwxyz", k=length))
+
+    def next_token_len(self) -> int:
+        """All lengths by turns."""
+        self.token_len = (self.token_len + 1) % (MOST_TOKEN + 1)
+        return self.token_len
+
+    @contextlib.contextmanager
+    def server(self, *words: str) -> Iterator[Tuple[subprocess.Popen, int]]:
+        """A server of ours, and the port that its first line says."""
+        process = subprocess.Popen([str(self.ours / words[0]), *words[1:]], stdin=subprocess.PIPE, stdout=subprocess.PIPE, text=True)
+        with ended(process):
+            first = process.stdout.readline().split()
+            if first[:1] != ["port"]:
+                raise SystemExit(f"{words[0]} says {first}")
+            yield process, int(first[1])
+
+    def mirror(self, contexts: Sequence[Words]):
+        ends = [word for words in contexts for word in (words.secret, words.salt, words.id_context, words.server, words.client)]
+        return self.server("mirror", *ends)
+
+    def told(self, process: subprocess.Popen) -> List[str]:
+        """The lines that a server of ours printed, once it has ended, which the end of its input tells a mirror to."""
+        return process.communicate(timeout=GIVEN_UP_S)[0].splitlines()
+
+    def lock(self, number_file: str, datagrams: int):
+        """Our lock, which keeps its number in a file of that name."""
+        return self.server("lock", "0", str(datagrams), str(self.work / number_file))
+
+    def key(self, port: int, wish: str) -> Tuple[int, List[str]]:
+        """The status of our key, which keeps its number in one file, and the codes and payloads that came."""
+        words = [str(self.ours / "key"), str(port), str(self.work / "key.number"), wish]
+        done = subprocess.run(words, capture_output=True, text=True, timeout=6 * GIVEN_UP_S)
+        return done.returncode, [line for line in done.stdout.splitlines() if line[:1].isdigit()]

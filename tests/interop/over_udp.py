@@ -1,0 +1,41 @@
+"""Exchanges over UDP on 127.0.0.1 with a peer, both ways.
+
+    over_udp.py library OURS PEER [THEIRS]
+        OURS holds our programs lock, key, mirror and calls
+    over_udp.py command OSCORE PEER [THEIRS]
+        OSCORE is our program of that name
+
+PEER is aiocoap, or libcoap with THEIRS, the folder of its two programs."""
+
+from __future__ import annotations
+
+import pathlib
+import signal
+import sys
+import tempfile
+from typing import List
+
+from aiocoap_udp import Aiocoap
+from bench import Bench
+from command_rows import CommandRows
+from libcoap import Libcoap
+from rows import Rows
+
+
+def main(words: List[str]) -> int:
+    if len(words) != {"aiocoap": 3, "libcoap": 4}.get(words[2] if len(words) > 2 else "") or words[0] not in ("library", "command"):
+        raise SystemExit(__doc__)
+    what, ours, name, *theirs = words
+    # Whoever ends this program early ends its servers too.
+    signal.signal(signal.SIGTERM, lambda *_: sys.exit(1))
+    with tempfile.TemporaryDirectory() as work:
+        bench = Bench(ours, pathlib.Path(work))
+        peer = Aiocoap(bench) if name == "aiocoap" else Libcoap(bench, theirs[0])
+        named = peer.begin()
+        (Rows(bench, peer) if what == "library" else CommandRows(bench, peer, ours)).run()
+        print(f"the {what} and {named} over UDP: {bench.looked} answers looked at; {bench.failures} are otherwise")
+        return 1 if bench.failures else 0
+
+
+if __name__ == "__main__":
+    sys.exit(main(sys.argv[1:]))
