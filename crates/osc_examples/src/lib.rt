@@ -10,6 +10,7 @@ pub mod endpoint;
 pub mod file;
 pub mod hkdf;
 pub mod kept;
+pub mod kept_handle;
 pub mod protect;
 pub mod text;
 pub mod window;
