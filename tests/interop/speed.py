@@ -10,6 +10,7 @@ from __future__ import annotations
 import contextlib
 import os
 import pathlib
+import signal
 import statistics
 import subprocess
 import sys
@@ -101,6 +102,8 @@ class Speed:
 def main(words: List[str]) -> int:
     if len(words) < 2:
         raise SystemExit(__doc__)
+    # Whoever ends this program early ends its servers too.
+    signal.signal(signal.SIGTERM, lambda *_: sys.exit(1))
     with tempfile.TemporaryDirectory() as work:
         speed = Speed(words[0], float(words[1]), words[2:], pathlib.Path(work))
         speed.exchanges()
