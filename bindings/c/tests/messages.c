@@ -239,9 +239,9 @@ static void names_statuses(void) {
         "NumberTooLarge", "EmptyPayload", "NoSuchContext", "LivesExhausted", "Full", "SameLookup", "StaleTicket",
         "TicketSpent", "NotThatKind", "UnknownToken", "NoOscore", "Undecodable", "NoContext", "WrongContext", "Replay",
         "Tag", "Inner", "Challenge", "Unsupported", "TokenInUse", "PendingFull", "SequenceExhausted", "TooLong", "NoRoom",
-        "NotPending", "SameSender", "SaveFirst", "Unknown"};
+        "NotPending", "SameSender", "SaveFirst", "OptionOrder", "ValueTooLong", "Unknown"};
     char *name = guarded_room(NAME, 24);
-    for (uint32_t status = 0; status <= OSCORE_SAVE_FIRST + 1; status++) {
+    for (uint32_t status = 0; status <= OSCORE_VALUE_TOO_LONG + 1; status++) {
         oscore_status_name(status, name);
         CHECK(!strcmp(name, NAMES[status]));
     }
