@@ -431,6 +431,10 @@ static void has_sizes(void) {
 int main(int count, char **words) {
     srand(1);
     if (count > 1) rounds = atoi(words[1]);
+    /* The file of a life lies beside the program. */
+    char *slash = strrchr(words[0], '/');
+    if (slash) *slash = '\0';
+    CHECK(!slash || !chdir(slash == words[0] ? "/" : words[0]));
     for (int before = 0; before < 2; before++) {
         lay_out(before);
         for (int ciphers = 0; ciphers < 2; ciphers++) {
