@@ -3,7 +3,7 @@
 use crate::answer::Answer;
 use crate::fields::{Fields, NamedContext};
 use crate::keeper::Memory;
-use crate::{client, command, kept, server, verbs};
+use crate::{client, command, kept, kept_client_bytes, kept_server_bytes, server, verbs};
 use osc_kept::{KeptClient, KeptServer};
 use std::alloc::Global;
 use std::io;
@@ -124,6 +124,8 @@ impl<'t> Corpus<'t> {
                 contexts,
                 &mut answer,
             ),
+            "kept-server-bytes" => kept_server_bytes::steps(row.fields, contexts, &mut answer),
+            "kept-client-bytes" => kept_client_bytes::steps(row.fields, contexts, &mut answer),
             verb => {
                 let fields = Fields::read(self.alloc, row.fields);
                 verbs::make(verb, &fields, contexts, &mut answer);

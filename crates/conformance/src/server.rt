@@ -289,7 +289,7 @@ fn by_bytes_both_ways(steps: &[Step<'_>], contexts: &[NamedContext<'_>], answer:
 }
 
 /// A row whose steps went ill differs.
-fn check(steps: &[Step<'_>], answer: &mut Answer) {
+pub(crate) fn check(steps: &[Step<'_>], answer: &mut Answer) {
     if steps.iter().any(|step| step.fields.is_bad()) {
         answer.is_whole = false;
     }
