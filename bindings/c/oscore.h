@@ -42,9 +42,9 @@ OSCORE_ASSERT(sizeof(void *) == 8, "this library has pointers of 8 bytes: compil
 
    What no call can see is left to the caller: a pointer leads to as many bytes as the length beside it says, or to a whole struct,
    and stays so until the call returns; until then nobody else writes there, no thread, no signal handler and no device, since a call
-   tests a datagram and then reads it again; what a call writes (`out`, `datagram`, `options`, `opened`, `head`, `server`, `index`,
-   `ticket`, `out_len`, `detail`, `name`, `sizes`) overlaps nothing else that it is given; a struct is set to zero before it is given
-   for the first time; a `bool` is 0 or 1. A pointer may be NULL where the length beside it is 0, and nowhere else. */
+   checks a datagram and then reads it a second time; what a call writes (`out`, `datagram`, `options`, `opened`, `head`, `server`,
+   `index`, `ticket`, `out_len`, `detail`, `name`, `sizes`) overlaps nothing else that it is given; a struct is set to zero before it is
+   given for the first time; a `bool` is 0 or 1. A pointer may be NULL where the length beside it is 0, and nowhere else. */
 
 /* What a call answers: 0 where it is done, else the first refusal whose condition holds, in the order of this list; those that came last
    are judged elsewhere: OSCORE_SAME_SENDER right after OSCORE_SAME_LOOKUP; OSCORE_SAVE_FIRST right before OSCORE_NO_SUCH_CONTEXT, except
@@ -176,7 +176,7 @@ typedef struct oscore_server_context {
     uint8_t echo[8];       /* the challenge */
     uint64_t at;           /* when it was drawn, or the highest number that was seen */
     uint64_t spent_mask;
-    uint64_t next; /* own number: the one to keep, ahead of its use, for a restart */
+    uint64_t next; /* own number of the next call: store it before you send what a call sealed */
     uint64_t life; /* how often it was restarted */
 } oscore_server_context;
 
@@ -227,14 +227,14 @@ typedef struct oscore_client {
     oscore_context context;
     uint64_t life_ms; /* for how long a request is pending */
     uint64_t clock;   /* the latest moment that a call was given */
-    uint64_t next;    /* number: the one to keep, ahead of its use, for a restart */
+    uint64_t next;    /* number of the next request: store it before you send what a call sealed */
     size_t count;     /* how many of the requests are pending, oldest first */
     oscore_pending pending[8];
 } oscore_client;
 
 /* A server of one context whose own numbers outlive it, begun by `oscore_kept_server_begin`. It tells when a number has to be saved, and
-   uses none that wasn't; so a power cut at any moment costs some numbers, and no nonce is used twice. What is said of copies of a
-   server, and of its keys, holds of it too. */
+   uses only own numbers below the one that was saved last; so a power cut at any moment costs some numbers, and no nonce is used twice.
+   What is said of copies of a server, and of its keys, holds of it too. */
 typedef struct oscore_kept_server {
     oscore_server1 server;
     uint64_t reserved; /* its own numbers below this one may be used */
@@ -257,9 +257,9 @@ void oscore_sizes(oscore_struct_sizes *sizes);
 void oscore_status_name(uint32_t status, char name[24]);
 
 /* Derives a context from a Master Secret (1 to 64 bytes), a Master Salt (0 to 64), an ID Context (1 to 32) where `has_id_context`
-   says that there is one, the identifier of this end and that of the other (0 to 7 bytes each). Its keys are used by tables, whose
-   times may tell of a key to who shares the machine; with `constant_time` by a cipher whose source has no look-up and no branch that
-   depends on a key or a message, which is slower. What is sent is the same, and the other end may choose otherwise. */
+   says that there is one, the identifier of this end and that of the other (0 to 7 bytes each). Its keys are used with AES by tables,
+   whose times may tell of a key to whoever shares the machine; with `constant_time` by a cipher whose source has no look-up and no branch
+   that depends on a key or a message, which is slower. What is sent is the same, and the other end may choose otherwise. */
 OSCORE_MUST_USE oscore_status oscore_derive(oscore_context *out, const uint8_t *secret, size_t secret_len, const uint8_t *salt,
                                             size_t salt_len, bool has_id_context, const uint8_t *id_context, size_t id_context_len,
                                             const uint8_t *sender, size_t sender_len, const uint8_t *recipient,
@@ -310,14 +310,14 @@ void oscore_server_begin(oscore_server *server);
 /* Adds a context, and writes its index. `restarted` says that it may have received requests before, so that what was seen of them is
    lost: then no request is delivered until one brings back an Echo value (RFC 8613, B.1.2). `next` is its next own number, above each
    that it ever sealed under. A context that was never used begins with false and 0. Its window has 32 or 64 places. From then on the
-   server counts the numbers of the context's sender: seal neither requests nor responses by `context` beside it. Two contexts of one
-   Sender Key would each count from their own `next`, and share key and nonce, so the second is OSCORE_SAME_SENDER: contexts of one
-   Master Secret are to differ in Sender ID, Master Salt or ID Context (RFC 8613, 3.3). */
+   server counts the numbers of the context's sender: seal neither requests nor responses by `context` beside it. Two contexts with the
+   same Sender Key would each count from their own `next`, and share key and nonce, so the second is OSCORE_SAME_SENDER: contexts with the
+   same Master Secret are to differ in Sender ID, Master Salt or ID Context (RFC 8613, 3.3). */
 OSCORE_MUST_USE oscore_status oscore_server_add(oscore_server *server, const oscore_context *context, bool restarted, uint64_t next,
                                                 uint8_t window_places, size_t *index);
 
-/* Begins a new life of a context, as if it had been added as restarted: its earlier tickets are stale, and the next request is
-   challenged. `next` is as at `oscore_server_add`. The server's clock stays as it is. */
+/* Begins a new life of a context, as if it had been added as restarted: its earlier tickets are stale, and each request that opens is
+   challenged until one brings back the Echo value. `next` is as at `oscore_server_add`. The server's clock stays as it is. */
 OSCORE_MUST_USE oscore_status oscore_server_restart(oscore_server *server, size_t context, uint64_t next);
 
 /* Answers a datagram, where it lies. 0: a request is delivered. `opened` and `options` show it, and `ticket` is the right to answer it;
@@ -341,7 +341,7 @@ OSCORE_MUST_USE oscore_status oscore_server_take(oscore_server *server, uint64_t
 /* Seals the answer to the request of a ticket: under an own number where `own` says so, else under the request's. Of `plain`, which is
    a datagram, the code, the options and the payload are used; kind, message ID and token are those that the request asks for, and
    `mid` is the message ID where the request wasn't confirmable. A request is answered once: OSCORE_TICKET_SPENT where it has its
-   answer, or where a number that lies 64 or more above its was delivered since. A refusal spends nothing. */
+   answer, or where a request was delivered whose number is at least 64 above that of the ticket's request. A refusal spends nothing. */
 OSCORE_MUST_USE oscore_status oscore_server_reply(oscore_server *server, const oscore_ticket *ticket, bool own, uint16_t mid,
                                                   const uint8_t *plain, size_t plain_len, uint8_t *out, size_t out_room,
                                                   size_t *out_len, size_t *detail);
@@ -388,8 +388,8 @@ OSCORE_MUST_USE oscore_status oscore_client_request(oscore_client *client, uint6
 /* Answers a datagram, where it lies. 0: a response to a pending request, which is pending no more, and `request` is its number; that,
    `opened` and `options` are written at 0 alone. OSCORE_BAD_HANDLE leaves the client as it was, the others move its clock.
    Each other refusal says that this datagram isn't the response, and nothing of the one that may still come: the request stays
-   pending, and the caller keeps waiting, until 0 or the end of `life_ms`. Anybody can send what is refused, an error without
-   protection too.
+   pending, and the caller keeps waiting, until 0, the end of `life_ms`, `oscore_client_forget` or `oscore_client_restart`. Anybody can
+   send what is refused, an error without protection too.
    A server that asks for an Echo value answers 0 with the code 129, 4.01, and the option 252: the request wasn't obeyed, and is asked
    anew with that option's value (RFC 9175, 2.3). Empty messages are OSCORE_NOT_THAT_KIND here: by their message ID they tell the caller
    that a request arrived (ACK), so that it isn't sent again, or that it isn't answered (RST), so that it can be forgotten.
@@ -407,9 +407,11 @@ OSCORE_MUST_USE oscore_status oscore_client_take(oscore_client *client, uint64_t
        tell the end by `.._saved`;
        make the same call again.
 
-   In this order: a number that was told before it was saved can be used twice. A save reserves 64 numbers, so that one comes with each 64
-   messages that need a number, and with the first of a life. Never begin from an older save, nor an end beside another with the same
-   context. What can't be saved isn't told: then the call answers the same once more. There is no restart: a new life is a new begin. */
+   In this order: a number that was told before it was saved can be used twice. Each save reserves 64 numbers. A client needs a save with
+   the first request of each life, and again after every 64 requests; a server with the first datagram of each life, and again after every
+   64 challenges and replies under own numbers. Never begin from an older save, nor an end beside another with the same context. Begin with
+   0 only if the context was never used; if it was used elsewhere, begin with a number above all that were used, and at least 1. What can't
+   be saved isn't told: then each call that needs a number answers the same once more. There is no restart: a new life is a new begin. */
 
 /* Begins a server of a context, with the number that was saved last. With 0 it never received a request, and it takes nothing before its
    first save; else it begins a new life, as a context that is added as `restarted`: no request is delivered until one brings back an
@@ -420,8 +422,9 @@ OSCORE_MUST_USE oscore_status oscore_kept_server_begin(oscore_kept_server *serve
 /* Says that a number is saved: that of the last OSCORE_SAVE_FIRST. Of any other it is OSCORE_BAD_NUMBER, and the server stays. */
 OSCORE_MUST_USE oscore_status oscore_kept_server_saved(oscore_kept_server *server, uint64_t number);
 
-/* Answers a datagram, as `oscore_server_take` does. It needs a number while no request was delivered in this life, since a challenge may
-   be the answer. `out_len` is 0 at OSCORE_SAVE_FIRST: the same datagram is handed in again. */
+/* Answers a datagram, as `oscore_server_take` does. A server that began with 0 needs a number with its first datagram; another one needs
+   one as long as no request was delivered in this life, since a challenge may be the answer. `out_len` is 0 at OSCORE_SAVE_FIRST: the
+   same datagram is handed in again. */
 OSCORE_MUST_USE oscore_status oscore_kept_server_take(oscore_kept_server *server, uint64_t now, const uint8_t echo[8], uint16_t mid,
                                                       uint8_t *datagram, size_t datagram_len, oscore_option *options,
                                                       size_t options_room, oscore_opened *opened, oscore_ticket *ticket,

@@ -7,12 +7,12 @@ use std::alloc::{AllocError, Global};
 use std::fmt::{Debug, Display};
 use std::mem;
 
-/// The words of an answer so far. A growth that is refused is kept in mind: the answer is not whole then.
+/// The words of an answer so far. If an allocation is refused, that is remembered: the answer is then not whole.
 #[derive(Drop)]
 pub(crate) struct Answer {
     pub(crate) alloc: Global,
     pub(crate) text: String,
-    /// The answers of earlier calls, where several have to agree.
+    /// The answers of earlier calls, if several have to agree.
     pub(crate) earlier: Vec<String>,
     pub(crate) is_whole: bool,
 }
@@ -27,7 +27,7 @@ impl Answer {
         }
     }
 
-    /// What comes next has to be what came so far.
+    /// Begins again: what comes next has to be the same as what came so far.
     pub(crate) fn again(&mut self) {
         let earlier = mem::replace(&mut self.text, String::new(self.alloc));
         if self.earlier.push(earlier).is_err() {
@@ -35,7 +35,7 @@ impl Answer {
         }
     }
 
-    /// Appends to the word that stands last.
+    /// Appends to the last word.
     pub(crate) fn push(&mut self, text: &str) {
         if self.text.push_str(text).is_err() {
             self.is_whole = false;
@@ -47,7 +47,7 @@ impl Answer {
         self.push(word);
     }
 
-    /// A word that was made, or wasn't.
+    /// Adds a word that was made. If it wasn't made, the answer isn't whole.
     fn made(&mut self, word: Result<String, AllocError>) {
         match word {
             Ok(word) => self.word(word.as_str()),
@@ -55,12 +55,12 @@ impl Answer {
         }
     }
 
-    /// A word that prints.
+    /// Adds a value that prints, as a word.
     pub(crate) fn print<D: Display + Drop>(&mut self, value: D) {
         self.made(format!(in self.alloc; "{value}"));
     }
 
-    /// The text that `Debug` prints of a value, in quotes.
+    /// Adds the text that `Debug` prints for a value, in quotes.
     pub(crate) fn debugged<D: Debug + Drop>(&mut self, value: D) {
         match format!(in self.alloc; "{value:?}") {
             Ok(text) => self.quoted(text.as_bytes()),
@@ -68,7 +68,7 @@ impl Answer {
         }
     }
 
-    /// A refusal by its name.
+    /// Adds a refusal by its name.
     pub(crate) fn refused<D: Display + Drop>(&mut self, refusal: D) {
         self.word("refused");
         self.print(refusal);
@@ -78,7 +78,7 @@ impl Answer {
         self.made(spelled(self.alloc, bytes));
     }
 
-    /// Bytes that may be absent.
+    /// Adds bytes that may be absent.
     pub(crate) fn part(&mut self, part: Option<&[u8]>) {
         match part {
             Some(bytes) => self.bytes(bytes),
@@ -86,7 +86,7 @@ impl Answer {
         }
     }
 
-    /// What a buffer holds, `same` where that is what it held before.
+    /// Adds what a buffer holds, or `same` if that is what it held before.
     pub(crate) fn left(&mut self, before: &[u8], after: &[u8]) {
         if before == after {
             self.word("same");
@@ -95,7 +95,7 @@ impl Answer {
         }
     }
 
-    /// The bytes in front of a filled buffer, and whether those behind them are still what it was filled with.
+    /// Adds the bytes at the front of a filled buffer, and whether the bytes after them are still what it was filled with.
     pub(crate) fn written(&mut self, buf: &[u8], len: usize, filled_with: u8) {
         let (front, behind) = buf.split_at(len.min(buf.len()));
         self.bytes(front);
@@ -116,7 +116,7 @@ impl Answer {
         });
     }
 
-    /// Whether something is of a request, and whether it is of a response.
+    /// Adds whether something belongs to a request, and whether it belongs to a response.
     pub(crate) fn usage(&mut self, is_request: bool, is_response: bool) {
         self.word(if is_request { "request" } else { "no-request" });
         self.word(if is_response {
@@ -126,14 +126,14 @@ impl Answer {
         });
     }
 
-    /// Class, dot and two digits of detail.
+    /// Adds a code as class, dot and two digits of detail.
     pub(crate) fn code(&mut self, code: u8) {
         let class = code / 32;
         let detail = code % 32;
         self.made(format!(in self.alloc; "{class}.{detail:02}"));
     }
 
-    /// A number that may be absent.
+    /// Adds a number that may be absent.
     pub(crate) fn number(&mut self, number: Option<Piv>) {
         match number {
             Some(piv) => self.print(piv.number()),
@@ -141,7 +141,7 @@ impl Answer {
         }
     }
 
-    /// Number and value of each option, in brackets.
+    /// Adds the number and the value of each option, in brackets.
     pub(crate) fn options(&mut self, options: Options<'_>) {
         self.word("[");
         for (number, value) in options {
@@ -151,7 +151,7 @@ impl Answer {
         self.word("]");
     }
 
-    /// A text in quotes, in which `\n`, `\"` and `\\` stand for one character.
+    /// Adds a text in quotes, in which `\n`, `\"` and `\\` each stand for one character.
     pub(crate) fn quoted(&mut self, text: &[u8]) {
         self.word("\"");
         for byte in text {

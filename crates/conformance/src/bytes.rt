@@ -6,7 +6,8 @@ use std::alloc::{AllocError, Global};
 /// The most bytes that an answer shows whole.
 const MOST_SHOWN: usize = 512;
 
-/// The bytes of a word: `-` for none, else pieces of hex joined by `+`, each by itself or, as `aa*3`, so many times.
+/// Returns the bytes of a word: `-` for none, otherwise pieces of hex joined by `+`. Each piece stands once, or as often as it says, as in
+/// `aa*3`.
 pub(crate) fn bytes_of(alloc: Global, word: &str) -> Option<Vec<u8>> {
     let mut bytes = Vec::new(alloc);
     if word == "-" {
@@ -32,7 +33,7 @@ fn push_piece(alloc: Global, bytes: &mut Vec<u8>, piece: &str) -> Option<()> {
     Some(())
 }
 
-/// The bytes in hex, `-` for none; of many their digest and their number.
+/// Returns the bytes in hex, or `-` if there are none. Of more than `MOST_SHOWN` bytes, returns their digest and their number.
 pub(crate) fn spelled(alloc: Global, bytes: &[u8]) -> Result<String, AllocError> {
     if bytes.is_empty() {
         return String::from_str(alloc, "-");

@@ -1,4 +1,4 @@
-//! Calls of osc_aes, osc_ccm and osc_hkdf. What a cipher is asked, all three are asked.
+//! Calls of osc_aes, osc_ccm and osc_hkdf. Each call of a cipher is made with all three ciphers.
 
 ghost use Rattle.std.specs.Prelude.{◌≤◌, length};
 
@@ -8,7 +8,7 @@ use osc_aes::{BlockCipher, PlainAes, PlaneAes, TableAes};
 use osc_ccm::{MOST_AAD, open, seal};
 use osc_hkdf::{expand, extract, hmac_sha256};
 
-/// A block alone, and as either of two.
+/// Encrypts a block alone, and as either one of two.
 fn encrypted<C: BlockCipher>(cipher: &C, fields: &Fields<'_>, answer: &mut Answer) {
     let mut block = fields.array::<16>(1);
     cipher.encrypt(&mut block);
@@ -33,7 +33,7 @@ pub(crate) fn aes128(fields: &Fields<'_>, answer: &mut Answer) {
     encrypted(&PlaneAes::new(&key), fields, answer);
 }
 
-/// The additional data, at most as much as CCM takes.
+/// Returns the additional data, at most as much as CCM takes.
 fn additional_data<'f>(fields: &'f Fields<'_>) -> &'f [u8]
     ensures { length result.now ≤ 65279 }
 {
@@ -91,7 +91,7 @@ pub(crate) fn ccm_open(fields: &Fields<'_>, answer: &mut Answer) {
     opened(&PlaneAes::new(&key), fields, answer);
 }
 
-/// The code of a message that comes in three parts.
+/// Computes the code of a message that comes in three parts.
 pub(crate) fn hmac(fields: &Fields<'_>, answer: &mut Answer) {
     fields.count(4);
     let parts = [fields.bytes(1), fields.bytes(2), fields.bytes(3)];

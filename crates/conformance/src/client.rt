@@ -21,14 +21,14 @@ enum Way {
     ByRunOn,
 }
 
-/// `CONTEXT ROOM NEXT LIFE`: a client with room for N pending requests, ROOM being N.
+/// Makes a client from `CONTEXT ROOM NEXT LIFE`, with room for N pending requests. ROOM is N.
 fn new<const N: usize>(fields: &Fields<'_>, contexts: &[NamedContext<'_>]) -> Option<Client<N>> {
     fields.count(4);
     let context = fields.context(contexts)?;
     Some(Client::new(context, number(fields, 2), fields.number(3)))
 }
 
-/// A request that was sent: the call answers a length alone, so the number is read from the bytes.
+/// Returns the entry of a sent request. The call returns only a length, so the number is read from the bytes.
 pub(crate) fn sent<'a>(datagram: &'a [u8], answer: &mut Answer) -> ClientEntry<'a> {
     let number = match head_of_request(datagram) {
         Ok(head) => head.number,
@@ -40,7 +40,7 @@ pub(crate) fn sent<'a>(datagram: &'a [u8], answer: &mut Answer) -> ClientEntry<'
     ClientEntry::Sent { number, datagram }
 }
 
-/// A request, by one call.
+/// Makes a request, by one call.
 fn request<'a, const N: usize>(
     client: &mut Client<N>,
     now: u64,
@@ -61,7 +61,7 @@ fn request<'a, const N: usize>(
     }
 }
 
-/// A datagram, by one call or by its two halves.
+/// Takes a datagram, by one call or by its two halves.
 fn take<'a, const N: usize>(
     client: &mut Client<N>,
     now: u64,
@@ -76,7 +76,7 @@ fn take<'a, const N: usize>(
     }
 }
 
-/// An event, by calls.
+/// Runs an event by calls.
 fn call<'a, const N: usize>(
     client: &mut Client<N>,
     event: &'a mut ClientEvent,
@@ -94,7 +94,7 @@ fn call<'a, const N: usize>(
     }
 }
 
-/// What is left of each event: of a datagram its bytes, of a request whether nothing was written into its room.
+/// Shows what is left of each event: for a datagram its bytes, for a request whether nothing was written into its room.
 pub(crate) fn left(steps: &[Step<'_>], events: &[ClientEvent], answer: &mut Answer) {
     answer.word("left");
     let mut rest = events;
@@ -114,7 +114,7 @@ pub(crate) fn left(steps: &[Step<'_>], events: &[ClientEvent], answer: &mut Answ
     }
 }
 
-/// The steps behind the first, one call each.
+/// Makes the steps after the first, one call each.
 fn by_calls<const N: usize>(
     mut client: Client<N>,
     steps: &[Step<'_>],
@@ -139,7 +139,7 @@ fn by_calls<const N: usize>(
     left(steps, &events, answer);
 }
 
-/// The steps behind the first, as the events of a run.
+/// Makes the steps after the first, as the events of a run.
 fn by_a_run<const N: usize>(
     mut client: Client<N>,
     steps: &[Step<'_>],
@@ -152,7 +152,7 @@ fn by_a_run<const N: usize>(
     left(steps, &events, answer);
 }
 
-/// The events run, and their log is shown.
+/// Runs the events, and shows their log.
 fn run<const N: usize>(
     alloc: Global,
     client: &mut Client<N>,
@@ -175,7 +175,7 @@ fn run<const N: usize>(
     }
 }
 
-/// The steps of a client, in one way.
+/// Makes the steps of a client in one way.
 fn make<const N: usize>(
     client: Option<Client<N>>,
     steps: &[Step<'_>],
@@ -194,7 +194,7 @@ fn make<const N: usize>(
     }
 }
 
-/// The steps in one way, by the room.
+/// Makes the steps in one way, by the row's room.
 fn in_a_way(
     fields: &Fields<'_>,
     steps: &[Step<'_>],
@@ -212,16 +212,16 @@ fn in_a_way(
     }
 }
 
-/// Whether the bytes of a client, which have room for eight pending requests, answer as a client with the row's room does: that
-/// is eight too, or neither fills up.
+/// Returns whether the bytes of a client, which have room for eight pending requests, answer as a client with the row's room does. They do
+/// if the row's room is eight too, or if neither room fills up.
 fn has_room_of_bytes(fields: &Fields<'_>, steps: &[Step<'_>]) -> bool {
     let requests = steps.iter().filter(|step| step.verb == "request").count();
     let room = fields.number(1);
     room == 8 || requests as u64 <= room.min(8)
 }
 
-/// Makes the calls of a row's steps behind the first, `new`: by `take`, by its halves, and, where they are events alone, by
-/// both runs, and over the bytes of a client in both ways.
+/// Makes the calls of a row's steps after the first, which is `new`: by `take` and by its halves. If all of them are events, makes them by
+/// both runs too and, if the bytes of a client answer as its room does, over those bytes in both ways.
 pub(crate) fn steps(text: &str, contexts: &[NamedContext<'_>], answer: &mut Answer) {
     let (first, rest) = text.split_once(" ; ").unwrap_or((text, ""));
     let (verb, fields) = first.split_once(' ').unwrap_or((first, ""));

@@ -10,7 +10,7 @@ use osc_coap::parse;
 use osc_endpoint::{ClientEntry, ClientEvent};
 use osc_handle::{ClientHandle, ContextHandle};
 
-/// `CONTEXT ROOM NEXT LIFE`: a client, whose room is that for eight pending requests.
+/// Begins a client from `CONTEXT ROOM NEXT LIFE`. Its room is for eight pending requests.
 fn begin(fields: &Fields<'_>, contexts: &[NamedContext<'_>]) -> Option<ClientHandle> {
     let context = fields.context(contexts)?;
     ClientHandle::begin(
@@ -20,7 +20,7 @@ fn begin(fields: &Fields<'_>, contexts: &[NamedContext<'_>]) -> Option<ClientHan
     )
 }
 
-/// A request.
+/// Makes a request.
 fn request<'a>(
     client: &mut ClientHandle,
     now: u64,
@@ -38,7 +38,7 @@ fn request<'a>(
     }
 }
 
-/// A datagram, by one call or by its two halves.
+/// Takes a datagram, by one call or by its two halves.
 fn take<'a>(
     client: &mut ClientHandle,
     now: u64,
@@ -54,7 +54,7 @@ fn take<'a>(
     }
 }
 
-/// An event, by calls.
+/// Runs an event by calls.
 fn call<'a>(
     client: &mut ClientHandle,
     event: &'a mut ClientEvent,
@@ -75,7 +75,7 @@ fn call<'a>(
     }
 }
 
-/// The steps behind the first, which are events, one call each.
+/// Makes the steps after the first, which are events, one call each.
 pub(crate) fn by_bytes(
     fields: &Fields<'_>,
     steps: &[Step<'_>],

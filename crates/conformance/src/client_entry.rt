@@ -4,7 +4,7 @@ use crate::answer::Answer;
 use crate::protection::show_opened;
 use osc_endpoint::{ClientEntry, ClientOutcome};
 
-/// What was made of a datagram.
+/// Shows what the client made of a datagram.
 fn show_outcome(outcome: &ClientOutcome<'_>, answer: &mut Answer) {
     match outcome {
         ClientOutcome::Malformed(fault) => {
@@ -25,7 +25,7 @@ fn show_outcome(outcome: &ClientOutcome<'_>, answer: &mut Answer) {
     }
 }
 
-/// An entry, with a semicolon behind it.
+/// Shows an entry, with a semicolon after it.
 pub(crate) fn show(entry: &ClientEntry<'_>, answer: &mut Answer) {
     match entry {
         ClientEntry::Sent { number, datagram } => {

@@ -5,7 +5,7 @@ use crate::fields::Fields;
 use crate::steps::{FILLED_WITH, Step, number};
 use osc_endpoint::ClientEvent;
 
-/// `request NOW PLAIN ROOM`.
+/// Reads `request NOW PLAIN ROOM`.
 fn request(fields: &Fields<'_>) -> ClientEvent {
     fields.count(3);
     ClientEvent::Request {
@@ -15,7 +15,7 @@ fn request(fields: &Fields<'_>) -> ClientEvent {
     }
 }
 
-/// `take NOW DATAGRAM`.
+/// Reads `take NOW DATAGRAM`.
 fn datagram(fields: &Fields<'_>) -> ClientEvent {
     fields.count(2);
     ClientEvent::Datagram {
@@ -24,7 +24,7 @@ fn datagram(fields: &Fields<'_>) -> ClientEvent {
     }
 }
 
-/// The event of a step, where it is one.
+/// Returns the event of a step, if the step is one.
 fn event_of(step: &Step<'_>) -> Option<ClientEvent> {
     match step.verb {
         "request" => Some(request(&step.fields)),
@@ -39,7 +39,7 @@ fn event_of(step: &Step<'_>) -> Option<ClientEvent> {
     }
 }
 
-/// The events of a row's steps.
+/// Returns the events of a row's steps.
 pub(crate) fn events_of(steps: &[Step<'_>], answer: &mut Answer) -> Vec<ClientEvent> {
     let mut events = Vec::new(answer.alloc);
     for step in steps {
@@ -52,7 +52,7 @@ pub(crate) fn events_of(steps: &[Step<'_>], answer: &mut Answer) -> Vec<ClientEv
     events
 }
 
-/// A step that runs know.
+/// Returns whether runs know this step.
 pub(crate) fn is_event(step: &Step<'_>) -> bool {
     matches!(step.verb, "request" | "take" | "forget" | "restart")
 }

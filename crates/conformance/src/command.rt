@@ -1,5 +1,6 @@
-//! Calls of the command: the first text is its standard input, the others are its words. Where the standard output refuses
-//! writes, how many it takes stands before all; where a keeper is asked for, what it keeps and how its calls end.
+//! Calls of the command. The first text is its standard input, and the others are its words. If the standard output refuses writes, the
+//! number of writes that it takes comes before all of them. If a keeper is asked for, what it keeps and how its calls end come before all
+//! of them.
 
 use crate::answer::Answer;
 use crate::bytes::bytes_of;
@@ -54,7 +55,7 @@ fn is_one_line(text: &[u8]) -> bool {
     text.ends_with(b"\n") && text.iter().filter(|&&c| c == b'\n').count() == 1
 }
 
-/// What a call of the command answered and wrote.
+/// What a call of the command returned and wrote.
 #[derive(Drop)]
 struct Called {
     status: u8,
@@ -63,7 +64,7 @@ struct Called {
 }
 
 impl Called {
-    /// Makes the call over a standard output that takes so many writes.
+    /// Makes the call over a standard output that takes `writes` writes.
     fn make(
         alloc: Global,
         words: &[String],
@@ -83,9 +84,9 @@ impl Called {
         Called { status, out, err }
     }
 
-    /// Status, standard output and standard error. `help` shows standard output as `text`, where there is some; `command`
-    /// and `help` show standard error, as `kept-command` does; the others show `line`, where it is one line. `cut-off` also shows how many writes were
-    /// refused.
+    /// Shows the status, standard output and standard error. `help` shows standard output as `text`, if there is some. `command`, `input`,
+    /// `help` and `kept-command` show standard error. The others show `line` instead, if standard error is one line. `cut-off` also shows
+    /// how many writes were refused.
     fn show(&self, verb: &str, answer: &mut Answer) {
         answer.print(self.status);
         if verb == "help" && !self.out.written.is_empty() {
@@ -93,7 +94,7 @@ impl Called {
         } else {
             answer.quoted(self.out.written.as_slice());
         }
-        if !matches!(verb, "command" | "help" | "kept-command")
+        if !matches!(verb, "command" | "input" | "help" | "kept-command")
             && is_one_line(self.err.as_slice())
         {
             answer.word("line");
@@ -106,12 +107,12 @@ impl Called {
     }
 }
 
-/// The number that a text spells, 0 where it spells none.
+/// Returns the number that a text spells, or 0 if it spells none.
 fn number_of(text: &str) -> u64 {
     text.parse().unwrap_or(0)
 }
 
-/// The bytes of a standard input: for `input` and `failing-input` as the corpus spells bytes, else a text.
+/// Returns the bytes of a standard input. For `input` and `failing-input` they are spelled as the corpus spells bytes, otherwise as a text.
 fn input_bytes(alloc: Global, verb: &str, text: &str) -> Option<Vec<u8>> {
     if matches!(verb, "input" | "failing-input") {
         return bytes_of(alloc, text);
@@ -121,8 +122,9 @@ fn input_bytes(alloc: Global, verb: &str, text: &str) -> Option<Vec<u8>> {
     Some(bytes)
 }
 
-/// Makes the call and shows its answer. For `cut-off` the first text is how many writes the standard output takes, before its input;
-/// for `kept-command` and `kept-usage` the first two are what a keeper keeps and how its calls end, and what it was asked to save is shown last.
+/// Makes the call and shows its answer. For `cut-off` the first text, before the input, is how many writes the standard output takes. For
+/// `kept-command` and `kept-usage` the first two texts are what a keeper keeps and how its calls end, and what it was asked to save is
+/// shown last.
 pub(crate) fn run(verb: &str, call: &str, answer: &mut Answer) {
     let alloc = answer.alloc;
     let texts = Texts::read(alloc, call);

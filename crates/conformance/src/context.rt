@@ -33,7 +33,7 @@ pub(crate) fn partial_iv(fields: &Fields<'_>, answer: &mut Answer) {
     }
 }
 
-/// The number behind this one, and whether this one is the largest.
+/// Shows the number after this one, and whether this one is the largest.
 pub(crate) fn next_number(fields: &Fields<'_>, answer: &mut Answer) {
     fields.count(1);
     if let Some(piv) = fields.partial_iv(0) {
@@ -84,7 +84,7 @@ pub(crate) fn read_option(fields: &Fields<'_>, answer: &mut Answer) {
     }
 }
 
-/// Writes over a vector that holds one byte, 01.
+/// Writes an option over a vector that holds one byte, 01.
 pub(crate) fn write_option(fields: &Fields<'_>, answer: &mut Answer) {
     fields.count(3);
     let option = OscoreOption {
@@ -119,7 +119,7 @@ pub(crate) fn derive(fields: &Fields<'_>, answer: &mut Answer) {
     }
 }
 
-/// The context of both keys, a Common IV, both identifiers and an ID Context or none.
+/// Shows the context of both keys, a Common IV, both identifiers, and an ID Context or none.
 pub(crate) fn from_derived(fields: &Fields<'_>, answer: &mut Answer) {
     fields.count(6);
     let id_context = match fields.part(5) {
@@ -143,7 +143,7 @@ pub(crate) fn from_derived(fields: &Fields<'_>, answer: &mut Answer) {
     }
 }
 
-/// The text that `Debug` prints of a context.
+/// Shows the text that `Debug` prints for a context.
 pub(crate) fn debug(fields: &Fields<'_>, answer: &mut Answer) {
     match Context::derive(fields.params()) {
         Ok(context) => answer.debugged(&context),
@@ -151,7 +151,7 @@ pub(crate) fn debug(fields: &Fields<'_>, answer: &mut Answer) {
     }
 }
 
-/// Whether requests with a kid, and a kid context or none, are for the context.
+/// Shows whether requests with a kid, and a kid context or none, are for the context.
 pub(crate) fn answers_to(fields: &Fields<'_>, context: &Context, answer: &mut Answer) {
     fields.count(3);
     answer.word(if context.answers_to(fields.bytes(1), fields.part(2)) {

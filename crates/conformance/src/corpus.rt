@@ -14,11 +14,11 @@ struct Row<'t> {
     name: &'t str,
     verb: &'t str,
     fields: &'t str,
-    /// The answer that is wanted, behind a space.
+    /// The wanted answer, with a space before it.
     wanted: &'t str,
 }
 
-/// The row of a line, or None where it is no row.
+/// Returns the row of a line, or `None` if the line isn't a row.
 fn row_of(line: &str) -> Option<Row<'_>> {
     let (name, rest) = line.split_once(": ")?;
     let (call, wanted) = rest.split_once(" =")?;
@@ -48,7 +48,7 @@ pub(crate) struct Corpus<'t> {
 }
 
 impl<'t> Corpus<'t> {
-    /// Nothing was read.
+    /// Begins with nothing read.
     pub(crate) fn new(alloc: Global) -> Corpus<'t> {
         Corpus {
             alloc,
@@ -58,7 +58,7 @@ impl<'t> Corpus<'t> {
         }
     }
 
-    /// Takes a line: a section, a context or a row; one that is empty or begins with `#` says nothing.
+    /// Takes a line: a section, a context or a row. An empty line, or one that begins with `#`, says nothing.
     pub(crate) fn take(&mut self, rt: &impl Print, line: &'t str) -> io::Result<()> {
         if line.is_empty() || line.starts_with('#') {
             return Ok(());
@@ -74,7 +74,7 @@ impl<'t> Corpus<'t> {
         Ok(())
     }
 
-    /// Makes the call of a row, and compares what it answers.
+    /// Makes the call of a row, and compares its answer.
     fn take_row(&mut self, rt: &impl Print, line: &'t str) -> io::Result<()> {
         if let Some(section) = self.sections.last_mut() {
             section.rows = section.rows.saturating_add(1);
@@ -97,7 +97,7 @@ impl<'t> Corpus<'t> {
         Ok(())
     }
 
-    /// What the call of a row answers.
+    /// Returns the answer of a row's call.
     fn answer(&self, row: Row<'t>) -> Answer {
         let (mut answer, contexts) = (Answer::new(self.alloc), self.contexts.as_slice());
         match row.verb {
@@ -135,13 +135,13 @@ impl<'t> Corpus<'t> {
         answer
     }
 
-    /// Tells that a row can't be read, or has another answer.
+    /// Reports that a row can't be read, or has a different answer.
     fn differs(&mut self, rt: &impl Print, row: &str, came: &str) -> io::Result<()> {
         self.differ = self.differ.saturating_add(1);
         println!(rt; "{row}, but came{came}")
     }
 
-    /// Tells how many rows there are, in each section and in all, and answers the status.
+    /// Reports how many rows there are, in each section and in all, and returns the status.
     pub(crate) fn report(&self, rt: &impl Print) -> io::Result<u8> {
         let mut rows = 0u32;
         for section in &self.sections {

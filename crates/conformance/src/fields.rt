@@ -16,15 +16,15 @@ pub(crate) struct NamedContext<'t> {
     pub(crate) fields: &'t str,
 }
 
-/// A field, and the bytes that it spells, where it does.
+/// A field, and the bytes that it spells, if it spells bytes.
 #[derive(Drop)]
 struct Field<'t> {
     word: &'t str,
     bytes: Option<Vec<u8>>,
 }
 
-/// The fields of a call, counted from 0. One that isn't there, or isn't what it is taken for, is kept in mind: the call is
-/// bad then, and its answer says nothing.
+/// The fields of a call, counted from 0. If a field isn't there, or isn't what it is taken for, that is remembered: the call is then bad,
+/// and its answer says nothing.
 #[derive(Drop)]
 pub(crate) struct Fields<'t> {
     pub(crate) alloc: Global,
@@ -33,7 +33,7 @@ pub(crate) struct Fields<'t> {
 }
 
 impl<'t> Fields<'t> {
-    /// Reads the fields, which one space parts.
+    /// Reads the fields, which are separated by one space.
     pub(crate) fn read(alloc: Global, text: &'t str) -> Fields<'t> {
         let mut fields = Vec::new(alloc);
         let mut is_bad = false;
@@ -54,12 +54,12 @@ impl<'t> Fields<'t> {
         self.is_bad.get()
     }
 
-    /// The call is bad.
+    /// Marks the call as bad.
     pub(crate) fn refuse(&self) {
         self.is_bad.set(true);
     }
 
-    /// There are as many fields.
+    /// Checks that there are `count` fields.
     pub(crate) fn count(&self, count: usize) {
         if self.fields.len() != count {
             self.refuse();
@@ -95,7 +95,7 @@ impl<'t> Fields<'t> {
         }
     }
 
-    /// Bytes that may be absent.
+    /// Returns bytes that may be absent.
     pub(crate) fn part(&self, place: usize) -> Option<&[u8]> {
         if self.word(place) == "none" {
             None
@@ -104,7 +104,7 @@ impl<'t> Fields<'t> {
         }
     }
 
-    /// Bytes of a fixed length.
+    /// Returns bytes of a fixed length.
     pub(crate) fn array<const N: usize>(&self, place: usize) -> [u8; N] {
         let mut array = [0u8; N];
         let bytes = self.bytes(place);
@@ -126,7 +126,7 @@ impl<'t> Fields<'t> {
         }
     }
 
-    /// A number of at most 16 bits.
+    /// Returns a number of at most 16 bits.
     pub(crate) fn short(&self, place: usize) -> u16 {
         match u16::try_from(self.number(place)) {
             Ok(number) => number,
@@ -137,7 +137,7 @@ impl<'t> Fields<'t> {
         }
     }
 
-    /// A buffer of a length, filled with a byte.
+    /// Returns a buffer of a length, filled with a byte.
     pub(crate) fn room(&self, place: usize, filled_with: u8) -> Vec<u8> {
         let len = self.number(place);
         match vec![in self.alloc; filled_with; len.min(MOST_ROOM) as usize] {
@@ -149,7 +149,7 @@ impl<'t> Fields<'t> {
         }
     }
 
-    /// A copy of bytes, for a call that changes them.
+    /// Returns a copy of bytes, for a call that changes them.
     pub(crate) fn copy(&self, place: usize) -> Vec<u8> {
         match self.bytes(place).to_vec(self.alloc) {
             Ok(copy) => copy,
@@ -160,7 +160,7 @@ impl<'t> Fields<'t> {
         }
     }
 
-    /// A Partial IV that may be absent.
+    /// Returns a Partial IV that may be absent.
     pub(crate) fn partial_iv(&self, place: usize) -> Option<Piv> {
         if self.word(place) == "none" {
             return None;
@@ -190,7 +190,7 @@ impl<'t> Fields<'t> {
         }
     }
 
-    /// What a context is derived from: secret, salt, ID Context, sender and recipient.
+    /// Returns what a context is derived from: secret, salt, ID Context, sender and recipient.
     pub(crate) fn params(&self) -> Params<'_> {
         self.count(5);
         Params {
@@ -202,7 +202,7 @@ impl<'t> Fields<'t> {
         }
     }
 
-    /// The context that the first field names.
+    /// Returns the context that the first field names.
     pub(crate) fn context(&self, contexts: &[NamedContext<'_>]) -> Option<Context> {
         let name = self.word(0);
         for named in contexts {

@@ -10,9 +10,9 @@ use std::alloc::Global;
 #[derive(Clone, Copy, PartialEq, Eq)]
 enum End {
     Works,
-    /// It fails, and what was kept stays.
+    /// The call fails, and what was kept stays.
     Fails,
-    /// It is stopped; a save has kept its number by then.
+    /// The call is stopped. A save has kept its number by then.
     Stops,
 }
 
@@ -20,12 +20,12 @@ enum End {
 #[derive(Drop)]
 pub(crate) struct Memory<'t> {
     kept: u64,
-    // The last number whose save was answered with Ok.
+    // The last number whose save returned `Ok`.
     pub(crate) saved: u64,
-    // A letter for each call: `f` fails, `s` stops, any other works, as all do behind the last letter.
+    // A letter for each call: `f` fails, `s` stops, and any other letter works. All calls after the last letter work.
     plan: &'t [u8],
     saves: Vec<u64>,
-    /// The name of the file that the command asked a keeper for.
+    /// The name of the file whose keeper the command asked for.
     file: Option<String>,
     failures: Count,
     ghost least: { saved ≤ kept },
@@ -43,7 +43,7 @@ impl<'t> Memory<'t> {
         }
     }
 
-    /// How the next call ends.
+    /// Returns how the next call ends.
     fn next_end(&mut self) -> End
         ensures saved { self.new.saved ≡ self.old.saved }
         ensures kept { self.new.kept ≡ self.old.kept }
@@ -60,7 +60,7 @@ impl<'t> Memory<'t> {
         }
     }
 
-    /// Notes what is asked to be saved, and answers how that ends.
+    /// Notes the number that is to be saved, and returns how the save ends.
     fn note(&mut self, next: u64) -> End
         ensures saved { self.new.saved ≡ self.old.saved }
         ensures kept { self.new.kept ≡ self.old.kept }
@@ -73,13 +73,13 @@ impl<'t> Memory<'t> {
         end
     }
 
-    /// Shows the name of the file, `none` where no keeper was asked for.
+    /// Shows the name of the file, or `none` if no keeper was asked for.
     pub(crate) fn show_file(&self, answer: &mut Answer) {
         answer.word("file");
         answer.word(self.file.as_deref().unwrap_or("none"));
     }
 
-    /// Shows what was asked to be saved, in order.
+    /// Shows the numbers that the keeper was asked to save, in order.
     pub(crate) fn show(&self, answer: &mut Answer) {
         answer.word("saves");
         for number in &self.saves {
@@ -117,7 +117,7 @@ impl<'t> Keeper for Memory<'t> {
     }
 }
 
-/// The keeper of a row, lent to a call of the command, which drops what it gets.
+/// The keeper of a row, lent to a call of the command. The call drops what it gets.
 #[derive(Drop)]
 pub(crate) struct Lent<'m, 't> {
     keeper: &'m mut Memory<'t>,
@@ -128,7 +128,7 @@ impl<'m, 't> Lent<'m, 't> {
         Lent { keeper }
     }
 
-    /// As the keeper of a file.
+    /// Returns this as the keeper of a file.
     pub(crate) fn of_file(self, alloc: Global, name: &str) -> Lent<'m, 't> {
         self.keeper.file = String::from_str(alloc, name).ok();
         self

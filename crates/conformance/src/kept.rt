@@ -16,9 +16,9 @@ pub(crate) enum Way {
     ByRunOn,
 }
 
-/// An end whose numbers a keeper in memory keeps.
+/// An end whose numbers are kept by a keeper in memory.
 pub(crate) trait KeptEnd<'t>: Drop + Sized {
-    /// `start CONTEXT ..`, with the context of the first field.
+    /// Starts an end: `start CONTEXT ..`, with the context of the first field.
     fn start(
         context: Context,
         fields: &Fields<'_>,
@@ -27,11 +27,11 @@ pub(crate) trait KeptEnd<'t>: Drop + Sized {
 
     fn into_keeper(self) -> Memory<'t>;
 
-    /// The steps up to the next start.
+    /// Makes the steps up to the next start.
     fn go(&mut self, steps: &[Step<'_>], way: Way, answer: &mut Answer);
 }
 
-/// A start and the steps up to the next; the keeper is handed on.
+/// Makes a start and the steps up to the next start. Returns the keeper for the next start.
 fn one_start<'t, E: KeptEnd<'t>>(
     keeper: Memory<'t>,
     start: &Step<'_>,
@@ -61,7 +61,7 @@ fn one_start<'t, E: KeptEnd<'t>>(
     }
 }
 
-/// The steps up to the next start.
+/// Returns the steps up to the next start.
 fn up_to_start<'s, 't>(steps: &'s [Step<'t>]) -> &'s [Step<'t>] {
     match steps.iter().position(|step| step.verb == "start") {
         Some(place) => &steps[..place],
@@ -69,7 +69,7 @@ fn up_to_start<'s, 't>(steps: &'s [Step<'t>]) -> &'s [Step<'t>] {
     }
 }
 
-/// All steps, in one way; the first is `keeper KEPT PLAN`.
+/// Makes all steps in one way. The first step is `keeper KEPT PLAN`.
 fn in_a_way<'t, E: KeptEnd<'t>>(
     steps: &[Step<'t>],
     contexts: &[NamedContext<'_>],
@@ -90,7 +90,7 @@ fn in_a_way<'t, E: KeptEnd<'t>>(
     keeper.show(answer);
 }
 
-/// A restart, by its answer.
+/// Shows what a restart returned.
 pub(crate) fn show_restart(answered: &Result<(), KeptError>, answer: &mut Answer) {
     match answered {
         Ok(()) => answer.word("restarted ;"),

@@ -17,7 +17,7 @@ use osc_kept::{
 /// A client with room for two pending requests.
 type Client<'t> = KeptClient<Memory<'t>, 2>;
 
-/// The event of a step, where it is one.
+/// Returns the event of a step, if the step is one.
 fn event_of(step: &Step<'_>) -> Option<KeptClientEvent> {
     let fields = &step.fields;
     match step.verb {
@@ -38,7 +38,7 @@ fn event_of(step: &Step<'_>) -> Option<KeptClientEvent> {
     }
 }
 
-/// The events of steps; `advance` is none.
+/// Returns the events of steps. `advance` isn't an event.
 fn events_of(steps: &[Step<'_>], answer: &mut Answer) -> Vec<KeptClientEvent> {
     let mut events = Vec::new(answer.alloc);
     for step in steps {
@@ -51,7 +51,7 @@ fn events_of(steps: &[Step<'_>], answer: &mut Answer) -> Vec<KeptClientEvent> {
     events
 }
 
-/// An entry, with a semicolon behind it.
+/// Shows an entry, with a semicolon after it.
 fn show_entry(entry: &KeptClientEntry<'_>, answer: &mut Answer) {
     match entry {
         KeptClientEntry::Asked(entry) => show(entry, answer),
@@ -59,7 +59,7 @@ fn show_entry(entry: &KeptClientEntry<'_>, answer: &mut Answer) {
     }
 }
 
-/// A request; the number is read from what was sent.
+/// Makes a request. Its number is read from what was sent.
 fn request<'a>(
     client: &mut Client<'_>,
     now: u64,
@@ -80,7 +80,7 @@ fn request<'a>(
     }
 }
 
-/// A datagram, by one call or by its two halves.
+/// Takes a datagram, by one call or by its two halves.
 fn take<'a>(
     client: &mut Client<'_>,
     now: u64,
@@ -95,7 +95,7 @@ fn take<'a>(
     }
 }
 
-/// An event, by calls.
+/// Runs an event by calls.
 fn call<'a>(
     client: &mut Client<'_>,
     event: &'a mut KeptClientEvent,
@@ -116,7 +116,7 @@ fn call<'a>(
     }
 }
 
-/// All steps, one call each.
+/// Makes all steps, one call each.
 fn by_calls(client: &mut Client<'_>, steps: &[Step<'_>], in_halves: bool, answer: &mut Answer) {
     let mut events = events_of(steps, answer);
     let mut rest = events.as_mut_slice();
@@ -135,7 +135,7 @@ fn by_calls(client: &mut Client<'_>, steps: &[Step<'_>], in_halves: bool, answer
     }
 }
 
-/// All steps, by a run.
+/// Makes all steps by a run.
 fn by_a_run(client: &mut Client<'_>, steps: &[Step<'_>], keeps_rest: bool, answer: &mut Answer) {
     let mut events = events_of(steps, answer);
     let (alloc, mut log) = (answer.alloc, Vec::new(answer.alloc));
@@ -166,7 +166,7 @@ impl<'t> KeptEnd<'t> for KeptClient<Memory<'t>, 2> {
         KeptClient::into_keeper(self)
     }
 
-    /// A run knows no `advance`: steps with one are made by calls alone.
+    /// A run doesn't know `advance`, so steps with one are made only by calls.
     fn go(&mut self, steps: &[Step<'_>], way: Way, answer: &mut Answer) {
         let runs = steps.iter().all(|step| step.verb != "advance");
         match way {

@@ -11,7 +11,7 @@ use osc_endpoint::ClientEntry;
 use osc_handle::ContextHandle;
 use osc_kept_handle::{KeptClientHandle, KeptRequestRefusal};
 
-/// `begin CONTEXT LOADED LIFE`.
+/// Begins a client: `begin CONTEXT LOADED LIFE`.
 fn begin(step: &Step<'_>, contexts: &[NamedContext<'_>]) -> Option<KeptClientHandle> {
     step.fields.count(3);
     let context = step.fields.context(contexts)?;
@@ -19,14 +19,14 @@ fn begin(step: &Step<'_>, contexts: &[NamedContext<'_>]) -> Option<KeptClientHan
     KeptClientHandle::begin(&ContextHandle::of(&context), loaded, life)
 }
 
-/// The number that has to be saved first.
+/// Shows the number that has to be saved first.
 pub(crate) fn show_save_first(number: u64, answer: &mut Answer) {
     answer.word("save-first");
     answer.print(number);
     answer.word(";");
 }
 
-/// `saved NUMBER`: whether that was the number to save.
+/// Shows the answer to `saved NUMBER`: whether that was the number to save.
 pub(crate) fn show_saved(was_asked: Option<bool>, step: &Step<'_>, answer: &mut Answer) {
     step.fields.count(1);
     match was_asked {
@@ -36,7 +36,7 @@ pub(crate) fn show_saved(was_asked: Option<bool>, step: &Step<'_>, answer: &mut 
     }
 }
 
-/// `request NOW PLAIN ROOM`.
+/// Makes `request NOW PLAIN ROOM`.
 fn request(client: &mut KeptClientHandle, step: &Step<'_>, answer: &mut Answer) {
     step.fields.count(3);
     let (plain, mut out) = (step.fields.copy(1), step.fields.room(2, FILLED_WITH));
@@ -58,7 +58,7 @@ fn request(client: &mut KeptClientHandle, step: &Step<'_>, answer: &mut Answer) 
     }
 }
 
-/// What a datagram comes to, by one call or by its two halves.
+/// Returns what becomes of a datagram, by one call or by its two halves.
 fn taken<'a>(
     client: &mut KeptClientHandle,
     now: u64,
@@ -74,7 +74,7 @@ fn taken<'a>(
     }
 }
 
-/// `take NOW DATAGRAM`.
+/// Makes `take NOW DATAGRAM`.
 fn take(client: &mut KeptClientHandle, step: &Step<'_>, in_halves: bool, answer: &mut Answer) {
     step.fields.count(2);
     let mut bytes = step.fields.copy(1);
@@ -84,7 +84,7 @@ fn take(client: &mut KeptClientHandle, step: &Step<'_>, in_halves: bool, answer:
     }
 }
 
-/// `forget TOKEN`.
+/// Makes `forget TOKEN`.
 fn forget(client: &mut KeptClientHandle, step: &Step<'_>, answer: &mut Answer) {
     let token = step.fields.copy(0);
     match client.forget(&token) {
@@ -93,7 +93,7 @@ fn forget(client: &mut KeptClientHandle, step: &Step<'_>, answer: &mut Answer) {
     }
 }
 
-/// A beginning and the steps behind it, one call each.
+/// Makes a beginning and the steps after it, one call each.
 fn by_bytes(
     steps: &[Step<'_>],
     contexts: &[NamedContext<'_>],

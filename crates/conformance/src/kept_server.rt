@@ -18,7 +18,7 @@ use osc_window::WindowSize;
 
 type Server<'t> = KeptServer<Memory<'t>>;
 
-/// The event of a step.
+/// Returns the event of a step.
 fn event_of(step: &Step<'_>) -> Option<KeptServerEvent> {
     match step.verb {
         "take" => Some(KeptServerEvent::Datagram(arrival(&step.fields))),
@@ -28,7 +28,7 @@ fn event_of(step: &Step<'_>) -> Option<KeptServerEvent> {
     }
 }
 
-/// The events of steps.
+/// Returns the events of steps.
 fn events_of(steps: &[Step<'_>], answer: &mut Answer) -> Vec<KeptServerEvent> {
     let mut events = Vec::new(answer.alloc);
     for step in steps {
@@ -44,7 +44,7 @@ fn events_of(steps: &[Step<'_>], answer: &mut Answer) -> Vec<KeptServerEvent> {
     events
 }
 
-/// An entry, with a semicolon behind it.
+/// Shows an entry, with a semicolon after it.
 fn show_entry(entry: &KeptServerEntry<'_>, answer: &mut Answer) {
     match entry {
         KeptServerEntry::Served(entry) => show(entry, answer),
@@ -52,7 +52,7 @@ fn show_entry(entry: &KeptServerEntry<'_>, answer: &mut Answer) {
     }
 }
 
-/// A datagram, by one call or by its two halves.
+/// Takes a datagram, by one call or by its two halves.
 fn take<'a>(
     server: &mut Server<'_>,
     arrival: &'a mut Arrival,
@@ -78,7 +78,7 @@ fn take<'a>(
     (ServerEntry::Took { seen, reply }, ticket)
 }
 
-/// A reply to the request of an earlier event.
+/// Replies to the request of an earlier event.
 fn reply<'a>(
     server: &mut Server<'_>,
     tickets: &mut [Option<Ticket>],
@@ -105,7 +105,7 @@ fn reply<'a>(
     }
 }
 
-/// An event, by calls.
+/// Runs an event by calls.
 fn call<'a>(
     server: &mut Server<'_>,
     tickets: &mut [Option<Ticket>],
@@ -125,7 +125,7 @@ fn call<'a>(
     }
 }
 
-/// All events, one call each.
+/// Runs all events, one call each.
 fn by_calls(
     server: &mut Server<'_>,
     events: &mut [KeptServerEvent],
@@ -142,7 +142,7 @@ fn by_calls(
     }
 }
 
-/// All events, by a run.
+/// Runs all events by a run.
 fn by_a_run(
     server: &mut Server<'_>,
     events: &mut [KeptServerEvent],

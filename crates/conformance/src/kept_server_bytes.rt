@@ -13,7 +13,7 @@ use osc_handle::{ContextHandle, TicketHandle};
 use osc_kept_handle::{KeptRefusal, KeptReplyRefusal, KeptServerHandle};
 use osc_window::WindowSize;
 
-/// `begin CONTEXT LOADED SIZE`.
+/// Begins a server: `begin CONTEXT LOADED SIZE`.
 fn begin(step: &Step<'_>, contexts: &[NamedContext<'_>]) -> Option<KeptServerHandle> {
     step.fields.count(3);
     let context = step.fields.context(contexts)?;
@@ -25,7 +25,7 @@ fn begin(step: &Step<'_>, contexts: &[NamedContext<'_>]) -> Option<KeptServerHan
     KeptServerHandle::begin(&ContextHandle::of(&context), number(&step.fields, 1), size)
 }
 
-/// What a datagram comes to, by one call or by its two halves.
+/// Returns what becomes of a datagram, by one call or by its two halves.
 fn taken<'a>(
     server: &mut KeptServerHandle,
     arrival: &'a mut Arrival,
@@ -49,7 +49,7 @@ fn taken<'a>(
     Ok((ServerEntry::Took { seen, reply }, ticket))
 }
 
-/// `take NOW ECHO MID DATAGRAM`, with the ticket of a delivery.
+/// Makes `take NOW ECHO MID DATAGRAM`, and returns the ticket of a delivery.
 fn take(
     server: &mut KeptServerHandle,
     step: &Step<'_>,
@@ -73,7 +73,8 @@ fn take(
     }
 }
 
-/// `reply STEP own|shared MID PLAIN ROOM`, to the request of an earlier step. A ticket may answer twice: then it is spent.
+/// Makes `reply STEP own|shared MID PLAIN ROOM`, to the request of an earlier step. A ticket may answer twice: the second time, it is
+/// spent.
 fn reply(
     server: &mut KeptServerHandle,
     tickets: &[Option<TicketHandle>],
@@ -108,7 +109,7 @@ fn reply(
     }
 }
 
-/// A beginning and the steps behind it, one call each.
+/// Makes a beginning and the steps after it, one call each.
 fn by_bytes(
     steps: &[Step<'_>],
     contexts: &[NamedContext<'_>],

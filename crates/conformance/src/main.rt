@@ -1,6 +1,6 @@
-//! The corpus: rows from standard input, each a call and its answer. Each call is made, and a row whose answer differs is
-//! printed, with what was wanted and what came; then the number of rows of each section. The status is 1 where a row
-//! differs or can't be read. docs/CORPUS.md has the format.
+//! The corpus: rows from standard input, each a call and its answer. The program makes each call, and prints each row whose answer differs,
+//! with the wanted answer and the one that came. Then it prints the number of rows of each section. The status is 1 if a row differs or
+//! can't be read. docs/CORPUS.md has the format.
 #![tactic(auto)]
 
 mod answer;
@@ -38,7 +38,7 @@ use std::alloc::Global;
 use std::io;
 use std::process::ExitCode;
 
-/// Makes all calls, and answers the status.
+/// Makes all calls, and returns the status.
 fn run<R: Input + Print + Alloc<A = Global>>(rt: &R) -> io::Result<u8> {
     let text = io::read_to_string(rt.alloc(), rt.reader())?;
     let mut corpus = Corpus::new(rt.alloc());

@@ -29,7 +29,7 @@ impl<'t> Sender<'t> {
     }
 }
 
-/// A keeper, with a sender that is started over it or without.
+/// A keeper, with or without a sender that is started over it.
 #[derive(Drop)]
 enum Life<'t> {
     Stopped(Memory<'t>),
@@ -47,7 +47,7 @@ impl<'t> Life<'t> {
         }
     }
 
-    /// Stops a sender that is started, and starts one.
+    /// Stops the sender, if one is started, and starts one.
     fn start(self, answer: &mut Answer) -> Life<'t> {
         match Sender::start(self.into_keeper()) {
             Ok(sender) => {
@@ -61,7 +61,7 @@ impl<'t> Life<'t> {
         }
     }
 
-    /// Gives a number.
+    /// Shows the number that the sender gives.
     fn next(&mut self, fields: &Fields<'_>, answer: &mut Answer) {
         match self {
             Life::Started(sender) => match sender.next() {
@@ -73,7 +73,7 @@ impl<'t> Life<'t> {
     }
 }
 
-/// A sender over a keeper, step by step, from the third field on: `start` or `next`.
+/// Runs a sender over a keeper, step by step, from the third field on. A step is `start` or `next`.
 pub(crate) fn numbers(fields: &Fields<'_>, answer: &mut Answer) {
     let keeper = Memory::new(answer.alloc, fields.number(0), fields.word(1));
     let mut life = Life::Stopped(keeper);

@@ -19,7 +19,7 @@ use osc_protect::{
 /// What a buffer to seal into is filled with.
 const FILLED_WITH: u8 = 0xaa;
 
-/// What the head of a request says.
+/// Shows what the head of a request says.
 fn shown(head: &RequestHead<'_>, answer: &mut Answer) {
     answer.kind(head.kind);
     answer.bytes(&head.message_id.to_be_bytes());
@@ -29,7 +29,7 @@ fn shown(head: &RequestHead<'_>, answer: &mut Answer) {
     answer.part(head.kid_context);
 }
 
-/// The head of a message that is read first.
+/// Shows the head of a message, which is read first.
 fn head_of_message(datagram: &[u8], answer: &mut Answer) {
     match parse(datagram) {
         Ok(message) => match RequestHead::read(&message) {
@@ -40,7 +40,7 @@ fn head_of_message(datagram: &[u8], answer: &mut Answer) {
     }
 }
 
-/// The head of a request, of its datagram and of its message.
+/// Shows the head of a request, read from its datagram and from its message.
 pub(crate) fn head(fields: &Fields<'_>, answer: &mut Answer) {
     fields.count(1);
     match head_of_request(fields.bytes(0)) {
@@ -51,7 +51,7 @@ pub(crate) fn head(fields: &Fields<'_>, answer: &mut Answer) {
     head_of_message(fields.bytes(0), answer);
 }
 
-/// The head of a response.
+/// Shows the head of a response.
 pub(crate) fn response_head(fields: &Fields<'_>, answer: &mut Answer) {
     fields.count(1);
     let Some(message) = fields.message(0) else {
@@ -68,7 +68,7 @@ pub(crate) fn response_head(fields: &Fields<'_>, answer: &mut Answer) {
     }
 }
 
-/// Whether the head of a request names the context.
+/// Shows whether the head of a request names the context.
 pub(crate) fn named(fields: &Fields<'_>, context: &KeyedContext, answer: &mut Answer) {
     fields.count(2);
     match head_of_request(fields.bytes(1)) {
@@ -81,7 +81,7 @@ pub(crate) fn named(fields: &Fields<'_>, context: &KeyedContext, answer: &mut An
     }
 }
 
-/// Whether a message can be sealed.
+/// Shows whether a message can be sealed.
 fn told(outcome: Result<(), ProtectError>, answer: &mut Answer) {
     match outcome {
         Ok(()) => answer.word("ok"),
@@ -103,7 +103,7 @@ pub(crate) fn checked_response(fields: &Fields<'_>, answer: &mut Answer) {
     }
 }
 
-/// What sealing answered, and what became of the bytes behind.
+/// Shows what sealing returned, and what became of the bytes after it.
 fn sealed(outcome: Result<usize, ProtectError>, out: &[u8], answer: &mut Answer) {
     match outcome {
         Ok(len) => answer.written(out, len, FILLED_WITH),
@@ -114,7 +114,7 @@ fn sealed(outcome: Result<usize, ProtectError>, out: &[u8], answer: &mut Answer)
     }
 }
 
-/// A request, sealed over a context and then over one that keeps its schedules.
+/// Seals a request over a context, and then over one that keeps its schedules.
 pub(crate) fn sealed_request(fields: &Fields<'_>, context: &KeyedContext, answer: &mut Answer) {
     fields.count(4);
     let (Some(number), Some(plain)) = (fields.partial_iv(1), fields.message(2)) else {
@@ -129,7 +129,7 @@ pub(crate) fn sealed_request(fields: &Fields<'_>, context: &KeyedContext, answer
     sealed(outcome, out.as_slice(), answer);
 }
 
-/// A response, sealed over a context and then over one that keeps its schedules.
+/// Seals a response over a context, and then over one that keeps its schedules.
 pub(crate) fn sealed_response(fields: &Fields<'_>, context: &KeyedContext, answer: &mut Answer) {
     fields.count(5);
     let own = fields.partial_iv(2);
@@ -146,7 +146,7 @@ pub(crate) fn sealed_response(fields: &Fields<'_>, context: &KeyedContext, answe
     sealed(outcome, out.as_slice(), answer);
 }
 
-/// What a message says that opened.
+/// Shows what an opened message says.
 pub(crate) fn show_opened(opened: &Opened<'_>, answer: &mut Answer) {
     answer.kind(opened.kind);
     answer.bytes(&opened.message_id.to_be_bytes());
@@ -159,7 +159,7 @@ pub(crate) fn show_opened(opened: &Opened<'_>, answer: &mut Answer) {
     answer.bytes(opened.payload);
 }
 
-/// What a message says that opened, or why none did.
+/// Shows what an opened message says, or why none opened.
 fn opened(outcome: Result<Opened<'_>, UnprotectError>, answer: &mut Answer) {
     match outcome {
         Ok(opened) => show_opened(&opened, answer),
@@ -168,7 +168,7 @@ fn opened(outcome: Result<Opened<'_>, UnprotectError>, answer: &mut Answer) {
     answer.word("left");
 }
 
-/// A request that is opened in stages.
+/// Opens a request in stages.
 fn request_in_stages<'b>(
     context: &KeyedContext,
     datagram: &'b mut [u8],
@@ -190,7 +190,7 @@ fn request_in_stages<'b>(
     }
 }
 
-/// A request, opened by one call over a context, by one over the context that keeps its schedules, and in stages.
+/// Opens a request by one call over a context, by one over the context that keeps its schedules, and in stages.
 pub(crate) fn opened_request(fields: &Fields<'_>, context: &KeyedContext, answer: &mut Answer) {
     fields.count(2);
     let came = fields.bytes(1);
@@ -208,7 +208,7 @@ pub(crate) fn opened_request(fields: &Fields<'_>, context: &KeyedContext, answer
     answer.left(came, datagram.as_slice());
 }
 
-/// What is to be decrypted of a response.
+/// Returns what has to be decrypted of a response.
 fn sealed_of_response(datagram: &[u8]) -> Result<SealedResponse, UnprotectError>
     ensures { IfOk result (λ x. (s : SecurityContext) (n : ℕ) → IsSealedResponse (responses s n) datagram.now x) }
 {
@@ -222,7 +222,7 @@ fn sealed_of_response(datagram: &[u8]) -> Result<SealedResponse, UnprotectError>
     }
 }
 
-/// A response that is opened in stages.
+/// Opens a response in stages.
 fn response_in_stages<'b>(
     context: &KeyedContext,
     request: &RequestRef,
@@ -238,7 +238,7 @@ fn response_in_stages<'b>(
     }
 }
 
-/// A response, opened by one call over a context, by one over the context that keeps its schedules, and in stages.
+/// Opens a response by one call over a context, by one over the context that keeps its schedules, and in stages.
 pub(crate) fn opened_response(fields: &Fields<'_>, context: &KeyedContext, answer: &mut Answer) {
     fields.count(3);
     let Some(number) = fields.partial_iv(1) else {
@@ -261,7 +261,7 @@ pub(crate) fn opened_response(fields: &Fields<'_>, context: &KeyedContext, answe
     answer.left(came, datagram.as_slice());
 }
 
-/// The text that `Debug` prints of a context that keeps its schedules.
+/// Shows the text that `Debug` prints for a context that keeps its schedules.
 pub(crate) fn debug(fields: &Fields<'_>, answer: &mut Answer) {
     match Context::derive(fields.params()) {
         Ok(context) => answer.debugged(&KeyedContext::new(context)),

@@ -8,7 +8,7 @@ use osc_coap::{
     parse, parse_inner, parsed, parsed_inner,
 };
 
-/// What a message says.
+/// Shows what a message says.
 fn message(message: &Message<'_>, answer: &mut Answer) {
     answer.kind(message.kind);
     answer.bytes(&message.message_id.to_be_bytes());
@@ -18,7 +18,7 @@ fn message(message: &Message<'_>, answer: &mut Answer) {
     answer.bytes(message.payload());
 }
 
-/// A datagram that is read, and taken apart once more by the length of its payload.
+/// Reads a datagram, and takes it apart again by the length of its payload.
 pub(crate) fn read_datagram(fields: &Fields<'_>, answer: &mut Answer) {
     fields.count(1);
     let datagram = fields.bytes(0);
@@ -32,14 +32,14 @@ pub(crate) fn read_datagram(fields: &Fields<'_>, answer: &mut Answer) {
     }
 }
 
-/// What a plaintext says.
+/// Shows what a plaintext says.
 fn plaintext(inner: &Inner<'_>, answer: &mut Answer) {
     answer.code(inner.code);
     answer.options(inner.options());
     answer.bytes(inner.payload());
 }
 
-/// A plaintext that is read, and taken apart once more by the length of its payload.
+/// Reads a plaintext, and takes it apart again by the length of its payload.
 pub(crate) fn read_plaintext(fields: &Fields<'_>, answer: &mut Answer) {
     fields.count(1);
     let bytes = fields.bytes(0);
@@ -58,7 +58,7 @@ pub(crate) fn option_length(fields: &Fields<'_>, answer: &mut Answer) {
     answer.print(option_len(fields.short(0), fields.short(1)));
 }
 
-/// The length of a datagram's head with its token.
+/// Shows the length of a datagram's head with its token.
 pub(crate) fn head_length(fields: &Fields<'_>, answer: &mut Answer) {
     fields.count(1);
     if let Some(message) = fields.message(0) {
@@ -66,7 +66,7 @@ pub(crate) fn head_length(fields: &Fields<'_>, answer: &mut Answer) {
     }
 }
 
-/// Whether a message is a request, and whether it is a response.
+/// Shows whether a message is a request, and whether it is a response.
 pub(crate) fn usage(fields: &Fields<'_>, answer: &mut Answer) {
     fields.count(1);
     if let Some(message) = fields.message(0) {
@@ -74,14 +74,14 @@ pub(crate) fn usage(fields: &Fields<'_>, answer: &mut Answer) {
     }
 }
 
-/// Whether a code, one byte, is of a request, and whether it is of a response.
+/// Shows whether a code, one byte, belongs to a request, and whether it belongs to a response.
 pub(crate) fn code_usage(fields: &Fields<'_>, answer: &mut Answer) {
     fields.count(1);
     let [code] = fields.array::<1>(0);
     answer.usage(is_request_code(code), is_response_code(code));
 }
 
-/// The first value of a number among a datagram's options.
+/// Shows the value of the first option with this number among a datagram's options.
 pub(crate) fn first_option(fields: &Fields<'_>, answer: &mut Answer) {
     fields.count(2);
     if let Some(message) = fields.message(0) {
@@ -124,7 +124,7 @@ const NUMBERS: [u16; 22] = [
     NO_RESPONSE,
 ];
 
-/// One of these, counted from 0.
+/// Shows one of these numbers, counted from 0.
 pub(crate) fn option_number(fields: &Fields<'_>, answer: &mut Answer) {
     fields.count(1);
     match NUMBERS.get(fields.short(0) as usize) {

@@ -16,14 +16,14 @@ use osc_endpoint::{
 use osc_window::WindowSize;
 use std::alloc::Global;
 
-/// A context that is added, how it begins, and the size of its window.
+/// A context to add, how it begins, and the size of its window.
 pub(crate) struct Addition {
     pub(crate) context: Context,
     pub(crate) start: Start,
     pub(crate) size: WindowSize,
 }
 
-/// `add CONTEXT fresh|restarted NEXT SIZE`.
+/// Reads `add CONTEXT fresh|restarted NEXT SIZE`.
 pub(crate) fn read_addition(
     fields: &Fields<'_>,
     contexts: &[NamedContext<'_>],
@@ -51,7 +51,7 @@ pub(crate) fn read_addition(
     })
 }
 
-/// The index of a context that was added, or the refusal.
+/// Shows the index of a context that was added, or the refusal.
 pub(crate) fn show_added(added: Result<usize, AddError>, answer: &mut Answer) {
     match added {
         Ok(index) => {
@@ -82,7 +82,7 @@ fn add(
     }
 }
 
-/// A datagram, by one call.
+/// Takes a datagram, by one call.
 fn take<'a>(server: &mut Server, arrival: &'a mut Arrival) -> (ServerEntry<'a>, Option<Ticket>) {
     let Arrival {
         now,
@@ -96,7 +96,7 @@ fn take<'a>(server: &mut Server, arrival: &'a mut Arrival) -> (ServerEntry<'a>, 
     (ServerEntry::Took { seen, reply }, ticket)
 }
 
-/// A datagram, by the two halves of that call.
+/// Takes a datagram, by the two halves of that call.
 fn take_in_halves<'a>(
     server: &mut Server,
     arrival: &'a mut Arrival,
@@ -113,7 +113,7 @@ fn take_in_halves<'a>(
     (ServerEntry::Took { seen, reply }, ticket)
 }
 
-/// A reply to the request of an earlier event.
+/// Replies to the request of an earlier event.
 fn reply<'a>(
     server: &mut Server,
     tickets: &mut [Option<Ticket>],
@@ -145,7 +145,7 @@ fn reply<'a>(
     }
 }
 
-/// An event, by calls.
+/// Runs an event by calls.
 fn call<'a>(
     server: &mut Server,
     tickets: &mut [Option<Ticket>],
@@ -168,7 +168,7 @@ fn call<'a>(
     }
 }
 
-/// What is left of each event: of a datagram its bytes, of a reply whether nothing was written into its room.
+/// Shows what is left of each event: for a datagram its bytes, for a reply whether nothing was written into its room.
 pub(crate) fn left(steps: &[Step<'_>], events: &[ServerEvent], answer: &mut Answer) {
     answer.word("left");
     let mut rest = events;
@@ -188,7 +188,7 @@ pub(crate) fn left(steps: &[Step<'_>], events: &[ServerEvent], answer: &mut Answ
     }
 }
 
-/// All steps, one call each.
+/// Makes all steps, one call each.
 fn by_calls(
     steps: &[Step<'_>],
     contexts: &[NamedContext<'_>],
@@ -225,7 +225,7 @@ fn by_calls(
     left(steps, &events, answer);
 }
 
-/// The contexts are added, and then the events run.
+/// Adds the contexts, and then runs the events.
 fn by_a_run(
     steps: &[Step<'_>],
     contexts: &[NamedContext<'_>],
@@ -244,7 +244,7 @@ fn by_a_run(
     left(steps, &events, answer);
 }
 
-/// The events run, and their log is shown.
+/// Runs the events, and shows their log.
 fn run(
     alloc: Global,
     server: &mut Server,
@@ -267,7 +267,7 @@ fn run(
     }
 }
 
-/// Whether the first step adds a context, and no other does.
+/// Returns whether the first step adds a context, and all others are events.
 fn has_one_context(steps: &[Step<'_>]) -> bool {
     match steps {
         [first, rest @ ..] => first.verb == "add" && rest.iter().all(is_event),
@@ -275,7 +275,7 @@ fn has_one_context(steps: &[Step<'_>]) -> bool {
     }
 }
 
-/// Both ways over the bytes of a server, and where it has one context over those of a server of one.
+/// Makes the steps in both ways over the bytes of a server and, if it has one context, over the bytes of a server of one context.
 fn by_bytes_both_ways(steps: &[Step<'_>], contexts: &[NamedContext<'_>], answer: &mut Answer) {
     by_bytes(steps, contexts, false, answer);
     answer.again();
@@ -288,22 +288,23 @@ fn by_bytes_both_ways(steps: &[Step<'_>], contexts: &[NamedContext<'_>], answer:
     }
 }
 
-/// A row whose steps went ill differs.
+/// Makes a row differ if its steps went wrong.
 pub(crate) fn check(steps: &[Step<'_>], answer: &mut Answer) {
     if steps.iter().any(|step| step.fields.is_bad()) {
         answer.is_whole = false;
     }
 }
 
-/// Makes the calls of a row's steps over the bytes of a server alone.
+/// Makes the calls of a row's steps over nothing but the bytes of a server.
 pub(crate) fn steps_over_bytes(text: &str, contexts: &[NamedContext<'_>], answer: &mut Answer) {
     let steps = steps_of(text, answer);
     by_bytes_both_ways(&steps, contexts, answer);
     check(&steps, answer);
 }
 
-/// Makes the calls of a row's steps: by `take`, by its halves, where the steps are contexts that are added, no two of one Sender Key, and
-/// events over the bytes of a server in both ways too, and where the contexts come first by both runs.
+/// Makes the calls of a row's steps by `take` and by its halves. If the steps only add contexts, no two with the same Sender Key, and run
+/// events, makes them over the bytes of a server in both ways too. If the contexts come first and only events follow, makes them by both
+/// runs too.
 pub(crate) fn steps(text: &str, contexts: &[NamedContext<'_>], answer: &mut Answer) {
     let steps = steps_of(text, answer);
     by_calls(&steps, contexts, false, answer);

@@ -1,4 +1,4 @@
-//! Calls of osc_handle: a server as bytes, step by step, with room for eight contexts or of one alone.
+//! Calls of osc_handle: a server as bytes, step by step, with room for eight contexts or for only one.
 
 ghost use Rattle.std.specs.Prelude.{IfSome};
 ghost use Rattle.osc_endpoint.specs.Deciding.{CanShow};
@@ -18,7 +18,7 @@ use osc_handle::{
     AddRefusal, ContextHandle, ReplyRefusal, ServerHandle, SingleServerHandle, TicketHandle,
 };
 
-/// The tickets of earlier events, as bytes. One whose reply was sealed is taken out.
+/// The tickets of earlier events, as bytes. A ticket whose reply was sealed is taken out.
 type Tickets = Vec<Option<TicketHandle>>;
 
 /// A server as bytes.
@@ -30,7 +30,7 @@ enum Bytes {
 }
 
 impl Bytes {
-    /// Adds a context; a server of one begins with it.
+    /// Adds a context. A server of one context begins with it.
     fn add(
         &mut self,
         step: &Step<'_>,
@@ -116,7 +116,7 @@ impl Bytes {
     }
 }
 
-/// The index of a context that was added, or the refusal.
+/// Shows the index of a context that was added, or the refusal.
 fn show_addition(added: Result<usize, AddRefusal>, answer: &mut Answer) {
     match added {
         Ok(index) => show_added(Ok(index), answer),
@@ -125,7 +125,7 @@ fn show_addition(added: Result<usize, AddRefusal>, answer: &mut Answer) {
     }
 }
 
-/// Whether none of the contexts is refused for its Sender Key, by which a `Server` refuses none (RFC 8613, 3.3).
+/// Returns whether none of the contexts is refused for its Sender Key. A `Server` refuses none for that (RFC 8613, 3.3).
 pub(crate) fn have_own_senders(steps: &[Step<'_>], contexts: &[NamedContext<'_>]) -> bool {
     let mut server = Bytes::Eight(ServerHandle::new());
     for step in steps {
@@ -138,7 +138,7 @@ pub(crate) fn have_own_senders(steps: &[Step<'_>], contexts: &[NamedContext<'_>]
     true
 }
 
-/// A datagram, by one call or by its two halves.
+/// Takes a datagram, by one call or by its two halves.
 fn take<'a>(
     server: &mut Bytes,
     arrival: &'a mut Arrival,
@@ -162,7 +162,7 @@ fn take<'a>(
     Some((ServerEntry::Took { seen, reply }, ticket))
 }
 
-/// A reply to the request of an earlier event. Behind it the same ticket is spent.
+/// Replies to the request of an earlier event. After the reply, the same ticket is spent.
 fn reply<'a>(
     server: &mut Bytes,
     tickets: &mut Tickets,
@@ -200,7 +200,7 @@ fn reply<'a>(
     }
 }
 
-/// An event, by calls.
+/// Runs an event by calls.
 fn call<'a>(
     server: &mut Bytes,
     tickets: &mut Tickets,
@@ -221,7 +221,7 @@ fn call<'a>(
     }
 }
 
-/// All steps, one call each: contexts that are added, and events.
+/// Makes all steps, one call each. Each step adds a context or is an event.
 pub(crate) fn by_bytes(
     steps: &[Step<'_>],
     contexts: &[NamedContext<'_>],
@@ -237,7 +237,7 @@ pub(crate) fn by_bytes(
     );
 }
 
-/// The same over the bytes of a server of one context, which the first step adds.
+/// Makes the same steps over the bytes of a server of one context, which the first step adds.
 pub(crate) fn by_bytes_of_one(
     steps: &[Step<'_>],
     contexts: &[NamedContext<'_>],

@@ -4,7 +4,7 @@ use crate::answer::Answer;
 use crate::protection::show_opened;
 use osc_endpoint::{Seen, ServerEntry};
 
-/// What was made of a datagram.
+/// Shows what the server made of a datagram.
 fn show_seen(seen: &Seen<'_>, answer: &mut Answer) {
     match seen {
         Seen::Malformed(fault) => {
@@ -38,7 +38,7 @@ fn show_seen(seen: &Seen<'_>, answer: &mut Answer) {
     }
 }
 
-/// An entry, with a semicolon behind it. A datagram's ends in the reply.
+/// Shows an entry, with a semicolon after it. A datagram's entry ends with the reply.
 pub(crate) fn show(entry: &ServerEntry<'_>, answer: &mut Answer) {
     match entry {
         ServerEntry::Took { seen, reply } => {

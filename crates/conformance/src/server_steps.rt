@@ -5,17 +5,17 @@ use crate::fields::Fields;
 use crate::steps::{FILLED_WITH, Step, number};
 use osc_endpoint::{Answering, Arrival, Fresh, ServerEvent};
 
-/// A small number, as an index is.
+/// Returns a small number, such as an index.
 pub(crate) fn index(fields: &Fields<'_>, place: usize) -> usize {
     fields.short(place) as usize
 }
 
-/// A message ID of two bytes.
+/// Returns a Message ID of two bytes.
 fn message_id(fields: &Fields<'_>, place: usize) -> u16 {
     u16::from_be_bytes(fields.array::<2>(place))
 }
 
-/// `take NOW ECHO MID DATAGRAM`.
+/// Reads `take NOW ECHO MID DATAGRAM`.
 pub(crate) fn arrival(fields: &Fields<'_>) -> Arrival {
     fields.count(4);
     let fresh = Fresh {
@@ -30,7 +30,7 @@ pub(crate) fn arrival(fields: &Fields<'_>) -> Arrival {
     }
 }
 
-/// `reply STEP own|shared MID PLAIN ROOM`.
+/// Reads `reply STEP own|shared MID PLAIN ROOM`.
 pub(crate) fn answering(fields: &Fields<'_>) -> Answering {
     fields.count(5);
     Answering {
@@ -42,7 +42,7 @@ pub(crate) fn answering(fields: &Fields<'_>) -> Answering {
     }
 }
 
-/// The event of a step, where it is one.
+/// Returns the event of a step, if the step is one.
 fn event_of(step: &Step<'_>) -> Option<ServerEvent> {
     match step.verb {
         "take" => Some(ServerEvent::Datagram(arrival(&step.fields))),
@@ -55,7 +55,7 @@ fn event_of(step: &Step<'_>) -> Option<ServerEvent> {
     }
 }
 
-/// The events of a row's steps.
+/// Returns the events of a row's steps.
 pub(crate) fn events_of(steps: &[Step<'_>], answer: &mut Answer) -> Vec<ServerEvent> {
     let mut events = Vec::new(answer.alloc);
     for step in steps {
@@ -68,7 +68,7 @@ pub(crate) fn events_of(steps: &[Step<'_>], answer: &mut Answer) -> Vec<ServerEv
     events
 }
 
-/// A step that runs know.
+/// Returns whether runs know this step.
 pub(crate) fn is_event(step: &Step<'_>) -> bool {
     matches!(step.verb, "take" | "reply" | "restart")
 }

@@ -14,7 +14,7 @@ pub(crate) struct Step<'t> {
     pub(crate) fields: Fields<'t>,
 }
 
-/// The steps of a row, which semicolons part.
+/// Returns the steps of a row, which are separated by semicolons.
 pub(crate) fn steps_of<'t>(text: &'t str, answer: &mut Answer) -> Vec<Step<'t>> {
     let mut steps = Vec::new(answer.alloc);
     for step in text.split(';') {
@@ -28,7 +28,7 @@ pub(crate) fn steps_of<'t>(text: &'t str, answer: &mut Answer) -> Vec<Step<'t>> 
     steps
 }
 
-/// The number of a field.
+/// Returns the number of a field.
 pub(crate) fn number(fields: &Fields<'_>, place: usize) -> Piv {
     match fields.partial_iv(place) {
         Some(number) => number,

@@ -1,4 +1,4 @@
-//! The texts of a call of the command: words, or texts in quotes, parted by spaces.
+//! The texts of a call of the command: words, or texts in quotes, separated by spaces.
 
 use std::alloc::Global;
 
@@ -13,7 +13,7 @@ pub(crate) struct Texts {
 }
 
 impl Texts {
-    /// Reads the texts. Behind a backslash `n` stands for a newline, `r` for a carriage return, and every other character for itself.
+    /// Reads the texts. After a backslash, `n` stands for a newline, `r` for a carriage return, and every other character for itself.
     pub(crate) fn read(alloc: Global, call: &str) -> Texts {
         let mut texts = Texts {
             done: Vec::new(alloc),
@@ -54,7 +54,7 @@ impl Texts {
         }
     }
 
-    /// The text is whole, unless a quote is open.
+    /// Ends a text. It is whole, unless a quote is open.
     fn end(&mut self, alloc: Global) {
         let text = std::mem::replace(&mut self.current, String::new(alloc));
         if self.is_quoted || self.done.push(text).is_err() {

@@ -23,7 +23,7 @@ pub(crate) fn make(
     }
 }
 
-/// A call of osc_coap, or of a layer above.
+/// Makes a call of osc_coap, or of a layer above.
 fn of_messages(
     verb: &str,
     fields: &Fields<'_>,
@@ -44,7 +44,7 @@ fn of_messages(
     }
 }
 
-/// A call of osc_coap about options, or of a layer above.
+/// Makes a call of osc_coap about options, or of a layer above.
 fn of_options(verb: &str, fields: &Fields<'_>, contexts: &[NamedContext<'_>], answer: &mut Answer) {
     match verb {
         "option-length" => reading::option_length(fields, answer),
@@ -55,7 +55,7 @@ fn of_options(verb: &str, fields: &Fields<'_>, contexts: &[NamedContext<'_>], an
     }
 }
 
-/// A call of osc_context, or of a layer above.
+/// Makes a call of osc_context, or of a layer above.
 fn of_contexts(
     verb: &str,
     fields: &Fields<'_>,
@@ -77,7 +77,7 @@ fn of_contexts(
     }
 }
 
-/// A derivation of osc_context, a call of osc_window, or of a layer above.
+/// Makes a derivation of osc_context, or a call of osc_window or of a layer above.
 fn of_windows(verb: &str, fields: &Fields<'_>, contexts: &[NamedContext<'_>], answer: &mut Answer) {
     match verb {
         "derive" => context::derive(fields, answer),
@@ -91,7 +91,7 @@ fn of_windows(verb: &str, fields: &Fields<'_>, contexts: &[NamedContext<'_>], an
     }
 }
 
-/// A call of osc_protect that needs no context, or one that does.
+/// Makes a call of osc_protect that needs no context, or a call that needs one.
 fn of_protection(
     verb: &str,
     fields: &Fields<'_>,
@@ -107,7 +107,7 @@ fn of_protection(
     }
 }
 
-/// A call of osc_context or osc_protect under a context.
+/// Makes a call of osc_context or osc_protect under a context.
 fn under_this(verb: &str, fields: &Fields<'_>, context: &KeyedContext, answer: &mut Answer) {
     match verb {
         "answers-to" => context::answers_to(fields, context.context(), answer),
@@ -120,7 +120,7 @@ fn under_this(verb: &str, fields: &Fields<'_>, context: &KeyedContext, answer: &
     }
 }
 
-/// Such a call under a context that keeps its schedules, once more under one that keeps none, and under one in constant time.
+/// Makes such a call under a context that keeps its schedules, again under one that keeps none, and again under one in constant time.
 fn under_a_context(
     verb: &str,
     fields: &Fields<'_>,

@@ -4,7 +4,7 @@ use crate::answer::Answer;
 use crate::fields::Fields;
 use osc_window::{Gate, Window, WindowSize};
 
-/// The size of a field: `default`, 32 or else 64.
+/// Returns the size that a field says: `default`, 32, or else 64.
 fn size(fields: &Fields<'_>) -> WindowSize {
     if fields.word(0) == "default" {
         return WindowSize::default();
@@ -16,8 +16,8 @@ fn size(fields: &Fields<'_>) -> WindowSize {
     }
 }
 
-/// Numbers as they come, from the third field on: each is asked for, and marked where it is new; behind a field `?` they
-/// are asked for alone.
+/// Takes numbers as they come, from the third field on: asks for each whether it is new, and marks it if it is. After a field `?` it only
+/// asks.
 fn asked(window: &mut Window, fields: &Fields<'_>, answer: &mut Answer) {
     let mut marks = true;
     for place in 2..fields.len() {
@@ -43,7 +43,7 @@ pub(crate) fn window(fields: &Fields<'_>, answer: &mut Answer) {
     asked(&mut window, fields, answer);
 }
 
-/// Whether a gate is open, and the challenge that is in force at a moment.
+/// Shows whether a gate is open, and the challenge that is in force at a moment.
 fn told(gate: &Gate, clock: u64, answer: &mut Answer) {
     answer.word(if gate.is_open() { "open" } else { "closed" });
     let in_force = gate.in_force(clock);
@@ -56,7 +56,7 @@ fn told(gate: &Gate, clock: u64, answer: &mut Answer) {
     }
 }
 
-/// A gate that is opened, and the numbers that come to its window then.
+/// Opens a gate, and then takes the numbers that come to its window.
 pub(crate) fn gate(fields: &Fields<'_>, answer: &mut Answer) {
     let mut gate = Gate::Restarted { challenge: None };
     told(&gate, 0, answer);
@@ -70,7 +70,7 @@ pub(crate) fn gate(fields: &Fields<'_>, answer: &mut Answer) {
     }
 }
 
-/// Two challenges that are issued one after the other, and the one that is in force at a moment.
+/// Issues two challenges one after the other, and shows the one that is in force at a moment.
 pub(crate) fn challenge(fields: &Fields<'_>, answer: &mut Answer) {
     fields.count(5);
     let mut gate = Gate::Restarted { challenge: None };

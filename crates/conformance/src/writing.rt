@@ -7,7 +7,7 @@ use osc_coap::{Message, WriteError, Writer};
 /// What a writer's buffer is filled with.
 const FILLED_WITH: u8 = 0xee;
 
-/// A step of a writer answers.
+/// Shows what a step of a writer returned.
 fn told(outcome: Result<(), WriteError>, answer: &mut Answer) {
     match outcome {
         Ok(()) => answer.word("ok"),
@@ -15,7 +15,7 @@ fn told(outcome: Result<(), WriteError>, answer: &mut Answer) {
     }
 }
 
-/// The steps of a writer that has begun, from this field on: numbers and values of options, `payload` and a payload.
+/// Makes the steps of a writer that has begun, from this field on. A step is an option's number and value, or `payload` and a payload.
 fn steps(writer: &mut Writer<'_>, fields: &Fields<'_>, first: usize, answer: &mut Answer) {
     for place in (first..fields.len()).step_by(2) {
         let value = fields.bytes(place.saturating_add(1));
@@ -28,13 +28,13 @@ fn steps(writer: &mut Writer<'_>, fields: &Fields<'_>, first: usize, answer: &mu
     }
 }
 
-/// A writer that didn't begin.
+/// Shows the refusal of a writer that didn't begin.
 fn refused(refusal: WriteError, buf: &[u8], answer: &mut Answer) {
     answer.refused(refusal);
     answer.rest(buf, FILLED_WITH);
 }
 
-/// A writer that begins with the head of a message, under another code.
+/// Writes with a writer that begins with the head of a message, under another code.
 fn written(message: &Message<'_>, fields: &Fields<'_>, answer: &mut Answer) {
     let (kind, message_id) = (message.kind, message.message_id);
     let code = fields.array::<1>(2)[0];
@@ -70,7 +70,7 @@ pub(crate) fn write_inner(fields: &Fields<'_>, answer: &mut Answer) {
     }
 }
 
-/// Writes a message, and answers how long it is.
+/// Writes a message, and returns its length.
 fn copy(message: &Message<'_>, buf: &mut [u8]) -> Result<usize, WriteError> {
     let (kind, message_id) = (message.kind, message.message_id);
     let mut writer = Writer::new(buf, kind, message.code, message_id, &message.token)?;
@@ -81,7 +81,7 @@ fn copy(message: &Message<'_>, buf: &mut [u8]) -> Result<usize, WriteError> {
     Ok(writer.finish())
 }
 
-/// The bytes of a message that is written.
+/// Writes a message, and shows its bytes.
 fn copied(message: &Message<'_>, fields: &Fields<'_>, answer: &mut Answer) {
     let mut buf = fields.room(0, FILLED_WITH);
     match copy(message, buf.as_mut_slice()) {
@@ -90,7 +90,7 @@ fn copied(message: &Message<'_>, fields: &Fields<'_>, answer: &mut Answer) {
     }
 }
 
-/// A datagram is read, and written anew.
+/// Reads a datagram, and writes it anew.
 pub(crate) fn write_again(fields: &Fields<'_>, answer: &mut Answer) {
     fields.count(2);
     if let Some(message) = fields.message(1) {
@@ -98,7 +98,7 @@ pub(crate) fn write_again(fields: &Fields<'_>, answer: &mut Answer) {
     }
 }
 
-/// A datagram is read, and written under the head of another one.
+/// Reads a datagram, and writes it under the head of another one.
 pub(crate) fn write_under_head(fields: &Fields<'_>, answer: &mut Answer) {
     fields.count(3);
     if let (Some(message), Some(head)) = (fields.message(1), fields.message(2)) {

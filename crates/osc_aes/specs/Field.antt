@@ -1,5 +1,5 @@
--- To be believed: the field of 256 elements of FIPS 197, section 4. An element is a number below 256, whose bit i is
--- the coefficient of x^i; a and b are elements, n counts bits or factors.
+-- To be believed: the field of 256 elements of FIPS 197, section 4. An element is a number below 256; its bit i is the
+-- coefficient of x^i. a and b are elements, and n counts bits or factors.
 use Rattle.std.specs.Prelude.{◌≡◌, ℕ, zero, suc, ◌+◌, ◌*◌, ◌<◌, ◌^◌, bit_xor}
 use Rattle.std.specs.Int.{bit_at}
 
@@ -7,7 +7,7 @@ use Rattle.std.specs.Int.{bit_at}
 abbrev pub modulus : ℕ
 modulus = 0x11B
 
--- the product of two polynomials over bits, of b its n lowest terms (FIPS 197, 4.2)
+-- the product of two polynomials over bits, with only the n lowest terms of b (FIPS 197, 4.2)
 abbrev pub polynomial_product : ℕ → ℕ → ℕ → ℕ
 polynomial_product zero a b = 0
 polynomial_product (suc n) a b = bit_xor (polynomial_product n a b) (a * 2 ^ n * bit_at b n)
@@ -31,10 +31,10 @@ unfoldable pub product_of_squares : ℕ → ℕ → ℕ
 product_of_squares zero a = 1
 product_of_squares (suc n) a = mul (mul a a) (product_of_squares n (mul a a))
 
--- the inverse of an element as a^254, hence 0 for 0 (FIPS 197, 5.1.1)
+-- the inverse of an element, computed as a^254, so that the inverse of 0 is 0 (FIPS 197, 5.1.1)
 unfoldable pub inverse : ℕ → ℕ
 inverse a = product_of_squares 7 a
 
--- each element but 0 times its inverse is 1 (FIPS 197, 4.2)
+-- every element except 0 times its inverse is 1 (FIPS 197, 4.2)
 abbrev pub ElementsHaveInverses : Type 0
 ElementsHaveInverses = (a : ℕ) → 0 < a → a < 256 → mul a (inverse a) ≡ 1

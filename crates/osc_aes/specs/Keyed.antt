@@ -1,10 +1,10 @@
--- How the code is seen: the key under which a cipher by tables encrypts, or one in planes.
+-- How the code is seen: the key under which a cipher encrypts, with tables or in planes.
 use Rattle.std.specs.Prelude.{ℕ, List}
 use Rattle.osc_aes.specs.Views.{key_of_planes, key_of_words}
 use Rattle.osc_aes.specs.declared.planes.PlaneAes.{PlaneAes}
 use Rattle.osc_aes.specs.declared.table.TableAes.{TableAes}
 
--- the key of a cipher by tables: its cipher_key (how the code is seen)
+-- the key of a cipher with tables: its cipher_key (how the code is seen)
 abbrev pub key_of : TableAes → List ℕ
 key_of cipher = key_of_words cipher.words
 

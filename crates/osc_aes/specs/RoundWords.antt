@@ -1,18 +1,18 @@
--- For the proofs: AES-128 on words of 32 bits, as in the Rijndael proposal of Daemen and Rijmen, section 5.2.1: a
--- column is a word whose highest byte stands in row 0. words holds 4 columns, or the 44 words of an expanded key.
+-- For the proofs: AES-128 on words of 32 bits, as in the Rijndael proposal of Daemen and Rijmen, section 5.2.1. A column
+-- is a word, and its highest byte is in row 0. words holds 4 columns, or the 44 words of an expanded key.
 use Rattle.std.specs.Prelude.{◌≡◌, ℕ, ◌+◌, ◌-◌, ◌*◌, ◌/◌, ◌%◌, ◌<◌, ◌≤◌, List, [], ◌∷◌, slice_index, bit_xor}
 use Rattle.std.specs.Int.{byte_at, to_be_bytes, from_be_bytes, rotate_right, w32}
 use Rattle.osc_aes.specs.Field.{mul}
 use Rattle.osc_aes.specs.SubstitutionBox.{substitute}
 use Rattle.osc_aes.specs.Aes128.{State, block_of, word_at}
 
--- entry b of table t: 02·S(b), S(b), S(b), 03·S(b), high byte first, turned right by t bytes (Rijndael, 5.2.1)
+-- entry b of table t: 02·S(b), S(b), S(b), 03·S(b), high byte first, rotated right by t bytes (Rijndael, 5.2.1)
 unfoldable pub round_word : ℕ → ℕ → ℕ
 round_word t b =
     rotate_right w32
     (from_be_bytes w32 (mul 2 (substitute b) ∷ substitute b ∷ substitute b ∷ mul 3 (substitute b) ∷ [])) (8 * t)
 
--- a row of a mixed column of substituted bytes, of which a stands in this row and b, c, d below (FIPS 197, 5.1.3)
+-- a row of a column after substitution and mixing; before them, a is in this row and b, c, d are below it (FIPS 197, 5.1.3)
 abbrev pub mixed_byte : ℕ → ℕ → ℕ → ℕ → ℕ
 mixed_byte a b c d =
     bit_xor (bit_xor (mul 2 (substitute a)) (mul 3 (substitute b))) (bit_xor (substitute c) (substitute d))
@@ -25,15 +25,15 @@ state_of_words words row column = byte_at (3 - row) (slice_index words column)
 abbrev pub block_of_words : List ℕ → List ℕ
 block_of_words words = block_of (state_of_words words)
 
--- the sum with round key i of 44 words, where a column's words lie side by side (FIPS 197, 5.1.4)
+-- the sum of the state and round key i of 44 words, with a column's words side by side (FIPS 197, 5.1.4)
 abbrev pub add_round_words : List ℕ → ℕ → State → State
 add_round_words words i s row column = bit_xor (s row column) (byte_at (3 - row) (slice_index words (11 * column + i)))
 
--- the 44 words are w_0 to w_43, column by column: w_(4i + c) at place 11c + i (FIPS 197, 5.2)
+-- the 44 words are w_0 to w_43, column by column: w_(4i + c) is at index 11c + i (FIPS 197, 5.2)
 abbrev pub AreWordsOf : List ℕ → List ℕ → Type 0
 AreWordsOf words w = (k : ℕ) → k < 44 → to_be_bytes w32 (slice_index words k) ≡ word_at w (4 * (k % 11) + k / 11)
 
--- those of the 44 words that belong to round keys 0 to i are the words of an expanded key (FIPS 197, 5.2)
+-- of the 44 words, those of round keys 0 to i are the words of an expanded key (FIPS 197, 5.2)
 abbrev pub AreWordsTo : ℕ → List ℕ → List ℕ → Type 0
 AreWordsTo i words w =
     (k : ℕ) → k < 44 → k % 11 ≤ i → to_be_bytes w32 (slice_index words k) ≡ word_at w (4 * (k % 11) + k / 11)

@@ -4,7 +4,7 @@ use Rattle.std.specs.Prelude.{ℕ, zero, suc, ◌+◌, ◌*◌, ◌%◌, ◌^◌
 use Rattle.std.specs.Int.{bit_at}
 use Rattle.osc_aes.specs.Field.{inverse}
 
--- bit i of the affine map: b_i + b_(i+4) + b_(i+5) + b_(i+6) + b_(i+7) + c_i, c being 63 (FIPS 197, 5.1.1)
+-- bit i of the affine map: b_i + b_(i+4) + b_(i+5) + b_(i+6) + b_(i+7) + c_i, with c = 63 (FIPS 197, 5.1.1)
 abbrev pub affine_bit : ℕ → ℕ → ℕ
 affine_bit b i =
     (bit_at b i + bit_at b ((i + 4) % 8) + bit_at b ((i + 5) % 8) + bit_at b ((i + 6) % 8)
@@ -15,6 +15,6 @@ abbrev pub from_bits : ℕ → (ℕ → ℕ) → ℕ
 from_bits zero f = 0
 from_bits (suc n) f = from_bits n f + f n * 2 ^ n
 
--- the byte that the substitution box has for a byte (FIPS 197, 5.1.1)
+-- the byte that the substitution box maps a byte to (FIPS 197, 5.1.1)
 unfoldable pub substitute : ℕ → ℕ
 substitute b = from_bits 8 (affine_bit (inverse b))

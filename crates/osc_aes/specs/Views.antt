@@ -1,11 +1,11 @@
--- How the code is seen: the key that a cipher by tables keeps in its 44 words, and that a cipher in planes keeps in its
--- round keys. Bit i of plane k is bit k of the byte in lane i.
+-- How the code is seen: the key that a cipher with tables keeps in its 44 words, and the key that a cipher in planes keeps
+-- in its round keys. Bit i of plane k is bit k of the byte in lane i.
 use Rattle.std.specs.Prelude.{ℕ, List, [], ◌+◌, ◌*◌, ◌++◌, slice_index, get_or}
 use Rattle.std.specs.Int.{bit_at, to_be_bytes, w32}
 use Rattle.osc_aes.specs.SubstitutionBox.{from_bits}
 use Rattle.osc_aes.specs.Aes128.{block_of}
 
--- the key among 44 words: the bytes of w_0 to w_3, at the places 0, 11, 22 and 33 (how the code is seen)
+-- the key within the 44 words: the bytes of w_0 to w_3, at indices 0, 11, 22 and 33 (how the code is seen)
 unfoldable pub key_of_words : List ℕ → List ℕ
 key_of_words words =
     to_be_bytes w32 (slice_index words 0) ++ (to_be_bytes w32 (slice_index words 11)
@@ -15,6 +15,6 @@ key_of_words words =
 abbrev pub lane : List ℕ → ℕ → ℕ
 lane planes i = from_bits 8 (λ k. bit_at (slice_index planes k) i)
 
--- the key among round keys in planes: of round key 0 row r and column c, in lane 8r + 2c (how the code is seen)
+-- the key within round keys in planes: row r and column c of round key 0 are in lane 8r + 2c (how the code is seen)
 unfoldable pub key_of_planes : List (List ℕ) → List ℕ
 key_of_planes keys = block_of (λ row column. lane (get_or keys 0 []) (8 * row + 2 * column))

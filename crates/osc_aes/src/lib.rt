@@ -1,5 +1,5 @@
-//! AES-128 (FIPS 197): each cipher turns a block into `aes128 key block`, where `aes128` is the standard's own
-//! text in `specs/`.
+//! AES-128 (FIPS 197). Each cipher turns a block into `aes128 key block`; `aes128` is the standard's own text, in
+//! `specs/`.
 //!
 //! ```
 //! let cipher = TableAes::new(&key);

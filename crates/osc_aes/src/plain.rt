@@ -1,4 +1,4 @@
-//! AES-128 byte by byte, as FIPS 197 prints it. A step reads the byte of a row and a column at
+//! AES-128 byte by byte, as FIPS 197 prints it. A step reads the byte at a row and a column from index
 //! `row + 4 * column`.
 
 ghost use Rattle.std.specs.Prelude.{◌≡◌, ◌<◌, length, take};
@@ -18,7 +18,7 @@ pub struct PlainAes {
 }
 
 impl PlainAes {
-    /// Expands a key of 16 bytes, in the order in which FIPS 197 prints it (5.2).
+    /// Expands a key of 16 bytes, which are in the order in which FIPS 197 prints them (5.2).
     #[must_use]
     pub fn new(key: &[u8; 16]) -> PlainAes
         ensures { ⟦<PlainAes as BlockCipher>⟧.cipher_key result ≡ key.now }
@@ -101,7 +101,7 @@ fn add_round_key(block: &[u8; 16], words: &[u8; 176], round: usize) -> [u8; 16]
     out
 }
 
-// 02 times an element of the field.
+// Multiplies an element of the field by 02.
 #[inline(always)]
 fn double(element: u8) -> u8
     ensures { result ≡ mul 2 element }
@@ -109,7 +109,7 @@ fn double(element: u8) -> u8
     (element << 1) ^ ((element >> 7) * 0x1b)
 }
 
-// 03 times an element of the field.
+// Multiplies an element of the field by 03.
 #[inline(always)]
 fn triple(element: u8) -> u8
     ensures { result ≡ mul 3 element }

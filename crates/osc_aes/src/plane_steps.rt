@@ -1,5 +1,5 @@
-//! The steps of a round (FIPS 197, 5.1.2 to 5.1.4) on planes. ShiftRows is none: row r of the state stands turned right
-//! by its number once more after each round, and `turned` counts these turns modulo 4.
+//! The steps of a round (FIPS 197, 5.1.2 to 5.1.4) on planes. ShiftRows takes no step here: after each round, row r of
+//! the state is rotated right by r more columns, and `turned` counts these rotations modulo 4.
 
 ghost use Rattle.std.specs.Prelude.{◌≡◌, ◌<◌, ℕ, bit_xor};
 ghost use Rattle.std.specs.Int.{bit_at};
@@ -7,8 +7,8 @@ ghost use Rattle.osc_aes.specs.Field.{mul};
 ghost use Rattle.osc_aes.specs.Views.{lane};
 ghost use Rattle.osc_aes.specs.Lanes.{below};
 
-// Each column times the matrix whose first row is 02 03 01 01: a row is 02 times the sum of itself and the row below,
-// and the three rows below.
+// Multiplies each column by the matrix whose first row is 02 03 01 01. A row becomes 02 times the sum of itself and the
+// row below, plus the three rows below.
 #[inline(always)]
 pub(crate) fn mix_columns(planes: [u32; 8], turned: usize) -> [u32; 8]
     requires { turned < 4 }
@@ -22,7 +22,7 @@ pub(crate) fn mix_columns(planes: [u32; 8], turned: usize) -> [u32; 8]
     add_planes(add_planes(double_planes(sum), next), far)
 }
 
-// Each row in the place of the row above it, and the first in that of the last.
+// Moves each row to the place of the row above it, and the first row to the place of the last.
 #[inline(always)]
 fn turn_columns(planes: [u32; 8], turned: usize) -> [u32; 8]
     requires { turned < 4 }
@@ -41,7 +41,7 @@ fn turn_columns(planes: [u32; 8], turned: usize) -> [u32; 8]
     ]
 }
 
-// Each row in the place of the second row above it.
+// Moves each row to the place of the second row above it.
 #[inline(always)]
 fn turn_columns_twice(planes: [u32; 8], turned: usize) -> [u32; 8]
     requires { turned < 4 }
@@ -60,7 +60,7 @@ fn turn_columns_twice(planes: [u32; 8], turned: usize) -> [u32; 8]
     ]
 }
 
-// One plane with each row in the place of the row above it: a row has eight bits, and a column of it two.
+// Moves each row of one plane to the place of the row above it. A row has eight bits, and each of its columns has two.
 #[inline(always)]
 fn turn_plane(plane: u32, turned: usize) -> u32
     requires { turned < 4 }
@@ -75,7 +75,7 @@ fn turn_plane(plane: u32, turned: usize) -> u32
     }
 }
 
-// One plane with each row in the place of the second row above it.
+// Moves each row of one plane to the place of the second row above it.
 #[inline(always)]
 fn turn_plane_twice(plane: u32, turned: usize) -> u32
     requires { turned < 4 }
@@ -89,7 +89,7 @@ fn turn_plane_twice(plane: u32, turned: usize) -> u32
     }
 }
 
-// 02 times each lane: a bit that leaves at the top comes back by the modulus, 1b.
+// Multiplies each lane by 02. A bit that leaves at the top comes back as the modulus, 1b.
 #[inline(always)]
 fn double_planes(planes: [u32; 8]) -> [u32; 8]
     ensures { (i : ℕ) → i < 32 → lane result i ≡ mul 2 (lane planes i) }
@@ -98,7 +98,7 @@ fn double_planes(planes: [u32; 8]) -> [u32; 8]
     [p7, p0 ^ p7, p1, p2 ^ p7, p3 ^ p7, p4, p5, p6]
 }
 
-// The sum, lane by lane: of a state and a round key, or of two states.
+// Adds lane by lane: a state and a round key, or two states.
 #[inline(always)]
 pub(crate) fn add_planes(left: [u32; 8], right: [u32; 8]) -> [u32; 8]
     ensures { (i : ℕ) → i < 32 → lane result i ≡ bit_xor (lane left i) (lane right i) }

@@ -1,10 +1,11 @@
-//! The substitution box (FIPS 197, 5.1.1) on 32 bytes at once, by a circuit of Boyar and Peralta: no table is looked up.
+//! The substitution box (FIPS 197, 5.1.1) on 32 bytes at once, with a circuit of Boyar and Peralta. It looks up no
+//! table.
 
 ghost use Rattle.std.specs.Prelude.{◌≡◌, ◌<◌, ℕ};
 ghost use Rattle.osc_aes.specs.SubstitutionBox.{substitute};
 ghost use Rattle.osc_aes.specs.Views.{lane};
 
-// Substitutes the byte of each lane. One line is one gate, by the circuit's own names: x0 is the highest bit.
+// Substitutes the byte of each lane. Each line is one gate, with the circuit's own names; x0 is the highest bit.
 #[inline(always)]
 pub(crate) fn sub_bytes(planes: [u32; 8]) -> [u32; 8]
     ensures { (i : ℕ) → i < 32 → lane result i ≡ substitute (lane planes i) }
@@ -34,7 +35,7 @@ pub(crate) fn sub_bytes(planes: [u32; 8]) -> [u32; 8]
     let y16 = t0 ^ y11;
     let y21 = y13 ^ y16;
     let y18 = x0 ^ y16;
-    // What isn't linear: the inverse in the field, by a tower of smaller fields.
+    // The nonlinear part: the inverse in the field, through a tower of smaller fields.
     let t2 = y12 & y15;
     let t3 = y3 & y6;
     let t4 = t3 ^ t2;
@@ -97,7 +98,7 @@ pub(crate) fn sub_bytes(planes: [u32; 8]) -> [u32; 8]
     let z15 = t42 & y9;
     let z16 = t45 & y14;
     let z17 = t41 & y8;
-    // Sums for the bits of the affine map; those of 63 are added by a word of ones.
+    // Sums for the bits of the affine map. A word of ones adds the bits of 63.
     let t46 = z15 ^ z16;
     let t47 = z10 ^ z11;
     let t48 = z5 ^ z13;

@@ -1,6 +1,6 @@
-//! AES-128 on two blocks at once, in planes of bits: plane k is a word whose bit i is bit k of the byte in lane i, and lane
-//! 8r + 2c + b holds row r and column c of block b. No step shifts rows: after n rounds, row r of the state stands turned
-//! right by n times r columns.
+//! AES-128 on two blocks at once, in planes of bits. Plane k is a word, and its bit i is bit k of the byte in lane i.
+//! Lane 8r + 2c + b holds row r and column c of block b. No step shifts rows: after n rounds, row r of the state is
+//! rotated right by n times r columns.
 //!
 //!     lanes                 0 1  2 3  4 5  6 7 | 8 9  10 11  12 13  14 15 | 16 17  ..
 //!     row                   0    0    0    0   | 1    1      1      1     | 2
@@ -28,7 +28,7 @@ pub struct PlaneAes {
 }
 
 impl PlaneAes {
-    /// Expands a key of 16 bytes, in the order in which FIPS 197 prints it (5.2).
+    /// Expands a key of 16 bytes, which are in the order in which FIPS 197 prints them (5.2).
     #[must_use]
     pub fn new(key: &[u8; 16]) -> PlaneAes
         ensures { ⟦<PlaneAes as BlockCipher>⟧.cipher_key result ≡ key.now }
@@ -54,7 +54,8 @@ impl BlockCipher for PlaneAes {
     ghost key_len = { λ s. s.key_len };
 }
 
-// Two blocks, each encrypted in its place. A call of its own, so that what goes by tables has no room for its planes.
+// Encrypts two blocks, each in place. It is never inlined, so that code that uses tables sets aside no room for its
+// planes.
 #[inline(never)]
 fn encrypt_both(keys: &[[u32; 8]; 11], first: &mut [u8; 16], second: &mut [u8; 16])
     ensures first { (key : List ℕ) → AreKeysOf keys.now (expanded_key key) → first.new ≡ aes128 key first.old }
@@ -64,7 +65,7 @@ fn encrypt_both(keys: &[[u32; 8]; 11], first: &mut [u8; 16], second: &mut [u8; 1
     unpack(planes, first, second);
 }
 
-// The planes after all rounds.
+// Returns the planes after all rounds.
 fn cipher(planes: [u32; 8], keys: &[[u32; 8]; 11]) -> [u32; 8]
     ensures { (w : List ℕ) → AreKeysOf keys.now w → (b : ℕ) → b < 2
         → block_in 10 result b ≡ cipher w (block_in 0 planes b) }
@@ -78,7 +79,7 @@ fn cipher(planes: [u32; 8], keys: &[[u32; 8]; 11]) -> [u32; 8]
     add_planes(sub_bytes(mixed), keys[10])
 }
 
-// Four rounds after the first `done`. They are written out, since in each the rows stand otherwise.
+// Runs four rounds after the first `done`. They are written out, because the rows are rotated differently in each.
 #[inline(always)]
 fn four_rounds(planes: [u32; 8], keys: &[[u32; 8]; 11], done: usize) -> [u32; 8]
     requires fours { done % 4 ≡ 0 }
@@ -92,7 +93,7 @@ fn four_rounds(planes: [u32; 8], keys: &[[u32; 8]; 11], done: usize) -> [u32; 8]
     round(three, keys[done + 4], 0)
 }
 
-// A round with a key. After it as many rounds are done as `turned` says modulo 4.
+// Runs a round with a key. `turned` is how many rounds are done after it, modulo 4.
 #[inline(always)]
 fn round(planes: [u32; 8], key: [u32; 8], turned: usize) -> [u32; 8]
     requires { turned < 4 }

@@ -1,6 +1,6 @@
--- To be believed: why a call of C does nothing, row by row in the order in which it is judged. IsHandle says that the handle's
--- bytes are ones that a call may have written, AreNumbers that all numbers are below 2^40; f is a protection, i a number that it
--- knows, plain the datagram of a plain message, room the length of the buffer, d a datagram to open.
+-- To be believed: why a call of C does nothing, row by row in the order in which the reasons are checked. IsHandle says that the
+-- handle's bytes are ones that a call may have written, AreNumbers that all numbers are below 2^40; f is a protection, i a number
+-- that it knows, plain the datagram of a plain message, room the length of the buffer, d a datagram to open.
 use Rattle.std.specs.Prelude.{◌≡◌, ℕ, ◌<◌, ◌^◌, Bool, true, List}
 use Rattle.osc_coap.specs.Datagram.{Parts, IsDatagram}
 use Rattle.osc_coap.specs.Fault.{HasFault}
@@ -14,11 +14,11 @@ use Rattle.osc_c.specs.Statuses.{format_status, open_detail, open_status, seal_d
 use Rattle.osc_c.specs.declared.status.Status.{Status}
 use Rattle.osc_c.specs.declared.status.Status.TheVariants.{BadHandle, BadNumber}
 
--- an own number, where one is given, that a Partial IV holds (RFC 8613, 5)
+-- an own number, if one is given, is one that a Partial IV can hold (RFC 8613, 5)
 abbrev pub IsOwnNumber : Bool → ℕ → Type 0
 IsOwnNumber has_own own = has_own ≡ true → own < 2 ^ 40
 
--- the numbers of a response, of its request and its own, are ones that a Partial IV holds (RFC 8613, 5)
+-- the numbers of a response, its request's and its own, are ones that a Partial IV can hold (RFC 8613, 5)
 pub record AreNumbers (asked : ℕ) (has_own : Bool) (number : ℕ) : Type 0 where
   pub request : asked < 2 ^ 40
   pub own : IsOwnNumber has_own number

@@ -1,5 +1,5 @@
--- To be believed: why a call of C on a client does nothing, or less, row by row in the order in which it is judged, and what it leaves; and what C
--- reads of each answer. c are the client's bytes before, new those after, plain the datagram of a plain message, room the length of the buffer, d a
+-- To be believed: why a call of C on a client does nothing, or less, row by row in the order in which the reasons are checked, and what it leaves; and what
+-- C reads of each answer. c are the client's bytes before, new those after, plain the datagram of a plain message, room the length of the buffer, d a
 -- datagram.
 use Rattle.std.specs.Prelude.{◌≡◌, ℕ, false, true, List}
 use Rattle.osc_coap.specs.Datagram.{Parts, IsDatagram}
@@ -17,12 +17,12 @@ use Rattle.osc_c.specs.Statuses.{code, format_status}
 use Rattle.osc_c.specs.declared.status.Status.{Status}
 use Rattle.osc_c.specs.declared.status.Status.TheVariants.{BadHandle, BadNumber, NotThatKind, UnknownToken, NoOscore, Undecodable, Tag, Inner, Unsupported, TokenInUse, PendingFull, SequenceExhausted, TooLong, NoRoom, NotPending}
 
--- why a client neither begins nor is restarted (own rule)
+-- why an end doesn't begin, or isn't restarted (own rule)
 pub data RefusesNumber (IsHandle IsNumber : Type 0) (status : Status) : Type 0 where
   bad_handle : (IsHandle → ⊥) → status ≡ BadHandle → RefusesNumber IsHandle IsNumber status
   bad_number : IsHandle → (IsNumber → ⊥) → status ≡ BadNumber → RefusesNumber IsHandle IsNumber status
 
--- the status of a refusal to ask is that of its name, its detail the number of the option, else 0; a client of C has no keeper (own rule)
+-- a refusal to ask has the status of its name, and the number of the option as its detail, or else 0; a client of C has no keeper (own rule)
 abbrev pub IsAskingStatus : RequestError → Status → ℕ → Type 0
 IsAskingStatus requests.NotThatKind status detail = (status ≡ NotThatKind) × (detail ≡ 0)
 IsAskingStatus (requests.Unsupported n) status detail = (status ≡ Unsupported) × (detail ≡ n)
@@ -33,14 +33,14 @@ IsAskingStatus requests.TooLong status detail = (status ≡ TooLong) × (detail 
 IsAskingStatus requests.NoRoom status detail = (status ≡ NoRoom) × (detail ≡ 0)
 IsAskingStatus requests.KeeperFailed status detail = ⊥
 
--- why no request is sealed: a text that is no message changes nothing, any later refusal moves the clock alone (RFC 8613, 8.1)
+-- why no request is sealed: a text that isn't a message changes nothing, and any later refusal moves only the clock (RFC 8613, 8.1)
 pub data RefusesAsking (c new : ClientHandle) (now : ℕ) (plain : List ℕ) (room : ℕ) (status : Status) (detail : ℕ) : Type 0 where
   bad_handle : (IsClient c → ⊥) → new ≡ c → status ≡ BadHandle → detail ≡ 0 → RefusesAsking c new now plain room status detail
   malformed : IsClient c → new ≡ c → (fault : Fault) (place : ℕ) → HasFault plain fault place → status ≡ format_status fault → detail ≡ place → RefusesAsking c new now plain room status detail
   refused : IsClient c → (p : Parts) → IsDatagram p plain → (e : RequestError) → IsAskingStatus e status detail
       → ((h : History) → Asks c h → ClientAnswer 8 h (Request now p room) (NotSent e) × Asks new (Then h (Advance now) Advanced)) → RefusesAsking c new now plain room status detail
 
--- the status of what an outcome says, and its detail, the place of a fault, else 0 (own rule)
+-- the status of an outcome, and its detail: the place of a fault, or else 0 (own rule)
 abbrev pub IsOutcomeStatus : ClientOutcome → Status → ℕ → Type 0
 IsOutcomeStatus (outcomes.Malformed e) status detail = (status ≡ format_status e.fault) × (detail ≡ e.place)
 IsOutcomeStatus outcomes.NotResponse status detail = (status ≡ NotThatKind) × (detail ≡ 0)
@@ -51,7 +51,7 @@ IsOutcomeStatus outcomes.BadTag status detail = (status ≡ Tag) × (detail ≡ 
 IsOutcomeStatus outcomes.BadInner status detail = (status ≡ Inner) × (detail ≡ 0)
 IsOutcomeStatus (outcomes.Deliver o number) status detail = ⊥
 
--- the status of an answer, and its detail, the place of a fault, else 0 (own rule)
+-- the status of an answer, and its detail: the place of a fault, or else 0 (own rule)
 abbrev pub IsAnswerStatus : Answer → Status → ℕ → Type 0
 IsAnswerStatus (Malformed fault place) status detail = (status ≡ format_status fault) × (detail ≡ place)
 IsAnswerStatus NotResponse status detail = (status ≡ NotThatKind) × (detail ≡ 0)
@@ -86,13 +86,13 @@ ReadsAsking (Sent bytes) result detail text = (result ≡ 0) × (text ≡ bytes)
 ReadsAsking (NotSent e) result detail text = (status : Status) × (result ≡ code status) × IsAskingStatus e status detail
 ReadsAsking entry result detail text = ⊥
 
--- of the answer to a datagram: 0 and the request's number, or the number of its status and the detail (own rule)
+-- for the answer to a datagram: 0 and the request's number, or the number of its status and the detail (own rule)
 abbrev pub ReadsTaking : Entry → ℕ → ℕ → ℕ → Type 0
 ReadsTaking (Took (Deliver received n)) result detail request = (result ≡ 0) × (request ≡ n)
 ReadsTaking (Took answer) result detail request = (status : Status) × (result ≡ code status) × IsAnswerStatus answer status detail
 ReadsTaking entry result detail request = ⊥
 
--- of the answer to Forget (own rule)
+-- for the answer to Forget (own rule)
 abbrev pub ReadsForgetting : Entry → ℕ → Type 0
 ReadsForgetting (Forgot true) result = result ≡ 0
 ReadsForgetting (Forgot false) result = result ≡ code NotPending

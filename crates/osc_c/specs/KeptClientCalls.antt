@@ -1,5 +1,5 @@
--- To be believed: why a call of C on a kept client does nothing, or less, row by row in the order in which it is judged, and what it leaves. k are the
--- client's bytes before, new those after, d is a datagram, plain the datagram of a plain message, room the length of the buffer.
+-- To be believed: why a call of C on a kept client does nothing, or less, row by row in the order in which the reasons are checked, and what it leaves. k are
+-- the client's bytes before, new those after, d is a datagram, plain the datagram of a plain message, room the length of the buffer.
 use Rattle.std.specs.Prelude.{◌≡◌, ℕ, false, true, List}
 use Rattle.osc_coap.specs.Datagram.{Parts, IsDatagram}
 use Rattle.osc_coap.specs.Fault.{HasFault}
@@ -16,13 +16,13 @@ use Rattle.osc_c.specs.Statuses.{format_status}
 use Rattle.osc_c.specs.declared.status.Status.{Status}
 use Rattle.osc_c.specs.declared.status.Status.TheVariants.{BadHandle, BadNumber, NotPending, SaveFirst}
 
--- why a save isn't taken: this number isn't the one that has to be saved next (RFC 8613, B.1.1)
+-- why a save isn't accepted: this number isn't the one that has to be saved next (RFC 8613, B.1.1)
 pub data RefusesSaved (k : KeptClientHandle) (number : ℕ) (status : Status) : Type 0 where
   bad_handle : (IsKeptClient k → ⊥) → status ≡ BadHandle → RefusesSaved k number status
   bad_number : IsKeptClient k → ((h : History) (o : Own) → AsksWith k o h → Allowed Reserve o → number ≡ next_limit o.limit → ⊥) → status ≡ BadNumber → RefusesSaved k number status
 
--- why no request is sealed: a text that is no message changes nothing, nor does a number that has to be saved first, which is the detail then; any later
--- refusal moves the clock alone (RFC 8613, 8.1 and B.1.1)
+-- why no request is sealed: a text that isn't a message changes nothing; a number that has to be saved first is the detail, and changes nothing either; any
+-- later refusal moves only the clock (RFC 8613, 8.1 and B.1.1)
 pub data RefusesKeptAsking (k new : KeptClientHandle) (now : ℕ) (plain : List ℕ) (room : ℕ) (status : Status) (detail : ℕ) : Type 0 where
   bad_handle : (IsKeptClient k → ⊥) → new ≡ k → status ≡ BadHandle → detail ≡ 0 → RefusesKeptAsking k new now plain room status detail
   malformed : IsKeptClient k → new ≡ k → (fault : Fault) (place : ℕ) → HasFault plain fault place → status ≡ format_status fault → detail ≡ place

@@ -1,5 +1,5 @@
--- To be believed: why a call of C on a kept server does nothing, or less, row by row in the order in which it is judged, and what it leaves. k are the
--- server's bytes before, new those after, t are the bytes of a ticket, d is a datagram, plain the datagram of a plain message, room the length of the
+-- To be believed: why a call of C on a kept server does nothing, or less, row by row in the order in which the reasons are checked, and what it leaves. k are
+-- the server's bytes before, new those after, t are the bytes of a ticket, d is a datagram, plain the datagram of a plain message, room the length of the
 -- buffer.
 use Rattle.std.specs.Prelude.{◌≡◌, ℕ, List, Bool, not}
 use Rattle.osc_coap.specs.Datagram.{Parts, IsDatagram}
@@ -21,7 +21,7 @@ use Rattle.osc_c.specs.Statuses.{format_status}
 use Rattle.osc_c.specs.declared.status.Status.{Status}
 use Rattle.osc_c.specs.declared.status.Status.TheVariants.{BadHandle, BadNumber, SaveFirst, TicketSpent}
 
--- why a save isn't taken: this number isn't the one that has to be saved next (RFC 8613, B.1.1)
+-- why a save isn't accepted: this number isn't the one that has to be saved next (RFC 8613, B.1.1)
 pub data RefusesSaved (k : KeptServerHandle) (number : ℕ) (status : Status) : Type 0 where
   bad_handle : (IsKeptServer k → ⊥) → status ≡ BadHandle → RefusesSaved k number status
   bad_number : IsKeptServer k → ((h : History) (o : Own) → ServesWith k o h → Allowed Reserve o → number ≡ next_limit o.limit → ⊥) → status ≡ BadNumber → RefusesSaved k number status
@@ -32,14 +32,14 @@ pub record KeptTakesBy (h : History) (new : KeptServerHandle) (now : ℕ) (echo 
   pub says : IsAnswerStatus answer status detail
   pub step : StepsServer h (Datagram now echo mid d) (Took answer reply) old new
 
--- why nothing is delivered; where a number has to be saved first, its detail is that number, and nothing changes (RFC 8613, 8.2 and B.1.1)
+-- why nothing is delivered; if a number has to be saved first, the detail is that number, and nothing changes (RFC 8613, 8.2 and B.1.1)
 pub data RefusesKeptServing (k new : KeptServerHandle) (now : ℕ) (echo : List ℕ) (mid : ℕ) (d reply : List ℕ) (status : Status) (detail : ℕ) : Type 0 where
   bad_handle : (IsKeptServer k → ⊥) → new ≡ k → status ≡ BadHandle → detail ≡ 0 → RefusesKeptServing k new now echo mid d reply status detail
   save_first : IsKeptServer k → new ≡ k → status ≡ SaveFirst → detail ≡ next_limit k.reserved
       → ((h : History) (o : Own) → ServesWith k o h → WantsSave (not (is_open_life (life h 0))) (upcoming o) k.reserved) → RefusesKeptServing k new now echo mid d reply status detail
   refused : IsKeptServer k → ((h : History) (old : Own) → ServesWith k old h → KeptTakesBy h new now echo mid d reply old status detail) → RefusesKeptServing k new now echo mid d reply status detail
 
--- why nothing is replied (RFC 8613, 8.3 and B.1.1)
+-- why no reply is sealed (RFC 8613, 8.3 and B.1.1)
 pub data RefusesKeptReplying (k new : KeptServerHandle) (t : TicketHandle) (own : Bool) (mid : ℕ) (plain : List ℕ) (room : ℕ) (status : Status) (detail : ℕ) : Type 0 where
   bad_handle : (IsKeptServer k → IsTicket t → ⊥) → status ≡ BadHandle → detail ≡ 0 → RefusesKeptReplying k new t own mid plain room status detail
   malformed : IsKeptServer k → IsTicket t → (fault : Fault) (place : ℕ) → HasFault plain fault place → status ≡ format_status fault → detail ≡ place

@@ -14,17 +14,17 @@ use Rattle.osc_c.specs.declared.opened_view.OptionView.{OptionView}
 abbrev pub option_in : OptionView → Entry
 option_in o = (o.number, o.value.now)
 
--- a number that C reads, where it is said to be there (how the code is seen)
+-- a number that C reads, if it is said to be there (how the code is seen)
 abbrev pub number_given : Bool → ℕ → Option ℕ
 number_given true number = Some number
 number_given false number = None
 
--- bytes that C reads, where they are said to be there (how the code is seen)
+-- bytes that C reads, if they are said to be there (how the code is seen)
 abbrev pub bytes_given : Bool → List ℕ → Option (List ℕ)
 bytes_given true bytes = Some bytes
 bytes_given false bytes = None
 
--- C reads the message that was opened, but for its options (how the code is seen)
+-- C reads the message that was opened, except for its options (how the code is seen)
 pub record Shows (view : OpenedView) (o : Opened) : Type 0 where
   pub kind : view.kind ≡ kind_number o.kind
   pub message_id : view.message_id ≡ o.message_id
@@ -35,7 +35,7 @@ pub record Shows (view : OpenedView) (o : Opened) : Type 0 where
   pub uri_host : bytes_given view.has_uri_host view.uri_host.now ≡ shown o.uri_host
   pub uri_port : bytes_given view.has_uri_port view.uri_port.now ≡ shown o.uri_port
 
--- C reads the head that was read, but for the ciphertext (how the code is seen)
+-- C reads the head that was read, except for the ciphertext (how the code is seen)
 pub record ShowsHead (view : HeadView) (h : Head) : Type 0 where
   pub kind : view.kind ≡ kind_number h.kind
   pub message_id : view.message_id ≡ h.message_id

@@ -1,5 +1,5 @@
--- To be believed: why a call of C on a server does nothing, or less, row by row in the order in which it is judged, and what it leaves; and what C
--- reads of each answer. s are the server's bytes before, new those after, c the bytes of a context, t those of a ticket, d a datagram.
+-- To be believed: why a call of C on a server does nothing, or less, row by row in the order in which the reasons are checked, and what it leaves; and what
+-- C reads of each answer. s are the server's bytes before, new those after, c the bytes of a context, t the bytes of a ticket, d a datagram.
 use Rattle.std.specs.Prelude.{◌≡◌, ℕ, ◌<◌, ◌^◌, ◌⊎◌, List, Bool, true, false}
 use Rattle.osc_coap.specs.Datagram.{Parts, IsDatagram}
 use Rattle.osc_coap.specs.Fault.{HasFault}
@@ -33,7 +33,7 @@ use Rattle.osc_c.specs.Statuses.{code, format_status}
 use Rattle.osc_c.specs.declared.status.Status.{Status}
 use Rattle.osc_c.specs.declared.status.Status.TheVariants.{BadHandle, BadNumber, NoSuchContext, LivesExhausted, Full, SameLookup, SameSender, StaleTicket, TicketSpent, NotThatKind, NoOscore, Undecodable, NoContext, Replay, Tag, Inner, Challenge, Unsupported, SequenceExhausted, TooLong, NoRoom}
 
--- the entry is the answer to the event after the history, and the bytes are as both say (RFC 8613, 8.2 and 8.3)
+-- after the history, the entry is the answer to the event, and the bytes are as both say (RFC 8613, 8.2 and 8.3)
 abbrev pub AnswersIn : History → Event → Entry → ServerHandle → Type 0
 AnswersIn h event entry s = ServerAnswer h event entry × Serves s (Then h event entry)
 
@@ -42,27 +42,27 @@ abbrev pub start_given : Bool → Piv → Start
 start_given true next = Restarted next
 start_given false next = Fresh next
 
--- numbers that a context begins with: a next own number that is one, and the places of a window (RFC 8613, 3.2.2 and 7.2.1)
+-- numbers that a context can begin with: a valid next own number, and the places of a window (RFC 8613, 3.2.2 and 7.2.1)
 pub record AreAddable (next places : ℕ) : Type 0 where
   pub number : next < 2 ^ 40
   pub size : (places ≡ 32) ⊎ (places ≡ 64)
 
--- what these numbers are (how the code is seen)
+-- what these numbers stand for (how the code is seen)
 pub record AreGiven (next places : ℕ) (number : Piv) (size : WindowSize) : Type 0 where
   pub next_is : number_of number ≡ next
   pub places_are : places_of size ≡ places
 
--- the status of a refusal to add: that of its name (own rule)
+-- the status of a refusal to add: the one with the same name (own rule)
 abbrev pub add_status : AddError → Status
 add_status adds.Full = Full
 add_status adds.SameLookup = SameLookup
 
--- the status of a refusal to restart: that of its name (own rule)
+-- the status of a refusal to restart: the one with the same name (own rule)
 abbrev pub restart_status : RestartError → Status
 restart_status restarts.NoSuchContext = NoSuchContext
 restart_status restarts.LivesExhausted = LivesExhausted
 
--- the status of a refusal to reply is that of its name, its detail the number of the option, else 0; a server of C has no keeper (own rule)
+-- a refusal to reply has the status of its name, and the number of the option as its detail, or else 0; a server of C has no keeper (own rule)
 abbrev pub IsReplyStatus : ReplyError → Status → ℕ → Type 0
 IsReplyStatus replies.KeeperFailed status detail = ⊥
 IsReplyStatus replies.StaleTicket status detail = (status ≡ StaleTicket) × (detail ≡ 0)
@@ -72,7 +72,7 @@ IsReplyStatus replies.SequenceExhausted status detail = (status ≡ SequenceExha
 IsReplyStatus replies.TooLong status detail = (status ≡ TooLong) × (detail ≡ 0)
 IsReplyStatus replies.NoRoom status detail = (status ≡ NoRoom) × (detail ≡ 0)
 
--- the status of what an outcome says, and its detail, the place of a fault, else 0 (own rule)
+-- the status of an outcome, and its detail: the place of a fault, or else 0 (own rule)
 abbrev pub IsOutcomeStatus : Outcome → Status → ℕ → Type 0
 IsOutcomeStatus (outcomes.Malformed e) status detail = (status ≡ format_status e.fault) × (detail ≡ e.place)
 IsOutcomeStatus outcomes.NotRequest status detail = (status ≡ NotThatKind) × (detail ≡ 0)
@@ -87,7 +87,7 @@ IsOutcomeStatus outcomes.SequenceExhausted status detail = (status ≡ SequenceE
 IsOutcomeStatus outcomes.KeeperFailed status detail = ⊥
 IsOutcomeStatus (outcomes.Deliver o t) status detail = ⊥
 
--- the status of an answer, and its detail, the place of a fault, else 0 (own rule)
+-- the status of an answer, and its detail: the place of a fault, or else 0 (own rule)
 abbrev pub IsAnswerStatus : Answer → Status → ℕ → Type 0
 IsAnswerStatus (Malformed fault place) status detail = (status ≡ format_status fault) × (detail ≡ place)
 IsAnswerStatus NotRequest status detail = (status ≡ NotThatKind) × (detail ≡ 0)
@@ -126,7 +126,7 @@ pub data RefusesServing (s new : ServerHandle) (now : ℕ) (echo : List ℕ) (mi
   bad_handle : (IsTable s.contexts → ⊥) → new ≡ s → status ≡ BadHandle → detail ≡ 0 → RefusesServing s new now echo mid d reply status detail
   refused : IsTable s.contexts → ((h : History) → Serves s h → TakesBy h new now echo mid d reply status detail) → RefusesServing s new now echo mid d reply status detail
 
--- why nothing is replied; nothing changes (RFC 8613, 8.3)
+-- why no reply is sealed; nothing changes (RFC 8613, 8.3)
 pub data RefusesReplying (s new : ServerHandle) (t : TicketHandle) (own : Bool) (mid : ℕ) (plain : List ℕ) (room : ℕ) (status : Status) (detail : ℕ) : Type 0 where
   bad_handle : (IsTable s.contexts → IsTicket t → ⊥) → status ≡ BadHandle → detail ≡ 0 → RefusesReplying s new t own mid plain room status detail
   malformed : IsTable s.contexts → IsTicket t → (fault : Fault) (place : ℕ) → HasFault plain fault place → status ≡ format_status fault → detail ≡ place → RefusesReplying s new t own mid plain room status detail
@@ -134,30 +134,30 @@ pub data RefusesReplying (s new : ServerHandle) (t : TicketHandle) (own : Bool) 
   refused : IsTable s.contexts → IsTicket t → (p : Parts) → IsDatagram p plain → (e : ReplyError) → IsReplyStatus e status detail
       → ((h : History) → Serves s h → RepliesIn h (ticket_in t) own mid p room (NotReplied e) new) → RefusesReplying s new t own mid plain room status detail
 
--- of a context that is added: the number of SameSender where one that is there has its Sender Key, else 0 and the index (RFC 8613, 3.3)
+-- for a context that is added: the number of SameSender if another context has its Sender Key, or else 0 and the index (RFC 8613, 3.3)
 pub record ReadsAdded (h : History) (s : SecurityContext) (i result index : ℕ) : Type 0 where
   pub same_sender : HasSameSender h s → result ≡ code SameSender
   pub added : (HasSameSender h s → ⊥) → (result ≡ 0) × (index ≡ i)
 
--- what C reads of a server's answer to Add after the history; of a refusal the number of its status (own rule)
+-- what C reads of a server's answer to Add after the history; for a refusal, the number of its status (own rule)
 abbrev pub ReadsAdding : History → SecurityContext → Entry → ℕ → ℕ → Type 0
 ReadsAdding h s (Added i) result index = ReadsAdded h s i result index
 ReadsAdding h s (NotAdded e) result index = result ≡ code (add_status e)
 ReadsAdding h s entry result index = ⊥
 
--- of the answer to Restart (own rule)
+-- the same for the answer to Restart (own rule)
 abbrev pub ReadsRestarting : Entry → ℕ → Type 0
 ReadsRestarting LivesAnew result = result ≡ 0
 ReadsRestarting (NotRestarted e) result = result ≡ code (restart_status e)
 ReadsRestarting entry result = ⊥
 
--- of the answer to a datagram: 0 and the ticket, or the number of its status and the detail; and the reply (own rule)
+-- for the answer to a datagram: 0 and the ticket, or the number of its status and the detail; and the reply (own rule)
 abbrev pub ReadsServing : Entry → ℕ → ℕ → TicketValues → List ℕ → Type 0
 ReadsServing (Took (Deliver received t) bytes) result detail ticket reply = (result ≡ 0) × (ticket ≡ t) × (reply ≡ bytes)
 ReadsServing (Took answer bytes) result detail ticket reply = (status : Status) × (result ≡ code status) × IsAnswerStatus answer status detail × (reply ≡ bytes)
 ReadsServing entry result detail ticket reply = ⊥
 
--- of the answer to Reply: 0 and the sealed text, or the number of the refusal's status and the detail (own rule)
+-- for the answer to Reply: 0 and the sealed text, or the number of the refusal's status and the detail (own rule)
 abbrev pub ReadsReplying : Entry → ℕ → ℕ → List ℕ → Type 0
 ReadsReplying (Replied bytes) result detail text = (result ≡ 0) × (text ≡ bytes)
 ReadsReplying (NotReplied e) result detail text = (status : Status) × (result ≡ code status) × IsReplyStatus e status detail

@@ -1,4 +1,4 @@
--- To be believed: which status and detail a refusal has, which number a status, and which name a number (own rules).
+-- To be believed: which status and detail a refusal has, which number a status has, and which name a number has (own rules).
 use Rattle.std.specs.Prelude.{ℕ, List, [], ◌∷◌, Option, Some, None, codes, slice_get}
 use Rattle.osc_coap.specs.declared.format_error.Fault.{Fault}
 use Rattle.osc_coap.specs.declared.format_error.Fault.TheVariants as faults
@@ -13,7 +13,7 @@ use Rattle.osc_protect.specs.declared.unprotect_error.UnprotectError.TheVariants
 use Rattle.osc_c.specs.declared.status.Status.{Status}
 use Rattle.osc_c.specs.declared.status.Status.TheVariants.{BadHandle, BadNumber, SecretLength, SaltLength, IdTooLong, SameIds, IdContextLength, DatagramTooLong, Short, Version, TokenLength, EmptyWithRest, TokenCut, Nibble15, OptionCut, NumberTooLarge, EmptyPayload, NoSuchContext, LivesExhausted, Full, SameLookup, StaleTicket, TicketSpent, NotThatKind, UnknownToken, NoOscore, Undecodable, NoContext, WrongContext, Replay, Tag, Inner, Challenge, Unsupported, TokenInUse, PendingFull, SequenceExhausted, TooLong, NoRoom, NotPending, SameSender, SaveFirst, OptionOrder, ValueTooLong}
 
--- the number of a status, as C reads it; 0 is that of a call which is done (own rule)
+-- the number of a status, as C reads it; a call that is done has 0 (own rule)
 abbrev pub code : Status → ℕ
 code BadHandle = 1
 code BadNumber = 2
@@ -60,20 +60,20 @@ code SaveFirst = 42
 code OptionOrder = 43
 code ValueTooLong = 44
 
--- the names of the statuses in the order of their numbers, from that of 0 (own rule)
+-- the names of the statuses in the order of their numbers, from 0 (own rule)
 abbrev pub status_names : List (List ℕ)
 status_names = codes "Done" ∷ codes "BadHandle" ∷ codes "BadNumber" ∷ codes "SecretLength" ∷ codes "SaltLength" ∷ codes "IdTooLong" ∷ codes "SameIds" ∷ codes "IdContextLength" ∷ codes "DatagramTooLong" ∷ codes "Short" ∷ codes "Version" ∷ codes "TokenLength" ∷ codes "EmptyWithRest" ∷ codes "TokenCut" ∷ codes "Nibble15" ∷ codes "OptionCut" ∷ codes "NumberTooLarge" ∷ codes "EmptyPayload" ∷ codes "NoSuchContext" ∷ codes "LivesExhausted" ∷ codes "Full" ∷ codes "SameLookup" ∷ codes "StaleTicket" ∷ codes "TicketSpent" ∷ codes "NotThatKind" ∷ codes "UnknownToken" ∷ codes "NoOscore" ∷ codes "Undecodable" ∷ codes "NoContext" ∷ codes "WrongContext" ∷ codes "Replay" ∷ codes "Tag" ∷ codes "Inner" ∷ codes "Challenge" ∷ codes "Unsupported" ∷ codes "TokenInUse" ∷ codes "PendingFull" ∷ codes "SequenceExhausted" ∷ codes "TooLong" ∷ codes "NoRoom" ∷ codes "NotPending" ∷ codes "SameSender" ∷ codes "SaveFirst" ∷ codes "OptionOrder" ∷ codes "ValueTooLong" ∷ []
 
--- a name that is there, or Unknown (own rule)
+-- the name if there is one, or else Unknown (own rule)
 abbrev pub name_or_unknown : Option (List ℕ) → List ℕ
 name_or_unknown (Some name) = name
 name_or_unknown None = codes "Unknown"
 
--- the name of the status that has this number, or Unknown where none has it (own rule)
+-- the name of the status that has this number, or Unknown if no status has it (own rule)
 abbrev pub status_name : ℕ → List ℕ
 status_name n = name_or_unknown (slice_get status_names n)
 
--- the status of a refusal to derive: that of its name (own rule)
+-- the status of a refusal to derive: the one with the same name (own rule)
 abbrev pub context_status : ContextError → Status
 context_status contexts.SecretLength = SecretLength
 context_status contexts.SaltLength = SaltLength
@@ -81,7 +81,7 @@ context_status contexts.IdTooLong = IdTooLong
 context_status contexts.SameIds = SameIds
 context_status contexts.IdContextLength = IdContextLength
 
--- the status of a datagram's fault: that of its name (own rule)
+-- the status of a datagram's fault: the one with the same name (own rule)
 abbrev pub format_status : Fault → Status
 format_status faults.DatagramTooLong = DatagramTooLong
 format_status faults.Short = Short
@@ -94,21 +94,21 @@ format_status faults.OptionCut = OptionCut
 format_status faults.NumberTooLarge = NumberTooLarge
 format_status faults.EmptyPayload = EmptyPayload
 
--- the status of a refusal to read a head: that of its name, or of the fault's (own rule)
+-- the status of a refusal to read a head: the one with its name, or with the fault's name (own rule)
 abbrev pub head_status : HeadError → Status
 head_status (heads.Format e) = format_status e.fault
 head_status heads.NotThatKind = NotThatKind
 head_status heads.NoOscore = NoOscore
 head_status heads.Undecodable = Undecodable
 
--- the detail of a refusal to read a head: the place of a fault, else 0 (own rule)
+-- the detail of a refusal to read a head: the place of a fault, or else 0 (own rule)
 abbrev pub head_detail : HeadError → ℕ
 head_detail (heads.Format e) = e.place
 head_detail heads.NotThatKind = 0
 head_detail heads.NoOscore = 0
 head_detail heads.Undecodable = 0
 
--- the status of a refusal to open: that of its name, or of the fault's (own rule)
+-- the status of a refusal to open: the one with its name, or with the fault's name (own rule)
 abbrev pub open_status : UnprotectError → Status
 open_status (opens.Format e) = format_status e.fault
 open_status opens.NotThatKind = NotThatKind
@@ -118,7 +118,7 @@ open_status opens.WrongContext = WrongContext
 open_status opens.Tag = Tag
 open_status opens.Inner = Inner
 
--- the detail of a refusal to open: the place of a fault, else 0 (own rule)
+-- the detail of a refusal to open: the place of a fault, or else 0 (own rule)
 abbrev pub open_detail : UnprotectError → ℕ
 open_detail (opens.Format e) = e.place
 open_detail opens.NotThatKind = 0
@@ -128,14 +128,14 @@ open_detail opens.WrongContext = 0
 open_detail opens.Tag = 0
 open_detail opens.Inner = 0
 
--- the status of a refusal to seal: that of its name (own rule)
+-- the status of a refusal to seal: the one with the same name (own rule)
 abbrev pub seal_status : ProtectError → Status
 seal_status seals.NotThatKind = NotThatKind
 seal_status (seals.Unsupported n) = Unsupported
 seal_status seals.TooLong = TooLong
 seal_status seals.NoRoom = NoRoom
 
--- the detail of a refusal to seal: the number of the option, else 0 (own rule)
+-- the detail of a refusal to seal: the number of the option, or else 0 (own rule)
 abbrev pub seal_detail : ProtectError → ℕ
 seal_detail seals.NotThatKind = 0
 seal_detail (seals.Unsupported n) = n

@@ -12,7 +12,7 @@ pub record TakesAll (room : ℕ) (draft : Draft) (entries : List Entry) : Type 0
   pub ascends : Ascends (last_number 0 (options_of draft)) entries
   pub has_room : HasRoom room (length_of (with_options draft entries))
 
--- the message can be written where there is room for it (RFC 7252, 3, 3.1 and 4.1)
+-- the message can be written if there is room for it (RFC 7252, 3, 3.1 and 4.1)
 pub record CanBeWritten (kind : ℕ) (p : Parts) : Type 0 where
   pub kind_is : kind ≤ 3
   pub token : length p.token ≤ 8

@@ -1,4 +1,4 @@
-//! A client, for C: its bytes are the caller's, and each call does what the client does.
+//! A client, for C. Its bytes belong to the caller, and each call does what the client does.
 
 ghost use Rattle.std.specs.Prelude.{◌≡◌, ◌≢◌, ◌≤◌, ◌<◌, ◌+◌, ◌^◌, ℕ, IfOk, IfErr, IsOk, OnErr, true, false, take, drop, map, length};
 ghost use Rattle.osc_coap.specs.Datagram.{Parts, IsDatagram};
@@ -29,7 +29,7 @@ use osc_endpoint::{ClientOutcome, RequestError, one_client_answer};
 use osc_handle::{ClientHandle, ContextHandle};
 use osc_protect::Opened;
 
-/// Begins a client with nothing pending (RFC 8613, 8.1), whose requests are pending for so many milliseconds and no longer. A refusal
+/// Begins a client with nothing pending (RFC 8613, 8.1). Its requests are pending for `life_ms` milliseconds and no longer. A refusal
 /// is BadHandle or BadNumber, in this order.
 #[unsafe(no_mangle)]
 pub extern "C" fn oscore_client_begin(
@@ -57,7 +57,8 @@ pub extern "C" fn oscore_client_begin(
     DONE
 }
 
-/// Drops every pending request, and goes on at a number. The clock stays. A refusal is BadHandle or BadNumber, in this order.
+/// Drops every pending request, and continues with `next` as the next Sender Sequence Number. The clock stays. A refusal is BadHandle
+/// or BadNumber, in this order.
 #[unsafe(no_mangle)]
 pub extern "C" fn oscore_client_restart(client: &mut ClientHandle, next: u64) -> u32
     ensures follows { result ≡ 0 → (h : History) → Asks client.old h → Asks client.new (Then h (Restart next) Restarted) }
@@ -79,7 +80,7 @@ pub extern "C" fn oscore_client_restart(client: &mut ClientHandle, next: u64) ->
     DONE
 }
 
-/// Waits no more for the response to the request of a token. A refusal is BadHandle or NotPending, in this order.
+/// Stops waiting for the response to the request with this token. A refusal is BadHandle or NotPending, in this order.
 #[unsafe(no_mangle)]
 pub extern "C" fn oscore_client_forget(client: &mut ClientHandle, token: &[u8]) -> u32
     ensures answered { result ≡ 0 → (h : History) → Asks client.old h → ClientAnswer 8 h (Forget token.now) (Forgot true) }
@@ -97,7 +98,7 @@ pub extern "C" fn oscore_client_forget(client: &mut ClientHandle, token: &[u8]) 
     }
 }
 
-/// The refusal that C reads of a request that isn't sealed.
+/// Returns the refusal that C reads when a request isn't sealed.
 pub(crate) fn asking_refusal(error: RequestError) -> Refusal
     requires { error ≢ KeeperFailed }
     ensures { IsAskingStatus error result.status result.detail }
@@ -117,7 +118,7 @@ pub(crate) fn asking_refusal(error: RequestError) -> Refusal
     }
 }
 
-/// Seals a plain request, which is a datagram.
+/// Seals a plain request, which is passed in as a datagram.
 fn request_in(
     client: &mut ClientHandle,
     now: u64,
@@ -150,10 +151,10 @@ fn request_in(
     }
 }
 
-/// Seals a request with the client's next number (RFC 8613, 8.1). `plain` is its datagram. The first `out_len` bytes of `out` are
-/// the sealed one, and its token is pending from then on. A refusal is BadHandle, one of the datagram's faults with its place,
-/// NotThatKind, Unsupported with the lowest number of an option, TokenInUse, PendingFull, SequenceExhausted, TooLong or NoRoom, in
-/// this order. From NotThatKind on it moves the clock.
+/// Seals a request with the client's next number (RFC 8613, 8.1). `plain` is its datagram. The first `out_len` bytes of `out` are the
+/// sealed datagram, and its token is pending from then on. A refusal is BadHandle, one of the datagram's faults with its place,
+/// NotThatKind, Unsupported with the lowest number of such an option, TokenInUse, PendingFull, SequenceExhausted, TooLong or NoRoom,
+/// in this order. From NotThatKind on, a refusal moves the clock.
 #[unsafe(no_mangle)]
 pub extern "C" fn oscore_client_request(
     client: &mut ClientHandle,
@@ -193,7 +194,7 @@ pub extern "C" fn oscore_client_request(
     }
 }
 
-/// What was delivered, and the number of its request, or the refusal that C reads.
+/// Returns what was delivered and the number of its request, or the refusal that C reads.
 pub(crate) fn delivery<'b>(outcome: ClientOutcome<'b>) -> Result<(Opened<'b>, Piv), Refusal>
     ensures opened { IfOk result (λ o. outcome.entry ≡ Delivered o.0 o.1) }
     ensures refused { IfErr result (λ r. IsOutcomeStatus outcome.entry r.status r.detail) }
@@ -210,7 +211,7 @@ pub(crate) fn delivery<'b>(outcome: ClientOutcome<'b>) -> Result<(Opened<'b>, Pi
     }
 }
 
-/// Answers a datagram.
+/// Takes a datagram.
 fn take_in<'b>(
     client: &mut ClientHandle,
     now: u64,
@@ -233,10 +234,10 @@ fn take_in<'b>(
     }
 }
 
-/// Answers a datagram, where it lies (RFC 8613, 8.4): done is a response to a pending request, whose number is `request`, and which is
-/// pending no more. `options` has room for so many options; `opened` says whether there are more. A refusal is BadHandle, one of the
-/// datagram's faults with its place, NotThatKind, UnknownToken, NoOscore, Undecodable, Tag or Inner, in this order; all but
-/// BadHandle move the clock.
+/// Takes a datagram in place (RFC 8613, 8.4). It returns 0 if a response to a pending request is delivered; then `request` is that
+/// request's number, and the request is no longer pending. `options` has room for a number of options; `opened` says whether there
+/// are more. A refusal is BadHandle, one of the datagram's faults with its place, NotThatKind, UnknownToken, NoOscore, Undecodable,
+/// Tag or Inner, in this order; all but BadHandle move the clock.
 #[unsafe(no_mangle)]
 pub extern "C" fn oscore_client_take<'b>(
     client: &mut ClientHandle,

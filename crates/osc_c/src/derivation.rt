@@ -13,7 +13,7 @@ use osc_context::{Context, Params};
 use osc_handle::ContextHandle;
 
 /// Derives a context by HKDF (RFC 8613, 3.2.1) and writes it into the handle. Without `has_id_context` there is no ID Context,
-/// whatever the bytes are. With `constant_time` the keys of the context are used in constant time.
+/// whatever the bytes of `id_context` are. With `constant_time` the keys of the context are used in constant time.
 #[unsafe(no_mangle)]
 pub extern "C" fn oscore_derive(
     out: &mut ContextHandle,
@@ -50,7 +50,7 @@ pub extern "C" fn oscore_derive(
     }
 }
 
-/// The bytes of a context, whose keys are used in constant time where that is asked for.
+/// Returns the bytes of a context, whose keys are used in constant time if that is asked for.
 fn handle_of(context: Context, constant_time: bool) -> ContextHandle
     ensures client { client_in result ≡ as_client context }
     ensures handle { IsContext result }

@@ -1,4 +1,4 @@
-//! What a protected request says to whoever has no key, as C reads it.
+//! What a protected request shows to a reader without the key, as C reads it.
 
 ghost use Rattle.std.specs.Prelude.{◌≡◌, ◌≢◌, length};
 ghost use Rattle.osc_protect.specs.Head.{Head, HasNoRequestHead, HasRequestHead};
@@ -11,7 +11,7 @@ use crate::opened_view::kind_code;
 use crate::status::{DONE, Refusal};
 use osc_protect::{RequestHead, head_of_request};
 
-/// The head of a protected request. Nothing in it was protected yet. Its slices lie in the datagram.
+/// The head of a protected request. None of it counts as protected yet. Its slices lie in the datagram.
 #[repr(C)]
 #[derive(Clone, Copy)]
 pub struct HeadView<'b> {
@@ -41,8 +41,8 @@ fn show_head<'b>(head: &RequestHead<'b>, view: &mut HeadView<'b>)
     view.kid_context = head.kid_context.unwrap_or(&[]);
 }
 
-/// Reads what a protected request says to whoever has no key (RFC 8613, 8.2): its kid and kid context tell which context it names.
-/// A refusal is one of the datagram's faults with its place, NotThatKind, NoOscore or Undecodable, in this order.
+/// Reads what a protected request shows to a reader without the key (RFC 8613, 8.2): its kid and kid context tell which context it
+/// names. A refusal is one of the datagram's faults with its place, NotThatKind, NoOscore or Undecodable, in this order.
 #[unsafe(no_mangle)]
 pub extern "C" fn oscore_head<'b>(
     datagram: &'b [u8],

@@ -1,5 +1,5 @@
-//! A client whose numbers outlive it, for C: its bytes are the caller's, and a request that needs a number which isn't reserved says what to
-//! save first, and does nothing.
+//! A client whose Sender Sequence Numbers outlive it, for C. Its bytes belong to the caller. A request that needs a number that isn't
+//! reserved says what to save first, and does nothing.
 
 ghost use Rattle.std.specs.Prelude.{◌≡◌, ◌≢◌, ◌≤◌, ◌<◌, ◌^◌, ℕ, IfOk, IfErr, IsErrAnd, IsOk, OnErr, true, false, take, drop, map, length};
 ghost use Rattle.osc_coap.specs.Datagram.{Parts, IsDatagram};
@@ -34,8 +34,9 @@ use osc_handle::ContextHandle;
 use osc_kept_handle::{KeptClientHandle, KeptRequestRefusal};
 use osc_protect::Opened;
 
-/// Begins a client with nothing pending (RFC 8613, 8.1), with the number that was saved last, or 0 where none ever was. Its requests are
-/// pending for so many milliseconds and no longer. A refusal is BadHandle or BadNumber, in this order, and changes nothing.
+/// Begins a client with nothing pending (RFC 8613, 8.1). `loaded` is the number that was saved last, or 0 if none ever was. Its
+/// requests are pending for `life_ms` milliseconds and no longer. A refusal is BadHandle or BadNumber, in this order, and changes
+/// nothing.
 #[unsafe(no_mangle)]
 pub extern "C" fn oscore_kept_client_begin(
     client: &mut KeptClientHandle,
@@ -63,8 +64,8 @@ pub extern "C" fn oscore_kept_client_begin(
     DONE
 }
 
-/// Goes on, now that this number is saved durably: that of the last SaveFirst. A refusal is BadHandle or, of any other number, BadNumber,
-/// in this order, and changes nothing.
+/// Goes on after this number was saved durably: the number of the last SaveFirst. A refusal is BadHandle or, for any other number,
+/// BadNumber, in this order, and changes nothing.
 #[unsafe(no_mangle)]
 pub extern "C" fn oscore_kept_client_saved(client: &mut KeptClientHandle, number: u64) -> u32
     ensures saved { result ≡ 0 → (h : History) (o : Own) → AsksWith client.old o h
@@ -81,7 +82,7 @@ pub extern "C" fn oscore_kept_client_saved(client: &mut KeptClientHandle, number
     }
 }
 
-/// Seals a plain request, which is a datagram.
+/// Seals a plain request, which is passed in as a datagram.
 fn request_in(
     client: &mut KeptClientHandle,
     now: u64,
@@ -116,10 +117,11 @@ fn request_in(
     }
 }
 
-/// Seals a request with the next number (RFC 8613, 8.1), as `oscore_client_request` does. At SaveFirst `detail` is a number: once that is
-/// saved durably, and `oscore_kept_client_saved` was told so, the same message is handed in again; until then nothing changes. A
-/// refusal is BadHandle, one of the datagram's faults with its place, SaveFirst, NotThatKind, Unsupported with the lowest number of an
-/// option, TokenInUse, PendingFull, SequenceExhausted, TooLong or NoRoom, in this order. From NotThatKind on it moves the clock.
+/// Seals a request with the next number (RFC 8613, 8.1), as `oscore_client_request` does. At SaveFirst, `detail` is a number: save it
+/// durably, pass it to `oscore_kept_client_saved`, and pass in the same message again; until then nothing changes. A refusal is
+/// BadHandle, one of the datagram's faults with its place, SaveFirst, NotThatKind, Unsupported with the lowest number of such an
+/// option, TokenInUse, PendingFull, SequenceExhausted, TooLong or NoRoom, in this order. From NotThatKind on, a refusal moves the
+/// clock.
 #[unsafe(no_mangle)]
 pub extern "C" fn oscore_kept_client_request(
     client: &mut KeptClientHandle,
@@ -159,7 +161,7 @@ pub extern "C" fn oscore_kept_client_request(
     }
 }
 
-/// Answers a datagram.
+/// Takes a datagram.
 fn take_in<'b>(
     client: &mut KeptClientHandle,
     now: u64,
@@ -180,7 +182,7 @@ fn take_in<'b>(
     }
 }
 
-/// Answers a datagram, where it lies (RFC 8613, 8.4), as `oscore_client_take` does. No number is needed.
+/// Takes a datagram in place (RFC 8613, 8.4), as `oscore_client_take` does. Needs no number.
 #[unsafe(no_mangle)]
 pub extern "C" fn oscore_kept_client_take<'b>(
     client: &mut KeptClientHandle,
@@ -216,7 +218,7 @@ pub extern "C" fn oscore_kept_client_take<'b>(
     }
 }
 
-/// Waits no more for the response to the request of a token, as `oscore_client_forget` does. No number is needed.
+/// Stops waiting for the response to the request with this token, as `oscore_client_forget` does. Needs no number.
 #[unsafe(no_mangle)]
 pub extern "C" fn oscore_kept_client_forget(client: &mut KeptClientHandle, token: &[u8]) -> u32
     ensures answered { result ≡ 0 → (h : History) (old : Own) → AsksWith client.old old h → StepsClient h (Forget token.now) (Forgot true) old client.new }

@@ -1,5 +1,5 @@
-//! A server whose own numbers outlive it, for C: its bytes are the caller's, and a call that needs a number which isn't reserved says what
-//! to save first, and does nothing.
+//! A server whose own Sender Sequence Numbers outlive it, for C. Its bytes belong to the caller. A call that needs a number that
+//! isn't reserved says what to save first, and does nothing.
 
 ghost use Rattle.std.specs.Prelude.{◌≡◌, ◌≢◌, ◌≤◌, ℕ, IfOk, IfErr, IsErrAnd, IsOk, OnErr, true, false, not, take, drop, map, length};
 ghost use Rattle.osc_coap.specs.Datagram.{Parts, IsDatagram};
@@ -40,7 +40,7 @@ use osc_handle::{ContextHandle, TicketHandle, size_with};
 use osc_kept_handle::{KeptRefusal, KeptReplyRefusal, KeptServerHandle};
 use osc_protect::Opened;
 
-/// The refusal of a call before which this number has to be saved.
+/// Makes the refusal of a call before which this number has to be saved.
 pub(crate) fn save_first(number: u64) -> Refusal
     ensures status { result.status ≡ SaveFirst }
     ensures detail { result.detail ≡ number }
@@ -51,9 +51,9 @@ pub(crate) fn save_first(number: u64) -> Refusal
     }
 }
 
-/// Begins a server of a context (RFC 8613, B.1), with the number that was saved last, or 0 where none ever was: then it never received a
-/// request, and else it goes on as after a restart. Its window has 32 or 64 places. A refusal is BadHandle or BadNumber, in this
-/// order, and changes nothing.
+/// Begins a server of a context (RFC 8613, B.1). `loaded` is the number that was saved last, or 0 if none ever was. With 0, the
+/// context never received a request; otherwise the server goes on as after a restart. Its window has 32 or 64 places. A refusal is
+/// BadHandle or BadNumber, in this order, and changes nothing.
 #[unsafe(no_mangle)]
 pub extern "C" fn oscore_kept_server_begin(
     server: &mut KeptServerHandle,
@@ -84,8 +84,8 @@ pub extern "C" fn oscore_kept_server_begin(
     DONE
 }
 
-/// Goes on, now that this number is saved durably: that of the last SaveFirst. A refusal is BadHandle or, of any other number, BadNumber,
-/// in this order, and changes nothing.
+/// Goes on after this number was saved durably: the number of the last SaveFirst. A refusal is BadHandle or, for any other number,
+/// BadNumber, in this order, and changes nothing.
 #[unsafe(no_mangle)]
 pub extern "C" fn oscore_kept_server_saved(server: &mut KeptServerHandle, number: u64) -> u32
     ensures saved { result ≡ 0 → (h : History) (o : Own) → ServesWith server.old o h
@@ -102,7 +102,7 @@ pub extern "C" fn oscore_kept_server_saved(server: &mut KeptServerHandle, number
     }
 }
 
-/// Answers a datagram, and tells the length of the reply.
+/// Takes a datagram, and writes the length of the reply to `out_len`.
 fn take_in<'b>(
     server: &mut KeptServerHandle,
     now: u64,
@@ -140,9 +140,10 @@ fn take_in<'b>(
     }
 }
 
-/// Answers a datagram, where it lies (RFC 8613, 8.2), as `oscore_server_take` does. At SaveFirst `detail` is a number: once that is saved
-/// durably, and `oscore_kept_server_saved` was told so, the same datagram is handed in again; until then nothing changes, and there is
-/// no reply. A refusal is BadHandle, SaveFirst, or one of `oscore_server_take`'s, in this order; from SaveFirst on all move the clock.
+/// Takes a datagram in place (RFC 8613, 8.2), as `oscore_server_take` does. At SaveFirst, `detail` is a number: save it durably, pass
+/// it to `oscore_kept_server_saved`, and pass in the same datagram again; until then nothing changes, and there is no reply. A
+/// refusal is BadHandle, SaveFirst, or one of the refusals of `oscore_server_take`, in this order; all after SaveFirst move the
+/// clock.
 #[unsafe(no_mangle)]
 pub extern "C" fn oscore_kept_server_take<'b>(
     server: &mut KeptServerHandle,
@@ -190,7 +191,7 @@ pub extern "C" fn oscore_kept_server_take<'b>(
     }
 }
 
-/// Seals a plain reply, which is a datagram.
+/// Seals a plain reply, which is passed in as a datagram.
 fn reply_in(
     server: &mut KeptServerHandle,
     ticket: &TicketHandle,
@@ -229,10 +230,10 @@ fn reply_in(
     }
 }
 
-/// Seals a reply to the request of a ticket (RFC 8613, 8.3), as `oscore_server_reply` does; one with an own number needs a number, and at
-/// SaveFirst `detail` is the one to save, as above. A refusal is BadHandle, one of the datagram's faults with its place, SaveFirst,
-/// StaleTicket, TicketSpent, NotThatKind, Unsupported with the lowest number of an option, SequenceExhausted, TooLong or NoRoom, in
-/// this order, and changes nothing.
+/// Seals a reply to the request of a ticket (RFC 8613, 8.3), as `oscore_server_reply` does. A reply with its own Partial IV needs a
+/// number, and at SaveFirst `detail` is the number to save, as above. A refusal is BadHandle, one of the datagram's faults with its
+/// place, SaveFirst, StaleTicket, TicketSpent, NotThatKind, Unsupported with the lowest number of such an option, SequenceExhausted,
+/// TooLong or NoRoom, in this order, and changes nothing.
 #[unsafe(no_mangle)]
 pub extern "C" fn oscore_kept_server_reply(
     server: &mut KeptServerHandle,

@@ -1,6 +1,6 @@
-//! OSCORE (RFC 8613) for C: `bindings/c/oscore.h` declares what stands here. The caller owns all memory; nothing allocates, calls
-//! back or is global. Each call answers a status, of which 0 is done. Whatever the bytes of a handle or of a message are, a call
-//! is safe and ends: what can't be used is refused by name.
+//! OSCORE (RFC 8613) for C. `bindings/c/oscore.h` declares these functions. The caller owns all memory; nothing allocates, calls back
+//! or is global. Each call returns a status, and 0 means done. Whatever the bytes of a handle or of a message are, a call is safe and
+//! ends: it refuses what can't be used, by name.
 #![tactic(auto)]
 
 mod client;

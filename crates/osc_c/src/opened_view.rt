@@ -1,4 +1,4 @@
-//! What was opened, as C reads it: its slices lie in the caller's datagram.
+//! What was opened, as C reads it. Its slices lie in the caller's datagram.
 
 ghost use Rattle.std.specs.Prelude.{◌≡◌, ◌<◌, ◌≤◌, true, false, length, map, take};
 ghost use Rattle.std.specs.Option.{option_map};
@@ -11,7 +11,7 @@ ghost use Rattle.osc_c.specs.Opened.{bytes_given, number_given, option_in, Shows
 use osc_coap::{Kind, Options};
 use osc_protect::Opened;
 
-/// An option that was opened.
+/// An option that was opened, or that is to be written.
 #[repr(C)]
 #[derive(Clone, Copy)]
 pub struct OptionView<'b> {
@@ -19,8 +19,8 @@ pub struct OptionView<'b> {
     pub value: &'b [u8],
 }
 
-/// A message that was opened. Kind, message ID, token, Uri-Host and Uri-Port are those of the datagram, and weren't protected; code,
-/// options and payload were. Its slices lie in the datagram.
+/// A message that was opened. Its Type, Message ID, token, Uri-Host and Uri-Port are those of the datagram, and weren't protected;
+/// its code, options and payload were. Its slices lie in the datagram.
 #[repr(C)]
 #[derive(Clone, Copy)]
 pub struct OpenedView<'b> {
@@ -39,11 +39,11 @@ pub struct OpenedView<'b> {
     pub payload: &'b [u8],
     /// How many options were put into the caller's array.
     pub option_count: usize,
-    /// Whether there are more, for which it has no room.
+    /// Whether there are more options than the array has room for.
     pub has_more_options: bool,
 }
 
-/// The number of a kind, as it stands in a datagram (RFC 7252, 3).
+/// Returns the number of a kind, as the Type field of a datagram has it (RFC 7252, 3).
 pub(crate) fn kind_code(kind: Kind) -> u8
     ensures { result ≡ kind_number kind }
 {
@@ -55,7 +55,7 @@ pub(crate) fn kind_code(kind: Kind) -> u8
     }
 }
 
-/// Puts options into places until one of the two ends; answers how many, and whether options are left.
+/// Puts options into places until there are no more options or no more places. Returns how many it put, and whether options are left.
 fn put_options<'b>(options: Options<'b>, places: &mut [OptionView<'b>]) -> (usize, bool)
     ensures all { result.1 ≡ false → map option_in (take result.0 places.new) ≡ options_left options.entry }
     ensures first { result.1 ≡ true → (map option_in places.new ≡ take (length places.old) (options_left options.entry))
@@ -73,7 +73,7 @@ fn put_options<'b>(options: Options<'b>, places: &mut [OptionView<'b>]) -> (usiz
     (count, false)
 }
 
-/// Shows a message to C, and its options in these places.
+/// Shows a message to C, with its options in these places.
 pub(crate) fn show<'b>(
     opened: &Opened<'b>,
     places: &mut [OptionView<'b>],

@@ -1,4 +1,4 @@
-//! Opening one request, or one response, for C, in the datagram that carries it.
+//! Opens one request or one response for C, in the datagram that carries it.
 
 ghost use Rattle.std.specs.Prelude.{◌≡◌, ◌≢◌, ◌<◌, ◌^◌, ℕ, IfOk, IsOk, IfErr, IsErrAnd, Option, true, false, take, map, length};
 ghost use Rattle.osc_protect.specs.Opening.{Opens};
@@ -38,10 +38,10 @@ fn open_request_in<'b>(
     }
 }
 
-/// Opens a request in its datagram (RFC 8613, 8.2), as the context's server. `options` has room for so many options; `view` says
+/// Opens a request in its datagram (RFC 8613, 8.2), as the context's server. `options` has room for a number of options; `view` says
 /// whether there are more. A refusal is BadHandle, one of the datagram's faults with its place, NotThatKind, NoOscore, Undecodable,
-/// WrongContext, Tag or Inner, in this order. From Inner on the payload is the plaintext, and the old tag behind it; before, the
-/// datagram stays.
+/// WrongContext, Tag or Inner, in this order. At Inner and when it is done, the payload has become the plaintext, with the old tag
+/// after it. Any refusal before Inner leaves the datagram unchanged.
 #[unsafe(no_mangle)]
 pub extern "C" fn oscore_open_request<'b>(
     context: &ContextHandle,
@@ -97,8 +97,8 @@ fn open_response_in<'b>(
     }
 }
 
-/// Opens a response to the request of this number in its datagram (RFC 8613, 8.4), as the context's client. What else it does is said
-/// at `oscore_open_request`; BadNumber comes behind BadHandle, and WrongContext never.
+/// Opens a response to the request with this number in its datagram (RFC 8613, 8.4), as the context's client. Everything else is as
+/// in `oscore_open_request`, but BadNumber comes after BadHandle, and WrongContext never comes.
 #[unsafe(no_mangle)]
 pub extern "C" fn oscore_open_response<'b>(
     context: &ContextHandle,

@@ -1,4 +1,4 @@
-//! Sealing one request, or one response, for C.
+//! Seals one request or one response for C.
 
 ghost use Rattle.std.specs.Prelude.{◌≡◌, ◌≢◌, ◌≤◌, ◌<◌, ◌+◌, ◌^◌, ℕ, IsSome, IfSome, IsOk, IfOk, IfErr, IsErrAnd, OnErr, take, drop, length};
 ghost use Rattle.std.specs.Option.{option_map};
@@ -21,7 +21,7 @@ use osc_context::Piv;
 use osc_handle::ContextHandle;
 use osc_protect::{RequestRef, seal_request, seal_response};
 
-/// Seals a plain request, which is a datagram.
+/// Seals a plain request, which is passed in as a datagram.
 fn seal_request_in(
     context: &ContextHandle,
     number: u64,
@@ -56,9 +56,9 @@ fn seal_request_in(
     }
 }
 
-/// Seals a request (RFC 8613, 8.1) under this number, as the context's client. `plain` is its datagram. The first `out_len` bytes of
-/// `out` are the sealed one. A refusal is BadHandle, BadNumber, one of the datagram's faults with its place, NotThatKind,
-/// Unsupported with the lowest number of an option, TooLong or NoRoom, in this order.
+/// Seals a request (RFC 8613, 8.1) under this Sender Sequence Number, as the context's client. `plain` is its datagram. The first
+/// `out_len` bytes of `out` are the sealed datagram. A refusal is BadHandle, BadNumber, one of the datagram's faults with its place,
+/// NotThatKind, Unsupported with the lowest number of such an option, TooLong or NoRoom, in this order.
 #[unsafe(no_mangle)]
 pub extern "C" fn oscore_seal_request(
     context: &ContextHandle,
@@ -94,7 +94,7 @@ pub extern "C" fn oscore_seal_request(
     }
 }
 
-/// A number of a message's own, none where there is none, or None from 2^40 up.
+/// Returns a message's own number, or `Some(None)` if it has none. Returns `None` if the number is 2^40 or above.
 fn own_number(has_own: bool, own: u64) -> Option<Option<Piv>>
     ensures made { IfSome result (λ piv. option_map number_of piv ≡ number_given has_own own) }
     ensures accepted { IsSome result → IsOwnNumber has_own own }
@@ -107,7 +107,7 @@ fn own_number(has_own: bool, own: u64) -> Option<Option<Piv>>
     }
 }
 
-/// Seals a plain response to a request, which is a datagram.
+/// Seals a plain response to a request. The response is passed in as a datagram.
 fn seal_response_in(
     context: &ContextHandle,
     request: u64,
@@ -149,9 +149,9 @@ fn seal_response_in(
     }
 }
 
-/// Seals a response (RFC 8613, 8.3) to the request of this number, as the context's server, with an own number or under that of the
-/// request. `plain` is its datagram. The first `out_len` bytes of `out` are the sealed one. The refusals are those of
-/// `oscore_seal_request`.
+/// Seals a response (RFC 8613, 8.3) to the request with this number, as the context's server, with its own Partial IV or under the
+/// Partial IV of the request. `plain` is its datagram. The first `out_len` bytes of `out` are the sealed datagram. The refusals are
+/// those of `oscore_seal_request`.
 #[unsafe(no_mangle)]
 pub extern "C" fn oscore_seal_response(
     context: &ContextHandle,

@@ -1,5 +1,5 @@
-//! A server, for C: its bytes are the caller's, and each call does what the server does. A request is answered once, however often its
-//! ticket is copied.
+//! A server, for C. Its bytes belong to the caller, and each call does what the server does. A request is answered once, however
+//! often its ticket is copied.
 
 ghost use Rattle.std.specs.Prelude.{◌≡◌, ◌≢◌, ◌≤◌, ◌<◌, ◌+◌, ◌^◌, ℕ, IfOk, IfErr, IsOk, IsErrAnd, OnErr, true, false, take, drop, map, length, Err};
 ghost use Rattle.osc_coap.specs.Datagram.{Parts, IsDatagram};
@@ -45,7 +45,7 @@ pub extern "C" fn oscore_server_begin(server: &mut ServerHandle)
     *server = ServerHandle::new();
 }
 
-/// The status of a refusal to add.
+/// Returns the status of a refusal to add.
 fn adding_status(error: AddError) -> Status
     ensures { result ≡ add_status error }
 {
@@ -55,7 +55,7 @@ fn adding_status(error: AddError) -> Status
     }
 }
 
-/// How a context begins.
+/// Returns how a context begins.
 pub(crate) fn start_with(restarted: bool, next: Piv) -> Start
     ensures { result ≡ start_given restarted next }
 {
@@ -98,9 +98,9 @@ fn add_in(
     }
 }
 
-/// Adds a context to a server, and tells its index (RFC 8613, B.1). `next` is its next own number; `restarted` says that it may have
-/// received requests in an earlier life. Its window has 32 or 64 places. A refusal is BadHandle, BadNumber, Full, SameLookup or
-/// SameSender, in this order, and changes nothing.
+/// Adds a context to a server, and writes its index to `index` (RFC 8613, B.1). `next` is its next own Sender Sequence Number;
+/// `restarted` says that it may have received requests in an earlier life. Its window has 32 or 64 places. A refusal is BadHandle,
+/// BadNumber, Full, SameLookup or SameSender, in this order, and changes nothing.
 #[unsafe(no_mangle)]
 pub extern "C" fn oscore_server_add(
     server: &mut ServerHandle,
@@ -131,7 +131,7 @@ pub extern "C" fn oscore_server_add(
     }
 }
 
-/// The status of a refusal to restart.
+/// Returns the status of a refusal to restart.
 pub(crate) fn restarting_status(error: RestartError) -> Status
     ensures { result ≡ restart_status error }
 {
@@ -162,9 +162,9 @@ fn restart_in(server: &mut ServerHandle, context: usize, next: u64) -> Result<()
     }
 }
 
-/// Begins a new life of a context (RFC 8613, B.1), whose next own number is `next`: until a request carries the Echo value of a
-/// challenge none is delivered, and older tickets are stale. A refusal is BadHandle, BadNumber, NoSuchContext or LivesExhausted, in
-/// this order, and changes nothing.
+/// Begins a new life of a context (RFC 8613, B.1), whose next own Sender Sequence Number is `next`. No request is delivered until one
+/// carries the Echo value of a challenge, and older tickets are stale. A refusal is BadHandle, BadNumber, NoSuchContext or
+/// LivesExhausted, in this order, and changes nothing.
 #[unsafe(no_mangle)]
 pub extern "C" fn oscore_server_restart(server: &mut ServerHandle, context: usize, next: u64) -> u32
     ensures restarted { result ≡ 0 → (h : History) → Serves server.old h → AnswersIn h (Restart context next) Restarted server.new }
@@ -183,7 +183,7 @@ pub extern "C" fn oscore_server_restart(server: &mut ServerHandle, context: usiz
     }
 }
 
-/// What was delivered, and its ticket, or the refusal that C reads.
+/// Returns what was delivered and its ticket, or the refusal that C reads.
 pub(crate) fn delivery<'b>(outcome: Outcome<'b>) -> Result<(Opened<'b>, Ticket), Refusal>
     requires { outcome ≢ KeeperFailedOutcome }
     ensures opened { IfOk result (λ o. outcome.entry ≡ Delivered o.0 o.1) }
@@ -205,7 +205,7 @@ pub(crate) fn delivery<'b>(outcome: Outcome<'b>) -> Result<(Opened<'b>, Ticket),
     }
 }
 
-/// Answers a datagram, and tells the length of the reply.
+/// Takes a datagram, and writes the length of the reply to `out_len`.
 fn take_in<'b>(
     server: &mut ServerHandle,
     now: u64,
@@ -237,11 +237,11 @@ fn take_in<'b>(
     }
 }
 
-/// Answers a datagram, where it lies (RFC 8613, 8.2): done is a request that is delivered, with its ticket. The first `out_len` bytes of
-/// `out` are the reply that goes back to the sender, if there are any, delivered or not. `echo` is a fresh value that nobody can
-/// predict, `mid` a message ID for a reply to a request that isn't confirmable. A refusal is BadHandle, one of the datagram's faults
-/// with its place, NotThatKind, NoOscore, Undecodable, NoContext, Replay, Tag, Inner, Challenge or SequenceExhausted, in this order;
-/// all but BadHandle move the clock.
+/// Takes a datagram in place (RFC 8613, 8.2). It returns 0 if a request is delivered, with its ticket. The first `out_len` bytes of
+/// `out`, if there are any, are the reply that goes back to the sender, whether or not a request is delivered. `echo` is a fresh
+/// value that nobody can predict, and `mid` is a Message ID for a reply to a request that isn't confirmable. A refusal is BadHandle,
+/// one of the datagram's faults with its place, NotThatKind, NoOscore, Undecodable, NoContext, Replay, Tag, Inner, Challenge or
+/// SequenceExhausted, in this order; all but BadHandle move the clock.
 #[unsafe(no_mangle)]
 pub extern "C" fn oscore_server_take<'b>(
     server: &mut ServerHandle,
@@ -287,7 +287,7 @@ pub extern "C" fn oscore_server_take<'b>(
     }
 }
 
-/// The refusal that C reads of what a server refuses to reply.
+/// Returns the refusal that C reads when a server refuses to reply.
 pub(crate) fn replying_refusal(error: ReplyError) -> Refusal
     requires { error ≢ KeeperFailed }
     ensures { IsReplyStatus error result.status result.detail }
@@ -306,7 +306,7 @@ pub(crate) fn replying_refusal(error: ReplyError) -> Refusal
     }
 }
 
-/// Seals a plain reply, which is a datagram.
+/// Seals a plain reply, which is passed in as a datagram.
 fn reply_in(
     server: &mut ServerHandle,
     ticket: &TicketHandle,
@@ -343,10 +343,11 @@ fn reply_in(
     }
 }
 
-/// Seals a reply to the request of a ticket (RFC 8613, 8.3), with an own number or under that of the request. `plain` is a datagram of
-/// which code, options and payload are used. The first `out_len` bytes of `out` are the sealed reply, and the request has its answer.
-/// A refusal is BadHandle, one of the datagram's faults with its place, StaleTicket, TicketSpent, NotThatKind, Unsupported with the
-/// lowest number of an option, SequenceExhausted, TooLong or NoRoom, in this order, and changes nothing.
+/// Seals a reply to the request of a ticket (RFC 8613, 8.3), with its own Partial IV or under the Partial IV of the request. `plain`
+/// is a datagram, of which the code, options and payload are used. The first `out_len` bytes of `out` are the sealed reply, and the
+/// request then has its answer. A refusal is BadHandle, one of the datagram's faults with its place, StaleTicket, TicketSpent,
+/// NotThatKind, Unsupported with the lowest number of such an option, SequenceExhausted, TooLong or NoRoom, in this order, and
+/// changes nothing.
 #[unsafe(no_mangle)]
 pub extern "C" fn oscore_server_reply(
     server: &mut ServerHandle,

@@ -1,5 +1,5 @@
-//! A server of one context, for C, in the room of one: each call does what the call of its name does at a server whose one context has
-//! index 0.
+//! A server of one context, for C, in the room of one context. Each call does what the call of its name does at a server whose only
+//! context has index 0.
 
 ghost use Rattle.std.specs.Prelude.{◌≡◌, ◌≢◌, ◌≤◌, ◌<◌, ◌+◌, ◌^◌, ℕ, IfOk, IfErr, IsOk, IsErrAnd, OnErr, true, false, take, drop, map, length, Err};
 ghost use Rattle.osc_coap.specs.Datagram.{Parts, IsDatagram};
@@ -131,7 +131,7 @@ pub extern "C" fn oscore_server1_restart(server: &mut SingleServerHandle, next: 
     }
 }
 
-/// Answers a datagram, and tells the length of the reply.
+/// Takes a datagram, and writes the length of the reply to `out_len`.
 fn take_in<'b>(
     server: &mut SingleServerHandle,
     now: u64,
@@ -163,7 +163,7 @@ fn take_in<'b>(
     }
 }
 
-/// Answers a datagram, where it lies (RFC 8613, 8.2), as `oscore_server_take` does, with the same refusals.
+/// Takes a datagram in place (RFC 8613, 8.2), as `oscore_server_take` does, with the same refusals.
 #[unsafe(no_mangle)]
 pub extern "C" fn oscore_server1_take<'b>(
     server: &mut SingleServerHandle,
@@ -209,7 +209,7 @@ pub extern "C" fn oscore_server1_take<'b>(
     }
 }
 
-/// Seals a plain reply, which is a datagram.
+/// Seals a plain reply, which is passed in as a datagram.
 fn reply_in(
     server: &mut SingleServerHandle,
     ticket: &TicketHandle,

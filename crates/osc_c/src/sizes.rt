@@ -1,4 +1,4 @@
-//! The sizes of what crosses.
+//! The sizes of the structs that C and the library share.
 
 ghost use Rattle.std.specs.Prelude.{◌≡◌};
 
@@ -23,7 +23,7 @@ pub struct Sizes {
     pub kept_client: usize,
 }
 
-/// Tells the sizes, for a caller to compare with those that its compiler has.
+/// Writes the sizes, so that a caller can compare them with the sizes that its compiler has.
 #[unsafe(no_mangle)]
 pub extern "C" fn oscore_sizes(sizes: &mut Sizes)
     ensures { sizes.new ≡ record { context = 95; option = 24; opened = 104; request_head = 64; server = 1296; ticket = 40; client = 384; server1 = 168; kept_server = 176; kept_client = 392 } }

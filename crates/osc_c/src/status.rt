@@ -1,4 +1,4 @@
-//! The statuses that calls answer.
+//! The statuses that calls return.
 
 ghost use Rattle.std.specs.Prelude.{◌≡◌, ◌<◌, Some, length, map, slice_get, take};
 ghost use Rattle.osc_c.specs.Statuses.{code, context_status, format_status, open_detail, open_status, seal_detail, seal_status, head_detail, head_status, name_or_unknown, status_name};
@@ -7,10 +7,10 @@ use osc_coap::{Fault, FormatError};
 use osc_context::ContextError;
 use osc_protect::{HeadError, ProtectError, UnprotectError};
 
-/// What a call answers that is done.
+/// What a call that is done returns.
 pub(crate) const DONE: u32 = 0;
 
-/// The names of the statuses by their numbers, from that of 0 on.
+/// The names of the statuses, in the order of their numbers from 0.
 const NAMES: [&[u8]; 45] = [
     b"Done",
     b"BadHandle",
@@ -59,14 +59,14 @@ const NAMES: [&[u8]; 45] = [
     b"ValueTooLong",
 ];
 
-/// Why a call does nothing: the first refusal whose condition holds, in this order, but for those that came last: SameSender is judged
-/// right after SameLookup; SaveFirst right before NoSuchContext, and of a datagram right after BadHandle; OptionOrder and ValueTooLong
-/// before NoRoom. A call that is done answers 0.
+/// Why a call does nothing: the first refusal whose condition holds, in this order, except for the statuses that were added last.
+/// SameSender is checked right after SameLookup. SaveFirst is checked right before NoSuchContext, and for a datagram right after
+/// BadHandle. OptionOrder and ValueTooLong are checked before NoRoom. A call that is done returns 0.
 #[derive(Clone, Copy, Debug, PartialEq, Eq)]
 pub(crate) enum Status {
-    /// The handle's bytes are none that a call wrote.
+    /// The bytes of the handle can't have been written by a call.
     BadHandle = 1,
-    /// A number is 2^40 or more.
+    /// A number is 2^40 or more, or isn't one that the call takes.
     BadNumber = 2,
     SecretLength = 3,
     SaltLength = 4,
@@ -114,7 +114,7 @@ pub(crate) enum Status {
 }
 
 impl Status {
-    /// The number that C reads.
+    /// Returns the number that C reads.
     pub(crate) fn code(self) -> u32
         ensures { result ≡ code self }
     {
@@ -122,7 +122,8 @@ impl Status {
     }
 }
 
-/// Why nothing was done, and its detail: the place of a fault, the number of an option, or the number to save; else 0.
+/// Why nothing was done, with a detail: the place of a fault, the number or the index of an option, or the number to save; otherwise
+/// 0.
 #[derive(Clone, Copy, Debug, PartialEq, Eq)]
 pub(crate) struct Refusal {
     pub(crate) status: Status,
@@ -132,7 +133,7 @@ pub(crate) struct Refusal {
 impl From<Status> for Refusal {
     ghost from_gives = { λ status given. given ≡ record { status = status; detail = 0 } };
 
-    /// A refusal that says no more than its name.
+    /// Makes a refusal that says no more than its name.
     fn from(status: Status) -> Refusal {
         Refusal { status, detail: 0 }
     }
@@ -227,7 +228,7 @@ impl From<ProtectError> for Refusal {
     }
 }
 
-/// The name at a number, or Unknown behind the last.
+/// Returns the name at a number, or Unknown after the last name.
 fn name_at<'a>(names: &[&'a [u8]], status: u32) -> &'a [u8]
     ensures { result.now ≡ name_or_unknown (slice_get (map (λ name. name.now) names.now) status) }
 {
@@ -237,7 +238,7 @@ fn name_at<'a>(names: &[&'a [u8]], status: u32) -> &'a [u8]
     names[status as usize]
 }
 
-/// The name of the status that has this number, or Unknown where none has it.
+/// Returns the name of the status that has this number, or Unknown if no status has it.
 fn name_of(status: u32) -> &'static [u8]
     ensures name { result.now ≡ status_name status }
     ensures short { length result.now < 24 }
@@ -245,8 +246,8 @@ fn name_of(status: u32) -> &'static [u8]
     name_at(&NAMES, status)
 }
 
-/// Writes the name of a status as text that ends in a byte 0: `Done` for 0, that of the refusal for each other, and `Unknown` for
-/// a number that is no status's.
+/// Writes the name of a status as text that ends in a 0 byte: `Done` for 0, the name of the refusal for each other status, and
+/// `Unknown` for a number that isn't a status.
 #[unsafe(no_mangle)]
 pub extern "C" fn oscore_status_name(status: u32, name: &mut [u8; 24])
     ensures front { take (length (status_name status)) name.new ≡ status_name status }

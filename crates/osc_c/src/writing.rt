@@ -1,4 +1,4 @@
-//! Writing a plain message, for C, so that nobody spells the deltas of options by hand.
+//! Writes a plain message for C, so that nobody has to write the deltas of options by hand.
 
 ghost use Rattle.std.specs.Prelude.{◌≡◌, ◌≢◌, ◌≤◌, ◌<◌, ◌+◌, ℕ, List, IfNone, IfSome, IsSome, IsOk, IfOk, IfErr, true, false, take, drop, length, map, []};
 ghost use Rattle.osc_coap.specs.Datagram.{IsDatagram, datagram_length};
@@ -17,10 +17,10 @@ use osc_coap::{
     Kind, MOST_DATAGRAM, Token, Writer, head_len, lengths_by_parts, option_len, options_ascend,
 };
 
-/// The most bytes of an option's value (RFC 7252, 3.1).
+/// The greatest length of an option's value in bytes (RFC 7252, 3.1).
 const MOST_VALUE: usize = 13 + 256 + 65_535;
 
-/// The kind of a number, as it stands in a datagram (RFC 7252, 3).
+/// Returns the kind that has this number in the Type field of a datagram (RFC 7252, 3), if there is one.
 fn kind_of(number: u8) -> Option<Kind>
     ensures made { IfSome result (λ kind. kind ≡ kind_at number) }
     ensures accepted { IsSome result → number ≤ 3 }
@@ -35,7 +35,7 @@ fn kind_of(number: u8) -> Option<Kind>
     }
 }
 
-/// The token of these bytes, or None where they are too many.
+/// Returns the token of these bytes, or `None` if there are too many.
 fn token_of(bytes: &[u8]) -> Option<Token>
     ensures made { IfSome result (λ token. token.items ≡ bytes.now) }
     ensures accepted { IsSome result → length bytes.now ≤ 8 }
@@ -48,7 +48,7 @@ fn token_of(bytes: &[u8]) -> Option<Token>
     }
 }
 
-/// The index of the first option whose number is below that of the one before it.
+/// Returns the index of the first option whose number is below the number of the one before it.
 fn late_option(options: &[OptionView<'_>]) -> Option<usize>
     ensures none { IfNone result (Ascends 0 (map option_in options.now)) }
     ensures some { IfSome result (λ n. IsFirstBad (Ascends 0) (map option_in options.now) n) }
@@ -63,7 +63,7 @@ fn late_option(options: &[OptionView<'_>]) -> Option<usize>
     None
 }
 
-/// The index of the first option whose value is longer than an option can say.
+/// Returns the index of the first option whose value is longer than an option can encode.
 fn long_option(options: &[OptionView<'_>]) -> Option<usize>
     ensures none { IfNone result (HaveLengths (map option_in options.now)) }
     ensures some { IfSome result (λ n. IsFirstBad HaveLengths (map option_in options.now) n) }
@@ -76,7 +76,7 @@ fn long_option(options: &[OptionView<'_>]) -> Option<usize>
     None
 }
 
-/// How many bytes the options take, or None where a datagram can't hold so many.
+/// Returns how many bytes the options take, or `None` if a datagram can't hold that many.
 fn spelled_len(options: &[OptionView<'_>]) -> Option<usize>
     ensures value { IfSome result (λ n. n ≡ spelling_length 0 (map option_in options.now)) }
     ensures most { IfSome result (λ n. n ≤ 65535) }
@@ -101,7 +101,7 @@ fn spelled_len(options: &[OptionView<'_>]) -> Option<usize>
     Some(len)
 }
 
-/// Whether a message of these parts has room in so many bytes, and in a datagram.
+/// Returns whether a message of these parts fits into `room` bytes, and into a datagram.
 fn has_room(token: &Token, options: &[OptionView<'_>], payload: &[u8], room: usize) -> bool
     ensures yes { result ≡ true → HasRoom room (4 + length token.now.items + spelling_length 0 (map option_in options.now) + length (marked payload.now)) }
     ensures no { result ≡ false → HasRoom room (4 + length token.now.items + spelling_length 0 (map option_in options.now) + length (marked payload.now)) → ⊥ }
@@ -121,7 +121,7 @@ fn has_room(token: &Token, options: &[OptionView<'_>], payload: &[u8], room: usi
     len <= room && len <= MOST_DATAGRAM
 }
 
-/// Whether a message of this code is its head alone where it has to be (RFC 7252, 4.1).
+/// Returns whether a message with this code is only its header, if it has to be (RFC 7252, 4.1).
 fn is_alone(code: u8, token: &[u8], options: &[OptionView<'_>], payload: &[u8]) -> bool
     ensures yes { result ≡ true → code ≡ 0 → (token.now ≡ []) × (options.now ≡ []) × (payload.now ≡ []) }
     ensures no { result ≡ false → (code ≡ 0 → (token.now ≡ []) × (map option_in options.now ≡ []) × (payload.now ≡ [])) → ⊥ }
@@ -129,7 +129,7 @@ fn is_alone(code: u8, token: &[u8], options: &[OptionView<'_>], payload: &[u8]) 
     code != 0 || token.is_empty() && options.is_empty() && payload.is_empty()
 }
 
-/// Kind and token of a message that can be written into so many bytes, or the first refusal of it.
+/// Returns the kind and the token of a message that can be written into `room` bytes, or the first refusal of it.
 fn judge(
     kind: u8,
     code: u8,
@@ -167,7 +167,7 @@ fn judge(
     Ok((kind, copy))
 }
 
-/// Writes options behind a message that can have them.
+/// Writes options after a message that can have them.
 fn write_options(writer: &mut Writer<'_>, options: &[OptionView<'_>])
     requires { (draft : Draft) × (old : List ℕ) × Holds writer.old draft old
         × TakesAll (length old) draft (map option_in options.now) }
@@ -183,7 +183,7 @@ fn write_options(writer: &mut Writer<'_>, options: &[OptionView<'_>])
     }
 }
 
-/// Writes a message that was judged, and answers its length.
+/// Writes a message that was judged, and returns its length.
 fn write_judged(
     kind: Kind,
     code: u8,
@@ -208,10 +208,10 @@ fn write_judged(
     writer.finish()
 }
 
-/// Writes a message of these parts into the front of `out`, its `out_len` bytes: the one datagram that they have (RFC 7252, 3). The
-/// options are in ascending order of their numbers. A refusal is BadNumber for a kind above 3, TokenLength, EmptyWithRest for a message
-/// of code 0.00 with anything in it, OptionOrder or ValueTooLong with the index of the first such option, or NoRoom, in this
-/// order. None of them writes a byte.
+/// Writes a message of these parts into the first `out_len` bytes of `out`: the one datagram that has these parts (RFC 7252, 3). The
+/// options have to be in ascending order of their numbers. A refusal is BadNumber for a kind above 3, TokenLength, EmptyWithRest for
+/// a message of code 0.00 with anything in it, OptionOrder or ValueTooLong with the index of the first such option, or NoRoom, in
+/// this order. None of them writes a byte.
 #[unsafe(no_mangle)]
 pub extern "C" fn oscore_write_message(
     kind: u8,

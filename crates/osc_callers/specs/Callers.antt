@@ -1,4 +1,4 @@
--- For the proofs: what the callers in the tests say of messages.
+-- For the proofs: what the callers in the tests say about messages.
 use Rattle.std.specs.Prelude.{ℕ, List, [], ◌∷◌}
 use Rattle.osc_coap.specs.declared.message.Kind.TheVariants.{Con}
 use Rattle.osc_coap.specs.Datagram.{Parts}

@@ -1,5 +1,5 @@
--- For the proofs: what one call of an end is answered, after whatever history (RFC 8613, 8.1 to 8.4). h is a history, old and new are an end before the
--- call and after it, p is what a plain message says, d a datagram, n the number of a request.
+-- For the proofs: the answer to one call of an end, after any history (RFC 8613, 8.1 to 8.4). h is a history, old and new are an end before
+-- the call and after it, p is what a plain message says, d a datagram, n the number of a request.
 use Rattle.std.specs.Prelude.{◌≡◌, ℕ, List, [], false, None, Some}
 use Rattle.osc_coap.specs.Datagram.{Parts}
 use Rattle.osc_coap.specs.OptionNumbers as options
@@ -18,41 +18,41 @@ use Rattle.osc_endpoint.specs.ServerHistory as serving
 use Rattle.osc_endpoint.specs.Views.{values_of}
 use Rattle.osc_kept.specs.Examples.{ticket_of}
 
--- after the history the client answers the event so, and is as both say (RFC 8613, 8.1 and 8.4)
+-- after the history, the client answers the event with this entry, and then agrees with the history continued by both (RFC 8613, 8.1 and 8.4)
 abbrev pub ClientGoes : asking.History → asking.Event → asking.Entry → Client 8 → Type 0
 ClientGoes h event entry client = ClientAnswer 8 h event entry × ClientAgrees client (asking.Then h event entry)
 
--- after the history the server answers the event so, and is as both say (RFC 8613, 8.2 and 8.3)
+-- after the history, the server answers the event with this entry, and then agrees with the history continued by both (RFC 8613, 8.2 and 8.3)
 abbrev pub ServerGoes : serving.History → serving.Event → serving.Entry → Server → Type 0
 ServerGoes h event entry server = ServerAnswer h event entry × Agrees server (serving.Then h event entry)
 
--- this is the present life of the server's one context (RFC 8613, B.1)
+-- this is the present life of the server's only context (RFC 8613, B.1)
 abbrev pub HasOneLife : serving.History → Life → Type 0
 HasOneLife h of = (i : ℕ) (other : Life) → serving.life h i ≡ Some other → (i ≡ 0) × (other ≡ of)
 
--- after whatever history, the client seals the request so (RFC 8613, 8.1)
+-- after any history, the client seals the request to these bytes (RFC 8613, 8.1)
 abbrev pub Asks : Client 8 → Parts → ℕ → List ℕ → Client 8 → Type 0
 Asks old p room bytes new = (h : asking.History) → ClientAgrees old h → ClientGoes h (asking.Request 0 p room) (asking.Sent bytes) new
 
--- it delivers the datagram as a response to request n (RFC 8613, 8.4)
+-- after any history, the client delivers the datagram as a response to request n (RFC 8613, 8.4)
 abbrev pub Hears : Client 8 → ℕ → List ℕ → Client 8 → Type 0
 Hears old n d new = (h : asking.History) → ClientAgrees old h → (v : Received) × ClientGoes h (asking.Datagram 0 d) (asking.Took (asking.Deliver v n)) new
 
--- after whatever history, the server delivers the datagram as request n, and sends nothing (RFC 8613, 8.2)
+-- after any history, the server delivers the datagram as request n, and sends nothing (RFC 8613, 8.2)
 abbrev pub Delivers : Server → ℕ → List ℕ → List ℕ → Ticket → Server → Type 0
 Delivers old n echo d ticket new = (h : serving.History) (of : Life) → Agrees old h → HasOneLife h of → (r : Received) × (values_of ticket ≡ ticket_of of.count n r)
     × ServerGoes h (serving.Datagram 0 echo 0 d) (serving.Took (serving.Deliver r (ticket_of of.count n r)) []) new
 
--- it challenges the request with the fresh Echo value (RFC 8613, B.1.2)
+-- after any history, the server challenges the request with the fresh Echo value (RFC 8613, B.1.2)
 abbrev pub Challenges : Server → List ℕ → List ℕ → List ℕ → Server → Type 0
 Challenges old echo d reply new = (h : serving.History) (of : Life) (n : ℕ) (p : Parts) → Agrees old h → HasOneLife h of → SealsRequest of.context n p d
     → ServerGoes h (serving.Datagram 0 echo 0 d) (serving.Took (serving.Challenge 0 n echo 0) reply) new
 
--- it replies to the request of a ticket, without an own number (RFC 8613, 8.3)
+-- after any history, the server replies to the request of a ticket, without an own number (RFC 8613, 8.3)
 abbrev pub Replies : Server → Ticket → Parts → ℕ → List ℕ → Server → Type 0
 Replies old ticket p room bytes new = (h : serving.History) (t : serving.TicketValues) → Agrees old h → values_of ticket ≡ t
     → ServerGoes h (serving.Reply t false 0 p room) (serving.Replied bytes) new
 
--- what is protected of the message holds no Echo option (RFC 9175, 2.2)
+-- the protected part of the message has no Echo option (RFC 9175, 2.2)
 abbrev pub HasNoEcho : Parts → Type 0
 HasNoEcho p = first_of (values_at options.echo (inside p).options) ≡ None

@@ -1,6 +1,6 @@
--- For the proofs: that there is a list of events which meets all premises on two ends (RFC 8613, 8.1 to 8.4 and B.1.2). Of first the server delivers
--- received, and of the response to it the client delivers answered; of the challenge to second the client delivers challenged, and of again the server
--- delivers admitted.
+-- For the proofs: that there is a list of events that meets all premises on two ends (RFC 8613, 8.1 to 8.4 and B.1.2). From first the
+-- server delivers received, and from the response to it the client delivers answered; from the challenge to second the client delivers
+-- challenged, and from again the server delivers admitted.
 use Rattle.std.specs.Prelude.{ℕ, List}
 use Rattle.osc_coap.specs.Datagram.{Parts}
 use Rattle.osc_context.specs.SecurityContext.{SecurityContext}
@@ -8,7 +8,7 @@ use Rattle.osc_endpoint.specs.Received.{Received}
 use Rattle.osc_kept.specs.Examples.{Ends, Asked, exchange, restarts, through_a_challenge}
 use Rattle.osc_kept.specs.Premises.{IsLawful}
 
--- an exchange, a restart of both ends, a challenge and a delivery through it, of a client with room for n pending requests (RFC 8613, B.1.2)
+-- an exchange, a restart of both ends, a challenge and a delivery through it, for a client with room for n pending requests (RFC 8613, B.1.2)
 pub record PremisesAreMet (n : ℕ) : Type 0 where
   pub context : SecurityContext
   pub ends : Ends

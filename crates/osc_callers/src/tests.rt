@@ -1,4 +1,4 @@
-//! Callers that prove a fact from the public contracts alone, and the values that they are run on; and what no contract and no
+//! Callers that prove a fact from the public contracts alone, and the values that they are run on. Also tests of what no contract and no
 //! row can say.
 
 mod file;

@@ -1,5 +1,5 @@
 -- To be believed: AES-CCM with a tag of 8 bytes (M = 8) and a length field of 2 bytes (L = 2), RFC 3610, section 2. key
--- has 16 bytes, nonce 13, aad (the additional data) at most 65,279 and m (the message) at most 65,535; i counts blocks.
+-- has 16 bytes, nonce 13, aad (the additional data) at most 65,279 and m (the message) at most 65,535. i counts blocks.
 use Rattle.std.specs.Prelude.{ℕ, ◌+◌, ◌*◌, ◌/◌, ◌%◌, List, [], ◌∷◌, ◌++◌, length, take, map, fold, flat_map, replicate, slice_index, bit_xor}
 use Rattle.std.specs.List.{range_with_len}
 use Rattle.osc_aes.specs.Aes128.{aes128}
@@ -8,7 +8,7 @@ use Rattle.osc_aes.specs.Aes128.{aes128}
 abbrev pub tag_length : ℕ
 tag_length = 8
 
--- two lists of bytes added place by place, as far as both go (RFC 3610, 2.2)
+-- two lists of bytes added byte by byte, up to the end of the shorter one (RFC 3610, 2.2)
 abbrev pub xor_bytes : List ℕ → List ℕ → List ℕ
 xor_bytes [] ys = []
 xor_bytes (x ∷ xs) [] = []
@@ -22,15 +22,15 @@ two_bytes n = n / 256 ∷ n % 256 ∷ []
 abbrev pub block_count : ℕ → ℕ
 block_count n = (n + 15) / 16
 
--- block i of a list, filled with zeros (RFC 3610, 2.2)
+-- block i of a list, padded with zeros (RFC 3610, 2.2)
 abbrev pub padded_block : List ℕ → ℕ → List ℕ
 padded_block xs i = map (λ k. slice_index xs (16 * i + k)) (range_with_len 0 16)
 
--- a list cut into blocks, the last filled with zeros (RFC 3610, 2.2)
+-- a list cut into blocks, the last padded with zeros (RFC 3610, 2.2)
 abbrev pub padded_blocks : List ℕ → List (List ℕ)
 padded_blocks xs = map (padded_block xs) (range_with_len 0 (block_count (length xs)))
 
--- the flags of the first block: 8 M' + L', and 64 where there is additional data (RFC 3610, 2.2)
+-- the flags of the first block: 8 M' + L', plus 64 if there is additional data (RFC 3610, 2.2)
 abbrev pub flags_of : List ℕ → ℕ
 flags_of [] = 0x19
 flags_of (a ∷ rest) = 0x59
@@ -39,20 +39,20 @@ flags_of (a ∷ rest) = 0x59
 abbrev pub first_block : List ℕ → List ℕ → List ℕ → List ℕ
 first_block nonce aad m = (flags_of aad ∷ nonce) ++ two_bytes (length m)
 
--- the additional data behind its length, or nothing where it is empty (RFC 3610, 2.2)
+-- the length of the additional data and then the data, or nothing if it is empty (RFC 3610, 2.2)
 abbrev pub encoded_aad : List ℕ → List ℕ
 encoded_aad [] = []
 encoded_aad (a ∷ rest) = two_bytes (length (a ∷ rest)) ++ (a ∷ rest)
 
--- all blocks B_0, B_1, .. that the tag is made of (RFC 3610, 2.2)
+-- all blocks B_0, B_1, .. that the tag is made from (RFC 3610, 2.2)
 abbrev pub mac_blocks : List ℕ → List ℕ → List ℕ → List (List ℕ)
 mac_blocks nonce aad m = first_block nonce aad m ∷ (padded_blocks (encoded_aad aad) ++ padded_blocks m)
 
--- the state X after one more block B: the cipher of X + B (RFC 3610, 2.2)
+-- the state X after one more block B: the encryption of X + B (RFC 3610, 2.2)
 abbrev pub mac_step : List ℕ → List ℕ → List ℕ → List ℕ
 mac_step key x block = aes128 key (xor_bytes x block)
 
--- the state after all blocks, from the zero block on (RFC 3610, 2.2)
+-- the state after all blocks, starting from the zero block (RFC 3610, 2.2)
 unfoldable pub mac_of : List ℕ → List ℕ → List ℕ → List ℕ → List ℕ
 mac_of key nonce aad m = fold (mac_step key) (replicate 16 0) (mac_blocks nonce aad m)
 
@@ -72,11 +72,11 @@ stream_block key nonce i = aes128 key (counter_block nonce i)
 unfoldable pub key_stream : List ℕ → List ℕ → ℕ → List ℕ
 key_stream key nonce n = flat_map (stream_block key nonce) (range_with_len 1 n)
 
--- the message added to the key stream (RFC 3610, 2.3)
+-- the message plus the key stream (RFC 3610, 2.3)
 abbrev pub encrypted : List ℕ → List ℕ → List ℕ → List ℕ
 encrypted key nonce m = xor_bytes m (key_stream key nonce (block_count (length m)))
 
--- the authentication value U: the tag added to the front of S_0 (RFC 3610, 2.3)
+-- the authentication value U: the tag added to the first bytes of S_0 (RFC 3610, 2.3)
 abbrev pub encrypted_tag : List ℕ → List ℕ → List ℕ → List ℕ → List ℕ
 encrypted_tag key nonce aad m = xor_bytes (tag_of key nonce aad m) (take tag_length (stream_block key nonce 0))
 

@@ -1,4 +1,4 @@
--- To be believed: how the refusals print: each by its name.
+-- To be believed: how the refusals print: each as its name.
 use Rattle.std.specs.Prelude.{ℕ, List, codes}
 use Rattle.osc_ccm.specs.declared.sealing.SealError.{SealError}
 use Rattle.osc_ccm.specs.declared.sealing.SealError.TheVariants as sealing

@@ -1,21 +1,21 @@
-//! The blocks that CCM makes by itself (RFC 3610, 2.2 and 2.3), and adding bytes to a block.
+//! The blocks that CCM itself makes (RFC 3610, 2.2 and 2.3), and the addition of bytes to a block.
 
 ghost use Rattle.std.specs.Prelude.{◌≡◌, ◌+◌, ◌∷◌, ◌++◌, ◌<◌, ◌≤◌, ℕ, length, min, slice_index, bit_xor};
 ghost use Rattle.osc_ccm.specs.Ccm.{padded_block, two_bytes};
 
-/// The bytes of a tag, RFC 3610's M.
+/// The length of a tag in bytes: RFC 3610's M.
 pub const TAG_LEN: usize = 8;
 
-/// The bytes of a nonce: 15 less RFC 3610's L, which is 2.
+/// The length of a nonce in bytes: 15 minus RFC 3610's L, which is 2.
 pub const NONCE_LEN: usize = 15 - 2;
 
-/// The most bytes of a message: what a length of L bytes can tell.
+/// The most bytes that a message can have: the largest length that L bytes can hold.
 pub const MOST_PLAINTEXT: usize = 65_535;
 
 /// The most bytes of additional data whose length is written in two bytes (RFC 3610, 2.2).
 pub const MOST_AAD: usize = 65_280 - 1;
 
-// The first byte of B_0: 8 M' + L', where M' = (M - 2) / 2 and L' = L - 1; and 64 where there is additional data.
+// The first byte of B_0: 8 M' + L', where M' = (M - 2) / 2 and L' = L - 1; plus 64 if there is additional data.
 pub(crate) const FLAGS: u8 = 8 * 3 + 1;
 
 pub(crate) const FLAGS_WITH_AAD: u8 = 64 + FLAGS;
@@ -23,10 +23,10 @@ pub(crate) const FLAGS_WITH_AAD: u8 = 64 + FLAGS;
 // The first byte of A_i: L'.
 pub(crate) const COUNTER_FLAGS: u8 = 1;
 
-// The bytes of a first block of additional data that its length leaves free.
+// How many bytes the first block of additional data has left after the length.
 const FIRST_AAD: usize = 16 - 2;
 
-// A first byte, the nonce, and a number high byte first: the form of B_0 and of each A_i.
+// Makes a block of a first byte, the nonce, and a number, high byte first: the form of B_0 and of each A_i.
 pub(crate) fn numbered_block(first: u8, nonce: &[u8; 13], number: u16) -> [u8; 16]
     ensures { result ≡ (first ∷ nonce.now) ++ two_bytes number }
 {
@@ -36,7 +36,8 @@ pub(crate) fn numbered_block(first: u8, nonce: &[u8; 13], number: u16) -> [u8; 1
     block
 }
 
-// The first block of some additional data, and how many of its bytes stand there: its length comes first.
+// Returns the first block of some additional data, which begins with its length, and how many bytes of the data it
+// holds.
 pub(crate) fn aad_block(aad: &[u8]) -> ([u8; 16], usize)
     requires { length aad.now ≤ 65279 }
     ensures block { result.0 ≡ padded_block (two_bytes (length aad.now) ++ aad.now) 0 }

@@ -1,6 +1,6 @@
-//! AES-CCM (RFC 3610) with a tag of 8 bytes and a nonce of 13, in the caller's buffer: AES-CCM-16-64-128 of
-//! RFC 8152. What sealing makes is `ccm key nonce aad m`, the standard's own text in `specs/`, and opening
-//! answers m exactly if the whole buffer is that.
+//! AES-CCM (RFC 3610) with a tag of 8 bytes and a nonce of 13 bytes, in the caller's buffer: AES-CCM-16-64-128 of
+//! RFC 8152. Sealing makes `ccm key nonce aad m`, the standard's own text in `specs/`. Opening gives back m if and only
+//! if the whole buffer is that.
 //!
 //! ```
 //! let cipher = TableAes::new(&key);

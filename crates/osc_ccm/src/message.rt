@@ -1,5 +1,5 @@
-//! A message through the chain of the tag and the key stream at once (RFC 3610, 2.2 and 2.3): a block of each is one call of the
-//! cipher.
+//! Runs a message through the chain of the tag and the key stream at once (RFC 3610, 2.2 and 2.3): one call of the
+//! cipher makes a block of each.
 
 ghost use Rattle.std.specs.Prelude.{◌≡◌, ◌<◌, ◌≤◌, ◌+◌, ℕ, length};
 ghost use Rattle.osc_ccm.specs.Ccm.{encrypted, encrypted_tag};
@@ -8,7 +8,8 @@ use crate::blocks::xor_front;
 use crate::tag::{absorb_beside, begin, hidden_tag};
 use osc_aes::{BlockCipher, encrypted_length};
 
-// Encrypts a message in its place, and answers its tag as it is sent. S_0 is made beside B_0, and S_i beside block i.
+// Encrypts a message in place, and returns its tag as it is sent. S_0 is made together with B_0, and S_i together with
+// block i.
 pub(crate) fn seal_message<C: BlockCipher>(
     cipher: &C,
     nonce: &[u8; 13],
@@ -32,8 +33,9 @@ pub(crate) fn seal_message<C: BlockCipher>(
     hidden_tag(&state, &hiding)
 }
 
-// Decrypts a message in its place, and answers the tag that it has to have. A block is decrypted before it goes into the chain: so
-// S_1 is made beside B_0, each block of the key stream beside the block before its own, and S_0 beside the last.
+// Decrypts a message in place, and returns the tag that it must have. A block is decrypted before it goes into the
+// chain. So S_1 is made together with B_0, each block of the key stream together with the block before its own, and S_0
+// together with the last.
 pub(crate) fn open_message<C: BlockCipher>(
     cipher: &C,
     nonce: &[u8; 13],
@@ -64,7 +66,8 @@ pub(crate) fn open_message<C: BlockCipher>(
     hidden_tag(&state, &stream)
 }
 
-// Which block of the key stream is wanted next where so many of a message's blocks were decrypted: S_0 after the last.
+// Returns which block of the key stream is needed next after `decrypted` of a message's `blocks` are decrypted: S_0
+// after the last.
 #[inline(always)]
 fn wanted(decrypted: usize, blocks: usize) -> usize
     requires { blocks < 65536 }

@@ -1,4 +1,4 @@
-//! Opening (RFC 3610, 2.5), said by what sealing makes.
+//! Opening (RFC 3610, 2.5), specified by what sealing makes.
 
 ghost use Rattle.std.specs.Prelude.{◌≡◌, ◌↔◌, ℕ, List, ◌+◌, ◌<◌, ◌≤◌, length, take, drop, IsOkAnd, IfOk, OnErr};
 ghost use Rattle.osc_ccm.specs.Ccm.{ccm, tag_length};
@@ -11,19 +11,19 @@ use osc_aes::{BlockCipher, encrypted_length};
 use std::error::Error;
 use std::fmt;
 
-/// Why nothing was opened, in the order in which it is judged.
+/// Why nothing was opened. The reasons are in the order in which they are judged.
 #[derive(Clone, Copy, Debug, PartialEq, Eq)]
 pub enum OpenError {
     /// The buffer has fewer bytes than a tag.
     Short,
     /// The buffer has more bytes than the longest plaintext and its tag.
     TooLong,
-    /// The buffer is the protection of no plaintext under this key, nonce and additional data.
+    /// The buffer isn't the protection of any plaintext under this key, nonce and additional data.
     BadTag,
 }
 
-/// Opens the whole of `buf` in its place: leaves the plaintext in front, and answers its length; the last 8 bytes
-/// stay (RFC 3610, 2.5). A refusal tells nothing of how far the bytes agreed.
+/// Opens the whole of `buf` in place. Leaves the plaintext at the front and returns its length; the last 8 bytes stay
+/// as they are (RFC 3610, 2.5). A refusal tells nothing about how far the bytes agreed.
 pub fn open<C: BlockCipher>(
     cipher: &C,
     nonce: &[u8; 13],
@@ -37,7 +37,7 @@ pub fn open<C: BlockCipher>(
         ≡ ccm (C.cipher_key cipher.now) nonce.now aad.now (take len buf.new)) }
     ensures tag_stays { IfOk result (λ len. drop len buf.new ≡ drop len buf.old) }
 
-    // Whatever plaintext the buffer protects, that is what opens.
+    // If the buffer protects a plaintext, that plaintext opens.
     ensures accepts { (m : List ℕ) → length m ≤ 65535
         → buf.old ≡ ccm (C.cipher_key cipher.now) nonce.now aad.now m
         → IsOkAnd result (λ len. take len buf.new ≡ m) }
@@ -62,7 +62,7 @@ pub fn open<C: BlockCipher>(
     if is_same_tag(&tag, &buf[len..]) {
         return Ok(len);
     }
-    // The key stream once more puts the bytes back.
+    // Adding the key stream again restores the bytes.
     add_key_stream(cipher, nonce, &mut buf[..len]);
     Err(OpenError::BadTag)
 }

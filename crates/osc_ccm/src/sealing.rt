@@ -9,17 +9,18 @@ use osc_aes::{BlockCipher, encrypted_length};
 use std::error::Error;
 use std::fmt;
 
-/// Why nothing was sealed, in the order in which it is judged.
+/// Why nothing was sealed. The reasons are in the order in which they are judged.
 #[derive(Clone, Copy, Debug, PartialEq, Eq)]
 pub enum SealError {
     /// The plaintext has more than 65,535 bytes.
     TooLong,
-    /// The buffer has no room for the tag behind the plaintext.
+    /// The buffer has no room for the tag after the plaintext.
     NoRoom,
 }
 
-/// Replaces the first `len` bytes of `buf`, the plaintext, by their protection, and answers its length, which is
-/// `len + 8` (RFC 3610, 2.4). Bytes behind it stay. The caller sees to it that no nonce serves twice under one key.
+/// Replaces the first `len` bytes of `buf`, the plaintext, with their protection, and returns its length, which is
+/// `len + 8` (RFC 3610, 2.4). The bytes after it stay as they are. The caller must never use a nonce twice under one
+/// key.
 pub fn seal<C: BlockCipher>(
     cipher: &C,
     nonce: &[u8; 13],

@@ -1,4 +1,5 @@
-//! The tag (RFC 3610, 2.2): the last state of a chain of blocks, each added to the state before and encrypted.
+//! The tag (RFC 3610, 2.2): the last state of a chain of blocks. Each block is added to the previous state, and the sum
+//! is encrypted.
 
 ghost use Rattle.std.specs.Prelude.{◌≡◌, ◌↔◌, ◌<◌, ◌≤◌, ℕ, List, fold, length, replicate, take, IsTrue};
 ghost use Rattle.osc_ccm.specs.Ccm.{encoded_aad, first_block, mac_step, padded_block, padded_blocks, stream_block, tag_length, xor_bytes};
@@ -8,7 +9,8 @@ use crate::blocks::{
 };
 use osc_aes::BlockCipher;
 
-// The state after B_0 and the additional data, of a message of so many bytes; and S_i, made beside B_0.
+// Returns the state after B_0 and the additional data, for a message of `len` bytes, and S_i, which is made together
+// with B_0.
 pub(crate) fn begin<C: BlockCipher>(
     cipher: &C,
     nonce: &[u8; 13],
@@ -35,7 +37,7 @@ pub(crate) fn begin<C: BlockCipher>(
     (state, stream)
 }
 
-// Takes up to 16 bytes into the state, as a block filled with zeros, and makes S_i beside it.
+// Takes up to 16 bytes into the state, as a block padded with zeros, and makes S_i together with it.
 pub(crate) fn absorb_beside<C: BlockCipher>(
     cipher: &C,
     nonce: &[u8; 13],
@@ -54,7 +56,7 @@ pub(crate) fn absorb_beside<C: BlockCipher>(
     stream
 }
 
-// Takes the additional data into the state, its length before it.
+// Takes the length of the additional data into the state, and then the data.
 fn absorb_aad<C: BlockCipher>(cipher: &C, state: &mut [u8; 16], aad: &[u8])
     requires { length aad.now ≤ 65279 }
     ensures { state.new ≡ fold (mac_step (C.cipher_key cipher.now)) state.old (padded_blocks (encoded_aad aad.now)) }
@@ -79,7 +81,7 @@ fn absorb<C: BlockCipher>(cipher: &C, state: &mut [u8; 16], bytes: &[u8])
     }
 }
 
-// Takes up to 16 bytes into the state, as a block filled with zeros: adding zeros changes nothing.
+// Takes up to 16 bytes into the state, as a block padded with zeros. Adding zeros changes nothing.
 fn absorb_block<C: BlockCipher>(cipher: &C, state: &mut [u8; 16], part: &[u8])
     requires { length part.now ≤ 16 }
     ensures { state.new ≡ mac_step (C.cipher_key cipher.now) state.old (padded_block part.now 0) }
@@ -88,7 +90,7 @@ fn absorb_block<C: BlockCipher>(cipher: &C, state: &mut [u8; 16], part: &[u8])
     cipher.encrypt(state);
 }
 
-// The tag as it is sent: the front of the last state, added to the front of S_0.
+// Returns the tag as it is sent: the front of the last state, added to the front of S_0.
 pub(crate) fn hidden_tag(state: &[u8; 16], stream: &[u8; 16]) -> [u8; 8]
     ensures { result ≡ xor_bytes (take tag_length state.now) (take tag_length stream.now) }
 {
@@ -99,7 +101,7 @@ pub(crate) fn hidden_tag(state: &[u8; 16], stream: &[u8; 16]) -> [u8; 8]
     tag
 }
 
-// Whether two tags are equal: the differences of all bytes are gathered, and tested once.
+// Returns whether two tags are equal. It gathers the differences of all bytes, and tests them once.
 pub(crate) fn is_same_tag(tag: &[u8; 8], received: &[u8]) -> bool
     requires { length received.now ≡ 8 }
     ensures { IsTrue result ↔ (tag.now ≡ received.now) }

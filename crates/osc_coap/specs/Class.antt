@@ -4,11 +4,11 @@ use Rattle.osc_coap.specs.declared.class.Class.{Class}
 use Rattle.osc_coap.specs.declared.class.Class.TheVariants.{E, U, Both}
 use Rattle.osc_coap.specs.OptionSpelling.{Entry}
 
--- If-Match to No-Response with their classes (RFC 8613, 4.1; RFC 9175, 2.2.1)
+-- If-Match to No-Response, with their classes (RFC 8613, 4.1; RFC 9175, 2.2.1)
 abbrev pub class_rows : List (ℕ × Class)
 class_rows = (1, E) ∷ (3, U) ∷ (4, E) ∷ (5, E) ∷ (6, Both) ∷ (7, U) ∷ (8, E) ∷ (9, U) ∷ (11, E) ∷ (12, E) ∷ (14, Both) ∷ (15, E) ∷ (17, E) ∷ (20, E) ∷ (23, Both) ∷ (27, Both) ∷ (28, Both) ∷ (35, U) ∷ (39, U) ∷ (60, Both) ∷ (252, Both) ∷ (258, Both) ∷ []
 
--- the class of a number by these rows, and E where none has it (RFC 8613, 4.1)
+-- the class of a number by these rows, or E if no row has it (RFC 8613, 4.1)
 abbrev pub class_by : List (ℕ × Class) → ℕ → Class
 class_by [] number = E
 class_by (row ∷ rows) number = if number == row.0 then row.1 else class_by rows number
@@ -23,13 +23,13 @@ is_outer E = false
 is_outer U = true
 is_outer Both = false
 
--- options of this class are written inside; own rule: also those of both classes (RFC 8613, 4.1.1)
+-- options of this class are written inside; own rule: so are those of both classes (RFC 8613, 4.1.1)
 abbrev pub is_inner : Class → Bool
 is_inner E = true
 is_inner U = false
 is_inner Both = true
 
--- the options that the plaintext gets, in order (RFC 8613, 5.3)
+-- the options that go into the plaintext, in order (RFC 8613, 5.3)
 abbrev pub inner_options : List Entry → List Entry
 inner_options entries = filter (λ entry. is_inner (class entry.0)) entries
 

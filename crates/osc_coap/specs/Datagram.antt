@@ -1,4 +1,4 @@
--- To be believed: what a CoAP datagram is (RFC 7252, 3). p is what a message says, bytes the datagram.
+-- To be believed: what a CoAP datagram is (RFC 7252, 3). p is what a message says, and bytes is the datagram.
 use Rattle.std.specs.Prelude.{◌≡◌, ℕ, ◌+◌, ◌*◌, ◌/◌, ◌%◌, ◌≤◌, List, [], ◌∷◌, ◌++◌, length}
 use Rattle.osc_coap.specs.declared.message.Kind.{Kind}
 use Rattle.osc_coap.specs.declared.message.Kind.TheVariants.{Con, Non, Ack, Rst}
@@ -13,14 +13,14 @@ pub record Parts : Type 0 where
   pub options : List Entry
   pub payload : List ℕ
 
--- the two type bits of a head by the message's kind (RFC 7252, 3)
+-- the number that the two Type bits of a head hold for a message's Type (RFC 7252, 3)
 abbrev pub kind_number : Kind → ℕ
 kind_number Con = 0
 kind_number Non = 1
 kind_number Ack = 2
 kind_number Rst = 3
 
--- version 1, kind and token length in one byte; code; message ID, high byte first (RFC 7252, 3)
+-- version 1, Type and token length in one byte; the code; the Message ID, high byte first (RFC 7252, 3)
 abbrev pub head : Parts → List ℕ
 head p = (64 + 16 * kind_number p.kind + length p.token) ∷ p.code ∷ (p.message_id / 256) ∷ (p.message_id % 256) ∷ []
 

@@ -4,7 +4,7 @@ use Rattle.osc_coap.specs.OptionSpelling.{AreBytes, Spells, marked}
 use Rattle.osc_coap.specs.Datagram.{head}
 use Rattle.osc_coap.specs.Writing.{Draft, Datagram, Plaintext, options_of, payload_of, IsEmptyMessage}
 
--- what stands in front of the options (RFC 7252, 3; RFC 8613, 5.3)
+-- the bytes before the options (RFC 7252, 3; RFC 8613, 5.3)
 abbrev pub front_of : Draft → List ℕ
 front_of (Datagram p) = head p ++ p.token
 front_of (Plaintext p) = p.code ∷ []

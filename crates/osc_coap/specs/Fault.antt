@@ -1,6 +1,6 @@
--- To be believed: the first fault of bytes that are no datagram, or no plaintext, and its place (RFC 7252,
--- 3). The rows stand in the order in which they are judged; items are judged from the left. d is the number
--- of the option before an item, and a place is counted in bytes from the front.
+-- To be believed: the first fault of bytes that aren't a datagram, or aren't a plaintext, and its place (RFC
+-- 7252, 3). The rows are in the order in which they are judged. Items are judged from left to right. d is the
+-- number of the option before an item, and a place is counted in bytes from the front.
 use Rattle.std.specs.Prelude.{◌≡◌, ◌≢◌, ℕ, ◌+◌, ◌/◌, ◌%◌, ◌<◌, ◌≤◌, ◌⊎◌, List, [], ◌∷◌, ◌++◌, length, drop, slice_index}
 use Rattle.osc_coap.specs.declared.format_error.Fault.{Fault}
 use Rattle.osc_coap.specs.declared.format_error.Fault.TheVariants.{DatagramTooLong, Short, Version, TokenLength, EmptyWithRest, TokenCut, Nibble15, OptionCut, NumberTooLarge, EmptyPayload}
@@ -18,20 +18,20 @@ token_length_of bytes = slice_index bytes 0 % 16
 abbrev pub code_of : List ℕ → ℕ
 code_of bytes = slice_index bytes 1
 
--- the head is whole, of version 1, with a token length up to 8 (RFC 7252, 3)
+-- the head is whole, has version 1 and has a token length of at most 8 (RFC 7252, 3)
 pub record HasWholeHead (bytes : List ℕ) : Type 0 where
   pub fits : length bytes ≤ 65535
   pub whole : 4 ≤ length bytes
   pub version : version_of bytes ≡ 1
   pub token_length : token_length_of bytes ≤ 8
 
--- behind such a head, of a code that isn't 0.00, the token is whole (RFC 7252, 3)
+-- the bytes have such a head, the code isn't 0.00, and the token is whole (RFC 7252, 3)
 pub record HasToken (bytes : List ℕ) : Type 0 where
   pub head : HasWholeHead bytes
   pub code : code_of bytes ≢ 0
   pub token : 4 + token_length_of bytes ≤ length bytes
 
--- the bytes begin with an item that has this fault after number d (RFC 7252, 3 and 3.1)
+-- the bytes begin with an item that has this fault, after number d (RFC 7252, 3 and 3.1)
 abbrev pub IsFaulty : ℕ → Fault → List ℕ → Type 0
 IsFaulty d fault [] = ⊥
 IsFaulty d Nibble15 (b ∷ bytes) = (b ≢ 255) × ((b / 16 ≡ 15) ⊎ (b % 16 ≡ 15))
@@ -45,7 +45,7 @@ IsFaulty d TokenLength (b ∷ bytes) = ⊥
 IsFaulty d EmptyWithRest (b ∷ bytes) = ⊥
 IsFaulty d TokenCut (b ∷ bytes) = ⊥
 
--- the bytes spell options as far as the place, where a faulty item stands (RFC 7252, 3.1)
+-- the bytes spell options up to the place, where a faulty item begins (RFC 7252, 3.1)
 pub record HasItemFault (bytes : List ℕ) (fault : Fault) (place : ℕ) : Type 0 where
   pub options : List Entry
   pub spelled : List ℕ
@@ -55,7 +55,7 @@ pub record HasItemFault (bytes : List ℕ) (fault : Fault) (place : ℕ) : Type 
   pub place_is : place ≡ length spelled
   pub faulty : IsFaulty (last_number 0 options) fault rest
 
--- the same behind the first start bytes, which the place counts too (RFC 7252, 3.1)
+-- the same after the first start bytes, which the place counts too (RFC 7252, 3.1)
 abbrev pub HasFaultFrom : ℕ → List ℕ → Fault → ℕ → Type 0
 HasFaultFrom start bytes fault place = (at : ℕ) × (place ≡ start + at) × HasItemFault (drop start bytes) fault at
 

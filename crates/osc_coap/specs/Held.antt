@@ -1,4 +1,4 @@
--- How the code is seen: what a writer's fields say of what it holds, and of an option or a payload.
+-- How the code is seen: what a writer's fields say about what it holds, and about an option or a payload.
 use Rattle.std.specs.Prelude.{◌≡◌, ◌≢◌, ℕ, ◌+◌, ◌-◌, ◌<◌, ◌≤◌, ◌⊎◌, min, List, [], take, drop, length}
 use Rattle.osc_coap.specs.declared.writer.Writer.{Writer}
 use Rattle.osc_coap.specs.declared.writer.Stage.{Stage}
@@ -9,13 +9,13 @@ use Rattle.osc_coap.specs.OptionSpelling.{last_number, option_length}
 use Rattle.osc_coap.specs.Writing.{Draft, IsEmptyMessage, options_of, payload_of, length_of}
 use Rattle.osc_coap.specs.Drafts.{IsDraft}
 
--- what a writer can take next, by what it has written (RFC 7252, 3 and 4.1)
+-- what a writer can take next, given what it has written (RFC 7252, 3 and 4.1)
 abbrev pub IsAt : Stage → Draft → Type 0
 IsAt Alone draft = IsEmptyMessage draft × (payload_of draft ≡ [])
 IsAt Open draft = (¬ IsEmptyMessage draft) × (payload_of draft ≡ [])
 IsAt Closed draft = (¬ IsEmptyMessage draft) × (payload_of draft ≢ [])
 
--- the draft stands in front of the buffer, and behind it what stood there in old (how the code is seen)
+-- the draft is at the front of the buffer, and the bytes after it are those of old (how the code is seen)
 pub record IsHeld (w : Writer) (draft : Draft) (old : List ℕ) : Type 0 where
   pub written : IsDraft draft (take w.len w.buf.now)
   pub size : w.len ≡ length_of draft
@@ -24,7 +24,7 @@ pub record IsHeld (w : Writer) (draft : Draft) (old : List ℕ) : Type 0 where
   pub number : w.number ≡ last_number 0 (options_of draft)
   pub stage : IsAt w.stage draft
 
--- how many bytes a writer may fill at most (own rule)
+-- the most bytes that a writer may fill (own rule)
 abbrev pub limit_of : Writer → ℕ
 limit_of w = min (length w.buf.now) 65535
 
@@ -36,14 +36,14 @@ pub record TakesNow (w : Writer) (number value_length delta : ℕ) : Type 0 wher
   pub short : value_length ≤ 65804
   pub room : w.len + option_length delta value_length ≤ limit_of w
 
--- why a writer takes no option with this number and length (how the code is seen)
+-- why a writer doesn't take an option with this number and length (how the code is seen)
 abbrev pub RefusesOptionNow : Writer → ℕ → ℕ → WriteError → Type 0
 RefusesOptionNow w number value_length EmptyWithRest = w.stage ≡ Alone
 RefusesOptionNow w number value_length Order = (w.stage ≡ Closed) ⊎ ((w.stage ≡ Open) × (number < w.number))
 RefusesOptionNow w number value_length ValueTooLong = (w.stage ≡ Open) × (w.number ≤ number) × (65804 < value_length)
 RefusesOptionNow w number value_length NoRoom = (w.stage ≡ Open) × (w.number ≤ number) × (value_length ≤ 65804) × (limit_of w < w.len + option_length (number - w.number) value_length)
 
--- why a writer takes no payload of this length (how the code is seen)
+-- why a writer doesn't take a payload of this length (how the code is seen)
 abbrev pub RefusesPayloadNow : Writer → ℕ → WriteError → Type 0
 RefusesPayloadNow w payload_length EmptyWithRest = w.stage ≡ Alone
 RefusesPayloadNow w payload_length Order = w.stage ≡ Closed

@@ -1,5 +1,5 @@
--- To be believed: what the plaintext of a protected message is (RFC 8613, 5.3). p is what it says, bytes the
--- plaintext.
+-- To be believed: what the plaintext of a protected message is (RFC 8613, 5.3). p is what it says, and bytes is
+-- the plaintext.
 use Rattle.std.specs.Prelude.{◌≡◌, ℕ, ◌+◌, ◌≤◌, List, ◌∷◌, ◌++◌, length}
 use Rattle.osc_coap.specs.OptionSpelling.{Entry, AreBytes, Spells, marked, spelling_length}
 

@@ -1,4 +1,4 @@
--- For the proofs: what the values of private functions say, without where their bytes lie.
+-- For the proofs: what the values of private functions say, apart from where their bytes lie.
 use Rattle.std.specs.Prelude.{◌≡◌, ℕ, ◌+◌, ◌*◌, ◌/◌, ◌%◌, List, slice_index}
 use Rattle.std.specs.Borrow.{Bor}
 use Rattle.osc_coap.specs.declared.option_header.Pieces.{Pieces}
@@ -20,7 +20,7 @@ seen_pieces c = record { delta = c.delta; value = c.value.now; rest = c.rest.now
 abbrev pub seen_item : Item → Taken
 seen_item t = record { number = t.number; value = t.value.now; rest = t.rest.now }
 
--- the fields that stand in the first four bytes, of a head that is fine (how the code is seen)
+-- the head is whole, and has the fields that are in the first four bytes (how the code is seen)
 pub record ReadsHead (h : Head) (bytes : List ℕ) : Type 0 where
   pub fine : HasWholeHead bytes
   pub kind : kind_number h.kind ≡ slice_index bytes 0 / 16 % 4

@@ -1,4 +1,4 @@
--- To be believed: how faults print, by the name and then the place as a decimal number (own rule).
+-- To be believed: how faults print: the name, and then the place as a decimal number (own rule).
 use Rattle.std.specs.Prelude.{ℕ, List, ◌++◌, codes, decimal}
 use Rattle.osc_coap.specs.declared.format_error.Fault.{Fault}
 use Rattle.osc_coap.specs.declared.format_error.Fault.TheVariants.{DatagramTooLong, Short, Version, TokenLength, EmptyWithRest, TokenCut, Nibble15, OptionCut, NumberTooLarge, EmptyPayload}

@@ -9,15 +9,15 @@ use Rattle.osc_coap.specs.Datagram.{Parts}
 use Rattle.osc_coap.specs.Inner.{InnerParts}
 use Rattle.osc_coap.specs.Reading.{options_in}
 
--- what a message that was read says, its options as a list (how the code is seen)
+-- what a message that was read says, with its options as a list (how the code is seen)
 abbrev pub parts_of : Message → Parts
 parts_of m = record { kind = m.kind; code = m.code; message_id = m.message_id; token = m.token.items; options = options_in 0 m.options.now; payload = m.payload.now }
 
--- what a plaintext that was read says, its options as a list (how the code is seen)
+-- what a plaintext that was read says, with its options as a list (how the code is seen)
 abbrev pub inner_parts_of : Inner → InnerParts
 inner_parts_of m = record { code = m.code; options = options_in 0 m.options.now; payload = m.payload.now }
 
--- the options that an iterator has still to give, in order (how the code is seen)
+-- the options that an iterator still has to give, in order (how the code is seen)
 abbrev pub options_left : Options → List Entry
 options_left s = options_in s.number s.rest.now
 

@@ -9,6 +9,6 @@ use Rattle.osc_coap.specs.Held.{IsHeld}
 abbrev pub buffer_of : Writer → GName
 buffer_of w = w.buf.ghost_name
 
--- the writer, which began in a buffer that held old, has written this draft into it (how the code is seen)
+-- the writer began in a buffer that held old, and has written this draft into it (how the code is seen)
 unfoldable pub Holds : Writer → Draft → List ℕ → Type 0
 Holds w draft old = IsHeld w draft old

@@ -1,4 +1,4 @@
-//! The options and the payload behind a message's head.
+//! The options and the payload after a message's head.
 
 ghost use Rattle.std.specs.Prelude.{◌≡◌, ◌≤◌, length, drop, IfOk, IfErr};
 ghost use Rattle.osc_coap.specs.Reading.{AreOptions, options_in};
@@ -8,7 +8,7 @@ ghost use Rattle.osc_coap.specs.Fault.{HasItemFault, HasFaultFrom};
 use crate::format_error::{Fault, FormatError};
 use crate::options::take_option;
 
-/// What stands in front of a payload (RFC 7252, 3).
+/// The byte before a payload (RFC 7252, 3).
 pub(crate) const PAYLOAD_MARKER: u8 = 0xff;
 
 /// The bytes of the options, and the payload.
@@ -18,7 +18,7 @@ pub(crate) struct Body<'a> {
     pub(crate) payload: &'a [u8],
 }
 
-/// How many bytes the options in front take.
+/// Returns how many bytes the options at the front take.
 fn options_len(bytes: &[u8]) -> Result<usize, FormatError>
     ensures ends { IfOk result (EndsOptions bytes.now) }
     ensures fault { IfErr result (λ e. HasItemFault bytes.now e.fault e.place) }
@@ -41,7 +41,7 @@ fn options_len(bytes: &[u8]) -> Result<usize, FormatError>
     Ok(bytes.len())
 }
 
-/// Parts the options from the payload.
+/// Separates the options from the payload.
 fn split(bytes: &[u8]) -> Result<Body<'_>, FormatError>
     ensures spelled { IfOk result (λ x. AreOptions 0 x.options.now) }
     ensures body { IfOk result (λ x. IsBody (options_in 0 x.options.now) x.payload.now bytes.now) }
@@ -59,7 +59,7 @@ fn split(bytes: &[u8]) -> Result<Body<'_>, FormatError>
     }
 }
 
-/// The body behind the first `start` bytes. A fault's place is counted from the front of them all.
+/// Reads the body after the first `start` bytes. The place of a fault is counted from the front of all the bytes.
 pub(crate) fn body_behind(bytes: &[u8], start: usize) -> Result<Body<'_>, FormatError>
     requires { start ≤ length bytes.now }
     ensures spelled { IfOk result (λ x. AreOptions 0 x.options.now) }

@@ -8,19 +8,19 @@ use crate::option_numbers::{
     SIZE2, URI_HOST, URI_PORT,
 };
 
-/// Where an option of a protected message stands (RFC 8613, 4.1).
+/// Where an option goes in a protected message (RFC 8613, 4.1).
 #[derive(Clone, Copy, Debug, PartialEq, Eq)]
 pub enum Class {
     /// In the plaintext: encrypted and integrity protected.
     E,
     /// Outside of the plaintext, where a proxy can read it: unprotected.
     U,
-    /// Either has a meaning. Own rule: it is written in the plaintext alone, and dropped where it comes
+    /// The option has a meaning in either place. Own rule: it is written only in the plaintext, and dropped if it comes
     /// outside.
     Both,
 }
 
-/// The class of the option with this number. Own rule: the table, and E for every number outside of it
+/// Returns the class of the option with this number. Own rule: the table, and E for every number outside it
 /// (RFC 8613, 4.1).
 #[must_use]
 pub fn class_of(number: u16) -> Class

@@ -1,15 +1,15 @@
-//! Why bytes are no datagram, or no plaintext, and where.
+//! Why bytes aren't a datagram, or aren't a plaintext, and where.
 
 ghost use Rattle.std.specs.Prelude.{◌≡◌, Some};
 ghost use Rattle.osc_coap.specs.Text.{error_text, fault_name};
 
 use std::{error, fmt};
 
-/// The most bytes of a datagram, and of a plaintext. Own rule: what UDP could carry at most.
+/// The most bytes that a datagram or a plaintext can have. Own rule: the most that UDP could carry.
 pub const MOST_DATAGRAM: usize = 65_535;
 
-/// What is wrong with the bytes, in the order in which it is judged. The last four are faults of an
-/// option or of the marker: these items are judged one by one from the left.
+/// What is wrong with the bytes. The faults are in the order in which they are judged. The last four are faults of an
+/// option or of the marker; these items are judged one by one, from left to right.
 #[derive(Clone, Copy, Debug, PartialEq, Eq)]
 pub enum Fault {
     /// There are more than 65,535 bytes (own rule); the place is 65,535.
@@ -20,7 +20,7 @@ pub enum Fault {
     Version,
     /// The token length is 9 to 15, which are reserved; the place is 0.
     TokenLength,
-    /// The code is 0.00 and there is a token (the place is 0) or anything behind the head (4).
+    /// The code is 0.00, and there is a token (the place is 0) or anything after the head (the place is 4).
     EmptyWithRest,
     /// The token reaches past the end; the place is 4, its first byte.
     TokenCut,
@@ -28,7 +28,7 @@ pub enum Fault {
     Nibble15,
     /// The extended bytes or the value reach past the end; the place is the option byte.
     OptionCut,
-    /// The option's number passes 65,535 (own rule); the place is the option byte.
+    /// The option's number is above 65,535 (own rule); the place is the option byte.
     NumberTooLarge,
     /// No payload follows the marker; the place is the marker.
     EmptyPayload,
@@ -44,7 +44,7 @@ pub struct FormatError {
 }
 
 impl Fault {
-    /// This fault, at a place.
+    /// Returns this fault, at a place.
     pub(crate) fn at(self, place: usize) -> FormatError
         ensures fault { result.fault ≡ self }
         ensures place { result.place ≡ place }

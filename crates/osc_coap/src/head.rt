@@ -1,6 +1,6 @@
 //! The head of a datagram: its first four bytes (RFC 7252, 3).
 //!
-//!     | version 2, type 2, token length 4 bits | code | message ID, high byte first, two bytes |
+//!     | version 2, Type 2, token length 4 bits | code | Message ID, high byte first, two bytes |
 
 ghost use Rattle.std.specs.Prelude.{◌≡◌, ◌<◌, ◌≤◌, ◌+◌, ◌++◌, length, IfOk, IfErr};
 ghost use Rattle.arrayvec.specs.ArrayVec.{array_vec_len};
@@ -16,10 +16,10 @@ use crate::message::{Kind, Token};
 use crate::placing::put;
 use byteorder::{BigEndian, ByteOrder};
 
-/// The bytes in front of the token.
+/// The number of bytes before the token.
 pub(crate) const HEAD_LEN: usize = 4;
 
-/// The most bytes of a token; the lengths 9 to 15 are reserved.
+/// The most bytes that a token can have; the lengths 9 to 15 are reserved.
 const MOST_TOKEN: usize = 8;
 
 /// The fields in the first four bytes.
@@ -31,7 +31,7 @@ pub(crate) struct Head {
     pub(crate) token_len: usize,
 }
 
-/// The kind that two bits of the head name.
+/// Returns the Type that two bits of the head name.
 fn kind_of(bits: u8) -> Kind
     requires { bits < 4 }
     ensures { kind_number result ≡ bits }
@@ -71,7 +71,7 @@ pub(crate) fn read_head(bytes: &[u8]) -> Result<Head, FormatError>
     })
 }
 
-/// Where the token ends. An empty message, of code 0.00, is its head alone (RFC 7252, 4.1).
+/// Returns where the token ends. An Empty message, with code 0.00, is only a head (RFC 7252, 4.1).
 pub(crate) fn token_end(head: &Head, bytes: &[u8]) -> Result<usize, FormatError>
     requires { ReadsHead head.now bytes.now }
     ensures end { IfOk result (λ end. (end ≡ 4 + head.now.token_len) × (end ≤ length bytes.now)) }
@@ -91,7 +91,7 @@ pub(crate) fn token_end(head: &Head, bytes: &[u8]) -> Result<usize, FormatError>
     Ok(end)
 }
 
-/// The two bits of the head that name a kind.
+/// Returns the two bits of the head that name a Type.
 fn bits_of(kind: Kind) -> u8
     ensures value { result ≡ kind_number kind }
     ensures small { result < 4 }
@@ -104,7 +104,7 @@ fn bits_of(kind: Kind) -> u8
     }
 }
 
-/// How many bytes a head and a token take: what `Writer::begin` asks for, 4 to 12 (RFC 7252, 3).
+/// Returns how many bytes a head and a token take, 4 to 12. `Writer::begin` requires that much room (RFC 7252, 3).
 #[must_use]
 pub fn head_len(token: &Token) -> usize
     ensures value { result ≡ 4 + array_vec_len token.now }
@@ -113,7 +113,7 @@ pub fn head_len(token: &Token) -> usize
     HEAD_LEN + token.len()
 }
 
-/// Writes a head and a token into the front, and answers where they end.
+/// Writes a head and a token at the front, and returns where they end.
 pub(crate) fn put_head(
     buf: &mut [u8],
     kind: Kind,

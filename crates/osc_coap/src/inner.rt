@@ -18,7 +18,7 @@ pub struct Inner<'a> {
 impl<'a> Inner<'a> {
     ghost use Rattle.osc_coap.specs.Views.{inner_parts_of, options_left};
 
-    /// The options in the order of the plaintext, each one's number and value.
+    /// Returns the options in the order of the plaintext, each with its number and its value.
     #[must_use]
     pub fn options(&self) -> Options<'a>
         ensures { options_left result ≡ (inner_parts_of self.now).options }
@@ -26,7 +26,7 @@ impl<'a> Inner<'a> {
         Options::new(self.options)
     }
 
-    /// The bytes behind the marker, or none where there is no marker.
+    /// Returns the bytes after the marker, or no bytes if there is no marker.
     #[must_use]
     pub fn payload(&self) -> &'a [u8]
         ensures { result.now ≡ (inner_parts_of self.now).payload }

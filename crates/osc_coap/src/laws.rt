@@ -1,22 +1,22 @@
-//! What holds of all lists of options, datagrams and plaintexts. A call of such a function does nothing:
-//! its contract is there for the proof of its caller.
+//! What holds for all lists of options, datagrams and plaintexts. Calling one of these functions does nothing: its
+//! contract is there for the caller's proof.
 
 ghost use Rattle.osc_coap.specs.Laws.{SpellingIsOfOneList, ListHasOneText, PartsHaveOneDatagram, PartsHaveOneInner, DatagramIsOneMessage, DatagramHasOneFault, DatagramHasNoFault, BytesAreDatagramOrFaulty, PlaintextIsOneMessage, PlaintextHasOneFault, PlaintextHasNoFault, BytesArePlaintextOrFaulty, PayloadIsTheEnd, PayloadCanBeReplaced, PayloadCanBeAdded, SpelledOptionsAscend, OptionsAscend, InnerOptionsAscend, ReadOptionsAscend, ReadInnerOptionsAscend, OptionsLeftAscend, ReadOptionsAreSpelled, ReadInnerOptionsAreSpelled, OptionsLeftAreSpelled, SpellingHasItsLength, DatagramHasItsLength, InnerHasItsLength};
 
-/// A spelling is of one list of options (RFC 7252, 3.1).
+/// States that a spelling belongs to only one list of options (RFC 7252, 3.1).
 pub fn one_spelling()
     ensures { SpellingIsOfOneList }
 {}
 
-/// A list of options has one text after a number; so have the parts of a datagram and of a plaintext
-/// (RFC 7252, 3; RFC 8613, 5.3).
+/// States that a list of options has only one text after a number, and that the parts of a datagram and of a plaintext
+/// have only one text too (RFC 7252, 3; RFC 8613, 5.3).
 pub fn one_text()
     ensures spelling { ListHasOneText }
     ensures datagram { PartsHaveOneDatagram }
     ensures inner { PartsHaveOneInner }
 {}
 
-/// Each byte list is one datagram or has one fault, never both (RFC 7252, 3).
+/// States that each byte list is one datagram or has one fault, never both (RFC 7252, 3).
 pub fn one_datagram()
     ensures one { DatagramIsOneMessage }
     ensures one_fault { DatagramHasOneFault }
@@ -24,7 +24,7 @@ pub fn one_datagram()
     ensures each { BytesAreDatagramOrFaulty }
 {}
 
-/// Each byte list is one plaintext or has one fault, never both (RFC 8613, 5.3).
+/// States that each byte list is one plaintext or has one fault, never both (RFC 8613, 5.3).
 pub fn one_inner()
     ensures one { PlaintextIsOneMessage }
     ensures one_fault { PlaintextHasOneFault }
@@ -32,15 +32,15 @@ pub fn one_inner()
     ensures each { BytesArePlaintextOrFaulty }
 {}
 
-/// A payload stands last in its datagram; another of its length can take its place, and one can be added
-/// where there is none (RFC 7252, 3).
+/// States that a payload comes last in its datagram, that another payload of its length can take its place, and that a
+/// payload can be added if there is none (RFC 7252, 3).
 pub fn payload_stands_last()
     ensures last { PayloadIsTheEnd }
     ensures other { PayloadCanBeReplaced }
     ensures added { PayloadCanBeAdded }
 {}
 
-/// Options stand in ascending number (RFC 7252, 3.1).
+/// States that options are in ascending order of number (RFC 7252, 3.1).
 pub fn options_ascend()
     ensures spelling { SpelledOptionsAscend }
     ensures datagram { OptionsAscend }
@@ -50,15 +50,15 @@ pub fn options_ascend()
     ensures held_options { OptionsLeftAscend }
 {}
 
-/// Whoever holds a message, a plaintext or an iterator over options: bytes spell its options (RFC 7252,
-/// 3.1).
+/// States that bytes spell the options of any message, plaintext or iterator over options that the caller holds
+/// (RFC 7252, 3.1).
 pub fn options_are_spelled()
     ensures held_message { ReadOptionsAreSpelled }
     ensures held_inner { ReadInnerOptionsAreSpelled }
     ensures held_options { OptionsLeftAreSpelled }
 {}
 
-/// The length of a spelling, of a datagram and of a plaintext follows from what they say (RFC 7252, 3;
+/// States that the length of a spelling, of a datagram and of a plaintext follows from what it says (RFC 7252, 3;
 /// RFC 8613, 5.3).
 pub fn lengths_by_parts()
     ensures spelling { SpellingHasItsLength }

@@ -1,5 +1,4 @@
-//! CoAP messages (RFC 7252, 3) and the plaintexts of protected ones (RFC 8613, 5.3): reading and writing
-//! them.
+//! Reads and writes CoAP messages (RFC 7252, 3) and the plaintexts of protected messages (RFC 8613, 5.3).
 //!
 //! ```rust
 //! use osc_coap::{Kind, parse};

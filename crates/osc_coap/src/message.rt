@@ -7,16 +7,17 @@ use crate::code::{is_request_code, is_response_code};
 use crate::options::Options;
 use arrayvec::ArrayVec;
 
-/// What a message is for (RFC 7252, 4): confirmable, non-confirmable, acknowledgement or reset.
+/// The Type of a message, which says what it is for (RFC 7252, 4): Confirmable, Non-confirmable, Acknowledgement or
+/// Reset.
 #[derive(Clone, Copy, Debug, PartialEq, Eq)]
 pub enum Kind {
-    /// The receiver is to acknowledge it.
+    /// The receiver is expected to acknowledge it.
     Con,
-    /// The receiver needn't acknowledge it.
+    /// The receiver doesn't need to acknowledge it.
     Non,
-    /// It acknowledges the message with its message ID.
+    /// It acknowledges the message that has the same Message ID.
     Ack,
-    /// It says that the message with its message ID could not be used.
+    /// It says that the message that has the same Message ID couldn't be used.
     Rst,
 }
 
@@ -40,7 +41,7 @@ impl<'a> Message<'a> {
     ghost use Rattle.osc_coap.specs.Views.{parts_of, options_left};
     ghost use Rattle.osc_coap.specs.Code.{is_request, is_response};
 
-    /// The options in the order of the datagram, each one's number and value.
+    /// Returns the options in the order of the datagram, each with its number and its value.
     #[must_use]
     pub fn options(&self) -> Options<'a>
         ensures { options_left result ≡ (parts_of self.now).options }
@@ -48,7 +49,7 @@ impl<'a> Message<'a> {
         Options::new(self.options)
     }
 
-    /// The bytes behind the marker, or none where there is no marker.
+    /// Returns the bytes after the marker, or no bytes if there is no marker.
     #[must_use]
     pub fn payload(&self) -> &'a [u8]
         ensures { result.now ≡ (parts_of self.now).payload }
@@ -56,7 +57,7 @@ impl<'a> Message<'a> {
         self.payload
     }
 
-    /// Whether it is a request: CON or NON, with a code of 0.01 to 0.31 (RFC 7252, 4.2, 4.3 and 12.1).
+    /// Returns whether the message is a request: CON or NON, with a code of 0.01 to 0.31 (RFC 7252, 4.2, 4.3 and 12.1).
     #[must_use]
     pub fn is_request(&self) -> bool
         ensures { result ≡ is_request self.now.kind self.now.code }
@@ -67,8 +68,8 @@ impl<'a> Message<'a> {
         }
     }
 
-    /// Whether it is a response: CON, NON or ACK, with a code of class 2, 4 or 5 (RFC 7252, 4.2, 4.3 and
-    /// 12.1).
+    /// Returns whether the message is a response: CON, NON or ACK, with a code of class 2, 4 or 5 (RFC 7252, 4.2, 4.3
+    /// and 12.1).
     #[must_use]
     pub fn is_response(&self) -> bool
         ensures { result ≡ is_response self.now.kind self.now.code }
@@ -79,7 +80,7 @@ impl<'a> Message<'a> {
         }
     }
 
-    /// The same code, options and payload under another head (RFC 7252, 3).
+    /// Returns a message with the same code, options and payload under another head (RFC 7252, 3).
     #[must_use]
     pub fn with_head(&self, kind: Kind, message_id: u16, token: Token) -> Message<'a>
         ensures { parts_of result ≡ record (parts_of self.now) {

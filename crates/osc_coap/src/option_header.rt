@@ -1,5 +1,5 @@
-//! What stands in front of an option's value, and the value (RFC 7252, 3.1): the one place that knows
-//! what the nibbles 13, 14 and 15 mean.
+//! What comes before an option's value, and the value (RFC 7252, 3.1). This is the only place that knows what the
+//! nibbles 13, 14 and 15 mean.
 //!
 //!     | delta nibble, length nibble | extended delta | extended length | value |
 
@@ -28,7 +28,7 @@ const ONE_BYTE_BASE: u32 = 13;
 /// The least number that takes two extended bytes.
 const TWO_BYTES_BASE: u32 = 13 + 256;
 
-/// The most bytes of a value: two extended bytes can say no larger length.
+/// The most bytes that a value can have: two extended bytes can't say a larger length.
 pub(crate) const MOST_VALUE: usize = 13 + 256 + 65_535;
 
 /// The delta of an option, its value, and the bytes after it.
@@ -39,8 +39,8 @@ pub(crate) struct Pieces<'a> {
     pub(crate) rest: &'a [u8],
 }
 
-/// The number that a nibble stands for with the extended bytes in front of `bytes`, and the bytes after
-/// those.
+/// Returns the number that a nibble stands for, together with the extended bytes at the front of `bytes`, and the bytes
+/// after those.
 #[tactic(auto, unfolding(crate::specs::Reading::number_at))]
 fn number_of(nibble: u8, bytes: &[u8]) -> Option<(u32, &[u8])>
     ensures value { option_map seen_number result ≡ number_at nibble bytes.now }
@@ -58,7 +58,7 @@ fn number_of(nibble: u8, bytes: &[u8]) -> Option<(u32, &[u8])>
     }
 }
 
-/// Takes the bytes after an option byte apart. Answers None where they end too early.
+/// Takes the bytes after an option byte apart. Returns `None` if they end too early.
 #[tactic(auto, unfolding(crate::specs::Reading::pieces_at))]
 pub(crate) fn pieces_of(delta_nibble: u8, length_nibble: u8, bytes: &[u8]) -> Option<Pieces<'_>>
     ensures value { option_map seen_pieces result ≡ pieces_at delta_nibble length_nibble bytes.now }
@@ -74,7 +74,7 @@ pub(crate) fn pieces_of(delta_nibble: u8, length_nibble: u8, bytes: &[u8]) -> Op
     Some(Pieces { delta, value, rest })
 }
 
-/// The nibble that stands for a number.
+/// Returns the nibble that stands for a number.
 fn nibble_of(n: u32) -> u8
     ensures value { result ≡ nibble n }
     ensures small { result < 15 }
@@ -88,7 +88,7 @@ fn nibble_of(n: u32) -> u8
     }
 }
 
-/// How many extended bytes a number takes.
+/// Returns how many extended bytes a number takes.
 fn extended_len(n: u32) -> usize
     ensures value { result ≡ extended_length n }
     ensures small { result ≤ 2 }
@@ -102,15 +102,15 @@ fn extended_len(n: u32) -> usize
     }
 }
 
-/// How many bytes an option takes, its value included.
+/// Returns how many bytes an option takes, including its value.
 pub(crate) fn option_size(delta: u32, value_len: u32) -> usize
     ensures { result ≡ option_length delta value_len }
 {
     1 + extended_len(delta) + extended_len(value_len) + value_len as usize
 }
 
-/// How many bytes an option takes, its value included, by its delta, which is its number less the number
-/// of the option before (or 0), and the length of its value in bytes (RFC 7252, 3.1).
+/// Returns how many bytes an option takes, including its value. The delta is its number minus the number of the option
+/// before (or 0), and the length is that of its value in bytes (RFC 7252, 3.1).
 #[must_use]
 pub fn option_len(delta: u16, length: u16) -> usize
     ensures { result ≡ option_length delta length }
@@ -118,7 +118,7 @@ pub fn option_len(delta: u16, length: u16) -> usize
     option_size(u32::from(delta), u32::from(length))
 }
 
-/// Writes the extended bytes of a number, and answers where they end.
+/// Writes the extended bytes of a number, and returns where they end.
 fn put_extended(buf: &mut [u8], place: usize, n: u32) -> usize
     requires small { n < 65805 }
     requires room { place + extended_length n ≤ length buf.old }
@@ -135,7 +135,7 @@ fn put_extended(buf: &mut [u8], place: usize, n: u32) -> usize
     }
 }
 
-/// Writes an option: option byte, extended delta, extended length, value. Answers where it ends.
+/// Writes an option: option byte, extended delta, extended length, value. Returns where it ends.
 pub(crate) fn put_option(buf: &mut [u8], place: usize, delta: u16, value: &[u8]) -> usize
     requires short { length value.now ≤ 65804 }
     requires room { place + option_length delta (length value.now) ≤ length buf.old }

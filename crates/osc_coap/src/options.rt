@@ -20,7 +20,8 @@ pub(crate) struct Item<'a> {
     pub(crate) rest: &'a [u8],
 }
 
-/// The option at the front of the bytes, after one with the number `after`, or its fault.
+/// Reads the option at the front of the bytes, which comes after one with the number `after`. Returns the option or its
+/// fault.
 #[tactic(auto, unfolding(crate::specs::Reading::option_at, crate::specs::Reading::numbered))]
 pub(crate) fn take_option(after: u16, bytes: &[u8]) -> Result<Item<'_>, Fault>
     ensures { Gives seen_item result (option_at after bytes.now) }
@@ -48,7 +49,7 @@ pub(crate) fn take_option(after: u16, bytes: &[u8]) -> Result<Item<'_>, Fault>
     })
 }
 
-/// The first of the options that the bytes spell, or None where they spell none.
+/// Returns the first of the options that the bytes spell, or `None` if they spell none.
 fn first_item(after: u16, bytes: &[u8]) -> Option<Item<'_>>
     requires { AreOptions after bytes.now }
     ensures none { IfNone result (options_in after bytes.now ≡ []) }
@@ -65,7 +66,7 @@ fn first_item(after: u16, bytes: &[u8]) -> Option<Item<'_>>
     }
 }
 
-/// The options of a message or of a plaintext, in ascending number: each one's number and value. They
+/// The options of a message or of a plaintext, in ascending order of number, each as its number and its value. They
 /// were found to be well formed when the message was read.
 #[derive(Clone, Copy, Debug)]
 pub struct Options<'a> {
@@ -77,7 +78,7 @@ pub struct Options<'a> {
 impl<'a> Options<'a> {
     ghost use Rattle.osc_coap.specs.Views.{options_left};
 
-    /// The options that the bytes spell.
+    /// Makes the iterator over the options that the bytes spell.
     pub(crate) fn new(bytes: &'a [u8]) -> Options<'a>
         requires { AreOptions 0 bytes.now }
         ensures { options_left result ≡ options_in 0 bytes.entry.now }
@@ -88,8 +89,8 @@ impl<'a> Options<'a> {
         }
     }
 
-    /// The value of the first option of this number, among those still to give (RFC 7252, 3.1). It moves
-    /// nothing on, and its value lies in the bytes that were read.
+    /// Returns the value of the first option with this number, among those that the iterator still has to give
+    /// (RFC 7252, 3.1). It doesn't advance the iterator, and the value lies in the bytes that were read.
     #[must_use]
     pub fn first(&self, number: u16) -> Option<&'a [u8]>
         ensures { option_copied result ≡ first_of (values_at number (options_left self.now)) }

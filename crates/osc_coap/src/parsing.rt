@@ -15,10 +15,10 @@ use crate::head::{HEAD_LEN, read_head, token_end};
 use crate::inner::Inner;
 use crate::message::{Message, Token};
 
-/// The bytes in front of a plaintext's options.
+/// The number of bytes before a plaintext's options.
 pub(crate) const CODE_LEN: usize = 1;
 
-/// A copy of the token's bytes.
+/// Copies the token's bytes.
 pub(crate) fn token_of(bytes: &[u8]) -> Token
     requires { length bytes.now ≤ 8 }
     ensures { result.items ≡ bytes.now }
@@ -46,9 +46,8 @@ fn read_datagram(bytes: &[u8]) -> Result<Message<'_>, FormatError>
     })
 }
 
-/// Reads a datagram, all of it. The first fault in the order of `Fault` is answered, and its place is
-/// counted from the front of the datagram (RFC 7252, 3; own rules: at most 65,535 bytes, and option
-/// numbers up to 65,535).
+/// Reads a whole datagram. If it refuses, it returns the first fault in the order of `Fault`, with the place counted
+/// from the front of the datagram (RFC 7252, 3; own rules: at most 65,535 bytes, and option numbers up to 65,535).
 pub fn parse(bytes: &[u8]) -> Result<Message<'_>, FormatError>
     ensures accepted { IfOk result (λ m. IsDatagram (parts_of m) bytes.now) }
     ensures refused { IfErr result (λ e. HasFault bytes.now e.fault e.place) }
@@ -78,9 +77,9 @@ fn read_plaintext(bytes: &[u8]) -> Result<Inner<'_>, FormatError>
     })
 }
 
-/// Reads a plaintext, all of it; its code may be any, also 0.00. The faults are those of `parse` but for
-/// the four of a head, and a place is counted from the front of the plaintext (RFC 8613, 5.3; own rules:
-/// at most 65,535 bytes, and option numbers up to 65,535).
+/// Reads a whole plaintext. Its code can be any code, even 0.00. The faults are those of `parse` except the four of a
+/// head, and a place is counted from the front of the plaintext (RFC 8613, 5.3; own rules: at most 65,535 bytes, and
+/// option numbers up to 65,535).
 pub fn parse_inner(bytes: &[u8]) -> Result<Inner<'_>, FormatError>
     ensures accepted { IfOk result (λ m. IsInner (inner_parts_of m) bytes.now) }
     ensures refused { IfErr result (λ e. HasInnerFault bytes.now e.fault e.place) }

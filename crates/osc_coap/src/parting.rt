@@ -1,5 +1,5 @@
-//! A datagram, or a plaintext, that was read before is taken apart by the length of its payload, with no second
-//! reading of its options. So whoever keeps that length needs to borrow nothing.
+//! Takes apart a datagram, or a plaintext, that was read before, by the length of its payload. It doesn't read the
+//! options a second time. So code that keeps that length doesn't need to borrow anything.
 //!
 //!     a datagram (RFC 7252, 3)     | head, 4 bytes | token | options | ff, payload |
 //!     a plaintext (RFC 8613, 5.3)  | code | options | ff, payload |
@@ -15,7 +15,7 @@ use crate::inner::Inner;
 use crate::message::Message;
 use crate::parsing::{CODE_LEN, token_of};
 
-/// How many bytes a payload of this length and its marker take.
+/// Returns how many bytes a payload of this length and its marker take.
 fn marked_len(payload_len: usize) -> usize
     requires { payload_len ≤ 65535 }
     ensures { result ≡ marked_length payload_len }
@@ -23,8 +23,8 @@ fn marked_len(payload_len: usize) -> usize
     if payload_len == 0 { 0 } else { 1 + payload_len }
 }
 
-/// The message of a datagram that `parse` accepts and whose payload has this length, in bytes: the one that `parse`
-/// answers (RFC 7252, 3).
+/// Returns the message of a datagram that `parse` accepts and whose payload has this length, in bytes: the message that
+/// `parse` returns (RFC 7252, 3).
 #[must_use]
 pub fn parsed(datagram: &[u8], payload_len: usize) -> Message<'_>
     requires { (p : Parts) × IsDatagram p datagram.now × (payload_len ≡ length p.payload) }
@@ -45,8 +45,8 @@ pub fn parsed(datagram: &[u8], payload_len: usize) -> Message<'_>
     }
 }
 
-/// What a plaintext says that `parse_inner` accepts and whose payload has this length, in bytes: what `parse_inner`
-/// answers (RFC 8613, 5.3).
+/// Takes a plaintext that `parse_inner` accepts and whose payload has this length, in bytes, and returns what it says:
+/// what `parse_inner` returns (RFC 8613, 5.3).
 #[must_use]
 pub fn parsed_inner(plaintext: &[u8], payload_len: usize) -> Inner<'_>
     requires { (p : InnerParts) × IsInner p plaintext.now × (payload_len ≡ length p.payload) }

@@ -5,16 +5,16 @@ ghost use Rattle.osc_coap.specs.Text.{refusal_name};
 
 use std::{error, fmt};
 
-/// Why something can't be written, in the order in which it is judged.
+/// Why something can't be written. The reasons are in the order in which they are judged.
 #[derive(Clone, Copy, Debug, PartialEq, Eq)]
 pub enum WriteError {
-    /// A message of code 0.00 would get a token, an option, or a payload that isn't empty (RFC 7252, 4.1).
+    /// A message with code 0.00 would get a token, an option, or a payload that isn't empty (RFC 7252, 4.1).
     EmptyWithRest,
     /// The number is below the last one, or something would follow a payload (RFC 7252, 3.1).
     Order,
-    /// The value has more than 65,804 bytes, which no length of an option can say (RFC 7252, 3.1).
+    /// The value has more than 65,804 bytes, which is more than the length of an option can say (RFC 7252, 3.1).
     ValueTooLong,
-    /// It would pass the end of the buffer, or 65,535 bytes in all (own rule).
+    /// What is written would pass the end of the buffer, or 65,535 bytes in all (own rule).
     NoRoom,
 }
 

@@ -17,16 +17,16 @@ use crate::write_error::WriteError;
 /// What can follow.
 #[derive(Clone, Copy, PartialEq, Eq)]
 enum Stage {
-    /// Nothing: the code is 0.00, and such a message is its head alone (RFC 7252, 4.1).
+    /// Nothing: the code is 0.00, and such a message is only a head (RFC 7252, 4.1).
     Alone,
     /// Options and a payload.
     Open,
-    /// Nothing: the payload stands there.
+    /// Nothing: the payload is written.
     Closed,
 }
 
-/// Writes a datagram (RFC 7252, 3), or a plaintext (RFC 8613, 5.3), into the front of a buffer. The bytes
-/// behind what is written stay as they are, and a refusal leaves the writer and its bytes.
+/// Writes a datagram (RFC 7252, 3), or a plaintext (RFC 8613, 5.3), at the front of a buffer. The bytes after what is
+/// written stay as they are. A refusal changes neither the writer nor its bytes.
 #[derive(Drop)]
 pub struct Writer<'a> {
     buf: &'a mut [u8],
@@ -42,8 +42,8 @@ impl<'a> Writer<'a> {
     ghost use Rattle.osc_coap.specs.Held.{TakesNow, RefusesOptionNow, RefusesPayloadNow};
     ghost use Rattle.osc_coap.specs.declared.write_error.WriteError.TheVariants.{NoRoom};
 
-    /// Begins a datagram (RFC 7252, 3). Refuses, in this order, with EmptyWithRest or NoRoom, and then writes
-    /// nothing. A caller whose proof speaks of its own buffer takes `begin`.
+    /// Begins a datagram (RFC 7252, 3). Refuses with EmptyWithRest or NoRoom, judged in this order, and then writes
+    /// nothing. A caller whose proof is about its own buffer uses `begin`.
     pub fn new(
         buf: &'a mut [u8],
         kind: Kind,
@@ -69,8 +69,8 @@ impl<'a> Writer<'a> {
         Ok(Writer::begin(buf, kind, code, message_id, token))
     }
 
-    /// Begins a datagram where there is room for its head and its token (`head_len`); one of code 0.00 has no
-    /// token (RFC 7252, 3 and 4.1).
+    /// Begins a datagram in a buffer that has room for its head and its token (`head_len`). A datagram with code 0.00
+    /// has no token (RFC 7252, 3 and 4.1).
     #[must_use]
     pub fn begin(
         buf: &'a mut [u8],
@@ -93,8 +93,8 @@ impl<'a> Writer<'a> {
         }
     }
 
-    /// Begins a plaintext; its code may be any, also 0.00 (RFC 8613, 5.3). Refuses with NoRoom where the
-    /// buffer is empty, and then writes nothing. A caller whose proof speaks of its own buffer takes `begin_inner`.
+    /// Begins a plaintext. Its code can be any code, even 0.00 (RFC 8613, 5.3). Refuses with NoRoom if the buffer is
+    /// empty, and then writes nothing. A caller whose proof is about its own buffer uses `begin_inner`.
     pub fn inner(buf: &'a mut [u8], code: u8) -> Result<Writer<'a>, WriteError>
         ensures same_reference { IfOk result (λ w. buffer_of w ≡ buf.entry.ghost_name) }
         ensures made { IfOk result (λ w. Holds w (Plaintext (bare_inner code)) buf.old) }
@@ -109,7 +109,7 @@ impl<'a> Writer<'a> {
         Ok(Writer::begin_inner(buf, code))
     }
 
-    /// Begins a plaintext where there is room for its code, one byte (RFC 8613, 5.3).
+    /// Begins a plaintext in a buffer that has room for its code, one byte (RFC 8613, 5.3).
     #[tactic(auto, unfolding(crate::specs::Writer::Holds))]
     #[must_use]
     pub fn begin_inner(buf: &'a mut [u8], code: u8) -> Writer<'a>
@@ -126,7 +126,7 @@ impl<'a> Writer<'a> {
         }
     }
 
-    /// The delta of an option that can follow, by its number and the length of its value.
+    /// Returns the delta of an option if it can follow, given its number and the length of its value.
     fn judge_option(&self, number: u16, value_len: usize) -> Result<u16, WriteError>
         ensures { MatchResult result (TakesNow self.now number value_len)
             (RefusesOptionNow self.now number value_len) }
@@ -150,8 +150,8 @@ impl<'a> Writer<'a> {
         Ok(delta)
     }
 
-    /// Adds an option behind the others (RFC 7252, 3.1). Refuses, in this order, with EmptyWithRest, Order,
-    /// ValueTooLong or NoRoom.
+    /// Adds an option after the others (RFC 7252, 3.1). Refuses with EmptyWithRest, Order, ValueTooLong or NoRoom,
+    /// judged in this order.
     pub fn option(&mut self, number: u16, value: &[u8]) -> Result<(), WriteError>
         ensures same_reference { buffer_of self.new ≡ buffer_of self.old }
         ensures taken { OnOk result ((draft : Draft) (old : List ℕ) → Holds self.old draft old
@@ -173,7 +173,7 @@ impl<'a> Writer<'a> {
         Ok(())
     }
 
-    /// Whether a payload of this length, which isn't 0, can follow.
+    /// Judges whether a payload of this length, which isn't 0, can follow.
     fn judge_payload(&self, payload_len: usize) -> Result<(), WriteError>
         ensures judged { MatchResult result (λ _. self.now.stage ≡ Stage.Open)
             (RefusesPayloadNow self.now payload_len) }
@@ -192,8 +192,8 @@ impl<'a> Writer<'a> {
         Ok(())
     }
 
-    /// Adds the marker and the payload (RFC 7252, 3). No bytes are always taken, and change nothing; else
-    /// refuses, in this order, with EmptyWithRest, Order or NoRoom.
+    /// Adds the marker and the payload (RFC 7252, 3). An empty payload is always accepted, and changes nothing. Any
+    /// other payload can be refused with EmptyWithRest, Order or NoRoom, judged in this order.
     #[tactic(auto, unfolding(crate::specs::Writer::Holds))]
     pub fn payload(&mut self, bytes: &[u8]) -> Result<(), WriteError>
         ensures same_reference { buffer_of self.new ≡ buffer_of self.old }
@@ -221,7 +221,7 @@ impl<'a> Writer<'a> {
         Ok(())
     }
 
-    /// How many bytes are written, at the front of the buffer.
+    /// Returns how many bytes are written, at the front of the buffer.
     #[tactic(auto, unfolding(crate::specs::Writer::Holds))]
     #[must_use]
     pub fn finish(self) -> usize

@@ -6,7 +6,7 @@ use osc_context::Params;
 use osc_text::Fault;
 use std::alloc::Global;
 
-/// The bytes of the options of a context, which is derived from them.
+/// The bytes of a context's options. The context is derived from them.
 #[derive(Drop)]
 pub(crate) struct ContextWords {
     secret: Vec<u8>,
@@ -17,7 +17,7 @@ pub(crate) struct ContextWords {
 }
 
 impl ContextWords {
-    /// Reads the options in the order in which the help lists them. Salt and identifiers are empty where they aren't given.
+    /// Reads the options in the order in which the help lists them. The salt and the identifiers are empty if they aren't given.
     pub(crate) fn read(alloc: Global, matches: &ArgMatches<'_>) -> Result<ContextWords, Fault> {
         let secret = required_bytes(alloc, matches, "secret", "--secret")?;
         let salt = bytes_of(alloc, "--salt", matches.get_str("salt").unwrap_or(""))?;
@@ -40,7 +40,7 @@ impl ContextWords {
         })
     }
 
-    /// What the context is derived from.
+    /// Returns what the context is derived from.
     pub(crate) fn params(&self) -> Params<'_> {
         Params {
             secret: self.secret.as_slice(),

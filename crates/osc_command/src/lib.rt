@@ -1,5 +1,5 @@
-//! The command `oscore` over any reader and two writers: reads the words of a call, does what they ask for by the functions
-//! of `osc_text`, and answers the status.
+//! The command `oscore` over any reader and two writers. It reads the words of a call, does what they ask for with the functions of
+//! `osc_text`, and returns the status.
 //!
 //! ```
 //! let status = command(alloc, &words, &mut input, &mut out, &mut err, make_keeper);
@@ -7,6 +7,7 @@
 #![tactic(auto)]
 
 mod context_words;
+mod event_faults;
 mod fault_text;
 mod run_words;
 mod running;

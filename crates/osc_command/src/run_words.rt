@@ -3,7 +3,7 @@
 ghost use Rattle.std.specs.Prelude.{◌≡◌, IfOk, false};
 ghost use Rattle.osc_command.specs.Calls.{IsLocal};
 
-use crate::words::{input_fault, number_option, optional_number, with_context};
+use crate::words::{input_fault, optional_number, value_option, with_context};
 use clap::{Arg, ArgAction, ArgMatches, Command};
 use osc_context::Piv;
 use osc_text::{Asking, Fault, Serving, Wrong, read_decimal};
@@ -57,12 +57,12 @@ const HELP_WINDOW: &str = "Window size [default: 32]";
 
 const HELP_LIFE: &str = "How many ms a request is pending [default: 60000]";
 
-/// For how long a request is pending, in milliseconds, where the words don't say it.
+/// How long a request is pending, in milliseconds, if the words don't say.
 const LIFE_MS: u64 = 60_000;
 
 const SIZES: &[&str] = &["32", "64"];
 
-/// An option with one value out of some.
+/// Returns an option with one value, which is one of `choices`.
 fn choice_option<'a>(
     alloc: Global,
     name: &'a str,
@@ -72,15 +72,10 @@ fn choice_option<'a>(
 ) -> Arg<'a>
     ensures { result.global ≡ false }
 {
-    Arg::new(alloc, name)
-        .long(name)
-        .value_name(value)
-        .action(ArgAction::Set)
-        .value_parser(choices)
-        .help(help)
+    value_option(alloc, name, value, help).value_parser(choices)
 }
 
-/// The option without a value.
+/// Returns the option without a value.
 fn restarted_flag<'a>(alloc: Global) -> Arg<'a>
     ensures { result.global ≡ false }
 {
@@ -90,25 +85,25 @@ fn restarted_flag<'a>(alloc: Global) -> Arg<'a>
         .help(HELP_RESTARTED)
 }
 
-/// The option that names the role.
+/// Returns the option that names the role.
 fn role_option<'a>(alloc: Global) -> Arg<'a>
     ensures { result.global ≡ false }
 {
     choice_option(alloc, "role", "ROLE", ROLES, "What this end is").required(true)
 }
 
-/// The option of the next own number.
+/// Returns the option for the next own Sender Sequence Number.
 fn sequence_option<'a>(alloc: Global) -> Arg<'a>
     ensures { result.global ≡ false }
 {
-    number_option(alloc, "sequence", "N", HELP_SEQUENCE).default_value("0")
+    value_option(alloc, "sequence", "N", HELP_SEQUENCE).default_value("0")
 }
 
-/// The option of the file that keeps the numbers, which says how the end begins.
+/// Returns the option for the file that keeps the numbers. The file says how the end begins.
 fn numbers_option<'a>(alloc: Global) -> Result<Arg<'a>, AllocError>
     ensures { IfOk result (λ arg. arg.global ≡ false) }
 {
-    number_option(alloc, "numbers", "FILE", HELP_NUMBERS)
+    value_option(alloc, "numbers", "FILE", HELP_NUMBERS)
         .conflicts_with("sequence")?
         .conflicts_with("restarted")
 }
@@ -123,10 +118,10 @@ pub(crate) fn run_command<'a>(alloc: Global) -> Result<Command<'a>, AllocError>
         .arg(restarted_flag(alloc))?
         .arg(numbers_option(alloc)?)?
         .arg(choice_option(alloc, "window", "SIZE", SIZES, HELP_WINDOW))?
-        .arg(number_option(alloc, "life", "MS", HELP_LIFE))
+        .arg(value_option(alloc, "life", "MS", HELP_LIFE))
 }
 
-/// Reads the next own number.
+/// Reads the next own Sender Sequence Number.
 fn read_next(matches: &ArgMatches<'_>) -> Result<Piv, Fault> {
     match optional_number(matches, "sequence", "--sequence")? {
         Some(next) => Ok(next),
@@ -134,7 +129,7 @@ fn read_next(matches: &ArgMatches<'_>) -> Result<Piv, Fault> {
     }
 }
 
-/// Reads the size of the server's window. The option that is of a client alone is a fault.
+/// Reads the size of the server's window. The option that only a client has is a fault.
 pub(crate) fn read_window(matches: &ArgMatches<'_>) -> Result<WindowSize, Fault> {
     if matches.get_str("life").is_some() {
         return Err(input_fault("--life", Wrong::Role));
@@ -146,7 +141,7 @@ pub(crate) fn read_window(matches: &ArgMatches<'_>) -> Result<WindowSize, Fault>
     }
 }
 
-/// Reads for how many milliseconds a request is pending. The options that are of a server alone are faults.
+/// Reads how many milliseconds a request is pending. The options that only a server has are faults.
 pub(crate) fn read_life(matches: &ArgMatches<'_>) -> Result<u64, Fault> {
     if matches.get_flag("restarted") {
         return Err(input_fault("--restarted", Wrong::Role));

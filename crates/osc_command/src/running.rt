@@ -4,6 +4,7 @@ ghost use Rattle.std.specs.Prelude.{◌≡◌, ◌≢◌, ◌⊎◌, IfOk, Ok, t
 ghost use Rattle.clap.specs.Matches.{has_subcommand};
 
 use crate::context_words::ContextWords;
+use crate::event_faults::{CLIENT, Forms, KEPT_CLIENT, KEPT_SERVER, SERVER, event_fault};
 use crate::fault_text::{put_fault, put_help, usage_text};
 use crate::run_words::{read_asking, read_input, read_life, read_serving, read_window};
 use crate::words::{input_fault, optional_number, read_words, required_bytes};
@@ -18,12 +19,6 @@ use osc_text::{
 use std::alloc::Global;
 use std::io::{Read, Write};
 
-/// The words that begin the lines of a server's events.
-const SERVER_EVENTS: &str = "take, reply and restart";
-
-/// The words that begin the lines of a client's events.
-const CLIENT_EVENTS: &str = "request, take, forget and restart";
-
 /// Does what `derive` asks for.
 fn run_derive<W: Write>(alloc: Global, matches: &ArgMatches<'_>, out: &mut W) -> Result<u8, Fault>
     ensures { IfOk result (λ s. (s ≡ 0) ⊎ (s ≡ 2)) }
@@ -32,7 +27,7 @@ fn run_derive<W: Write>(alloc: Global, matches: &ArgMatches<'_>, out: &mut W) ->
     derive_text(alloc, context.params(), out)
 }
 
-/// Reads what a datagram is to be opened as: a response where the request is named that it answers.
+/// Reads what a datagram has to be opened as: a response, if the words name the request that it answers.
 fn read_opening(matches: &ArgMatches<'_>) -> Result<Opening, Fault> {
     match optional_number(matches, "request", "--request")? {
         Some(number) => Ok(Opening::Response(RequestRef::new(number))),
@@ -40,8 +35,8 @@ fn read_opening(matches: &ArgMatches<'_>) -> Result<Opening, Fault> {
     }
 }
 
-/// Reads what a plain datagram is to be sealed as: a response where the request is named that it answers, and else a
-/// request, which can't be without a number.
+/// Reads what a plain datagram has to be sealed as: a response if the words name the request that it answers, otherwise a request. A
+/// request needs a number.
 fn read_sealing(matches: &ArgMatches<'_>) -> Result<Sealing, Fault> {
     let own = optional_number(matches, "sequence", "--sequence")?;
     match (optional_number(matches, "request", "--request")?, own) {
@@ -82,7 +77,17 @@ fn run_explain<W: Write>(alloc: Global, matches: &ArgMatches<'_>, out: &mut W) -
     explain_text(alloc, datagram.as_slice(), out)
 }
 
-/// Runs a server, whose numbers are kept in a file where the words name one. The whole input is read first.
+/// If a line isn't an event, returns the fault that says what is wrong with it.
+fn told(alloc: Global, done: Result<u8, Fault>, forms: Forms, input: &[u8]) -> Result<u8, Fault>
+    ensures { IfOk result (λ s. done ≡ Ok s) }
+{
+    match done {
+        Err(Fault::Line(line)) => Err(Fault::Usage(event_fault(alloc, line, forms, input)?)),
+        done => done,
+    }
+}
+
+/// Runs a server. If the words name a file, the server's numbers are kept in it. Reads the whole input first.
 fn run_server<R: Read, W: Write, K: Keeper + Drop, F: FnOnce(&str) -> K + Drop>(
     alloc: Global,
     matches: &ArgMatches<'_>,
@@ -97,14 +102,16 @@ fn run_server<R: Read, W: Write, K: Keeper + Drop, F: FnOnce(&str) -> K + Drop>(
     let Some(file) = matches.get_str("numbers") else {
         let serving = read_serving(matches)?;
         let bytes = read_input(alloc, input)?;
-        return serve_text(alloc, params, serving, bytes.as_slice(), out);
+        let done = serve_text(alloc, params, serving, bytes.as_slice(), out);
+        return told(alloc, done, SERVER, bytes.as_slice());
     };
     let window = read_window(matches)?;
     let bytes = read_input(alloc, input)?;
-    serve_kept_text(alloc, params, make(file), window, bytes.as_slice(), out)
+    let done = serve_kept_text(alloc, params, make(file), window, bytes.as_slice(), out);
+    told(alloc, done, KEPT_SERVER, bytes.as_slice())
 }
 
-/// Runs a client, whose numbers are kept in a file where the words name one. The whole input is read first.
+/// Runs a client. If the words name a file, the client's numbers are kept in it. Reads the whole input first.
 fn run_client<R: Read, W: Write, K: Keeper + Drop, F: FnOnce(&str) -> K + Drop>(
     alloc: Global,
     matches: &ArgMatches<'_>,
@@ -119,14 +126,16 @@ fn run_client<R: Read, W: Write, K: Keeper + Drop, F: FnOnce(&str) -> K + Drop>(
     let Some(file) = matches.get_str("numbers") else {
         let asking = read_asking(matches)?;
         let bytes = read_input(alloc, input)?;
-        return ask_text(alloc, params, asking, bytes.as_slice(), out);
+        let done = ask_text(alloc, params, asking, bytes.as_slice(), out);
+        return told(alloc, done, CLIENT, bytes.as_slice());
     };
     let life_ms = read_life(matches)?;
     let bytes = read_input(alloc, input)?;
-    ask_kept_text(alloc, params, make(file), life_ms, bytes.as_slice(), out)
+    let done = ask_kept_text(alloc, params, make(file), life_ms, bytes.as_slice(), out);
+    told(alloc, done, KEPT_CLIENT, bytes.as_slice())
 }
 
-/// Does what `run` asks for, by its role.
+/// Does what `run` asks for, depending on the role.
 fn run_role<R: Read, W: Write, K: Keeper + Drop, F: FnOnce(&str) -> K + Drop>(
     alloc: Global,
     matches: &ArgMatches<'_>,
@@ -140,26 +149,12 @@ fn run_role<R: Read, W: Write, K: Keeper + Drop, F: FnOnce(&str) -> K + Drop>(
     let context = ContextWords::read(alloc, matches)?;
     let params = context.params();
     if matches.get_str("role") == Some("client") {
-        let done = run_client(alloc, matches, params, input, out, make);
-        return name_events(alloc, done, CLIENT_EVENTS);
+        return run_client(alloc, matches, params, input, out, make);
     }
-    let done = run_server(alloc, matches, params, input, out, make);
-    name_events(alloc, done, SERVER_EVENTS)
+    run_server(alloc, matches, params, input, out, make)
 }
 
-/// Where a line is no event, the fault that names the words which begin one.
-fn name_events(alloc: Global, done: Result<u8, Fault>, events: &str) -> Result<u8, Fault>
-    ensures { IfOk result (λ s. done ≡ Ok s) }
-{
-    match done {
-        Err(Fault::Line(line)) => Err(Fault::Usage(format!(in alloc;
-            "line {line}: not an event: {events} are"
-        )?)),
-        done => done,
-    }
-}
-
-/// Does what a call asks for, by its name.
+/// Does what a call asks for, depending on its name.
 fn run_called<R: Read, W: Write, K: Keeper + Drop, F: FnOnce(&str) -> K + Drop>(
     alloc: Global,
     matches: &ArgMatches<'_>,
@@ -177,13 +172,13 @@ fn run_called<R: Read, W: Write, K: Keeper + Drop, F: FnOnce(&str) -> K + Drop>(
         Some(("protect", inner)) => run_protect(alloc, inner, out),
         Some(("explain", inner)) => run_explain(alloc, inner, out),
         Some(("run", inner)) => run_role(alloc, inner, input, out, make),
-        // No other is there; clap answers `help` by itself.
+        // There is no other call. clap answers `help` by itself.
         Some(_) => Err(input_fault("the call", Wrong::Unknown)),
         None => unreachable!(),
     }
 }
 
-/// Prints the help or the version that was asked for, or answers the fault of the words.
+/// Prints the help or the version that was asked for, or returns the fault of the words.
 fn answer_no_call<W: Write>(alloc: Global, error: &Error, out: &mut W) -> Result<u8, Fault>
     ensures { IfOk result (λ s. s ≡ 0) }
 {
@@ -214,7 +209,7 @@ fn run<R: Read, W: Write, K: Keeper + Drop, F: FnOnce(&str) -> K + Drop>(
     }
 }
 
-/// Prints a fault in one line, and answers its status.
+/// Prints a fault in one line, and returns its status.
 pub fn report<E: Write>(fault: &Fault, err: &mut E) -> u8
     ensures { result ≡ 1 }
 {
@@ -222,9 +217,9 @@ pub fn report<E: Write>(fault: &Fault, err: &mut E) -> u8
     1
 }
 
-/// Does what the words ask for, the program's name being the first, and answers the status: 0 where it is done, 2 where
-/// what it was done to is refused, 1 at a fault, which stands on `err` in one line. `make` makes the keeper of a file; it is
-/// called only where the words name one.
+/// Does what the words ask for. The first word is the program's name. Returns the status: 0 if the call is done, 2 if what it was applied
+/// to is refused, 1 if there is a fault, which stands on `err` in one line. `make` makes the keeper of a file, and is called only if the
+/// words name a file.
 pub fn command<R: Read, W: Write, E: Write, K: Keeper + Drop, F: FnOnce(&str) -> K + Drop>(
     alloc: Global,
     words: &[String],

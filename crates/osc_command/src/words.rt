@@ -49,19 +49,8 @@ const EXAMPLE_EXPLAIN: &str = "Example:
   oscore explain \\
     44025d1f00003974396c6f63616c686f7374620914ff612f1092f1776f1c1668b3825e";
 
-/// An option with one value, a word of hex.
-fn hex_option<'a>(alloc: Global, name: &'a str, help: &'a str) -> Arg<'a>
-    ensures { result.global ≡ false }
-{
-    Arg::new(alloc, name)
-        .long(name)
-        .value_name("HEX")
-        .action(ArgAction::Set)
-        .help(help)
-}
-
-/// An option with one value, a number.
-pub(crate) fn number_option<'a>(
+/// Returns an option with one value, which the help calls `value`.
+pub(crate) fn value_option<'a>(
     alloc: Global,
     name: &'a str,
     value: &'a str,
@@ -76,7 +65,14 @@ pub(crate) fn number_option<'a>(
         .help(help)
 }
 
-/// The one word that is the datagram.
+/// Returns an option with one value, a word of hex.
+fn hex_option<'a>(alloc: Global, name: &'a str, help: &'a str) -> Arg<'a>
+    ensures { result.global ≡ false }
+{
+    value_option(alloc, name, "HEX", help)
+}
+
+/// Returns the argument for the one word that is the datagram.
 fn datagram_word<'a>(alloc: Global) -> Arg<'a>
     ensures { result.global ≡ false }
 {
@@ -86,7 +82,7 @@ fn datagram_word<'a>(alloc: Global) -> Arg<'a>
         .help("The datagram, in hex")
 }
 
-/// A command with the options of a context. This end is the sender.
+/// Adds the options of a context to a command. This end is the sender.
 pub(crate) fn with_context<'a>(
     command: Command<'a>,
     alloc: Global,
@@ -139,7 +135,7 @@ fn open_command<'a>(alloc: Global) -> Result<Command<'a>, AllocError>
         .about(ABOUT_OPEN)
         .after_help(EXAMPLE);
     with_context(command, alloc)?
-        .arg(number_option(alloc, "request", "M", HELP_REQUEST))?
+        .arg(value_option(alloc, "request", "M", HELP_REQUEST))?
         .arg(datagram_word(alloc))
 }
 
@@ -150,8 +146,8 @@ fn protect_command<'a>(alloc: Global) -> Result<Command<'a>, AllocError>
         .about(ABOUT_PROTECT)
         .after_help(EXAMPLE_PROTECT);
     with_context(command, alloc)?
-        .arg(number_option(alloc, "sequence", "N", HELP_SEQUENCE))?
-        .arg(number_option(alloc, "request", "M", HELP_REQUEST))?
+        .arg(value_option(alloc, "sequence", "N", HELP_SEQUENCE))?
+        .arg(value_option(alloc, "request", "M", HELP_REQUEST))?
         .arg(datagram_word(alloc))
 }
 
@@ -164,7 +160,7 @@ fn explain_command<'a>(alloc: Global) -> Result<Command<'a>, AllocError>
         .arg(datagram_word(alloc))
 }
 
-/// All that the words of a call can ask for.
+/// Returns everything that the words of a call can ask for.
 fn program<'a>(alloc: Global) -> Result<Command<'a>, AllocError>
     ensures local { IfOk result IsLocal }
     ensures required { IfOk result NeedsSubcommand }
@@ -182,7 +178,7 @@ fn program<'a>(alloc: Global) -> Result<Command<'a>, AllocError>
     Ok(command.subcommand_required(true))
 }
 
-/// Reads the words of a call, the program's name first. Help that is asked for is handed over as an error, of the kind
+/// Reads the words of a call. The first word is the program's name. If the words ask for help, returns it as an error of the kind
 /// `DisplayHelp`.
 pub fn read_words<'a>(alloc: Global, words: &'a [String]) -> Result<ArgMatches<'a>, Error>
     ensures named { IfOk result (λ matches. has_subcommand matches ≡ true) }
@@ -191,16 +187,18 @@ pub fn read_words<'a>(alloc: Global, words: &'a [String]) -> Result<ArgMatches<'
     command.try_get_matches_from(words)
 }
 
-/// The fault of one word, named by its place in the call.
+/// Returns the fault of one word, named by its place in the call.
 pub(crate) fn input_fault(word: &'static str, wrong: Wrong) -> Fault {
     Fault::Input { word, wrong }
 }
 
-/// The bytes that a word spells, or the fault that names the word's place in the call.
+/// Returns the bytes that a word spells, or the fault that names the word's place in the call.
 pub(crate) fn bytes_of(alloc: Global, name: &'static str, word: &str) -> Result<Vec<u8>, Fault> {
     match read_hex(alloc, word) {
         Ok(bytes) => Ok(bytes),
         Err(HexError::Memory) => Err(Fault::Memory),
+        Err(HexError::NotDigit { place: 1 }) if word.starts_with("0x") || word.starts_with("0X") =>
+            { Err(input_fault(name, Wrong::Prefixed)) }
         Err(HexError::NotDigit { place }) => {
             Err(input_fault(name, Wrong::BadHex(place.saturating_add(1))))
         }
@@ -208,7 +206,7 @@ pub(crate) fn bytes_of(alloc: Global, name: &'static str, word: &str) -> Result<
     }
 }
 
-/// The bytes of a word that the call can't be without. The words were read, so it is there.
+/// Returns the bytes of a word that the call requires. The words were read before, so the word is there.
 pub(crate) fn required_bytes(
     alloc: Global,
     matches: &ArgMatches<'_>,
@@ -221,7 +219,7 @@ pub(crate) fn required_bytes(
     }
 }
 
-/// The number of a word, where the word is there, or the fault that names the word's place in the call.
+/// Returns the number of a word, if the word is there, or the fault that names the word's place in the call.
 pub(crate) fn optional_number(
     matches: &ArgMatches<'_>,
     id: &str,

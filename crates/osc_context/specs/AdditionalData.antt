@@ -1,6 +1,6 @@
--- To be believed: the additional data of a request and of its response (RFC 8613, 5.4). Of the two arrays the
--- external_aad stands inside, as a byte string, and the COSE structure of Encrypt0 outside (RFC 8152, 5.3). kid and n,
--- the number, are those of the request.
+-- To be believed: the additional data of a request and of its response (RFC 8613, 5.4). There are two arrays: the
+-- external_aad is inside, as a byte string, and the COSE structure of Encrypt0 is outside (RFC 8152, 5.3). kid and the
+-- number n are those of the request.
 use Rattle.std.specs.Prelude.{ℕ, List, [], ◌∷◌, codes}
 use Rattle.osc_context.specs.Algorithm.{algorithm}
 use Rattle.osc_context.specs.Cbor.{cbor_bytes, cbor_text, cbor_number, cbor_array}

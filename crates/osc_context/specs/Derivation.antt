@@ -1,12 +1,12 @@
 -- To be believed: keys and the Common IV (RFC 8613, 3.2.1). secret and salt are the Master Secret and the Master Salt,
--- id_context is the ID Context where there is one, id an identifier, type a text, len a number of bytes.
+-- id_context is the ID Context if there is one, id is an identifier, type is a text, and len is a number of bytes.
 use Rattle.std.specs.Prelude.{ℕ, List, [], ◌∷◌, Option, Some, None, codes}
 use Rattle.osc_hkdf.specs.Hkdf.{expand_of, extract_of}
 use Rattle.osc_context.specs.Algorithm.{algorithm, key_length, nonce_length}
 use Rattle.osc_context.specs.Cbor.{cbor_bytes, cbor_text, cbor_number, cbor_nil, cbor_array}
 use Rattle.osc_context.specs.SecurityContext.{SecurityContext}
 
--- the ID Context as a byte string, or nil where there is none (RFC 8613, 3.2.1)
+-- the ID Context as a byte string, or nil if there is none (RFC 8613, 3.2.1)
 abbrev pub cbor_id_context : Option (List ℕ) → List ℕ
 cbor_id_context None = cbor_nil
 cbor_id_context (Some bytes) = cbor_bytes bytes
@@ -16,15 +16,15 @@ unfoldable pub info_of : List ℕ → Option (List ℕ) → List ℕ → ℕ →
 info_of id id_context type len =
     cbor_array (cbor_bytes id ∷ cbor_id_context id_context ∷ cbor_number algorithm ∷ cbor_text type ∷ cbor_number len ∷ [])
 
--- the output of HKDF for an info, under salt and secret (RFC 8613, 3.2.1)
+-- the output of HKDF for an info, with salt and secret (RFC 8613, 3.2.1)
 abbrev pub output_of : List ℕ → List ℕ → List ℕ → ℕ → List ℕ
 output_of secret salt info len = expand_of (extract_of salt secret) info len
 
--- the key of the end with the identifier (RFC 8613, 3.2.1)
+-- the key of the end with this identifier (RFC 8613, 3.2.1)
 unfoldable pub key_of : List ℕ → List ℕ → Option (List ℕ) → List ℕ → List ℕ
 key_of secret salt id_context id = output_of secret salt (info_of id id_context (codes "Key") key_length) key_length
 
--- the Common IV, of which the identifier is empty (RFC 8613, 3.2.1)
+-- the Common IV, which is derived with an empty identifier (RFC 8613, 3.2.1)
 unfoldable pub common_iv_of : List ℕ → List ℕ → Option (List ℕ) → List ℕ
 common_iv_of secret salt id_context = output_of secret salt (info_of [] id_context (codes "IV") nonce_length) nonce_length
 

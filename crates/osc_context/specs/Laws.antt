@@ -1,7 +1,7 @@
--- To be believed: laws of contexts, derived and refused (RFC 8613, 3.2 and 3.3), of nonces (RFC 8613, 5.2), of
--- additional data (RFC 8613, 5.4), and of values of the OSCORE option and their refusals (RFC 8613, 6.1). c is a
--- context, g what a context would be derived from, iv is a Common IV, a and b identifiers, n and m numbers, p and q
--- what values say.
+-- To be believed: laws about contexts, derived and refused (RFC 8613, 3.2 and 3.3), about nonces (RFC 8613, 5.2), about
+-- additional data (RFC 8613, 5.4), and about values of the OSCORE option and their refusals (RFC 8613, 6.1). c is a
+-- context, g is what a context would be derived from, iv is a Common IV, a and b are identifiers, n and m are numbers, and
+-- p and q are what values say.
 use Rattle.std.specs.Prelude.{◌≡◌, ℕ, ◌^◌, ◌<◌, ◌≤◌, ◌⊎◌, List, length, IfSome}
 use Rattle.std.specs.List.{All}
 use Rattle.osc_context.specs.declared.option_error.OptionError.{OptionError}
@@ -25,11 +25,11 @@ UsableAsClient = (c : Context) → IsUsable (as_client c)
 abbrev pub UsableAsServer : Type 0
 UsableAsServer = (c : Context) → IsUsable (as_server c)
 
--- own rule: of the refusals of a context one is the first
+-- only one of the refusals of a context is the first (own rule)
 abbrev pub OneParamsRefusal : Type 0
 OneParamsRefusal = (g : Params) (e f : ContextError) → IsFirstParamsRefusal g e → IsFirstParamsRefusal g f → e ≡ f
 
--- over one Common IV a nonce is of one identifier and one number (RFC 8613, 5.2)
+-- with one Common IV, a nonce belongs to only one identifier and one number (RFC 8613, 5.2)
 abbrev pub OneNonce : Type 0
 OneNonce = (iv a b : List ℕ) (n m : ℕ) → length a ≤ 7 → length b ≤ 7 → n < 2 ^ 40 → m < 2 ^ 40
     → nonce_of iv a n ≡ nonce_of iv b m → (a ≡ b) × (n ≡ m)
@@ -38,21 +38,21 @@ OneNonce = (iv a b : List ℕ) (n m : ℕ) → length a ≤ 7 → length b ≤ 7
 abbrev pub NonceLen : Type 0
 NonceLen = (iv id : List ℕ) (n : ℕ) → length (nonce_of iv id n) ≡ nonce_length
 
--- the additional data of a kid of up to 7 bytes has 1 to 31 (RFC 8613, 5.4)
+-- the additional data for a kid of up to 7 bytes has 1 to 31 bytes (RFC 8613, 5.4)
 abbrev pub AdditionalDataLen : Type 0
 AdditionalDataLen = (kid : List ℕ) (n : ℕ) → length kid ≤ 7
     → (0 < length (additional_data_of kid n)) × (length (additional_data_of kid n) ≤ 31)
 
--- additional data is of one identifier and one number (RFC 8613, 5.4)
+-- additional data belongs to only one identifier and one number (RFC 8613, 5.4)
 abbrev pub OneAdditionalData : Type 0
 OneAdditionalData = (a b : List ℕ) (n m : ℕ) → length a ≤ 7 → length b ≤ 7 → n < 2 ^ 40 → m < 2 ^ 40
     → additional_data_of a n ≡ additional_data_of b m → (a ≡ b) × (n ≡ m)
 
--- what a value says has one spelling (RFC 8613, 6.1)
+-- what a value says has only one spelling (RFC 8613, 6.1)
 abbrev pub OneSpelling : Type 0
 OneSpelling = (p : OscoreParts) (bytes other : List ℕ) → IsOscoreValue p bytes → IsOscoreValue p other → bytes ≡ other
 
--- the bytes of a value say one thing (RFC 8613, 6.1)
+-- the bytes of a value say only one thing (RFC 8613, 6.1)
 abbrev pub OneValue : Type 0
 OneValue = (p q : OscoreParts) (bytes : List ℕ) → IsOscoreValue p bytes → IsOscoreValue q bytes → p ≡ q
 
@@ -64,7 +64,7 @@ ValueNumberInRange = (p : OscoreParts) (bytes : List ℕ) → IsOscoreValue p by
 abbrev pub ValueFits : Type 0
 ValueFits = (p : OscoreParts) (bytes : List ℕ) → IsOscoreValue p bytes → length bytes ≤ 255
 
--- a value has at most the bytes that its parts can take (RFC 8613, 6.1)
+-- a value has at most as many bytes as its parts can take (RFC 8613, 6.1)
 abbrev pub ValueMostLen : Type 0
 ValueMostLen = (p : OscoreParts) (bytes : List ℕ) → IsOscoreValue p bytes → length bytes ≤ most_len p
 
@@ -72,11 +72,11 @@ ValueMostLen = (p : OscoreParts) (bytes : List ℕ) → IsOscoreValue p bytes �
 abbrev pub NeverBoth : Type 0
 NeverBoth = (p : OscoreParts) (bytes : List ℕ) (e : OptionError) → IsOscoreValue p bytes → ¬ RefusesValue bytes e
 
--- own rule: of the refusals of bytes one is the first
+-- only one of the refusals of bytes is the first (own rule)
 abbrev pub OneValueRefusal : Type 0
 OneValueRefusal = (bytes : List ℕ) (e f : OptionError) → IsFirstValueRefusal bytes e → IsFirstValueRefusal bytes f → e ≡ f
 
--- all bytes are a value or have a first refusal (RFC 8613, 6.1)
+-- any bytes are a value or have a first refusal (RFC 8613, 6.1)
 abbrev pub ValueOrRefusal : Type 0
 ValueOrRefusal = (bytes : List ℕ) → All (λ b. b < 256) bytes
     → ((p : OscoreParts) × IsOscoreValue p bytes) ⊎ ((e : OptionError) × IsFirstValueRefusal bytes e)

@@ -1,14 +1,14 @@
--- To be believed: why bytes are no value of the OSCORE option (RFC 8613, 6.1; own rules: three of the reasons), a word
--- for each reason, in the order in which they are judged.
+-- To be believed: why bytes aren't a value of the OSCORE option (RFC 8613, 6.1; own rules: three of the reasons). Each
+-- reason has a definition, in the order in which the reasons are judged.
 use Rattle.std.specs.Prelude.{◌≡◌, ◌≢◌, ℕ, ◌+◌, ◌/◌, ◌%◌, ◌<◌, List, length, slice_index, ◌==◌, if◌then◌else◌, codes}
 use Rattle.osc_context.specs.declared.option_error.OptionError.{OptionError}
 use Rattle.osc_context.specs.declared.option_error.OptionError.TheVariants.{TooLong, Reserved, PivLength, ZeroFlag, Cut, LeadingZero, Trailing}
 
--- the flag byte, which is the first, or 0 of no bytes (RFC 8613, 6.1)
+-- the flag byte, which is the first byte, or 0 if there are no bytes (RFC 8613, 6.1)
 abbrev pub flag_of : List ℕ → ℕ
 flag_of bytes = slice_index bytes 0
 
--- the Partial IV's length by the low three bits of the flag byte (RFC 8613, 6.1)
+-- the length of the Partial IV, from the low three bits of the flag byte (RFC 8613, 6.1)
 abbrev pub piv_len_of : List ℕ → ℕ
 piv_len_of bytes = flag_of bytes % 8
 
@@ -20,7 +20,7 @@ kid_flag_of bytes = flag_of bytes / 8 % 2
 abbrev pub kid_context_flag_of : List ℕ → ℕ
 kid_context_flag_of bytes = flag_of bytes / 16 % 2
 
--- how many bytes the flag byte says stand in front of the kid (RFC 8613, 6.1)
+-- how many bytes come before the kid, according to the flag byte (RFC 8613, 6.1)
 abbrev pub front_len : List ℕ → ℕ
 front_len bytes = 1 + piv_len_of bytes
     + (if kid_context_flag_of bytes == 1 then 1 + slice_index bytes (1 + piv_len_of bytes) else 0)
@@ -33,15 +33,15 @@ IsTooLong bytes = 255 < length bytes
 abbrev pub HasReservedFlags : List ℕ → Type 0
 HasReservedFlags bytes = flag_of bytes / 32 ≢ 0
 
--- the length of the Partial IV is a reserved one, 6 or 7 (RFC 8613, 6.1)
+-- the length of the Partial IV is a reserved length, 6 or 7 (RFC 8613, 6.1)
 abbrev pub HasReservedPivLen : List ℕ → Type 0
 HasReservedPivLen bytes = 5 < piv_len_of bytes
 
--- own rule: a flag byte 0 that is written, where no bytes stand for it (RFC 8613, 6.1)
+-- own rule: a flag byte of 0 is written, although an empty value stands for it (RFC 8613, 6.1)
 abbrev pub HasZeroFlag : List ℕ → Type 0
 HasZeroFlag bytes = (0 < length bytes) × (flag_of bytes ≡ 0)
 
--- fewer bytes than the flag byte says stand in front of the kid (RFC 8613, 6.1)
+-- there are fewer bytes than the flag byte says come before the kid (RFC 8613, 6.1)
 abbrev pub IsCut : List ℕ → Type 0
 IsCut bytes = (0 < length bytes) × (length bytes < front_len bytes)
 
@@ -49,7 +49,7 @@ IsCut bytes = (0 < length bytes) × (length bytes < front_len bytes)
 abbrev pub HasLeadingZero : List ℕ → Type 0
 HasLeadingZero bytes = (1 < piv_len_of bytes) × (slice_index bytes 1 ≡ 0)
 
--- own rule: bytes that stand where a kid would, with no kid flag (RFC 8613, 6.1)
+-- own rule: there are bytes in the place of a kid, but no kid flag (RFC 8613, 6.1)
 abbrev pub HasTrailing : List ℕ → Type 0
 HasTrailing bytes = (kid_flag_of bytes ≡ 0) × (0 < length bytes) × (front_len bytes < length bytes)
 
@@ -63,7 +63,7 @@ RefusesValue bytes Cut = IsCut bytes
 RefusesValue bytes LeadingZero = HasLeadingZero bytes
 RefusesValue bytes Trailing = HasTrailing bytes
 
--- own rule: the place of a refusal in the order of judging
+-- the place of a refusal in the order of judging (own rule)
 abbrev pub value_rank : OptionError → ℕ
 value_rank TooLong = 0
 value_rank Reserved = 1
@@ -73,12 +73,12 @@ value_rank Cut = 4
 value_rank LeadingZero = 5
 value_rank Trailing = 6
 
--- own rule: the refusal holds of the bytes, and none judged before it does
+-- the refusal holds for the bytes, and none judged before it does (own rule)
 pub record IsFirstValueRefusal (bytes : List ℕ) (e : OptionError) : Type 0 where
   pub holds : RefusesValue bytes e
   pub first : (f : OptionError) → value_rank f < value_rank e → ¬ RefusesValue bytes f
 
--- the text that a refusal prints: its name (how the code is seen)
+-- what a refusal prints as: its name (how the code is seen)
 abbrev pub option_error_text : OptionError → List ℕ
 option_error_text TooLong = codes "TooLong"
 option_error_text Reserved = codes "Reserved"

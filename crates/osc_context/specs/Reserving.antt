@@ -1,14 +1,14 @@
--- To be believed: numbers that are reserved in steps of 64 before they are given (RFC 8613, B.1.1). next is the number that comes next,
--- limit the first that isn't reserved, floor the keeper's.
+-- To be believed: numbers that are reserved in steps of 64 before they are given out (RFC 8613, B.1.1). next is the next number, limit is
+-- the first number that isn't reserved, and floor is the keeper's floor.
 use Rattle.std.specs.Prelude.{◌≡◌, ℕ, ◌+◌, ◌<◌, ◌≤◌, ◌^◌, List, min, codes}
 use Rattle.osc_context.specs.declared.numbers.NumbersError.{NumbersError}
 use Rattle.osc_context.specs.declared.numbers.NumbersError.TheVariants.{KeeperFailed, KeptTooLarge, NumbersExhausted}
 
--- the limit of the next reservation: 64 numbers more, below 2 ^ 40 (RFC 8613, B.1.1; own rule: 64)
+-- the limit of the next reservation: up to 64 more numbers, all below 2 ^ 40 (RFC 8613, B.1.1; own rule: 64)
 abbrev pub next_limit : ℕ → ℕ
 next_limit limit = min (limit + 64) (2 ^ 40)
 
--- the floor is at most the limit, and the limit where a reserved number is left: no number that is given can be loaded again (RFC 8613, B.1.1)
+-- the floor is at most the limit, and is the limit if a reserved number is left: no number that is given out can be loaded again (RFC 8613, B.1.1)
 pub record Covers (floor next limit : ℕ) : Type 0 where
   pub most : floor ≤ limit
   pub whole : next < limit → floor ≡ limit

@@ -1,4 +1,4 @@
--- How the code is seen: a Partial IV, an option and a context as numbers and lists, without where the bytes lie.
+-- How the code is seen: a Partial IV, an option and a context as numbers and lists, apart from where the bytes lie.
 use Rattle.std.specs.Prelude.{◌≡◌, ℕ, Bool, Result, Ok, Err}
 use Rattle.std.specs.Option.{option_copied, option_map}
 use Rattle.osc_context.specs.declared.numbers.Numbers.{Numbers}
@@ -15,7 +15,7 @@ use Rattle.osc_context.specs.Derivation.{context_of}
 abbrev pub number_of : Piv → ℕ
 number_of piv = piv.number
 
--- the number that comes next (how the code is seen)
+-- the next number (how the code is seen)
 abbrev pub next_of : Numbers → ℕ
 next_of n = n.next
 
@@ -40,7 +40,7 @@ as_client c = record { client = c.sender_id; client_key = c.sender_key; server =
 abbrev pub as_server : Context → SecurityContext
 as_server c = record { client = c.recipient_id; client_key = c.recipient_key; server = c.sender_id; server_key = c.sender_key; common_iv = c.common_iv; id_context = c.id_context }
 
--- its keys are used in constant time (own rule)
+-- the context's keys are used in constant time (own rule)
 abbrev pub is_constant_time : Context → Bool
 is_constant_time c = c.constant_time
 

@@ -16,11 +16,11 @@ use arrayvec::ArrayVec;
 /// The version of OSCORE (RFC 8613, 5.4).
 const OSCORE_VERSION: u8 = 1;
 
-/// AES-CCM-16-64-128, the one algorithm here (RFC 8152, 10.2).
+/// AES-CCM-16-64-128, the only algorithm here (RFC 8152, 10.2).
 pub(crate) const ALGORITHM: u8 = 10;
 
-/// Answers the additional data of a request and of its response. Identifier and number are those of
-/// the request, also for the response (RFC 8613, 5.4).
+/// Returns the additional data of a request and of its response. The identifier and the number are those of the
+/// request, for the response too (RFC 8613, 5.4).
 #[must_use]
 pub fn aad(kid: &Kid, partial_iv: Piv) -> ArrayVec<u8, 32>
     ensures value { result.items ≡ additional_data_of kid.now (number_of partial_iv) }
@@ -35,7 +35,7 @@ pub fn aad(kid: &Kid, partial_iv: Piv) -> ArrayVec<u8, 32>
     out
 }
 
-/// The inner array. It has no class I options, since none exists.
+/// Returns the inner array. It has no class I options, because none exists.
 fn external_aad(kid: &Kid, partial_iv: Piv) -> ArrayVec<u8, 20>
     ensures value { result.items ≡ external_aad_of kid.now (number_of partial_iv) }
     ensures most { array_vec_len result ≤ 19 }

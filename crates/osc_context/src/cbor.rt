@@ -15,10 +15,10 @@ const TEXT: u8 = 0x60;
 /// The major type of an array.
 const ARRAY: u8 = 0x80;
 
-/// What stands where there is no value.
+/// What is written if there is no value.
 const NIL: u8 = 0xf6;
 
-/// From here on a length stands in a byte of its own.
+/// From this length on, a length is written in a byte of its own.
 const LONG: u8 = 24;
 
 /// Appends the head of an array of `n` items.
@@ -66,7 +66,7 @@ pub(crate) fn push_nil<const CAP: usize>(out: &mut ArrayVec<u8, CAP>)
     out.push(NIL);
 }
 
-/// Appends a length behind its major type.
+/// Appends a major type with its length.
 fn push_head<const CAP: usize>(out: &mut ArrayVec<u8, CAP>, major: u8, n: u8)
     requires room { array_vec_len out.old + 2 ≤ CAP }
     requires major { major < 232 }

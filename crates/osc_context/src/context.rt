@@ -14,14 +14,14 @@ use crate::parameters::Params;
 use osc_hkdf::extract;
 use std::fmt;
 
-/// The most bytes of a Master Secret; own rule.
+/// The most bytes that a Master Secret can have; own rule.
 const MOST_SECRET: usize = 64;
 
-/// The most bytes of a Master Salt; own rule.
+/// The most bytes that a Master Salt can have; own rule.
 const MOST_SALT: usize = 64;
 
-/// A security context: identifiers and keys of both ends, the Common IV, and the ID Context where there is one. This end
-/// is the sender. Its `Debug` leaves out keys and Common IV, so that none is printed by accident.
+/// A security context: the identifiers and keys of both ends, the Common IV, and the ID Context if there is one. This
+/// end is the sender. Its `Debug` leaves out the keys and the Common IV, so that they aren't printed by accident.
 #[derive(Drop)]
 pub struct Context {
     sender_id: Kid,
@@ -44,7 +44,8 @@ pub struct Context {
 impl Context {
     ghost use Rattle.osc_context.specs.Views.{as_client, as_server, client_context_of, is_constant_time, server_context_of};
 
-    /// Derives keys and Common IV by HKDF (RFC 8613, 3.2.1). The first refusal in the order of [`ContextError`] is answered.
+    /// Derives the keys and the Common IV with HKDF (RFC 8613, 3.2.1). If it refuses, it returns the first reason in
+    /// the order of [`ContextError`].
     pub fn derive(params: Params<'_>) -> Result<Context, ContextError>
         ensures client { IfOk result (λ c. as_client c ≡ client_context_of params.entry) }
         ensures server { IfOk result (λ c. as_server c ≡ server_context_of params.entry) }
@@ -57,7 +58,7 @@ impl Context {
         Context::derive_judged(params)
     }
 
-    /// Derives a context, or finds why not.
+    /// Derives a context, or finds why it can't.
     fn derive_judged(params: Params<'_>) -> Result<Context, ContextError>
         ensures client { IfOk result (λ c. as_client c ≡ client_context_of params.entry) }
         ensures by_tables { IfOk result (λ c. is_constant_time c ≡ false) }
@@ -79,9 +80,9 @@ impl Context {
         })
     }
 
-    /// The context of what was derived before, as the calls below show it: identifiers, the ID Context where there is one, both
-    /// keys and the Common IV; None where both ends have one identifier (RFC 8613, 3.3). Nothing can tell whether the keys were
-    /// derived for it.
+    /// Makes the context of what was derived before, as the calls below return it: the identifiers, the ID Context if
+    /// there is one, both keys and the Common IV. Returns `None` if both ends have the same identifier (RFC 8613, 3.3).
+    /// Nothing can tell whether the keys were derived for it.
     #[must_use]
     pub fn from_derived(
         sender: Kid,
@@ -125,8 +126,9 @@ impl Context {
         })
     }
 
-    /// The same context, whose keys are used by a cipher with no look-up and no branch that depends on a key: it is slower than the
-    /// one by tables, and its times tell nothing of the key. A context that isn't told so goes by tables; what is sent is the same.
+    /// Returns the same context, but its keys are used by a cipher with no look-up and no branch that depends on a key.
+    /// That cipher is slower than the one with tables, and its times tell nothing about the key. A context uses tables
+    /// unless you call this. What is sent is the same.
     #[must_use]
     pub fn constant_time(mut self) -> Context
         ensures client { as_client result ≡ as_client self }
@@ -137,7 +139,7 @@ impl Context {
         self
     }
 
-    /// Whether its keys are used in constant time.
+    /// Returns whether its keys are used in constant time.
     #[must_use]
     pub fn is_constant_time(&self) -> bool
         ensures { result ≡ is_constant_time self.now }
@@ -145,7 +147,7 @@ impl Context {
         self.constant_time
     }
 
-    /// The identifier of this end.
+    /// Returns the identifier of this end.
     #[must_use]
     pub fn sender(&self) -> &Kid
         ensures value { result.now ≡ (as_client self.now).client }
@@ -154,7 +156,7 @@ impl Context {
         &self.sender_id
     }
 
-    /// The identifier of the other end.
+    /// Returns the identifier of the other end.
     #[must_use]
     pub fn recipient(&self) -> &Kid
         ensures value { result.now ≡ (as_server self.now).client }
@@ -163,7 +165,7 @@ impl Context {
         &self.recipient_id
     }
 
-    /// The ID Context, where there is one.
+    /// Returns the ID Context, if there is one.
     #[must_use]
     pub fn id_context(&self) -> Option<&IdContext>
         ensures { option_copied result ≡ (as_client self.now).id_context }
@@ -171,9 +173,9 @@ impl Context {
         self.id_context.as_ref()
     }
 
-    /// Whether requests with this kid, and this kid context or none, are for this end of the context, the server: the kid is the
-    /// other end's identifier, and the kid context the ID Context, or neither is there (RFC 8613, 8.2, step 2; own rule: a kid
-    /// context exactly if there is an ID Context).
+    /// Returns whether requests with this kid, and with this kid context or none, are for this end of the context, the
+    /// server. They are if the kid is the other end's identifier, and the kid context is the ID Context or both are
+    /// absent (RFC 8613, 8.2, step 2; own rule: a kid context if and only if there is an ID Context).
     #[must_use]
     pub fn answers_to(&self, kid: &[u8], kid_context: Option<&[u8]>) -> bool
         ensures yes { result ≡ true → AnswersTo (as_server self.now) kid.now (option_map (λ bytes. bytes.now) kid_context.entry) }
@@ -182,7 +184,7 @@ impl Context {
         self.recipient_id.bytes() == kid && self.is_in(kid_context)
     }
 
-    /// Whether there is a kid context exactly if there is an ID Context, with the same bytes.
+    /// Returns whether the kid context and the ID Context have the same bytes, or are both absent.
     fn is_in(&self, kid_context: Option<&[u8]>) -> bool
         ensures yes { result ≡ true → (as_server self.now).id_context ≡ option_map (λ bytes. bytes.now) kid_context.entry }
         ensures no { result ≡ false → (as_server self.now).id_context ≢ option_map (λ bytes. bytes.now) kid_context.entry }
@@ -194,7 +196,7 @@ impl Context {
         }
     }
 
-    /// The key under which this end seals.
+    /// Returns the Sender Key, under which this end seals.
     #[must_use]
     pub fn sender_key(&self) -> &[u8; 16]
         ensures { result.now ≡ (as_client self.now).client_key }
@@ -202,7 +204,7 @@ impl Context {
         &self.sender_key
     }
 
-    /// The key under which the other end seals.
+    /// Returns the Recipient Key, under which the other end seals.
     #[must_use]
     pub fn recipient_key(&self) -> &[u8; 16]
         ensures { result.now ≡ (as_server self.now).client_key }
@@ -210,7 +212,7 @@ impl Context {
         &self.recipient_key
     }
 
-    /// The Common IV, of which each nonce is made.
+    /// Returns the Common IV, from which each nonce is made.
     #[must_use]
     pub fn common_iv(&self) -> &[u8; 13]
         ensures { result.now ≡ (as_client self.now).common_iv }
@@ -220,7 +222,7 @@ impl Context {
 }
 
 impl fmt::Debug for Context {
-    /// Shows both identifiers and the ID Context; keys and Common IV are left out.
+    /// Shows both identifiers and the ID Context. It leaves out the keys and the Common IV.
     fn fmt<W: fmt::Write>(&self, f: &mut fmt::Formatter<W>) -> fmt::Result {
         f.debug_struct("Context")
             .field("sender", self.sender())
@@ -230,7 +232,7 @@ impl fmt::Debug for Context {
     }
 }
 
-/// Judges the lengths of secret and salt.
+/// Judges the lengths of the secret and the salt.
 fn check_lengths(params: Params<'_>) -> Result<(), ContextError>
     ensures passed { IsOk result → PassesBelow 2 params.entry }
     ensures refused { IfErr result (λ e. IsFirstParamsRefusal params.entry e) }
@@ -244,7 +246,7 @@ fn check_lengths(params: Params<'_>) -> Result<(), ContextError>
     Ok(())
 }
 
-/// The two identifiers, sender first.
+/// Returns the two identifiers, the sender's first.
 fn identifiers(params: Params<'_>) -> Result<(Kid, Kid), ContextError>
     requires { PassesBelow 2 params }
     ensures sender { IfOk result (λ ids. ids.0 ≡ params.entry.sender.now) }
@@ -265,7 +267,7 @@ fn identifiers(params: Params<'_>) -> Result<(Kid, Kid), ContextError>
     Ok((sender, recipient))
 }
 
-/// The ID Context, where one is given.
+/// Returns the ID Context, if one is given.
 fn id_context_of(params: Params<'_>) -> Result<Option<IdContext>, ContextError>
     requires { PassesBelow 4 params }
     ensures value { IfOk result (λ id_context. id_context ≡ option_copied params.entry.id_context) }

@@ -12,9 +12,9 @@ pub enum ContextError {
     SaltLength,
     /// The identifier of the sender or of the recipient has more than 7 bytes (RFC 8613, 3.3).
     IdTooLong,
-    /// Sender and recipient have one identifier, and so would have one key (RFC 8613, 3.3).
+    /// The sender and the recipient have the same identifier, and so would have the same key (RFC 8613, 3.3).
     SameIds,
-    /// The ID Context is there and has no bytes, or more than 32; own rule.
+    /// The ID Context is present and has no bytes, or more than 32; own rule.
     IdContextLength,
 }
 

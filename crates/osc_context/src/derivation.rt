@@ -1,4 +1,4 @@
-//! Keys and the Common IV by HKDF (RFC 8613, 3.2.1).
+//! Keys and the Common IV, derived with HKDF (RFC 8613, 3.2.1).
 //!
 //!     info      [identifier, ID Context or nil, 10, "Key" or "IV", length]
 
@@ -14,7 +14,7 @@ use crate::nonces::NONCE_LEN;
 use arrayvec::ArrayVec;
 use osc_hkdf::expand;
 
-/// The bytes of a key of AES-CCM-16-64-128 (RFC 8152, 10.2).
+/// The length of a key of AES-CCM-16-64-128 in bytes (RFC 8152, 10.2).
 const KEY_LEN: usize = 16;
 
 /// The type of a key in its info.
@@ -23,7 +23,7 @@ const KEY_TYPE: &str = "Key";
 /// The type of the Common IV in its info.
 const COMMON_IV_TYPE: &str = "IV";
 
-/// The info of an output: whose it is, in which ID Context, of which type, and its length in bytes.
+/// Returns the info of an output: whose it is, in which ID Context, of which type, and its length in bytes.
 pub(crate) fn info(
     id: &[u8],
     id_context: Option<&[u8]>,
@@ -49,7 +49,7 @@ pub(crate) fn info(
     out
 }
 
-/// The key of the end with this identifier, under the pseudorandom key of salt and secret.
+/// Derives the key of the end with this identifier, under the pseudorandom key from salt and secret.
 pub(crate) fn derive_key(prk: &[u8; 32], id_context: Option<&[u8]>, id: &[u8]) -> [u8; KEY_LEN]
     requires id { length id.now ≤ 7 }
     requires id_context { IfSome (option_copied id_context) (λ bytes. length bytes ≤ 32) }
@@ -66,7 +66,7 @@ pub(crate) fn derive_key(prk: &[u8; 32], id_context: Option<&[u8]>, id: &[u8]) -
     }
 }
 
-/// The Common IV, under the pseudorandom key of salt and secret.
+/// Derives the Common IV, under the pseudorandom key from salt and secret.
 pub(crate) fn derive_common_iv(prk: &[u8; 32], id_context: Option<&[u8]>) -> [u8; NONCE_LEN]
     requires { IfSome (option_copied id_context) (λ bytes. length bytes ≤ 32) }
     ensures { result ≡ expand_of prk.now (info_of [] (option_copied id_context.entry) (codes "IV") nonce_length) nonce_length }

@@ -22,7 +22,7 @@ impl Model for Kid {
 }
 
 impl Kid {
-    /// The identifier of these bytes, or None above 7 (RFC 8613, 3.3).
+    /// Makes the identifier of these bytes. Returns `None` if there are more than 7 (RFC 8613, 3.3).
     #[must_use]
     pub fn new(bytes: &[u8]) -> Option<Kid>
         ensures made { IfSome result (λ kid. kid ≡ bytes.now) }
@@ -36,7 +36,7 @@ impl Kid {
         }
     }
 
-    /// Answers the bytes, as they stand in a message.
+    /// Returns the bytes, as they appear in a message.
     #[must_use]
     pub fn bytes(&self) -> &[u8]
         ensures value { result.now ≡ self.now }
@@ -63,7 +63,7 @@ impl Model for IdContext {
 }
 
 impl IdContext {
-    /// The identifier of these bytes, or None for none and above 32 (own rule).
+    /// Makes the identifier of these bytes. Returns `None` if there are none, or more than 32 (own rule).
     #[must_use]
     pub fn new(bytes: &[u8]) -> Option<IdContext>
         ensures made { IfSome result (λ id_context. id_context ≡ bytes.now) }
@@ -80,7 +80,7 @@ impl IdContext {
         }
     }
 
-    /// Answers the bytes, as they stand in a message.
+    /// Returns the bytes, as they appear in a message.
     #[must_use]
     pub fn bytes(&self) -> &[u8]
         ensures value { result.now ≡ self.now }

@@ -1,4 +1,4 @@
-//! The nonce (RFC 8613, 5.2): the identifier and the Partial IV of whoever made it, xor the Common IV.
+//! The nonce (RFC 8613, 5.2): the Partial IV and the identifier of the end that generated it, xor the Common IV.
 
 ghost use Rattle.std.specs.Prelude.{◌≡◌, ◌++◌, ◌-◌, ◌≤◌, take, drop, length};
 ghost use Rattle.osc_context.specs.Nonce.{nonce_of, nonce_text};
@@ -7,10 +7,11 @@ ghost use Rattle.osc_context.specs.Views.{number_of};
 use crate::identifier::Kid;
 use crate::partial_iv::Piv;
 
-/// The bytes of a nonce of AES-CCM-16-64-128, and of the Common IV (RFC 8152, 10.2, and RFC 8613, 3.1).
+/// The length in bytes of a nonce of AES-CCM-16-64-128, and of the Common IV (RFC 8152, 10.2, and RFC 8613, 3.1).
 pub(crate) const NONCE_LEN: usize = 13;
 
-/// Answers the nonce. The identifier is of whoever made the Partial IV, also in a response (RFC 8613, 5.2).
+/// Returns the nonce. The identifier is that of the end that generated the Partial IV, in a response too
+/// (RFC 8613, 5.2).
 #[must_use]
 pub fn nonce(common_iv: &[u8; 13], owner: &Kid, partial_iv: Piv) -> [u8; 13]
     ensures { result ≡ nonce_of common_iv.now owner.now (number_of partial_iv) }
@@ -23,7 +24,7 @@ pub fn nonce(common_iv: &[u8; 13], owner: &Kid, partial_iv: Piv) -> [u8; 13]
     nonce
 }
 
-/// The length of the identifier, then the identifier and the Partial IV, each at the end of its place.
+/// Returns the length of the identifier, then the identifier and the Partial IV, each at the end of its field.
 fn nonce_text(owner: &Kid, partial_iv: Piv) -> [u8; NONCE_LEN]
     ensures { result ≡ nonce_text owner.now (number_of partial_iv) }
 {
@@ -36,7 +37,7 @@ fn nonce_text(owner: &Kid, partial_iv: Piv) -> [u8; NONCE_LEN]
     text
 }
 
-/// Copies the bytes to where they end in front of a place.
+/// Copies the bytes so that they end just before a place.
 fn put_before(text: &mut [u8], end: usize, bytes: &[u8])
     requires starts { length bytes.now ≤ end }
     requires ends { end ≤ length text.old }

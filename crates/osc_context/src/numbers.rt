@@ -1,4 +1,4 @@
-//! The numbers of a sender over all its lives (RFC 8613, 7.2.1 and B.1.1).
+//! The Sender Sequence Numbers of a sender across all its lives (RFC 8613, 7.2.1 and B.1.1).
 
 ghost use Rattle.std.specs.Prelude.{◌≡◌, ℕ, ◌+◌, ◌<◌, ◌≤◌, ◌^◌, ◌↔◌, IsOk, IfOk, IsErrOf};
 
@@ -21,7 +21,7 @@ pub enum NumbersError {
     NumbersExhausted,
 }
 
-/// The next number of a sender, and the first that isn't reserved.
+/// The next Sender Sequence Number, and the first number that isn't reserved.
 #[derive(Drop)]
 pub struct Numbers {
     pub(crate) next: u64,
@@ -35,8 +35,8 @@ impl Numbers {
     ghost use Rattle.osc_context.specs.Views.{limit_of, next_of, number_of};
     ghost use Rattle.osc_context.specs.declared.numbers.NumbersError.TheVariants.{KeeperFailed, KeptTooLarge, NumbersExhausted};
 
-    /// Begins at the number that the keeper loads; none is reserved yet. The first refusal in the order of `NumbersError` is
-    /// answered.
+    /// Begins at the number that the keeper loads. No number is reserved yet. If it refuses, it returns the first
+    /// reason in the order of `NumbersError`.
     pub fn start<K: Keeper>(keeper: &mut K) -> Result<Numbers, NumbersError>
         ensures begins { IfOk result (λ n. K.loads keeper.old (next_of n) keeper.new × (limit_of n ≡ next_of n)) }
         ensures in_range { IfOk result (λ n. next_of n < 2 ^ 40) }
@@ -63,7 +63,7 @@ impl Numbers {
         })
     }
 
-    /// The number that comes next, or 2^40 where none is left.
+    /// Returns the next number, or 2^40 if none is left.
     #[must_use]
     pub fn upcoming(&self) -> u64
         ensures { result ≡ next_of self.now }
@@ -72,8 +72,8 @@ impl Numbers {
         *next
     }
 
-    /// Gives the next number. Where none is reserved, 64 more are first, or as many as there are below 2^40; where that fails,
-    /// nothing of the numbers changes.
+    /// Returns the next number. If none is reserved, it first reserves 64 more, or as many as are left below 2^40. If
+    /// that fails, the numbers don't change.
     pub fn next<K: Keeper>(&mut self, keeper: &mut K) -> Result<Piv, NumbersError>
         requires { Covers (K.floor keeper.old) (next_of self.old) (limit_of self.old) }
         ensures gives { IfOk result (λ p. number_of p ≡ next_of self.old) }

@@ -1,24 +1,24 @@
-//! Why bytes are no value of the OSCORE option (RFC 8613, 6.1).
+//! Why bytes aren't a value of the OSCORE option (RFC 8613, 6.1).
 
 use std::error::Error;
 use std::fmt;
 
-/// Why bytes are no value of the OSCORE option, in the order in which they are judged.
+/// Why bytes aren't a value of the OSCORE option. The reasons are in the order in which they are judged.
 #[derive(Clone, Copy, Debug, PartialEq, Eq)]
 pub enum OptionError {
-    /// More than 255 bytes (RFC 8613, 2).
+    /// There are more than 255 bytes (RFC 8613, 2).
     TooLong,
     /// One of the top three bits of the flag byte is set.
     Reserved,
     /// The length of the Partial IV is 6 or 7.
     PivLength,
-    /// The flag byte is written and 0; own rule.
+    /// The flag byte is written, but it is 0; own rule.
     ZeroFlag,
     /// The Partial IV, the length byte or the kid context reaches past the end.
     Cut,
     /// A Partial IV of more than one byte begins with 0; own rule.
     LeadingZero,
-    /// Bytes are left and there is no kid flag; own rule.
+    /// Bytes are left, but there is no kid flag; own rule.
     Trailing,
 }
 

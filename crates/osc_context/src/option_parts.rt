@@ -34,7 +34,7 @@ pub(crate) fn check_flag(flag: u8) -> Result<(), OptionError>
     Ok(())
 }
 
-/// What stands behind the flag byte. The rest is the kid, if its flag is set.
+/// What follows the flag byte. The rest is the kid, if its flag is set.
 #[derive(Clone, Copy)]
 pub(crate) struct Parts<'a> {
     pub(crate) piv: &'a [u8],
@@ -42,7 +42,7 @@ pub(crate) struct Parts<'a> {
     pub(crate) rest: &'a [u8],
 }
 
-/// Cuts what stands behind the flag byte into its parts, or refuses where one reaches past the end.
+/// Cuts what follows the flag byte into its parts, or refuses if one reaches past the end.
 pub(crate) fn cut_parts(flag: u8, bytes: &[u8]) -> Result<Parts<'_>, OptionError>
     ensures spelled { IfOk result (λ x. bytes.now
         ≡ x.piv.now ++ (kid_context_bytes (option_copied x.kid_context) ++ x.rest.now)) }
@@ -74,7 +74,7 @@ struct ContextCut<'a> {
     rest: &'a [u8],
 }
 
-/// Takes a kid context behind its length off the front, where its flag says that there is one.
+/// Takes a length and a kid context off the front, if the flag says that there is one.
 #[tactic(auto, using(crate::proofs::Masks::mask_kid_context))]
 fn cut_kid_context(flag: u8, bytes: &[u8]) -> Option<ContextCut<'_>>
     ensures spelled { IfSome result (λ x. bytes.now
@@ -103,7 +103,7 @@ fn cut_kid_context(flag: u8, bytes: &[u8]) -> Option<ContextCut<'_>>
     })
 }
 
-/// The Partial IV of these bytes, where there are any. One with a byte too many in front is refused.
+/// Returns the Partial IV of these bytes, if there are any. A Partial IV with a leading zero byte too many is refused.
 pub(crate) fn piv_of(bytes: &[u8]) -> Result<Option<Piv>, OptionError>
     requires { length bytes.now ≤ 5 }
     ensures spelled { IfOk result (λ piv. piv_bytes (option_map number_of piv) ≡ bytes.now) }
@@ -120,14 +120,14 @@ pub(crate) fn piv_of(bytes: &[u8]) -> Result<Option<Piv>, OptionError>
     Ok(Some(Piv::of_bytes(bytes)))
 }
 
-/// Answers whether the first of two or more bytes is 0.
+/// Returns whether there are two or more bytes and the first is 0.
 fn has_leading_zero(bytes: &[u8]) -> bool
     ensures { IsTrue result ↔ ((1 < length bytes.now) × (slice_index bytes.now 0 ≡ 0)) }
 {
     bytes.len() > 1 && bytes[0] == 0
 }
 
-/// The kid, where its flag says that there is one. Bytes with no such flag are refused.
+/// Returns the kid, if its flag says that there is one. Bytes without that flag are refused.
 #[tactic(auto, using(crate::proofs::Masks::mask_kid))]
 pub(crate) fn kid_of(flag: u8, rest: &[u8]) -> Result<Option<&[u8]>, OptionError>
     ensures spelled { IfOk result (λ kid. kid_bytes (option_copied kid) ≡ rest.now) }

@@ -21,10 +21,10 @@ use crate::option_parts::{check_flag, cut_parts, kid_of, piv_of};
 use crate::partial_iv::{Piv, byte_len};
 use arrayvec::ArrayVec;
 
-/// The most bytes of a value (RFC 8613, 2).
+/// The most bytes that a value can have (RFC 8613, 2).
 const MOST_LEN: usize = 255;
 
-/// The most bytes of a Partial IV (RFC 8613, 6.1).
+/// The most bytes that a Partial IV can have (RFC 8613, 6.1).
 pub(crate) const MOST_PARTIAL_IV_LEN: u8 = 5;
 
 /// The bits of the flag byte that hold the length of the Partial IV.
@@ -36,7 +36,7 @@ pub(crate) const KID_FLAG: u8 = 0x08;
 /// The bit of the flag byte that says that there is a kid context.
 pub(crate) const KID_CONTEXT_FLAG: u8 = 0x10;
 
-/// The bits of the flag byte that have to be 0.
+/// The bits of the flag byte that must be 0.
 pub(crate) const RESERVED_FLAGS: u8 = 0xe0;
 
 /// What a value of the OSCORE option says. The kid context comes before the kid, as on the wire.
@@ -48,8 +48,7 @@ pub struct OscoreOption<'a> {
 }
 
 impl<'a> OscoreOption<'a> {
-    /// Reads a value, all of it. It is refused for the first reason that holds, in the order of
-    /// [`OptionError`].
+    /// Reads a whole value. It is refused for the first reason that holds, in the order of [`OptionError`].
     pub fn read(bytes: &'a [u8]) -> Result<OscoreOption<'a>, OptionError>
         ensures accepted { IfOk result (λ option. IsOscoreValue (oscore_parts_of option) bytes.entry.now) }
         ensures accepts { (p : OscoreParts) → IsOscoreValue p bytes.entry.now → IsRead result p }
@@ -59,8 +58,8 @@ impl<'a> OscoreOption<'a> {
         OscoreOption::read_value(bytes)
     }
 
-    /// Writes the one value that says this over what the vector holds, or refuses with TooLong and
-    /// leaves the vector.
+    /// Writes the one value that says this, in place of what the vector holds. If it refuses, with TooLong, the vector
+    /// stays as it is.
     pub fn write(&self, value: &mut ArrayVec<u8, 255>) -> Result<(), OptionError>
         ensures written { OnOk result (IsOscoreValue (oscore_parts_of self.now) value.new.items) }
         ensures most { OnOk result (array_vec_len value.new ≤ most_len (oscore_parts_of self.now)) }
@@ -103,7 +102,7 @@ impl<'a> OscoreOption<'a> {
         })
     }
 
-    /// Answers whether the value has at most 255 bytes.
+    /// Returns whether the value has at most 255 bytes.
     fn fits(&self) -> bool
         ensures { IsTrue result ↔ (parts_len (oscore_parts_of self.now) ≤ 255) }
     {
@@ -115,7 +114,7 @@ impl<'a> OscoreOption<'a> {
         }
     }
 
-    /// Writes the value over what the vector holds.
+    /// Writes the value in place of what the vector holds.
     fn put(&self, value: &mut ArrayVec<u8, 255>)
         requires { parts_len (oscore_parts_of self.now) ≤ 255 }
         ensures { IsOscoreValue (oscore_parts_of self.now) value.new.items }
@@ -130,7 +129,7 @@ impl<'a> OscoreOption<'a> {
         }
     }
 
-    /// The flag byte of these parts, also where it is 0.
+    /// Returns the flag byte of these parts, even if it is 0.
     fn flag_byte(&self) -> u8
         ensures value { result ≡ flag_byte (oscore_parts_of self.now) }
         ensures number { IfSome (oscore_parts_of self.now).piv (λ n. n < 2 ^ 40) }
@@ -140,7 +139,7 @@ impl<'a> OscoreOption<'a> {
     }
 }
 
-/// The length of a Partial IV, or 0 where there is none.
+/// Returns the length of a Partial IV, or 0 if there is none.
 fn piv_len(piv: Option<Piv>) -> u8
     ensures value { result ≡ length (piv_bytes (option_map number_of piv)) }
     ensures number { IfSome (option_map number_of piv) (λ n. n < 2 ^ 40) }
@@ -152,7 +151,7 @@ fn piv_len(piv: Option<Piv>) -> u8
     }
 }
 
-/// The flag of a part, or 0 where there is no such part.
+/// Returns the flag of a part, or 0 if there is no such part.
 fn flag_if_some(flag: u8, part: Option<&[u8]>) -> u8
     ensures value { result ≡ flag_if_some flag (option_copied part.entry) }
     ensures most { result ≤ flag }
@@ -163,7 +162,7 @@ fn flag_if_some(flag: u8, part: Option<&[u8]>) -> u8
     }
 }
 
-/// Appends a Partial IV, where there is one.
+/// Appends a Partial IV, if there is one.
 fn push_piv(value: &mut ArrayVec<u8, 255>, piv: Option<Piv>)
     requires { array_vec_len value.old + length (piv_bytes (option_map number_of piv)) ≤ 255 }
     ensures { value.new.items ≡ value.old.items ++ piv_bytes (option_map number_of piv) }
@@ -173,7 +172,7 @@ fn push_piv(value: &mut ArrayVec<u8, 255>, piv: Option<Piv>)
     }
 }
 
-/// Appends a kid context behind its length, where there is one.
+/// Appends the length of a kid context and then the kid context, if there is one.
 fn push_kid_context(value: &mut ArrayVec<u8, 255>, kid_context: Option<&[u8]>)
     requires { array_vec_len value.old
         + length (kid_context_bytes (option_copied kid_context)) ≤ 255 }
@@ -186,7 +185,7 @@ fn push_kid_context(value: &mut ArrayVec<u8, 255>, kid_context: Option<&[u8]>)
     }
 }
 
-/// Appends a kid, where there is one.
+/// Appends a kid, if there is one.
 fn push_kid(value: &mut ArrayVec<u8, 255>, kid: Option<&[u8]>)
     requires { array_vec_len value.old + length (kid_bytes (option_copied kid)) ≤ 255 }
     ensures { value.new.items ≡ value.old.items ++ kid_bytes (option_copied kid.entry) }

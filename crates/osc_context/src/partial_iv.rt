@@ -9,8 +9,7 @@ use arrayvec::ArrayVec;
 /// The first number that no Partial IV holds.
 pub(crate) const NUMBER_LIMIT: u64 = 1 << 40;
 
-/// The number of a Partial IV, below 2^40. Whoever seals under one keeps it fresh. `<` compares the
-/// numbers.
+/// The number of a Partial IV, below 2^40. A caller that seals under one must keep it fresh. `<` compares the numbers.
 #[derive(Clone, Copy, Debug, PartialEq, Eq, PartialOrd, Ord)]
 pub struct Piv {
     number: u64,
@@ -25,7 +24,7 @@ impl Piv {
         number: NUMBER_LIMIT - 1,
     };
 
-    /// The Partial IV of this number, or None from 2^40 up, which 5 bytes can't spell (RFC 8613, 5).
+    /// Makes the Partial IV of this number. Returns `None` from 2^40 up, which 5 bytes can't spell (RFC 8613, 5).
     #[must_use]
     pub fn new(number: u64) -> Option<Piv>
         ensures made { IfSome result (λ piv. number_of piv ≡ number) }
@@ -39,7 +38,7 @@ impl Piv {
         }
     }
 
-    /// Answers the Partial IV of the number after this one, or None behind the largest. A sender counts by it
+    /// Returns the Partial IV of the number after this one, or `None` after the largest. A sender counts with it
     /// (RFC 8613, 5 and 7.2.1).
     #[must_use]
     pub fn next(self) -> Option<Piv>
@@ -56,7 +55,7 @@ impl Piv {
         }
     }
 
-    /// The number that up to 5 bytes spell, high byte first.
+    /// Makes the Partial IV of the number that up to 5 bytes spell, high byte first.
     pub(crate) fn of_bytes(bytes: &[u8]) -> Piv
         requires { length bytes.now ≤ 5 }
         ensures { number_of result ≡ spelled_number bytes.now }
@@ -68,7 +67,7 @@ impl Piv {
         Piv { number }
     }
 
-    /// Answers the number, as a sender counts it.
+    /// Returns the number, as a sender counts it.
     #[must_use]
     pub fn number(self) -> u64
         ensures value { result ≡ number_of self }
@@ -77,8 +76,8 @@ impl Piv {
         self.number
     }
 
-    /// Answers the Partial IV as it stands in a message: high byte first, with no leading zero byte,
-    /// and 0 as one byte (RFC 8613, 5).
+    /// Returns the Partial IV as it appears in a message: high byte first, with no leading zero byte, and 0 as one byte
+    /// (RFC 8613, 5).
     #[must_use]
     pub fn bytes(self) -> ArrayVec<u8, 5>
         ensures value { result.items ≡ partial_iv_of (number_of self) }
@@ -94,7 +93,7 @@ impl Piv {
     }
 }
 
-/// How many bytes the number takes without leading zeros.
+/// Returns how many bytes the number takes without leading zeros.
 #[tactic(auto, unfolding(crate::specs::PartialIv::partial_iv_of))]
 pub(crate) fn byte_len(number: u64) -> usize
     requires { number < 2 ^ 40 }
@@ -116,7 +115,7 @@ pub(crate) fn byte_len(number: u64) -> usize
     }
 }
 
-/// The last 5 bytes of the number, high byte first.
+/// Returns the last 5 bytes of the number, high byte first.
 fn all_bytes(number: u64) -> [u8; 5]
     ensures { result ≡ last_bytes 5 number }
 {

@@ -1,4 +1,4 @@
--- How the code is seen: that a server, or a client, is as its history says.
+-- How the code is seen: when a server, or a client, is as its history says.
 use Rattle.std.specs.Prelude.{◌≡◌, ◌≢◌, ◌^◌, ℕ, true, false, List, AllPairs, Option, Some, None, length, map, slice_get}
 use Rattle.osc_context.specs.SecurityContext.{SecurityContext}
 use Rattle.osc_context.specs.Views.{as_client, as_server, number_of}
@@ -34,7 +34,7 @@ abbrev pub HoldsLife : Option Slot → Life → Type 0
 HoldsLife None l = ⊥
 HoldsLife (Some s) l = SlotAgrees s l
 
--- a place of the table and the present life of that context, or neither (how the code is seen)
+-- a place of the table agrees with the present life of its context, or neither is there (how the code is seen)
 abbrev pub PlaceAgrees : Option (Option Slot) → Option Life → Type 0
 PlaceAgrees None None = Unit {0}
 PlaceAgrees None (Some l) = ⊥
@@ -45,7 +45,7 @@ PlaceAgrees (Some p) (Some l) = HoldsLife p l
 pub record TableAgrees (slots : List (Option Slot)) (lives : ℕ → Option Life) : Type 0 where
   pub at : (i : ℕ) → PlaceAgrees (slice_get slots i) (lives i)
 
--- no two contexts are ones that a request could name both (RFC 8613, 3.3)
+-- no request could name two different contexts (RFC 8613, 3.3)
 abbrev pub OneEach : History → Type 0
 OneEach h = (i j : ℕ) (of other : Life) → life h i ≡ Some of → life h j ≡ Some other → HaveSameLookup of.context other.context → i ≡ j
 
@@ -56,7 +56,7 @@ pub record Agrees (s : Server) (h : History) : Type 0 where
   pub places : TableAgrees s.slots.items (life h)
   pub one_each : OneEach h
 
--- a server of this clock and these places (how the code is seen)
+-- the server with this clock and these places (how the code is seen)
 abbrev pub server_of : ℕ → List (Option Slot) → Server
 server_of clock slots = record { clock = clock; slots = record { items = slots } }
 
@@ -72,16 +72,16 @@ pub record ClientParts : Type 0 where
 abbrev pub client_parts : {N : ℕ} → Client N → ClientParts
 client_parts c = record { context = as_client (context_of c.context); life_ms = c.life_ms; clock = c.clock; next = c.next; pending = map asked_of c.pending.items }
 
--- the number that a client goes on at, or the limit where none is left (RFC 8613, 7.2.1)
+-- the number with which a client continues, or the limit if none is left (RFC 8613, 7.2.1)
 abbrev pub next_of : Option Piv → ℕ
 next_of None = 2 ^ 40
 next_of (Some next) = number_of next
 
--- no two of these requests have one token (RFC 7252, 5.3.1)
+-- no two of these requests have the same token (RFC 7252, 5.3.1)
 abbrev pub TokensDiffer : List client.Asked → Type 0
 TokensDiffer requests = AllPairs (λ r q. r.token ≢ q.token) requests
 
--- no two requests in the client's table have one token (RFC 7252, 5.3.1)
+-- no two requests in the client's table have the same token (RFC 7252, 5.3.1)
 abbrev pub HasTokensApart : {N : ℕ} → Client N → Type 0
 HasTokensApart c = TokensDiffer (client_parts c).pending
 

@@ -1,4 +1,4 @@
--- For the proofs: what the layers below hold of all datagrams, by which a server has one answer, and a client.
+-- For the proofs: what holds for all datagrams in the layers below, from which it follows that a server has one answer, and a client too.
 use Rattle.osc_coap.specs.Laws.{DatagramHasNoFault, DatagramIsOneMessage, PartsHaveOneDatagram}
 use Rattle.osc_protect.specs.Laws.{OneRequest, OneRequestHead, OneResponse, OneResponseHead, OneSealed}
 
@@ -10,7 +10,7 @@ pub record AnswerLaws : Type 0 where
   pub request : OneRequest
   pub sealed : OneSealed
 
--- the same by which a client has one answer (RFC 7252, 3; RFC 8613, 8.1 and 8.4)
+-- the same for the one answer of a client (RFC 7252, 3; RFC 8613, 8.1 and 8.4)
 pub record ClientAnswerLaws : Type 0 where
   pub one : DatagramIsOneMessage
   pub no_fault : DatagramHasNoFault

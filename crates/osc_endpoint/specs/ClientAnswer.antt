@@ -1,7 +1,7 @@
 -- To be believed: what a client answers to each event, after a history (RFC 8613, 8.1 and 8.4). The rows stand in the order in which they
--- are judged; each has its own condition, and that no earlier one holds. h is a history, s its context, d a datagram, r a
--- pending request, n for how many there is room, clock the moment with the event's own in it, m a message, own a
--- response's own number or none.
+-- are checked; the condition of each row includes that no earlier row's condition holds. h is a history, s its context, d a datagram, r a
+-- pending request, n the number of pending requests that there is room for, clock the clock after the event's own moment, m a message, own
+-- a response's own number or none.
 use Rattle.std.specs.Prelude.{◌≡◌, ℕ, ◌<◌, ◌≤◌, ◌^◌, ◌↔◌, List, Contains, length, max, true, Option}
 use Rattle.osc_coap.specs.Code.{is_response}
 use Rattle.osc_coap.specs.Datagram.{Parts, IsDatagram}
@@ -23,11 +23,11 @@ use Rattle.osc_endpoint.specs.ClientHistory.{History, Event, Entry, Answer, Aske
 abbrev pub IsAmong : List ℕ → List Asked → Type 0
 IsAmong token asked = (r : Asked) × Contains asked r × (r.token ≡ token)
 
--- the datagram is a message with a response's kind and code, and this token (RFC 7252, 4.2 and 5.3.2)
+-- the datagram is a message with a response's Type and code and with this token (RFC 7252, 4.2 and 5.3.2)
 abbrev pub IsResponseWith : List ℕ → List ℕ → Type 0
 IsResponseWith d token = (p : Parts) × IsDatagram p d × (is_response p.kind p.code ≡ true) × (p.token ≡ token)
 
--- the datagram is such a message, with the token of this request, which is pending (RFC 7252, 5.3.2)
+-- the datagram is such a message with the token of this request, which is pending (RFC 7252, 5.3.2)
 abbrev pub IsAnswerTo : History → ℕ → List ℕ → Asked → Type 0
 IsAnswerTo h clock d r = IsResponseWith d r.token × Contains (pending_at h clock) r
 
@@ -40,7 +40,7 @@ AskedAnswer s r d BadInner = RefusesPlaintext (responses s r.number) d
 AskedAnswer s r d (Deliver received number) = (number ≡ r.number) × (own : Option ℕ) × Receives (responses s r.number) own d received
 AskedAnswer s r d answer = ⊥
 
--- a row of a pending request whose token the datagram has (RFC 7252, 5.3.2)
+-- a row of a pending request that has the datagram's token (RFC 7252, 5.3.2)
 abbrev pub PendingAnswer : History → ℕ → List ℕ → Answer → Type 0
 PendingAnswer h clock d answer = (r : Asked) × IsAnswerTo h clock d r × AskedAnswer (context h) r d answer
 
@@ -55,7 +55,7 @@ ResponseAnswer h clock d answer = PendingAnswer h clock d answer
 abbrev pub IsNewRequest : History → ℕ → Parts → Type 0
 IsNewRequest h clock p = IsPlainRequest p × (IsAmong p.token (pending_at h clock) → ⊥)
 
--- such a one, and there is room for it among n pending ones, and a number (RFC 8613, 7.2.1; own rule: the room)
+-- such a request, with room for it among n pending ones, and a number left for it (RFC 8613, 7.2.1; own rule: the room)
 abbrev pub CanAsk : ℕ → History → ℕ → Parts → Type 0
 CanAsk n h clock p = IsNewRequest h clock p × (length (pending_at h clock) < n) × (next h < 2 ^ 40)
 
@@ -71,7 +71,7 @@ RequestAnswer n h clock p room (NotSent NoRoom) = CanAsk n h clock p × RefusesT
 RequestAnswer n h clock p room (Sent bytes) = CanAsk n h clock p × SealsRequest (context h) (next h) p bytes × (length bytes ≤ room)
 RequestAnswer n h clock p room entry = ⊥
 
--- the entry is the answer to the event, of a client with room for n pending requests (RFC 8613, 8.1 and 8.4)
+-- the entry is the answer to the event by a client with room for n pending requests (RFC 8613, 8.1 and 8.4)
 abbrev pub ClientAnswer : ℕ → History → Event → Entry → Type 0
 ClientAnswer n h (Request now p room) entry = RequestAnswer n h (max (clock h) now) p room entry
 ClientAnswer n h (Datagram now d) (Took answer) = ResponseAnswer h (max (clock h) now) d answer
@@ -80,8 +80,8 @@ ClientAnswer n h (Restart first) Restarted = Unit {0}
 ClientAnswer n h (Advance now) Advanced = Unit {0}
 ClientAnswer n h event entry = ⊥
 
--- the datagram has the token of a pending request, and protects this message, by this own number or none, as a response to the number
--- of that request (RFC 8613, 8.4)
+-- the datagram has the token of a pending request, and protects this message under this own number or none, as a response to the number of
+-- that request (RFC 8613, 8.4)
 pub record Delivers (h : History) (now : ℕ) (d : List ℕ) (number : ℕ) (own : Option ℕ) (m : InnerParts) : Type 0 where
   pub to : Asked
   pub number_is : to.number ≡ number

@@ -1,5 +1,5 @@
--- How the code is seen: what a client decides of a datagram before it lends slices of it. h is a history, c the client, d the
--- datagram as it came, new what was left of it.
+-- How the code is seen: what a client decides about a datagram before it lends slices of it. h is a history, c the client, d the datagram
+-- as it came, new the datagram as it was left.
 use Rattle.std.specs.Prelude.{◌≡◌, ℕ, List, Contains, Option, Some, map, max, slice_get}
 use Rattle.osc_context.specs.Views.{as_client, number_of}
 use Rattle.osc_protect.specs.Protection.{responses}
@@ -19,16 +19,16 @@ use Rattle.osc_endpoint.specs.ClientHistory as client
 use Rattle.osc_endpoint.specs.Received.{Received}
 use Rattle.osc_endpoint.specs.Views.{ClientShows, asked_of, received_of}
 
--- what was read of the datagram that was left says this (RFC 8613, 8.4)
+-- what was read from the datagram as it was left says this (RFC 8613, 8.4)
 abbrev pub ReadsAs : ReadResponse → List ℕ → Received → Type 0
 ReadsAs x new r = (of : DecryptedResponse) × CanLendResponse new of x × ((o : Opened) → OpensResponseAfter new of o → received_of o ≡ r)
 
--- what was decided can be shown from the datagram that was left (how the code is seen)
+-- the decision can be shown from the datagram as it was left (how the code is seen)
 abbrev pub CanShow : ClientDecision → List ℕ → Type 0
 CanShow (decisions.Deliver x number) new = (of : DecryptedResponse) × CanLendResponse new of x
 CanShow decision new = Unit {0}
 
--- what was decided is this answer, the delivered message as it can be read from the datagram that was left (how the code is seen)
+-- the decision is this answer, with the delivered message as it can be read from the datagram that was left (how the code is seen)
 abbrev pub Decides : ClientDecision → List ℕ → client.Answer → Type 0
 Decides (decisions.Malformed e) new (client.Malformed fault place) = (e.fault ≡ fault) × (e.place ≡ place)
 Decides decisions.NotResponse new client.NotResponse = Unit {0}
@@ -40,22 +40,22 @@ Decides decisions.BadInner new client.BadInner = Unit {0}
 Decides (decisions.Deliver x piv) new (client.Deliver received number) = ReadsAs x new received × (number_of piv ≡ number)
 Decides decision new answer = ⊥
 
--- the outcome shows what was decided, read from the datagram that was left (how the code is seen)
+-- the outcome shows the decision, read from the datagram as it was left (how the code is seen)
 abbrev pub ClientShowsDecided : ClientDecision → List ℕ → ClientOutcome → Type 0
 ClientShowsDecided decision new outcome = (answer : client.Answer) → Decides decision new answer → ClientShows outcome answer
 
--- as a response to a request of the table the payload became the plaintext, and behind it the old tag; all else stayed (RFC 8613, 8.4)
+-- for a response to a request of the table, the payload became the plaintext, followed by the old tag; all else stayed (RFC 8613, 8.4)
 abbrev pub IsOpenedBy : {N : ℕ} → Client N → List ℕ → List ℕ → Type 0
 IsOpenedBy c d new = (r : client.Asked) × Contains (map asked_of c.pending.items) r × (own : Option ℕ) × (len : ℕ)
     × Decrypts (responses (as_client (context_of c.context)) r.number) d own len new
 
--- what is left of the datagram: it as it came, or opened from a bad plaintext on (RFC 8613, 8.4)
+-- what is left of the datagram: it is opened in the rows from a bad plaintext on, and as it came in the others (RFC 8613, 8.4)
 abbrev pub LeavesBy : {N : ℕ} → Client N → ClientDecision → List ℕ → List ℕ → Type 0
 LeavesBy c decisions.BadInner d new = IsOpenedBy c d new
 LeavesBy c (decisions.Deliver x number) d new = IsOpenedBy c d new
 LeavesBy c decision d new = new ≡ d
 
--- what was decided of a datagram is the answer after the history, and the client agrees with both (how the code is seen)
+-- the decision about a datagram is the answer after the history, and the client agrees with both (how the code is seen)
 pub record ClientDecidesTo {N : ℕ} (h : client.History) (now : ℕ) (d : List ℕ) (result : ClientDecision) (new : List ℕ) (c : Client N) : Type 0 where
   pub answer : client.Answer
   pub row : ClientAnswer N h (client.Datagram now d) (client.Took answer)
@@ -69,7 +69,7 @@ pub record ClientTakes {N : ℕ} (h : client.History) (now : ℕ) (d : List ℕ)
   pub shows : ClientShows outcome answer
   pub agrees : ClientAgrees c (client.Then h (client.Datagram now d) (client.Took answer))
 
--- the datagram answers this pending request, which stands at a place of the table, and was decrypted as a response to it (RFC 8613, 8.4)
+-- the datagram answers this pending request, which is in a place of the table, and was decrypted as a response to it (RFC 8613, 8.4)
 pub record IsDecryptedFor {N : ℕ} (h : client.History) (now : ℕ) (d : List ℕ) (x : DecryptedResponse) (place number : ℕ) (new : List ℕ) (c : Client N) : Type 0 where
   pub agrees : ClientAgrees c (client.Then h (client.Advance now) client.Advanced)
   pub to : client.Asked

@@ -1,5 +1,5 @@
--- To be believed: what each entry of a client's run is, in one statement: contracts of headlines.rt. c is for how many pending requests there
--- is room, h a history of answers, k a place of a log, n the number of a request, own a response's own number or none, m a
+-- To be believed: what each entry of a client's run is, in one statement: contracts of headlines.rt. c is the number of pending requests
+-- that there is room for, h a history of answers, k a place of a log, n the number of a request, own a response's own number or none, m a
 -- message, d a datagram.
 use Rattle.std.specs.Prelude.{◌≡◌, ◌↔◌, ℕ, List, Option, Some, None, max, slice_get, take}
 use Rattle.osc_coap.specs.Inner.{InnerParts}
@@ -19,8 +19,8 @@ abbrev pub told : Answer → Option (ℕ × Option ℕ × InnerParts)
 told (Deliver received number) = Some (number, received.number, received.message)
 told answer = None
 
--- after a history of answers, the conditions of a datagram's rows exclude each other: a row's condition holds exactly if that row is the
--- answer, and it is a delivery exactly of what is to be delivered; each other event has one entry (RFC 8613, 8.1 and 8.4)
+-- after a history of answers, the conditions of a datagram's rows exclude each other: a row's condition holds if and only if that row is
+-- the answer, and the answer delivers exactly what is to be delivered; each other event has at most one entry (RFC 8613, 8.1 and 8.4)
 pub record ClientRows (c : ℕ) (h : History) : Type 0 where
   pub one : (now : ℕ) (d : List ℕ) (x y : Answer) → ResponseAnswer h (max (clock h) now) d x → ResponseAnswer h (max (clock h) now) d y → x ≡ y
   pub delivery : (now n : ℕ) (d : List ℕ) (x : Answer) (own : Option ℕ) (m : InnerParts) → ResponseAnswer h (max (clock h) now) d x
@@ -31,19 +31,19 @@ pub record ClientRows (c : ℕ) (h : History) : Type 0 where
 abbrev pub ClientRowsExclude : Type 0
 ClientRowsExclude = (c : ℕ) (h : History) → AllClientAnswers c h → ClientRows c h
 
--- an entry of a log by a datagram: it is a delivery exactly of what is to be delivered, and the condition of its row holds and no other's (RFC 8613, 8.4)
+-- a log entry for a datagram: it delivers exactly what is to be delivered, and its row's condition holds and no other row's (RFC 8613, 8.4)
 pub record DatagramStands (h : History) (now : ℕ) (d : List ℕ) (x : ClientOutcome) : Type 0 where
   pub delivery : (n : ℕ) (own : Option ℕ) (m : InnerParts) → (client_delivery_of x ≡ Some (n, own, m)) ↔ Delivers h now d n own m
   pub answer : Answer
   pub shows : ClientShows x answer
   pub row : (y : Answer) → (answer ≡ y) ↔ ResponseAnswer h (max (clock h) now) d y
 
--- what an entry of a log is, where its event is a datagram (RFC 8613, 8.4)
+-- what an entry of a log is, if its event is a datagram (RFC 8613, 8.4)
 abbrev pub EntryStands : History → ClientEvent → ClientEntry → Type 0
 EntryStands h (events.Datagram now bytes) (entries.Took outcome) = DatagramStands h now bytes.items outcome
 EntryStands h event entry = Unit {0}
 
--- the history goes on by an event and its one answer (own rule)
+-- the history continues with an event and its one answer (own rule)
 abbrev pub GoesOnAlone : ℕ → History → History → Type 0
 GoesOnAlone c h g = (event : Event) × (entry : Entry) × (g ≡ Then h event entry) × ((other : Entry) → (entry ≡ other) ↔ ClientAnswer c h event other)
 
@@ -57,7 +57,7 @@ pub record StandsAt (c : ℕ) (h : History) (es : List ClientEvent) (xs : List C
   pub alone : GoesOnAlone c before after
   pub stands : EntryStands before e x
 
--- the headline: over every list of events, each entry of the log stands so (RFC 8613, 8.1 and 8.4)
+-- the headline: over every list of events, this is so for each entry of the log (RFC 8613, 8.1 and 8.4)
 abbrev pub ClientHeadline : Type 0
 ClientHeadline = (c : ℕ) (h g : History) (es : List ClientEvent) (xs : List ClientEntry) → AllClientAnswers c h → Run c h es xs g
     → AllClientAnswers c g × ((k : ℕ) (e : ClientEvent) (x : ClientEntry) → slice_get es k ≡ Some e → slice_get xs k ≡ Some x → StandsAt c h es xs k e x)

@@ -1,5 +1,5 @@
 -- To be believed: a run of a client: the log of its events, and the history that they add to. h and g are the histories before and after, n
--- for how many pending requests there is room.
+-- is the number of pending requests that there is room for.
 use Rattle.std.specs.Prelude.{◌≡◌, ◌∷◌, [], ℕ, List, length}
 use Rattle.osc_coap.specs.Datagram.{Parts, IsDatagram}
 use Rattle.osc_coap.specs.Fault.{HasFault}
@@ -12,11 +12,11 @@ use Rattle.osc_endpoint.specs.ClientHistory.{History, Then, Event, Entry, Answer
 use Rattle.osc_endpoint.specs.ClientAnswer.{ClientAnswer}
 use Rattle.osc_endpoint.specs.Views.{ClientShows}
 
--- the client answers the event so, and the history goes on by both (own rule)
+-- the client answers the event with this entry, and the history continues with both (own rule)
 abbrev pub GoesOn : ℕ → History → Event → Entry → History → Type 0
 GoesOn n h event entry g = ClientAnswer n h event entry × (g ≡ Then h event entry)
 
--- a request of this plain text: what is sent has the next number; a text that is no message moves the clock alone (own rule)
+-- a request of this plain text: what is sent has the next number; a text that isn't a message only moves the clock (own rule)
 abbrev pub RequestStep : ℕ → History → ℕ → List ℕ → ℕ → ClientEntry → History → Type 0
 RequestStep n h now plain room (entries.Sent number datagram) g =
     (number_of number ≡ next h) × (p : Parts) × IsDatagram p plain × GoesOn n h (Request now p room) (Sent datagram.now) g
@@ -24,7 +24,7 @@ RequestStep n h now plain room (entries.NotSent e) g = (p : Parts) × IsDatagram
 RequestStep n h now plain room (entries.BadPlain e) g = HasFault plain e.fault e.place × GoesOn n h (Advance now) Advanced g
 RequestStep n h now plain room entry g = ⊥
 
--- one event, its entry, and the history behind it (own rule)
+-- one event, its entry, and the history after it (own rule)
 abbrev pub ClientRunStep : ℕ → History → ClientEvent → ClientEntry → History → Type 0
 ClientRunStep n h (events.Request now plain out) entry g = RequestStep n h now plain.items (length out.items) entry g
 ClientRunStep n h (events.Datagram now bytes) (entries.Took outcome) g =

@@ -1,5 +1,5 @@
--- How the code is seen: what a server decides of a datagram before it lends slices of it. h is a history, slots are the places of
--- the table, d is the datagram as it came, new what was left of it.
+-- How the code is seen: what a server decides about a datagram before it lends slices of it. h is a history, slots are the places of the
+-- table, d is the datagram as it came, new the datagram as it was left.
 use Rattle.std.specs.Prelude.{◌≡◌, ℕ, List, Option, Some, slice_get}
 use Rattle.osc_context.specs.Views.{as_server}
 use Rattle.osc_protect.specs.Protection.{requests}
@@ -22,16 +22,16 @@ use Rattle.osc_endpoint.specs.ServerAnswer.{ServerAnswer}
 use Rattle.osc_endpoint.specs.ServerHistory as server
 use Rattle.osc_endpoint.specs.Views.{Shows, received_of, values_of}
 
--- what was read of the datagram that was left says this (RFC 8613, 8.2)
+-- what was read from the datagram as it was left says this (RFC 8613, 8.2)
 abbrev pub ReadsAs : ReadRequest → List ℕ → Received → Type 0
 ReadsAs x new r = (of : DecryptedRequest) × CanLendRequest new of x × ((o : Opened) → OpensRequestAfter new of o → received_of o ≡ r)
 
--- what was decided can be shown from the datagram that was left (how the code is seen)
+-- the decision can be shown from the datagram as it was left (how the code is seen)
 abbrev pub CanShow : Decision → List ℕ → Type 0
 CanShow (decisions.Deliver x ticket) new = (of : DecryptedRequest) × CanLendRequest new of x
 CanShow decision new = Unit {0}
 
--- what was decided is this answer, the delivered message as it can be read from the datagram that was left (how the code is seen)
+-- the decision is this answer, with the delivered message as it can be read from the datagram that was left (how the code is seen)
 abbrev pub Decides : Decision → List ℕ → server.Answer → Type 0
 Decides (decisions.Malformed e) new (server.Malformed fault place) = (e.fault ≡ fault) × (e.place ≡ place)
 Decides decisions.NotRequest new server.NotRequest = Unit {0}
@@ -46,16 +46,16 @@ Decides decisions.SequenceExhausted new server.SequenceExhausted = Unit {0}
 Decides (decisions.Deliver x t) new (server.Deliver received ticket) = ReadsAs x new received × (values_of t ≡ ticket)
 Decides decision new answer = ⊥
 
--- the outcome shows what was decided, read from the datagram that was left (how the code is seen)
+-- the outcome shows the decision, read from the datagram as it was left (how the code is seen)
 abbrev pub ShowsDecided : Decision → List ℕ → Outcome → Type 0
 ShowsDecided decision new outcome = (answer : server.Answer) → Decides decision new answer → Shows outcome answer
 
--- under a context of the table the payload became the plaintext, and behind it the old tag; all else stayed (RFC 8613, 8.2)
+-- under a context of the table, the payload became the plaintext, followed by the old tag; all else stayed (RFC 8613, 8.2)
 abbrev pub IsOpenedIn : List (Option Slot) → List ℕ → List ℕ → Type 0
 IsOpenedIn slots d new = (i : ℕ) × (s : Slot) × (slice_get slots i ≡ Some (Some s)) × (n : ℕ) × (len : ℕ)
     × Decrypts (requests (as_server (context_of s.context))) d n len new
 
--- what is left of the datagram: it as it came, or opened from a bad plaintext on (RFC 8613, 8.2)
+-- what is left of the datagram: it is opened in the rows from a bad plaintext on, and as it came in the others (RFC 8613, 8.2)
 abbrev pub Leaves : List (Option Slot) → Decision → List ℕ → List ℕ → Type 0
 Leaves slots (decisions.Malformed e) d new = new ≡ d
 Leaves slots decisions.NotRequest d new = new ≡ d
@@ -66,11 +66,11 @@ Leaves slots decisions.Replay d new = new ≡ d
 Leaves slots decisions.BadTag d new = new ≡ d
 Leaves slots decision d new = IsOpenedIn slots d new
 
--- the same of a server and its contexts (RFC 8613, 8.2)
+-- the same for a server and its contexts (RFC 8613, 8.2)
 abbrev pub LeavesBy : Server → Decision → List ℕ → List ℕ → Type 0
 LeavesBy s decision d new = Leaves s.slots.items decision d new
 
--- what was decided of a datagram is the answer after the history, and the server agrees with both (how the code is seen)
+-- the decision about a datagram is the answer after the history, and the server agrees with both (how the code is seen)
 pub record DecidesTo (h : server.History) (now : ℕ) (fresh : Fresh) (d : List ℕ) (result : Decided) (new reply : List ℕ) (s : Server) : Type 0 where
   pub answer : server.Answer
   pub row : ServerAnswer h (server.Datagram now fresh.echo fresh.mid d) (server.Took answer reply)

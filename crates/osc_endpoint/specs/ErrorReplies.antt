@@ -3,7 +3,7 @@ use Rattle.osc_endpoint.specs.declared.error_reply.ErrorReply.{ErrorReply}
 use Rattle.osc_endpoint.specs.declared.error_reply.ErrorReply.TheVariants.{Undecodable, NoContext, Replay, BadTag}
 use Rattle.osc_endpoint.specs.Replies.{ErrorText, undecodable, no_context, replay, bad_tag}
 
--- code and text of an error (own rule)
+-- the code and text of an error (own rule)
 abbrev pub text_of : ErrorReply → ErrorText
 text_of Undecodable = undecodable
 text_of NoContext = no_context

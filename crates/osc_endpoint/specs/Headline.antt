@@ -18,8 +18,8 @@ abbrev pub told : Answer → Option (ℕ × ℕ × InnerParts)
 told (Deliver received ticket) = Some (ticket.context, ticket.number, received.message)
 told answer = None
 
--- after a history of answers, the conditions of a datagram's rows exclude each other, and fix the answer: a row's condition holds exactly if
--- that row is the answer, and it is a delivery exactly of what is to be delivered; each other event has one entry (RFC 8613, 7.4, 8.2, 8.3 and B.1.2)
+-- after a history of answers, the conditions of a datagram's rows exclude each other, and fix the answer: a row's condition holds if and only if that
+-- row is the answer, and the answer delivers exactly what is to be delivered; each other event has at most one entry (RFC 8613, 7.4, 8.2, 8.3 and B.1.2)
 pub record ServerRows (h : History) : Type 0 where
   pub one : (a : Arrival) (x y : Answer) → MeetsRow h a x → MeetsRow h a y → x ≡ y
   pub exactly : (a : Arrival) (x y : Answer) (reply : List ℕ) → TakeAnswer h a x reply → (x ≡ y) ↔ MeetsRow h a y
@@ -31,8 +31,8 @@ pub record ServerRows (h : History) : Type 0 where
 abbrev pub ServerRowsExclude : Type 0
 ServerRowsExclude = (h : History) → AllAnswers h → ServerRows h
 
--- an entry of a log by a datagram: it is a delivery exactly of what is to be delivered, and the condition of its row holds and no other's;
--- the reply is that row's (RFC 8613, 7.4, 8.2 and B.1.2)
+-- a log entry for a datagram: it delivers exactly what is to be delivered, and its row's condition holds and no other row's; the reply is
+-- that row's (RFC 8613, 7.4, 8.2 and B.1.2)
 pub record DatagramStands (h : History) (now mid : ℕ) (echo d reply : List ℕ) (x : Seen) : Type 0 where
   pub delivery : (i n : ℕ) (m : InnerParts) → (seen_delivery x ≡ Some (i, n, m)) ↔ Delivers h now d i n m
   pub answer : Answer
@@ -40,12 +40,12 @@ pub record DatagramStands (h : History) (now mid : ℕ) (echo d reply : List ℕ
   pub row : (y : Answer) → (answer ≡ y) ↔ MeetsRow h (arrival h now echo mid d) y
   pub replies : SaysReply h (arrival h now echo mid d) answer reply
 
--- what an entry of a log is, where its event is a datagram (RFC 8613, 8.2)
+-- what an entry of a log is, if its event is a datagram (RFC 8613, 8.2)
 abbrev pub EntryStands : History → ServerEvent → ServerEntry → Type 0
 EntryStands h (events.Datagram a) (entries.Took x reply) = DatagramStands h a.now a.fresh.mid a.fresh.echo a.bytes.items reply.now x
 EntryStands h event entry = Unit {0}
 
--- the history stays, or goes on by an event and its one answer (own rule)
+-- the history stays, or continues with an event and its one answer (own rule)
 abbrev pub GoesOnAlone : History → History → Type 0
 GoesOnAlone h g = (g ≡ h) ⊎ ((event : Event) × (entry : Entry) × (g ≡ Then h event entry) × ((other : Entry) → (entry ≡ other) ↔ ServerAnswer h event other))
 
@@ -61,7 +61,7 @@ pub record StandsAt (h : History) (ts : List (Option TicketValues)) (es : List S
   pub alone : GoesOnAlone before after
   pub stands : EntryStands before e x
 
--- the headline: over every list of events, each entry of the log stands so (RFC 8613, 7.4, 8.2, 8.3 and B.1.2)
+-- the headline: over every list of events, this is so for each entry of the log (RFC 8613, 7.4, 8.2, 8.3 and B.1.2)
 abbrev pub ServerHeadline : Type 0
 ServerHeadline = (h g : History) (ts us : List (Option TicketValues)) (es : List ServerEvent) (xs : List ServerEntry) → AllAnswers h → Run h ts es xs g us
     → AllAnswers g × ((k : ℕ) (e : ServerEvent) (x : ServerEntry) → slice_get es k ≡ Some e → slice_get xs k ≡ Some x → StandsAt h ts es xs k e x)

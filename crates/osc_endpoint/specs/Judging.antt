@@ -1,5 +1,5 @@
--- For the proofs: what a context of a server answers to a request that names it. s is a security context, n the request's number, l
--- the context's present life, r the request, d the datagram as it came, new what was left of it.
+-- For the proofs: what a context of a server answers to a request that names it. s is a security context, n the request's number, l the
+-- context's present life, r the request, d the datagram as it came, new the datagram as it was left.
 use Rattle.std.specs.Prelude.{◌≡◌, ℕ, List, [], Option, Some, None, IsTrue, false}
 use Rattle.osc_coap.specs.Datagram.{Parts, IsDatagram}
 use Rattle.osc_coap.specs.Inner.{InnerParts}
@@ -41,7 +41,7 @@ LifeAnswer of i n a answer reply = MeetsLifeRow of i n a answer × LifeSays of a
 abbrev pub NamedAnswer : server.History → Arrival → server.Answer → List ℕ → Type 0
 NamedAnswer h a answer reply = (i : ℕ) × (n : ℕ) × (of : Life) × IsRequestOf h a.bytes i n of × LifeAnswer of i n a answer reply
 
--- the head that a reply goes to is that of the datagram (RFC 7252, 5.3.2)
+-- the requester that a reply goes to has the datagram's Type, Message ID and token (RFC 7252, 5.3.2)
 abbrev pub IsAskerOf : Asker → List ℕ → Type 0
 IsAskerOf a d = (p : Parts) × IsDatagram p d × (a.kind ≡ p.kind) × (a.message_id ≡ p.message_id) × (a.token.items ≡ p.token)
 
@@ -59,11 +59,11 @@ abbrev pub GateRefuses : Gate → ℕ → Type 0
 GateRefuses (gates.Restarted kept) n = ⊥
 GateRefuses (gates.Open window) n = takes window n ≡ false
 
--- the request, as the definitions see a datagram that came (how the code is seen)
+-- the request, as the definitions see a datagram that arrived (how the code is seen)
 abbrev pub arrival_of : Named → List ℕ → Arrival
 arrival_of r d = record { clock = r.clock; echo = r.fresh.echo; mid = r.fresh.mid; bytes = d }
 
--- what was decided is the answer of the life, with this reply, and the context stands as the answer leaves it (how the code is seen)
+-- the decision is the answer of the life, with this reply, and the context is as the answer leaves it (how the code is seen)
 pub record JudgesTo (l : Life) (r : Named) (d : List ℕ) (result : Decided) (new reply : List ℕ) (place : Option Slot) : Type 0 where
   pub answer : server.Answer
   pub row : LifeAnswer l r.index (number_of r.number) (arrival_of r d) answer reply
@@ -74,12 +74,12 @@ pub record JudgesTo (l : Life) (r : Named) (d : List ℕ) (result : Decided) (ne
 abbrev pub RefusesEcho : Life → Named → List ℕ → Type 0
 RefusesEcho l r d = WantsEcho l (number_of r.number) r.clock d
 
--- the head names the context of this place and the request's number, and what is to be decrypted is of it (RFC 8613, 8.2)
+-- the head names the context of this place and the request's number, and what has to be decrypted belongs to that head (RFC 8613, 8.2)
 abbrev pub IsNamedAt : Option Slot → Named → List ℕ → Type 0
 IsNamedAt None r d = ⊥
 IsNamedAt (Some s) r d = IsNamed (as_server (context_of s.context)) (number_of r.number) d × IsSealedRequest (requests (as_server (context_of s.context))) d r.sealed
 
--- of each message that a datagram protects which was decrypted to this one, and read as the value, it holds (RFC 8613, 8.2)
+-- the property holds for each message protected by a datagram that was decrypted to this one and read as the value (RFC 8613, 8.2)
 abbrev pub OfWhatWasRead : List ℕ → ReadRequest → (InnerParts → Type 0) → Type 0
 OfWhatWasRead new read holds = (x : DecryptedRequest) (s : SecurityContext) (d : List ℕ) (n : ℕ) (m : InnerParts) → CanLendRequest new x read
     → DecryptsRequest (requests s) d x new → ProtectsRequest s n m d → holds m

@@ -1,5 +1,5 @@
--- To be believed: what holds of every history of a server whose entries are all its answers: the contracts of laws.rt. h is a history, i the index of a
--- context, c the count of its lives before one, ts tickets or texts, newest first.
+-- To be believed: what holds for every history of a server whose entries are all its answers: the contracts of laws.rt. h is a history, i
+-- the index of a context, c how many lives the context had before a given one, ts tickets or texts, newest first.
 use Rattle.std.specs.Prelude.{◌≡◌, ◌≢◌, ℕ, ◌+◌, ◌==◌, ◌&&◌, List, [], ◌∷◌, ◌++◌, length, Bool, true, Option, Some, None, is_some, if◌then◌else◌}
 use Rattle.std.specs.List.{AllByRecursion}
 use Rattle.osc_coap.specs.Datagram.{Parts, IsDatagram}
@@ -18,11 +18,11 @@ abbrev pub AllAnswers : History → Type 0
 AllAnswers Begin = Unit {0}
 AllAnswers (Then h event entry) = AllAnswers h × ServerAnswer h event entry
 
--- after each history of answers a server has one answer to an event at most (own rule)
+-- after each history of answers, a server has at most one answer to an event (own rule)
 abbrev pub OneServerAnswer : Type 0
 OneServerAnswer = (h : History) (event : Event) (x y : Entry) → AllAnswers h → ServerAnswer h event x → ServerAnswer h event y → x ≡ y
 
--- a relation of each element to each that stands behind it (own rule)
+-- each element has this relation to each element after it (own rule)
 abbrev pub Pairwise : {A : Type 0} → (A → A → Type 0) → List A → Type 0
 Pairwise R [] = Unit {0}
 Pairwise R (x ∷ xs) = AllByRecursion (R x) xs × Pairwise R xs
@@ -33,7 +33,7 @@ delivered Begin = []
 delivered (Then h event (Took (Deliver received ticket) reply)) = ticket ∷ delivered h
 delivered (Then h event entry) = delivered h
 
--- two tickets that aren't of one number in one life of one context (RFC 8613, 7.4)
+-- the two tickets aren't of the same number in the same life of the same context (RFC 8613, 7.4)
 abbrev pub AreApart : TicketValues → TicketValues → Type 0
 AreApart t u = t.context ≡ u.context → t.life ≡ u.life → t.number ≡ u.number → ⊥
 
@@ -50,7 +50,7 @@ pub record Text : Type 0 where
   pub own : Option ℕ
   pub bytes : List ℕ
 
--- the text, where the context is there (own rule)
+-- the text, if the context is there (own rule)
 abbrev pub text_in : Option Life → ℕ → ℕ → Bool → List ℕ → List Text
 text_in None i n own bytes = []
 text_in (Some of) i n own bytes = record { context = i; life = of.count; keys = of.context; request = n; own = own_number own of; bytes = bytes } ∷ []
@@ -62,12 +62,12 @@ texts (Then h event (Took (Challenge i n echo issued) reply)) = text_in (life h 
 texts (Then h (Reply ticket own mid plain room) (Replied bytes)) = text_in (life h ticket.context) ticket.context ticket.number own bytes ++ texts h
 texts (Then h event entry) = texts h
 
--- those of one life of a context that have an own number (RFC 8613, 5)
+-- the texts of one life of a context that have an own number (RFC 8613, 5)
 abbrev pub own_texts : ℕ → ℕ → List Text → List Text
 own_texts i c [] = []
 own_texts i c (t ∷ ts) = if (t.context == i) && ((t.life == c) && is_some t.own) then t ∷ own_texts i c ts else own_texts i c ts
 
--- the number is the text's own one, and the Partial IV that its bytes say (RFC 8613, 6.1)
+-- the number is the text's own number, and it is the Partial IV in the text's bytes (RFC 8613, 6.1)
 pub record HasOwnNumber (t : Text) (n : ℕ) : Type 0 where
   pub own : t.own ≡ Some n
   pub outer : Parts
@@ -76,7 +76,7 @@ pub record HasOwnNumber (t : Text) (n : ℕ) : Type 0 where
   pub single : values_at oscore outer.options ≡ value ∷ []
   pub reads : IsOscoreValue (value_of_response (Some n)) value
 
--- the texts have the own numbers from first on, one after another (RFC 8613, 7.2.1)
+-- the texts have consecutive own numbers, from first on (RFC 8613, 7.2.1)
 abbrev pub CountsUp : ℕ → List Text → Type 0
 CountsUp first [] = Unit {0}
 CountsUp first (t ∷ ts) = HasOwnNumber t (first + length ts) × CountsUp first ts
@@ -85,7 +85,7 @@ CountsUp first (t ∷ ts) = HasOwnNumber t (first + length ts) × CountsUp first
 abbrev pub OwnNumbersOnce : Type 0
 OwnNumbersOnce = (h : History) (i : ℕ) (of : Life) → AllAnswers h → life h i ≡ Some of → CountsUp of.first (own_texts i of.count (texts h))
 
--- of these tickets one was taken out (own rule)
+-- one of these tickets was taken out (own rule)
 abbrev pub IsTakenOut : TicketValues → List TicketValues → List TicketValues → Type 0
 IsTakenOut t before after = (front : List TicketValues) × (back : List TicketValues) × (before ≡ front ++ t ∷ back) × (after ≡ front ++ back)
 
@@ -106,7 +106,7 @@ answered Begin = []
 answered (Then h (Reply ticket own mid plain room) (Replied bytes)) = ticket ∷ answered h
 answered (Then h event entry) = answered h
 
--- a ticket gives one response at most: no two are to one number in one life of one context (RFC 8613, 8.3)
+-- a ticket gives at most one response: no two responses are to one number in one life of one context (RFC 8613, 8.3)
 abbrev pub TicketOnce : Type 0
 TicketOnce = (h : History) → AllAnswers h → TakesTickets h → Pairwise AreApart (answered h)
 
@@ -114,7 +114,7 @@ TicketOnce = (h : History) → AllAnswers h → TakesTickets h → Pairwise AreA
 abbrev pub nonce_of_text : Text → List ℕ
 nonce_of_text t = response_nonce t.keys.common_iv t.keys.client t.keys.server t.request t.own
 
--- two texts of one life of a context have two nonces (RFC 8613, 5.2)
+-- two texts of one life of a context have different nonces (RFC 8613, 5.2)
 abbrev pub HaveTwoNonces : Text → Text → Type 0
 HaveTwoNonces t u = t.context ≡ u.context → t.life ≡ u.life → nonce_of_text t ≢ nonce_of_text u
 

@@ -1,6 +1,6 @@
--- To be believed: one life of a server's context, from the moment at which it was added or restarted (RFC 8613, 7.4 and B.1.2): by what was
--- answered in it. l is a life, marks what its answers left, newest first, from_birth whether it is open at its birth, n the number
--- of a request, m the message that it protects. Moments are milliseconds.
+-- To be believed: one life of a server's context, from the moment at which it was added or restarted (RFC 8613, 7.4 and B.1.2), as told by
+-- the answers in it. l is a life, marks are what its answers left, newest first, from_birth says whether it is open at its birth, n is the
+-- number of a request, m the message that the request protects. Moments are in milliseconds.
 use Rattle.std.specs.Prelude.{◌≡◌, ℕ, ◌+◌, ◌<◌, ◌^◌, List, [], ◌∷◌, Bool, true, false, Option, Some, None, unwrap_or, if◌then◌else◌}
 use Rattle.osc_coap.specs.Inner.{InnerParts}
 use Rattle.osc_context.specs.SecurityContext.{SecurityContext}
@@ -14,15 +14,15 @@ use Rattle.osc_coap.specs.Search.{values_at, first_of}
 use Rattle.osc_endpoint.specs.declared.start.Start.{Start}
 use Rattle.osc_endpoint.specs.declared.start.Start.TheVariants.{Fresh, Restarted}
 
--- what an answer leaves: a number that was delivered, one of a bad plaintext, a challenge, a reply with an own number (own rule)
+-- what an answer leaves: a delivered number, the number of a bad plaintext, a challenge, or a reply with an own number (own rule)
 pub data Mark : Type 0 where
   Delivered : (number : ℕ) → Mark
   Spoiled : (number : ℕ) → Mark
   Challenged : (echo : List ℕ) (issued : ℕ) → Mark
   Answered : Mark
 
--- a life: its context and window size, how many lives were before it, whether it is open at its birth, as one that was added fresh, its
--- first own number, and its marks (RFC 8613, 3.1)
+-- a life: its context and window size, how many lives came before it, whether it is open at its birth, as a life that was added fresh is,
+-- its first own number, and its marks (RFC 8613, 3.1)
 pub record Life : Type 0 where
   pub context : SecurityContext
   pub size : WindowSize
@@ -31,7 +31,7 @@ pub record Life : Type 0 where
   pub first : ℕ
   pub marks : List Mark
 
--- it was added fresh and never restarted, or a request was delivered in it (RFC 8613, B.1.2)
+-- the life was added fresh and never restarted, or a request was delivered in it (RFC 8613, B.1.2)
 abbrev pub opened : Bool → List Mark → Bool
 opened from_birth [] = from_birth
 opened from_birth (Delivered n ∷ marks) = true
@@ -47,11 +47,11 @@ first_delivered (Spoiled n ∷ marks) = first_delivered marks
 first_delivered (Challenged echo issued ∷ marks) = first_delivered marks
 first_delivered (Answered ∷ marks) = first_delivered marks
 
--- the least number that can be new: that of the first delivery after a restart, else 0 (RFC 8613, B.1.2)
+-- the least number that can be new: the number of the first delivery after a restart, else 0 (RFC 8613, B.1.2)
 abbrev pub floor : Bool → List Mark → ℕ
 floor from_birth marks = if from_birth then 0 else unwrap_or (first_delivered marks) 0
 
--- the numbers of what was delivered, and of bad plaintexts that came while it was open (RFC 8613, 7.4)
+-- the numbers of what was delivered, and of bad plaintexts that came while the life was open (RFC 8613, 7.4)
 abbrev pub spent : Bool → List Mark → List ℕ
 spent from_birth [] = []
 spent from_birth (Delivered n ∷ marks) = n ∷ spent from_birth marks
@@ -67,7 +67,7 @@ challenge (Spoiled n ∷ marks) = challenge marks
 challenge (Challenged echo issued ∷ marks) = Some (echo, issued)
 challenge (Answered ∷ marks) = challenge marks
 
--- how many own numbers were used: one for each challenge, one for each reply that asked for it (RFC 8613, 7.2.1)
+-- how many own numbers were used: one for each challenge, and one for each reply that asked for one (RFC 8613, 7.2.1)
 abbrev pub own_count : List Mark → ℕ
 own_count [] = 0
 own_count (Delivered n ∷ marks) = own_count marks
@@ -75,7 +75,7 @@ own_count (Spoiled n ∷ marks) = own_count marks
 own_count (Challenged echo issued ∷ marks) = own_count marks + 1
 own_count (Answered ∷ marks) = own_count marks + 1
 
--- requests are judged by their number (RFC 8613, B.1.2)
+-- requests are checked by their number (RFC 8613, B.1.2)
 abbrev pub is_open : Life → Bool
 is_open l = opened l.open_at_birth l.marks
 
@@ -84,19 +84,19 @@ abbrev pub is_open_life : Option Life → Bool
 is_open_life None = false
 is_open_life (Some l) = is_open l
 
--- the next own number; none is left from 2 ^ 40 on (RFC 8613, 7.2.1)
+-- the next own Sender Sequence Number; from 2 ^ 40 on, none is left (RFC 8613, 7.2.1)
 abbrev pub next_own : Life → ℕ
 next_own l = l.first + own_count l.marks
 
--- an own number is left (RFC 8613, 7.2.1)
+-- an own Sender Sequence Number is left (RFC 8613, 7.2.1)
 abbrev pub HasOwn : Life → Type 0
 HasOwn l = next_own l < 2 ^ 40
 
--- a number that is new in this life, while it is open (RFC 8613, 7.4)
+-- the number is new in this life, while the life is open (RFC 8613, 7.4)
 abbrev pub IsNewIn : Life → ℕ → Type 0
 IsNewIn l n = IsNew (places_of l.size) (floor l.open_at_birth l.marks) (spent l.open_at_birth l.marks) n
 
--- the challenge that is in force at this moment; none once the life is open (RFC 9175, 2.3; own rule: the time)
+-- the challenge that is in force at this moment; there is none once the life is open (RFC 9175, 2.3; own rule: the time)
 abbrev pub in_force : Life → ℕ → Option (List ℕ × ℕ)
 in_force l clock = if is_open l then None else challenge_in_force (challenge l.marks) clock
 
@@ -105,7 +105,7 @@ abbrev pub Carries : Option (List ℕ × ℕ) → InnerParts → Type 0
 Carries None m = ⊥
 Carries (Some challenge) m = first_of (values_at numbers.echo m.options) ≡ Some challenge.0
 
--- it isn't a replay: the life is closed, or the number is new (RFC 8613, 7.4)
+-- the request isn't a replay: the life is closed, or the number is new (RFC 8613, 7.4)
 abbrev pub Passes : Life → ℕ → Type 0
 Passes l n = is_open l ≡ true → IsNewIn l n
 
@@ -113,7 +113,7 @@ Passes l n = is_open l ≡ true → IsNewIn l n
 abbrev pub Admits : Life → ℕ → ℕ → InnerParts → Type 0
 Admits l clock n m = (is_open l ≡ true → IsNewIn l n) × (is_open l ≡ false → Carries (in_force l clock) m)
 
--- a life with one mark more, or none (own rule)
+-- a life with one more mark, or with none added (own rule)
 abbrev pub marked : Option Mark → Life → Life
 marked None l = l
 marked (Some mark) l = record l { marks = mark ∷ l.marks }

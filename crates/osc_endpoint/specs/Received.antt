@@ -1,4 +1,4 @@
--- To be believed: what a delivered message says (RFC 8613, 8.2 and 8.4). r is what was received, f a protection, i a number that it knows, d a
+-- To be believed: what a delivered message says (RFC 8613, 8.2 and 8.4). r is what was received, f a protection, i one of its numbers, d a
 -- datagram, p the parts of a message.
 use Rattle.std.specs.Prelude.{◌≡◌, ℕ, List, Option}
 use Rattle.osc_coap.specs.declared.message.Kind.{Kind}
@@ -8,7 +8,7 @@ use Rattle.osc_coap.specs.OptionNumbers.{uri_host as uri_host_number, uri_port a
 use Rattle.osc_coap.specs.Search.{values_at, first_of}
 use Rattle.osc_protect.specs.Protection.{Protection, Protects}
 
--- the head, and the first Uri-Host and Uri-Port, which aren't protected; the number, and the message (RFC 8613, 8.2 and 8.4)
+-- the head and the first Uri-Host and Uri-Port, which aren't protected, and the number and the message (RFC 8613, 8.2 and 8.4)
 pub record Received : Type 0 where
   pub kind : Kind
   pub message_id : ℕ
@@ -18,7 +18,7 @@ pub record Received : Type 0 where
   pub number : Option ℕ
   pub message : InnerParts
 
--- the datagram is the protection of the message, and shows the rest outside (RFC 8613, 8.2 and 8.4)
+-- the datagram protects the message, and shows the rest outside the protection (RFC 8613, 8.2 and 8.4)
 pub record Receives {I : Type 0} (f : Protection I) (i : I) (d : List ℕ) (r : Received) : Type 0 where
   pub number : r.number ≡ (f.parts i).piv
   pub protects : Protects f i r.message d

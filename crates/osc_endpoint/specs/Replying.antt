@@ -9,14 +9,14 @@ use Rattle.osc_endpoint.specs.Life.{Life, Mark, Answered}
 use Rattle.osc_endpoint.specs.ServerAnswer.{LifeReply}
 use Rattle.osc_endpoint.specs.ServerHistory.{Entry, Replied, NotReplied, TicketValues, reply_mark_at}
 
--- the refusal of a reply that a refusal to seal becomes (own rule)
+-- the refusal of a reply that follows from a refusal to seal (own rule)
 abbrev pub lifted : ProtectError → ReplyError
 lifted protects.NotThatKind = NotThatKind
 lifted (protects.Unsupported n) = Unsupported n
 lifted protects.TooLong = TooLong
 lifted protects.NoRoom = NoRoom
 
--- the entry of a reply, whose text stands at the front of the buffer (how the code is seen)
+-- the entry of a reply whose text stands at the front of the buffer (how the code is seen)
 abbrev pub reply_entry : Result ℕ ReplyError → List ℕ → Entry
 reply_entry (Ok n) out = Replied (take n out)
 reply_entry (Err e) out = NotReplied e
@@ -31,16 +31,16 @@ abbrev pub marks_at : Result ℕ ReplyError → ℕ → TicketValues → Bool �
 marks_at (Ok n) i t own = reply_mark_at i t own
 marks_at (Err e) i t own = None
 
--- the ticket is of the present life that is kept there, if it is there (how the code is seen)
+-- the ticket is of the present life that is kept for its context, which is there (how the code is seen)
 abbrev pub IsPresentIn : (ℕ → Option Life) → TicketValues → Life → Type 0
 IsPresentIn lives t of = (lives t.context ≡ Some of) × (t.life ≡ of.count)
 
--- the life answers a reply by a ticket of these values: stale, or as it does (how the code is seen)
+-- the life's answer to a reply by a ticket with these values: a stale ticket, or what the life answers (how the code is seen)
 abbrev pub PlaceReply : Life → TicketValues → Bool → Parts → ℕ → Entry → Type 0
 PlaceReply of t own p room (NotReplied StaleTicket) = t.life ≡ of.count → ⊥
 PlaceReply of t own p room entry = (t.life ≡ of.count) × LifeReply of t.number own p room entry
 
--- the table answers a reply by a ticket of these values: stale, or as its life does (how the code is seen)
+-- the table's answer to a reply by a ticket with these values: a stale ticket, or what the ticket's life answers (how the code is seen)
 abbrev pub TableReply : (ℕ → Option Life) → TicketValues → Bool → Parts → ℕ → Entry → Type 0
 TableReply lives t own p room (NotReplied StaleTicket) = (of : Life) → IsPresentIn lives t of → ⊥
 TableReply lives t own p room entry = (of : Life) × IsPresentIn lives t of × LifeReply of t.number own p room entry

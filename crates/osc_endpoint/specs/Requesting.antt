@@ -7,14 +7,14 @@ use Rattle.osc_endpoint.specs.declared.client_outcome.RequestError.{RequestError
 use Rattle.osc_endpoint.specs.declared.client_outcome.RequestError.TheVariants.{NotThatKind, Unsupported, TooLong, NoRoom}
 use Rattle.osc_endpoint.specs.ClientHistory.{Entry, Sent, NotSent}
 
--- the refusal of a request that a refusal to seal becomes (own rule)
+-- the refusal of a request that follows from a refusal to seal (own rule)
 abbrev pub lifted : ProtectError → RequestError
 lifted protects.NotThatKind = NotThatKind
 lifted (protects.Unsupported n) = Unsupported n
 lifted protects.TooLong = TooLong
 lifted protects.NoRoom = NoRoom
 
--- the entry of a Request, whose number is known too (how the code is seen)
+-- the entry of a Request whose number is known too (how the code is seen)
 abbrev pub sent_entry : Result (Piv × ℕ) RequestError → List ℕ → Entry
 sent_entry (Ok r) out = Sent (take r.1 out)
 sent_entry (Err e) out = NotSent e

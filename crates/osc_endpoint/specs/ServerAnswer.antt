@@ -1,7 +1,7 @@
--- To be believed: what a server answers to each event, after a history (RFC 8613, 7.4, 8.2, 8.3 and B.1.2; RFC 9175, 2.3). The rows stand in
--- the order in which they are judged; each has its own condition, and that no earlier one holds. h is a history, d a datagram,
--- i the index of a context, n the number of a request, of the present life of that context, m a message, clock the moment with
--- the event's own in it, mid and echo what was handed in afresh.
+-- To be believed: what a server answers to each event, after a history (RFC 8613, 7.4, 8.2, 8.3 and B.1.2; RFC 9175, 2.3). The rows stand
+-- in the order in which they are checked; the condition of each row includes that no earlier row's condition holds. h is a history, d a
+-- datagram, i the index of a context, n the number of a request, `of` the present life of that context, m a message, clock the clock after
+-- the event's own moment, mid and echo the fresh values that were passed in.
 use Rattle.std.specs.Prelude.{◌≡◌, ◌≢◌, ℕ, ◌+◌, ◌<◌, ◌≤◌, ◌^◌, List, [], length, Bool, true, false, Option, Some, None, unwrap_or, max, if◌then◌else◌}
 use Rattle.osc_coap.specs.Datagram.{Parts, IsDatagram}
 use Rattle.osc_coap.specs.Fault.{HasFault}
@@ -22,17 +22,17 @@ use Rattle.osc_endpoint.specs.Replies.{SaysError, as_reply, challenge_message, u
 use Rattle.osc_endpoint.specs.Life.{Life, Passes, Admits, Carries, HasOwn, IsNewIn, is_open, in_force, next_own}
 use Rattle.osc_endpoint.specs.ServerHistory.{History, Event, Entry, Answer, TicketValues, Add, Datagram, Reply, Restart, Advance, Malformed, NotRequest, Plain, Undecodable, NoContext, Replay, BadTag, BadInner, Challenge, SequenceExhausted, Deliver, Added, NotAdded, Took, Replied, NotReplied, Restarted, NotRestarted, Advanced, clock, added, life}
 
--- its identifiers are as short as a nonce wants them, and differ (RFC 8613, 3.3)
+-- the context's identifiers are short enough for a nonce, and differ (RFC 8613, 3.3)
 pub record IsContext (s : SecurityContext) : Type 0 where
   pub client : length s.client ≤ 7
   pub server : length s.server ≤ 7
   pub differ : s.client ≢ s.server
 
--- a request for the one would be one for the other: the same client and the same ID Context, or none as well (RFC 8613, 3.3)
+-- a request for the one would also be one for the other: they have the same client, and the same ID Context or both none (RFC 8613, 3.3)
 abbrev pub HaveSameLookup : SecurityContext → SecurityContext → Type 0
 HaveSameLookup s t = (s.client ≡ t.client) × (s.id_context ≡ t.id_context)
 
--- a context is there that requests for this one would name too (RFC 8613, 3.3)
+-- requests for this context would also name one that is there (RFC 8613, 3.3)
 abbrev pub IsTaken : History → SecurityContext → Type 0
 IsTaken h s = (i : ℕ) × (of : Life) × (life h i ≡ Some of) × HaveSameLookup of.context s
 
@@ -55,14 +55,14 @@ abbrev pub NamesNone : History → List ℕ → Type 0
 NamesNone h d = (head : Head) × HasRequestHead d head
     × ((i : ℕ) (of : Life) → life h i ≡ Some of → (n : ℕ) → Names (requests of.context) head n → ⊥)
 
--- a datagram that came: the clock with its moment in it, the fresh Echo value and message ID, and its bytes (own rule)
+-- a datagram that arrived: the clock after the datagram's moment, the fresh Echo value and Message ID, and its bytes (own rule)
 pub record Arrival : Type 0 where
   pub clock : ℕ
   pub echo : List ℕ
   pub mid : ℕ
   pub bytes : List ℕ
 
--- a datagram that comes after a history (own rule)
+-- a datagram that arrives after a history (own rule)
 abbrev pub arrival : History → ℕ → List ℕ → ℕ → List ℕ → Arrival
 arrival h now echo mid d = record { clock = max (clock h) now; echo = echo; mid = mid; bytes = d }
 
@@ -74,11 +74,11 @@ IsReplay of n = (is_open of ≡ true) × (IsNewIn of n → ⊥)
 abbrev pub WantsEcho : Life → ℕ → ℕ → List ℕ → Type 0
 WantsEcho of n clock d = (is_open of ≡ false) × (m : InnerParts) × ProtectsRequest of.context n m d × (Carries (in_force of clock) m → ⊥)
 
--- the value in force once more, and when it was issued; where none is, the fresh one, now (RFC 9175, 2.3)
+-- the value in force once more, and when it was issued; if none is in force, the fresh value, issued now (RFC 9175, 2.3)
 abbrev pub challenge_given : Life → ℕ → List ℕ → List ℕ × ℕ
 challenge_given of clock echo = unwrap_or (in_force of clock) (echo, clock)
 
--- the reply is the challenge, sealed with the next own number (RFC 8613, 8.3; RFC 9175, 2.3)
+-- the reply is the challenge, sealed with the next own Sender Sequence Number (RFC 8613, 8.3; RFC 9175, 2.3)
 abbrev pub SaysChallenge : Life → ℕ → List ℕ → ℕ → List ℕ → List ℕ → Type 0
 SaysChallenge of n d mid echo reply = (p : Parts) × IsDatagram p d
     × SealsResponse of.context n (Some (next_own of)) (as_reply p.kind p.message_id p.token mid (challenge_message echo)) reply
@@ -100,7 +100,7 @@ MeetsLifeRow of i n a answer = ⊥
 abbrev pub MeetsNamedRow : History → Arrival → Answer → Type 0
 MeetsNamedRow h a answer = (i : ℕ) × (n : ℕ) × (of : Life) × IsRequestOf h a.bytes i n of × MeetsLifeRow of i n a answer
 
--- the condition of each row, whatever is replied (RFC 8613, 8.2 and B.1.2; own rule: the order)
+-- the condition of each row, whatever the reply (RFC 8613, 8.2 and B.1.2; own rule: the order)
 abbrev pub MeetsRow : History → Arrival → Answer → Type 0
 MeetsRow h a (Malformed fault place) = HasFault a.bytes fault place
 MeetsRow h a NotRequest = HasNoRequestHead a.bytes heads.NotThatKind
@@ -126,19 +126,19 @@ TakeAnswer h a answer reply = MeetsRow h a answer × SaysReply h a answer reply
 abbrev pub IsPresent : History → TicketValues → Life → Type 0
 IsPresent h ticket of = (life h ticket.context ≡ Some of) × (ticket.life ≡ of.count)
 
--- a fact of the ticket's life, which is the present one (own rule)
+-- a fact about the ticket's life, which is the present one (own rule)
 abbrev pub OfTicket : History → TicketValues → (Life → Type 0) → Type 0
 OfTicket h ticket P = (of : Life) × IsPresent h ticket of × P of
 
--- the number that a reply is sealed with: the next own number where it is asked for (RFC 8613, 8.3)
+-- the number that a reply is sealed with: the next own number if one is asked for (RFC 8613, 8.3)
 abbrev pub own_number : Bool → Life → Option ℕ
 own_number own of = if own then Some (next_own of) else None
 
--- an own number is left, where it is asked for (RFC 8613, 7.2.1)
+-- an own number is left, if one is asked for (RFC 8613, 7.2.1)
 abbrev pub HasAsked : Bool → Life → Type 0
 HasAsked own of = own ≡ true → HasOwn of
 
--- the answer of the ticket's life to Reply, row by row; p is the message under its head (RFC 8613, 8.3)
+-- the answer of the ticket's life to Reply, row by row; p is the message with the reply's head (RFC 8613, 8.3)
 abbrev pub LifeReply : Life → ℕ → Bool → Parts → ℕ → Entry → Type 0
 LifeReply of n own p room (NotReplied NotThatKind) = RefusesPlainResponse p seals.NotThatKind
 LifeReply of n own p room (NotReplied (Unsupported k)) = RefusesPlainResponse p (seals.Unsupported k)
@@ -153,7 +153,7 @@ abbrev pub ReplyAnswer : History → TicketValues → Bool → Parts → ℕ →
 ReplyAnswer h t own p room (NotReplied StaleTicket) = (of : Life) → IsPresent h t of → ⊥
 ReplyAnswer h t own p room entry = OfTicket h t (λ of. LifeReply of t.number own p room entry)
 
--- the answer to Restart, by the present life of the context, if it is there (own rule: 2 ^ 64 - 1 restarts)
+-- the answer to Restart, from the present life of the context, if it is there (own rule: 2 ^ 64 - 1 restarts)
 abbrev pub LifeRestart : Option Life → Entry → Type 0
 LifeRestart None (NotRestarted NoSuchContext) = Unit {0}
 LifeRestart (Some of) (NotRestarted LivesExhausted) = 2 ^ 64 ≤ of.count + 1

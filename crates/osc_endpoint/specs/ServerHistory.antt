@@ -1,5 +1,5 @@
 -- To be believed: the history of a server: what happened to it, each event with its entry. h is a history, i the index of a context, d a
--- datagram. Moments are milliseconds.
+-- datagram. Moments are in milliseconds.
 use Rattle.std.specs.Prelude.{ℕ, ◌+◌, ◌==◌, ◌&&◌, List, Bool, Option, Some, None, max, if◌then◌else◌}
 use Rattle.std.specs.Option.{option_map}
 use Rattle.osc_coap.specs.declared.message.Kind.{Kind}
@@ -23,7 +23,7 @@ pub record TicketValues : Type 0 where
   pub message_id : ℕ
   pub token : List ℕ
 
--- what happens to a server; room is the length of the buffer for a reply, Advance moves the clock alone (own rule)
+-- what happens to a server; room is the length of the buffer for a reply, Advance only moves the clock (own rule)
 pub data Event : Type 0 where
   Add : (context : SecurityContext) (start : Start) (size : WindowSize) → Event
   Datagram : (now : ℕ) (echo : List ℕ) (mid : ℕ) (bytes : List ℕ) → Event
@@ -31,7 +31,7 @@ pub data Event : Type 0 where
   Restart : (context next : ℕ) → Event
   Advance : (now : ℕ) → Event
 
--- what a datagram is answered; of a bad plaintext and a challenge also the context and number that the head names (own rule)
+-- the answer to a datagram; for a bad plaintext and a challenge it also has the context and number that the head names (own rule)
 pub data Answer : Type 0 where
   Malformed : (fault : Fault) (place : ℕ) → Answer
   NotRequest : Answer
@@ -45,7 +45,7 @@ pub data Answer : Type 0 where
   SequenceExhausted : Answer
   Deliver : (received : Received) (ticket : TicketValues) → Answer
 
--- what an event came to; reply has the bytes that are sent, none where there is no reply (own rule)
+-- the result of an event; reply has the bytes that are sent, and is empty if there is no reply (own rule)
 pub data Entry : Type 0 where
   Added : (index : ℕ) → Entry
   NotAdded : (refusal : AddError) → Entry
@@ -56,12 +56,12 @@ pub data Entry : Type 0 where
   NotRestarted : (refusal : RestartError) → Entry
   Advanced : Entry
 
--- a history: nothing yet, or one more event and its entry behind those before (own rule)
+-- a history: nothing yet, or one more event and its entry after those before (own rule)
 pub data History : Type 0 where
   Begin : History
   Then : (before : History) (event : Event) (entry : Entry) → History
 
--- the moment of an event, after which the clock can't lie before it (own rule)
+-- the clock after an event: the later of the clock before and the event's own moment, if it has one (own rule)
 abbrev pub clock_by : Event → ℕ → ℕ
 clock_by (Add context start size) before = before
 clock_by (Datagram now echo mid bytes) before = max before now
@@ -87,7 +87,7 @@ mark_at i (Challenge context number echo issued) = if i == context then Some (Ch
 mark_at i (Deliver received ticket) = if i == ticket.context then Some (Delivered ticket.number) else None
 mark_at i answer = None
 
--- what an accepted reply leaves there: with an own number, that one is used (RFC 8613, 7.2.1)
+-- what an accepted reply leaves there: if it has an own number, that number is used (RFC 8613, 7.2.1)
 abbrev pub reply_mark_at : ℕ → TicketValues → Bool → Option Mark
 reply_mark_at i ticket own = if own && (i == ticket.context) then Some Answered else None
 

@@ -1,5 +1,5 @@
--- To be believed: a run of a server: the log of its events, and the history that they add to. h and g are the histories before and after, ts
--- and us the tickets that the run has before and after, one place an event.
+-- To be believed: a run of a server: the log of its events, and the history that they add to. h and g are the histories before and after,
+-- ts and us the tickets that the run has before and after, one place for each event.
 use Rattle.std.specs.Prelude.{◌≡◌, ◌++◌, ◌∷◌, [], ℕ, List, Bool, Option, Some, None, Ok, Err, map, length, slice_get, slice_set}
 use Rattle.std.specs.Option.{option_and_then, option_map}
 use Rattle.osc_coap.specs.Datagram.{Parts, IsDatagram}
@@ -31,7 +31,7 @@ Logs seen.SequenceExhausted SequenceExhausted = Unit {0}
 Logs (seen.Deliver opened context number) (Deliver received ticket) = (received_of opened ≡ received) × (context ≡ ticket.context) × (number_of number ≡ ticket.number)
 Logs x answer = ⊥
 
--- the ticket that an answer gives, if it does (own rule)
+-- the ticket that an answer gives, if it gives one (own rule)
 abbrev pub ticket_of : Answer → Option TicketValues
 ticket_of (Deliver received ticket) = Some ticket
 ticket_of answer = None
@@ -40,11 +40,11 @@ ticket_of answer = None
 abbrev pub ticket_at : List (Option TicketValues) → ℕ → Option TicketValues
 ticket_at ts i = option_and_then (λ t. t) (slice_get ts i)
 
--- the server answers the event so, and the history goes on by both (own rule)
+-- the server answers the event with this entry, and the history continues with both (own rule)
 abbrev pub GoesOn : History → Event → Entry → History → Type 0
 GoesOn h event entry g = ServerAnswer h event entry × (g ≡ Then h event entry)
 
--- a reply by the ticket at this place; one that is accepted takes it (own rule)
+-- a reply by the ticket at this place; an accepted reply takes the ticket (own rule)
 abbrev pub ReplyStep : History → List (Option TicketValues) → ℕ → Bool → ℕ → List ℕ → ℕ → ServerEntry → History → List (Option TicketValues) → Type 0
 ReplyStep h ts of own mid plain room entries.NoTicket g us = (ticket_at ts of ≡ None) × (g ≡ h) × (us ≡ ts)
 ReplyStep h ts of own mid plain room (entries.BadPlain e) g us =
@@ -57,7 +57,7 @@ ReplyStep h ts of own mid plain room (entries.Replied (Err e)) g us =
     × GoesOn h (Reply t own mid p room) (NotReplied e) g × (us ≡ ts)
 ReplyStep h ts of own mid plain room entry g us = ⊥
 
--- one event, its entry, the history behind it, and the tickets, with a place more (own rule)
+-- one event, its entry, the history after it, and the tickets, with one more place (own rule)
 abbrev pub ServerRunStep : History → List (Option TicketValues) → ServerEvent → ServerEntry → History → List (Option TicketValues) → Type 0
 ServerRunStep h ts (events.Datagram a) (entries.Took x reply) g us =
     (answer : Answer) × Logs x answer

@@ -9,7 +9,7 @@ use Rattle.osc_endpoint.specs.declared.server_event.ServerEntry.TheVariants as e
 use Rattle.osc_endpoint.specs.ServerHistory.{History, Answer, TicketValues, Datagram, Restart, Took, Restarted, NotRestarted}
 use Rattle.osc_endpoint.specs.ServerRun.{GoesOn, Logs, ReplyStep, ticket_of}
 
--- the same without the place that each event adds to the tickets; o is the ticket that stands there (how the code is seen)
+-- a step of a run without the place that each event adds to the tickets; o is the ticket in that place (how the code is seen)
 abbrev pub Serves : History → List (Option TicketValues) → ServerEvent → ServerEntry → Option TicketValues → History → List (Option TicketValues) → Type 0
 Serves h ts (events.Datagram a) (entries.Took x reply) o g us =
     (answer : Answer) × Logs x answer

@@ -15,7 +15,7 @@ use Rattle.osc_endpoint.specs.Judging.{arrival_of, IsNamed, LifeAnswer}
 use Rattle.osc_endpoint.specs.Life.{Life, marked}
 use Rattle.osc_endpoint.specs.ServerHistory as server
 
--- a place with a context of this kid, and of this kid context or none (RFC 8613, 8.2)
+-- a place that has a context with this kid, and with this kid context or none (RFC 8613, 8.2)
 abbrev pub LooksUp : Option Slot → List ℕ → Option (List ℕ) → Type 0
 LooksUp None kid kid_context = ⊥
 LooksUp (Some s) kid kid_context = AnswersTo (as_server (context_of s.context)) kid kid_context
@@ -36,14 +36,14 @@ pub record FindsAt (contexts : ℕ → Option SecurityContext) (i : ℕ) (kid : 
   pub there : contexts i ≡ Some context
   pub answers : AnswersTo context kid kid_context
 
--- the head names the context at the request's index, and what is to be decrypted is of it (RFC 8613, 8.2)
+-- the head names the context at the request's index, and what has to be decrypted belongs to that head (RFC 8613, 8.2)
 pub record NamesAt (contexts : ℕ → Option SecurityContext) (r : Named) (d : List ℕ) : Type 0 where
   pub context : SecurityContext
   pub there : contexts r.index ≡ Some context
   pub named : IsNamed context (number_of r.number) d
   pub sealed : IsSealedRequest (requests context) d r.sealed
 
--- the answer is the one of the life that the request names, and the table stands as it leaves it (how the code is seen)
+-- the answer is that of the life that the request names, and the table is as the answer leaves it (how the code is seen)
 pub record TableJudges (lives : ℕ → Option Life) (r : Named) (d : List ℕ) (result : Decided) (new reply : List ℕ) (slots : List (Option Slot)) : Type 0 where
   pub of : Life
   pub life_is : lives r.index ≡ Some of

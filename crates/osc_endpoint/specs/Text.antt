@@ -1,4 +1,4 @@
--- To be believed: how refusals print, each by its name.
+-- To be believed: how refusals print, each as its name.
 use Rattle.std.specs.Prelude.{ℕ, List, ◌++◌, codes}
 use Rattle.std.specs.Fmt.{decimal}
 use Rattle.osc_endpoint.specs.declared.server_error.AddError.{AddError}
@@ -10,17 +10,17 @@ use Rattle.osc_endpoint.specs.declared.server_error.ReplyError.TheVariants.{Keep
 use Rattle.osc_endpoint.specs.declared.client_outcome.RequestError.{RequestError}
 use Rattle.osc_endpoint.specs.declared.client_outcome.RequestError.TheVariants as requests
 
--- a refusal to add a context, as it prints (own rule)
+-- how a refusal to add a context prints (own rule)
 abbrev pub add_error_text : AddError → List ℕ
 add_error_text Full = codes "Full"
 add_error_text SameLookup = codes "SameLookup"
 
--- a refusal to restart a context, as it prints (own rule)
+-- how a refusal to restart a context prints (own rule)
 abbrev pub restart_error_text : RestartError → List ℕ
 restart_error_text NoSuchContext = codes "NoSuchContext"
 restart_error_text LivesExhausted = codes "LivesExhausted"
 
--- a refusal to reply, as it prints, with the number of an option (own rule)
+-- how a refusal to reply prints, an unsupported option with its number (own rule)
 abbrev pub reply_error_text : ReplyError → List ℕ
 reply_error_text KeeperFailed = codes "KeeperFailed"
 reply_error_text StaleTicket = codes "StaleTicket"
@@ -30,7 +30,7 @@ reply_error_text SequenceExhausted = codes "SequenceExhausted"
 reply_error_text TooLong = codes "TooLong"
 reply_error_text NoRoom = codes "NoRoom"
 
--- a refusal to seal a request, as it prints, with the number of an option (own rule)
+-- how a refusal to seal a request prints, an unsupported option with its number (own rule)
 abbrev pub request_error_text : RequestError → List ℕ
 request_error_text requests.NotThatKind = codes "NotThatKind"
 request_error_text (requests.Unsupported n) = codes "Unsupported " ++ decimal n

@@ -1,4 +1,4 @@
--- How the code is seen: tickets, pending requests, outcomes and answers as numbers and lists, without where the bytes lie.
+-- How the code is seen: tickets, pending requests, outcomes and answers as numbers and lists, without saying where the bytes lie.
 use Rattle.std.specs.Prelude.{◌≡◌, ℕ, List, take, Option, Some, None, Result, Ok, Err}
 use Rattle.osc_coap.specs.Inner.{InnerParts}
 use Rattle.osc_context.specs.Views.{number_of}
@@ -28,7 +28,7 @@ values_of t = record { context = t.context; life = t.life; number = number_of t.
 abbrev pub received_of : Opened → Received
 received_of o = record { kind = o.kind; message_id = o.message_id; token = o.token.items; uri_host = shown o.uri_host; uri_port = shown o.uri_port; number = opened_number o; message = message_of o }
 
--- the outcome shows this answer: all of it but the context and number of a bad plaintext and of a challenge (how the code is seen)
+-- the outcome shows this answer: all of it except the context and number of a bad plaintext and of a challenge (how the code is seen)
 abbrev pub Shows : Outcome → server.Answer → Type 0
 Shows (outcomes.Malformed e) (server.Malformed fault place) = (e.fault ≡ fault) × (e.place ≡ place)
 Shows outcomes.NotRequest server.NotRequest = Unit {0}
@@ -43,12 +43,12 @@ Shows outcomes.SequenceExhausted server.SequenceExhausted = Unit {0}
 Shows (outcomes.Deliver o t) (server.Deliver received ticket) = (received_of o ≡ received) × (values_of t ≡ ticket)
 Shows outcome answer = ⊥
 
--- context, number and message of a delivery, if it is one (how the code is seen)
+-- the context, number and message of an outcome, if it is a delivery (how the code is seen)
 abbrev pub delivery_of : Outcome → Option (ℕ × ℕ × InnerParts)
 delivery_of (outcomes.Deliver o t) = Some (t.context, number_of t.number, message_of o)
 delivery_of outcome = None
 
--- the same of what a log shows of an answer (how the code is seen)
+-- the same for what a log shows of an answer (how the code is seen)
 abbrev pub seen_delivery : Seen → Option (ℕ × ℕ × InnerParts)
 seen_delivery (seen.Deliver opened context number) = Some (context, number_of number, message_of opened)
 seen_delivery x = None
@@ -63,7 +63,7 @@ abbrev pub restarted_entry : Result Unit RestartError → server.Entry
 restarted_entry (Ok x) = server.Restarted
 restarted_entry (Err e) = server.NotRestarted e
 
--- the entry of a call of the server, which hands the ticket of a refused reply back (how the code is seen)
+-- the entry of a reply by the server, which returns the ticket of a refused reply (how the code is seen)
 abbrev pub server_entry : Result ℕ (ReplyError × Ticket) → List ℕ → server.Entry
 server_entry (Ok n) out = server.Replied (take n out)
 server_entry (Err e) out = server.NotReplied e.0
@@ -84,12 +84,12 @@ ClientShows client_outcomes.BadInner client.BadInner = Unit {0}
 ClientShows (client_outcomes.Deliver o piv) (client.Deliver received number) = (received_of o ≡ received) × (number_of piv ≡ number)
 ClientShows outcome answer = ⊥
 
--- the request's number, the response's own number or none, and the message of a delivery, if it is one (how the code is seen)
+-- the request's number, the response's own number or none, and the message of an outcome, if it is a delivery (how the code is seen)
 abbrev pub client_delivery_of : ClientOutcome → Option (ℕ × Option ℕ × InnerParts)
 client_delivery_of (client_outcomes.Deliver o piv) = Some (number_of piv, opened_number o, message_of o)
 client_delivery_of outcome = None
 
--- the entry of a Request, whose text stands at the front of the buffer (how the code is seen)
+-- the entry of a Request whose text stands at the front of the buffer (how the code is seen)
 abbrev pub request_entry : Result ℕ RequestError → List ℕ → client.Entry
 request_entry (Ok n) out = client.Sent (take n out)
 request_entry (Err e) out = client.NotSent e

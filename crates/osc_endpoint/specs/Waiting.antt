@@ -1,19 +1,19 @@
 -- To be believed: which requests a server still has to answer, whatever ticket its caller shows: tickets may be copied or altered. h is a
--- history, i the index of a context, c the count of its lives before one, n the number of a request.
+-- history, i the index of a context, c how many lives the context had before a given one, n the number of a request.
 use Rattle.std.specs.Prelude.{◌≡◌, ℕ, ◌+◌, ◌≤◌, ◌==◌, ◌&&◌, Bool, true, false, not, nat_le, Some, if◌then◌else◌}
 use Rattle.osc_endpoint.specs.Laws.{AllAnswers, AreApart, HaveTwoNonces, Pairwise, answered, texts}
 use Rattle.osc_endpoint.specs.Life.{Life}
 use Rattle.osc_endpoint.specs.ServerHistory.{History, Begin, Then, TicketValues, Datagram, Reply, Deliver, Took, Replied, life}
 
--- the ticket is one to this request (RFC 8613, 8.3)
+-- the ticket is for this request (RFC 8613, 8.3)
 abbrev pub is_to : ℕ → ℕ → ℕ → TicketValues → Bool
 is_to i c n t = (i == t.context) && ((c == t.life) && (n == t.number))
 
--- the ticket is one to a request of the same life with a number that is 64 or more above (own rule: 64)
+-- the ticket is for a request of the same life whose number is higher by 64 or more (own rule: 64)
 abbrev pub is_far_above : ℕ → ℕ → ℕ → TicketValues → Bool
 is_far_above i c n t = (i == t.context) && ((c == t.life) && nat_le (n + 64) t.number)
 
--- the request waits for its answer: it was delivered, isn't answered yet, and no number 64 or more above was delivered since (own rule: 64)
+-- the request waits for its answer: it was delivered, isn't answered yet, and no number higher by 64 or more was delivered since (own rule: 64)
 abbrev pub waits : History → ℕ → ℕ → ℕ → Bool
 waits Begin i c n = false
 waits (Then h (Datagram now echo mid d) (Took (Deliver received ticket) reply)) i c n = if is_to i c n ticket then true else (waits h i c n && not (is_far_above i c n ticket))
@@ -26,11 +26,11 @@ AnswersWaiting Begin = Unit {0}
 AnswersWaiting (Then h (Reply ticket own mid plain room) (Replied bytes)) = AnswersWaiting h × (waits h ticket.context ticket.life ticket.number ≡ true)
 AnswersWaiting (Then h event entry) = AnswersWaiting h
 
--- then each request is answered once at most (RFC 8613, 8.3)
+-- if so, each request is answered at most once (RFC 8613, 8.3)
 abbrev pub AnsweredOnce : Type 0
 AnsweredOnce = (h : History) → AllAnswers h → AnswersWaiting h → Pairwise AreApart (answered h)
 
--- and no two texts that the server seals in one life under one context share a nonce (RFC 8613, 5.2)
+-- if so, no two texts that the server seals in one life under one context share a nonce (RFC 8613, 5.2)
 abbrev pub WaitingNoncesOnce : Type 0
 WaitingNoncesOnce = (h : History) → AllAnswers h → AnswersWaiting h → Pairwise HaveTwoNonces (texts h)
 

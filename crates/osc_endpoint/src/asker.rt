@@ -1,10 +1,10 @@
-//! Whom a reply goes to.
+//! The requester that a reply goes to.
 
 ghost use Rattle.std.specs.Prelude.{◌≡◌};
 
 use osc_coap::{Kind, Message, Token};
 
-/// The same token once more.
+/// Returns a copy of the token.
 pub(crate) fn copy_of(token: &Token) -> Token
     ensures { result.items ≡ token.now.items }
 {
@@ -25,7 +25,7 @@ impl Asker {
     ghost use Rattle.osc_coap.specs.Views.{parts_of};
     ghost use Rattle.osc_endpoint.specs.Replies.{reply_kind, reply_id};
 
-    /// Whom a reply to this message goes to.
+    /// Returns the requester that a reply to this message goes to.
     pub(crate) fn of(message: Message<'_>) -> Asker
         ensures kind { result.kind ≡ (parts_of message.entry).kind }
         ensures message_id { result.message_id ≡ (parts_of message.entry).message_id }
@@ -38,14 +38,14 @@ impl Asker {
         }
     }
 
-    /// A copy of the token.
+    /// Returns a copy of the token.
     pub(crate) fn token(&self) -> Token
         ensures { result.items ≡ self.now.token.items }
     {
         copy_of(&self.token)
     }
 
-    /// A reply to a CON is an ACK, one to a NON a NON (RFC 7252, 5.2).
+    /// Returns the Type of a reply: ACK to a CON, NON to a NON (RFC 7252, 5.2).
     pub(crate) fn reply_kind(&self) -> Kind
         ensures { result ≡ reply_kind self.now.kind }
     {
@@ -55,7 +55,7 @@ impl Asker {
         }
     }
 
-    /// An ACK has the request's message ID, a NON the one that is handed in (RFC 7252, 4.2 and 4.3).
+    /// Returns the Message ID of a reply: an ACK has the request's, a NON has the one passed in (RFC 7252, 4.2 and 4.3).
     pub(crate) fn reply_id(&self, mid: u16) -> u16
         ensures { result ≡ reply_id self.now.kind self.now.message_id mid }
     {

@@ -16,17 +16,17 @@ use osc_protect::{KeyedContext, RequestRef};
 /// The code of a challenge, 4.01 (RFC 9175, 2.3).
 const UNAUTHORIZED: u8 = 0x81;
 
-/// Room for the plain message: head, token, and the Echo option with its two bytes in front of the value.
+/// Room for the plain message: the head, the token, and the Echo option with two bytes in front of its value.
 const PLAIN_ROOM: usize = 4 + 8 + 2 + 8;
 
-/// Writes the plain message, and answers how long it is.
+/// Writes the plain message, and returns its length.
 fn write_plain(asker: &Asker, mid: u16, echo: &[u8; 8], plain: &mut [u8; 22]) -> usize
     ensures written { IsDatagram (as_reply asker.now.kind asker.now.message_id asker.now.token.items mid
         (challenge_message echo.now)) (take result plain.new) }
     ensures within { result ≤ 22 }
 {
     let (kind, id) = (asker.reply_kind(), asker.reply_id(mid));
-    // A head has room: its length is told by its token's.
+    // The head has room: its length follows from the length of its token.
     let _ = head_len(&asker.token);
     let mut writer = Writer::begin(plain, kind, UNAUTHORIZED, id, &asker.token);
     let Ok(()) = writer.option(ECHO, echo.as_slice()) else {
@@ -35,7 +35,7 @@ fn write_plain(asker: &Asker, mid: u16, echo: &[u8; 8], plain: &mut [u8; 22]) ->
     writer.finish()
 }
 
-/// Seals the challenge with an own number into the front of `out`, and answers how long it is.
+/// Seals the challenge with an own Partial IV at the front of `out`, and returns its length.
 pub(crate) fn write_challenge(
     context: &KeyedContext,
     request: Piv,
@@ -54,7 +54,7 @@ pub(crate) fn write_challenge(
     one_datagram();
     one_option_value();
     let mut plain = [0; PLAIN_ROOM];
-    // The token has at most 8 bytes, so the whole has room.
+    // The token has at most 8 bytes, so the whole message has room.
     let _ = head_len(&asker.token);
     let len = write_plain(asker, mid, echo, &mut plain);
     let Ok(message) = parse(&plain[..len]) else {

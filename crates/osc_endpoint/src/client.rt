@@ -8,14 +8,14 @@ use arrayvec::ArrayVec;
 use osc_context::{Context, Piv};
 use osc_protect::KeyedContext;
 
-/// A client of one context, with room for N pending requests. It has no socket and no clock: datagrams and moments in
-/// milliseconds are handed in.
+/// A client of one context, with room for N pending requests. It has no socket and no clock: you pass in datagrams and timestamps in
+/// milliseconds.
 #[derive(Drop)]
 pub struct Client<const N: usize> {
     pub(crate) context: KeyedContext,
     pub(crate) life_ms: u64,
     pub(crate) clock: u64,
-    // The next number, or the limit where none is left.
+    // The next Sender Sequence Number, or the limit if none is left.
     pub(crate) next: u64,
     pub(crate) pending: ArrayVec<Pending, N>,
     pub ghost in_range: { next ≤ 2 ^ 40 },
@@ -26,7 +26,7 @@ impl<const N: usize> Client<N> {
     ghost use Rattle.osc_endpoint.specs.ClientAnswer.{ClientAnswer};
     ghost use Rattle.osc_endpoint.specs.ClientHistory.{History, New, Then, Advance, Advanced, Forget, Forgot, Restart, Restarted};
 
-    /// A client with nothing pending, whose requests are pending for so many milliseconds and no longer.
+    /// Makes a client with nothing pending. Its requests are pending for `life_ms` milliseconds and no longer.
     #[must_use]
     pub fn new(context: Context, next: Piv, life_ms: u64) -> Client<N>
         ensures { ClientAgrees result (New (as_client context) (number_of next) life_ms) }
@@ -40,7 +40,7 @@ impl<const N: usize> Client<N> {
         }
     }
 
-    /// Drops every pending request, and goes on at a number. The clock stays.
+    /// Drops every pending request, and continues with `next` as the next Sender Sequence Number. The clock doesn't change.
     pub fn restart(&mut self, next: Piv)
         ensures { (h : History) → ClientAgrees self.old h → ClientAgrees self.new (Then h (Restart (number_of next)) Restarted) }
     {
@@ -48,7 +48,7 @@ impl<const N: usize> Client<N> {
         self.pending.clear();
     }
 
-    /// Moves the clock to a moment in milliseconds, where that is later, and drops the requests whose time has passed.
+    /// Moves the clock to `now`, in milliseconds, if that is later. Drops the requests whose time has passed.
     pub fn advance(&mut self, now: u64)
         ensures follows { (h : History) → ClientAgrees self.old h → ClientAgrees self.new (Then h (Advance now) Advanced) }
         ensures apart { HasTokensApart self.old → HasTokensApart self.new }
@@ -57,7 +57,7 @@ impl<const N: usize> Client<N> {
         drop_expired(&mut self.pending, self.clock, self.life_ms);
     }
 
-    /// Waits no more for the response to the request of a token, and answers whether it was pending.
+    /// Stops waiting for the response to the request with this token. Returns whether the token was pending.
     pub fn forget(&mut self, token: &[u8]) -> bool
         ensures answered { (h : History) → ClientAgrees self.old h → ClientAnswer N h (Forget token.now) (Forgot result) }
         ensures follows { (h : History) → ClientAgrees self.old h → ClientAgrees self.new (Then h (Forget token.now) (Forgot result)) }

@@ -6,24 +6,25 @@ use osc_protect::Opened;
 use std::error::Error;
 use std::fmt;
 
-/// Why a request isn't sealed, in the order in which it is judged.
+/// Why a request isn't sealed. The variants stand in the order in which they are checked, except that `KeeperFailed` comes before all
+/// others.
 #[derive(Clone, Copy, Debug, PartialEq, Eq)]
 pub enum RequestError {
     /// The message is not CON or NON with a request code.
     NotThatKind,
-    /// It has an option that can't be sealed: the lowest such number; own rule.
+    /// The message has an option that can't be sealed. The value is the lowest number of such an option; own rule.
     Unsupported(u16),
     /// A request with this token is pending.
     TokenInUse,
-    /// As many requests are pending as the client has room for; own rule.
+    /// The client has as many pending requests as it has room for; own rule.
     PendingFull,
-    /// No number is left.
+    /// No Sender Sequence Number is left.
     SequenceExhausted,
     /// The request would have more than 65,535 bytes; own rule.
     TooLong,
-    /// It would have more bytes than the buffer.
+    /// The request would have more bytes than the buffer.
     NoRoom,
-    /// A keeper of numbers failed, before anything was judged: never the answer of a `Client`.
+    /// A keeper of numbers failed, before anything was checked. A `Client` never returns this.
     KeeperFailed,
 }
 
@@ -49,10 +50,10 @@ impl fmt::Display for RequestError {
 
 impl Error for RequestError {}
 
-/// What a client makes of a datagram: the first of these whose condition holds.
+/// What a client makes of a datagram: the first of these variants whose condition holds.
 #[derive(Debug, Drop)]
 pub enum ClientOutcome<'b> {
-    /// The bytes are no CoAP message.
+    /// The bytes aren't a CoAP message.
     Malformed(FormatError),
     /// The message is not CON, NON or ACK with a response code.
     NotResponse,
@@ -60,12 +61,12 @@ pub enum ClientOutcome<'b> {
     UnknownToken,
     /// There is no OSCORE option.
     Unprotected,
-    /// The OSCORE option can't be used, or there is no payload, or an option for proxies.
+    /// The OSCORE option can't be used, or there is no payload, or there is an option for proxies.
     Undecodable,
-    /// The payload is the protection of no plaintext as a response to the pending request.
+    /// The payload protects no plaintext as a response to the pending request.
     BadTag,
-    /// The plaintext is no response that may stand inside.
+    /// The plaintext isn't a response that may stand inside the protection.
     BadInner,
-    /// The response is delivered, with the number of its request, which is pending no more.
+    /// The response is delivered, with the number of its request. That request is no longer pending.
     Deliver(Opened<'b>, Piv),
 }

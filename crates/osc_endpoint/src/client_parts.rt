@@ -1,4 +1,4 @@
-//! A client of plain values, and the values of a client, for a caller who keeps them elsewhere between two calls.
+//! Makes a client from plain values, and returns the values of a client, for a caller that keeps them elsewhere between two calls.
 
 ghost use Rattle.std.specs.Prelude.{◌≡◌, ◌≤◌, ◌<◌, ◌^◌, ◌++◌, ◌∷◌, [], length, map};
 ghost use Rattle.osc_context.specs.Views.{as_client};
@@ -14,8 +14,8 @@ use osc_protect::KeyedContext;
 impl<const N: usize> Client<N> {
     ghost use Rattle.osc_endpoint.specs.Agrees.{client_parts, next_of};
 
-    /// The client that has these values and nothing pending, without a next number where none is left. It keeps no key schedule: each
-    /// call makes the one that it needs.
+    /// Makes the client that has these values and nothing pending. If no next number is left, `next` is `None`. It keeps no key schedule:
+    /// each call makes the one that it needs.
     #[doc(hidden)]
     #[must_use]
     pub fn resumed(context: Context, life_ms: u64, clock: u64, next: Option<Piv>) -> Client<N>
@@ -33,7 +33,7 @@ impl<const N: usize> Client<N> {
         }
     }
 
-    /// Puts a request that was sealed before at the end of the table. No request of its token may be there.
+    /// Puts a request that was sealed before at the end of the table. The table may not hold a request with the same token.
     #[doc(hidden)]
     pub fn remember(&mut self, request: Pending)
         requires { length (client_parts self.old).pending < N }
@@ -42,7 +42,7 @@ impl<const N: usize> Client<N> {
         self.pending.push(request);
     }
 
-    /// The clock: the greatest moment so far, in milliseconds.
+    /// Returns the clock: the greatest timestamp so far, in milliseconds.
     #[doc(hidden)]
     #[must_use]
     pub fn clock(&self) -> u64
@@ -51,7 +51,7 @@ impl<const N: usize> Client<N> {
         self.clock
     }
 
-    /// The number of the next request, or the limit, 2^40, where none is left.
+    /// Returns the Sender Sequence Number of the next request, or the limit, 2^40, if none is left.
     #[doc(hidden)]
     #[must_use]
     pub fn next(&self) -> u64
@@ -61,7 +61,7 @@ impl<const N: usize> Client<N> {
         self.next
     }
 
-    /// The requests in the table, oldest first.
+    /// Returns the requests in the table, oldest first.
     #[doc(hidden)]
     #[must_use]
     pub fn pending(&self) -> &[Pending]

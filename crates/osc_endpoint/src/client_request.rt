@@ -15,7 +15,7 @@ use osc_coap::Message;
 use osc_context::Piv;
 use osc_protect::{ProtectError, check_request};
 
-/// The refusal of a request that a refusal to seal becomes.
+/// Turns a refusal to seal into the refusal of a request.
 fn lift(error: ProtectError) -> RequestError
     ensures value { result ≡ lifted error }
     ensures no_keeper_failed { result ≢ KeeperFailed }
@@ -35,7 +35,7 @@ impl<const N: usize> Client<N> {
     ghost use Rattle.osc_endpoint.specs.Requesting.{sent_entry};
     ghost use Rattle.osc_endpoint.specs.Views.{request_entry};
 
-    /// The number of a request that is sealed now, or why there is none, whatever the room for it.
+    /// Returns the Sender Sequence Number of a request that is sealed now, or why there is none, whatever the room for the request.
     fn number_for(&self, plain: &Message<'_>) -> Result<Piv, RequestError>
         ensures accepted { IfOk result (λ number. (h : History) → ClientAgrees self.now h
             → CanAsk N h (clock h) (parts_of plain.now) × (number_of number ≡ next h)) }
@@ -60,7 +60,7 @@ impl<const N: usize> Client<N> {
         }
     }
 
-    /// As `request`, but answers the number of the request too.
+    /// Does what `request` does, and returns the number of the request too.
     pub(crate) fn send(
         &mut self,
         now: u64,
@@ -98,9 +98,9 @@ impl<const N: usize> Client<N> {
         }
     }
 
-    /// Seals a request with the next number into `out`, and answers how many bytes at its front it takes (RFC 8613, 8.1). Its
-    /// token is pending from then on. The first refusal in the order of `RequestError` is answered: it leaves `out`, and of
-    /// the client it changes what `advance` does.
+    /// Seals a request with the next Sender Sequence Number into `out`, and returns how many bytes it takes at the front of `out` (RFC
+    /// 8613, 8.1). The request's token is pending from then on. Returns the first refusal in the order of `RequestError`. A refusal leaves
+    /// `out` unchanged, and changes the client only as `advance` does.
     pub fn request(
         &mut self,
         now: u64,

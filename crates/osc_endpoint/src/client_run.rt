@@ -1,4 +1,4 @@
-//! A client over a list of events.
+//! Runs a client over a list of events.
 
 ghost use Rattle.std.specs.Prelude.{◌≡◌, ◌<◌, [], length, take, drop, vec_len, OnOk, OnErr};
 ghost use Rattle.osc_endpoint.specs.Agrees.{ClientAgrees};
@@ -11,7 +11,7 @@ use osc_coap::parse;
 use std::alloc::{AllocError, Global};
 use std::mem;
 
-/// A request, whose entry borrows from the room for it. One that is no message moves the clock alone.
+/// Runs a request, whose entry borrows from the room for it. If the request isn't a message, this moves the clock alone.
 fn run_request<'a, const N: usize>(
     client: &mut Client<N>,
     now: u64,
@@ -37,7 +37,7 @@ fn run_request<'a, const N: usize>(
     }
 }
 
-/// One event, whose entry borrows from it.
+/// Runs one event, whose entry borrows from it.
 fn run_event<'a, const N: usize>(
     client: &mut Client<N>,
     event: &'a mut ClientEvent,
@@ -56,9 +56,9 @@ fn run_event<'a, const N: usize>(
     }
 }
 
-/// Runs a client over events: the log gets the entry of each, at the event's index. The entries borrow from the events. It
-/// stops early only where memory for an entry was refused: then the log has the entries of the events before, and `events` is
-/// what is left of them, as it came. `alloc` is there as [`crate::run_server_on`] has it, for tickets: a client keeps none.
+/// Runs a client over events. The log gets the entry of each event, at the event's index. The entries borrow from the events. The run stops
+/// early only if memory for an entry is refused. In that case the log has the entries of the events before, and `events` is what is left of
+/// them, as it was passed in. `alloc` is here because [`crate::run_server_on`] has it, for tickets: a client keeps none.
 pub fn run_client_on<'a, const N: usize>(
     alloc: Global,
     client: &mut Client<N>,
@@ -87,7 +87,7 @@ pub fn run_client_on<'a, const N: usize>(
     Ok(())
 }
 
-/// Runs a client over events, as [`run_client_on`] does; what is left of them isn't handed back.
+/// Runs a client over events, as [`run_client_on`] does. It doesn't return what is left of them.
 pub fn run_client<'a, const N: usize>(
     alloc: Global,
     client: &mut Client<N>,

@@ -1,5 +1,4 @@
-//! What a client makes of a datagram: it decides, and says what it leaves in the datagram, of which what was decided lends
-//! slices.
+//! What a client makes of a datagram. It decides, and says what it leaves in the datagram. The decision lends slices of what is left.
 
 ghost use Rattle.std.specs.Prelude.{◌≡◌, ◌<◌, ℕ, Option, Some, IfOk, IfErr, OnOk};
 ghost use Rattle.arrayvec.specs.ArrayVec.{array_vec_len};
@@ -17,8 +16,8 @@ use osc_protect::{
 };
 
 impl ClientDecision {
-    /// What was decided, as an outcome, which lends slices of the datagram: that of `take`. The datagram is as `Client::decide`
-    /// left it, and the decision the one that it gave. Nothing is read anew.
+    /// Returns the decision as an outcome that lends slices of the datagram, as `take` returns it. Call this on the decision that
+    /// `Client::decide` returned, and pass in the datagram as that call left it. Nothing is read again.
     #[must_use]
     pub fn outcome(self, datagram: &[u8]) -> ClientOutcome<'_>
         requires { CanShow self datagram.now }
@@ -50,8 +49,8 @@ impl<const N: usize> Client<N> {
     ghost use Rattle.osc_endpoint.specs.Views.{client_delivery_of};
     ghost use Rattle.osc_endpoint.specs.declared.client_outcome.ClientOutcome.{ClientOutcome as OutcomeOf};
 
-    /// Decrypts a response to a pending request where it lies, and says which request that is: all of `decide` that comes before
-    /// the plaintext is read. Kind, token and OSCORE option are asked in this order.
+    /// Decrypts a response to a pending request in place, and returns which request that is. This is all of `decide` that comes before the
+    /// plaintext is read. It checks Type, token and OSCORE option in this order.
     fn decrypt(
         &mut self,
         now: u64,
@@ -94,13 +93,13 @@ impl<const N: usize> Client<N> {
         Ok((decrypted, found))
     }
 
-    /// Decides what a datagram is answered, where it lies (RFC 8613, 8.4), and says what it leaves in it. Apart from time, only a
-    /// delivery ends a pending request; the message ID isn't compared. `ClientDecision::outcome` lends what was delivered.
+    /// Decides the answer to a datagram in place (RFC 8613, 8.4), and says what it leaves in the datagram. Apart from time, only a delivery
+    /// ends a pending request. The Message ID isn't compared. `ClientDecision::outcome` lends what was delivered.
     pub fn decide(&mut self, now: u64, datagram: &mut [u8]) -> ClientDecision
         ensures answered { (h : History) → ClientAgrees self.old h → ClientDecidesTo h now datagram.old result datagram.new self.new }
         ensures shown { CanShow result datagram.new }
         ensures left { LeavesBy self.old result datagram.old datagram.new }
-        // What `ClientDecision::outcome` makes of it is a delivery exactly if the datagram as it came is one.
+        // `ClientDecision::outcome` returns a delivery if and only if the datagram that was passed in is to be delivered.
         ensures delivered { (h : History) (n : ℕ) (own : Option ℕ) (m : InnerParts) (outcome : OutcomeOf) → ClientAgrees self.old h
             → ClientShowsDecided result datagram.new outcome → client_delivery_of outcome ≡ Some (n, own, m) → Delivers h now datagram.old n own m }
         ensures delivers { (h : History) (n : ℕ) (own : Option ℕ) (m : InnerParts) (outcome : OutcomeOf) → ClientAgrees self.old h
@@ -112,7 +111,7 @@ impl<const N: usize> Client<N> {
         self.decide_forward(now, datagram)
     }
 
-    /// Decides what a datagram is answered.
+    /// Decides the answer to a datagram.
     fn decide_forward(&mut self, now: u64, datagram: &mut [u8]) -> ClientDecision
         ensures answered { (h : History) → ClientAgrees self.old h → ClientDecidesTo h now datagram.old result datagram.new self.new }
         ensures shown { CanShow result datagram.new }
@@ -132,8 +131,8 @@ impl<const N: usize> Client<N> {
         ClientDecision::Deliver(read, found.number)
     }
 
-    /// Answers a datagram, where it lies (RFC 8613, 8.4): `decide`, and what was decided as an outcome. What the datagram holds
-    /// afterwards is what `decide` says.
+    /// Takes a datagram in place (RFC 8613, 8.4): calls `decide`, and returns the decision as an outcome. `decide` says what the datagram
+    /// holds afterwards.
     pub fn take<'b>(&mut self, now: u64, datagram: &'b mut [u8]) -> ClientOutcome<'b>
         ensures answered { (h : History) → ClientAgrees self.old h → ClientTakes h now datagram.old result self.new }
         ensures delivered { (h : History) (n : ℕ) (own : Option ℕ) (m : InnerParts) → ClientAgrees self.old h

@@ -17,8 +17,8 @@ use crate::slot::Slot;
 use crate::table;
 use arrayvec::ArrayVec;
 
-/// A table of contexts, wherever it lies. Its places and the context at each clauses alone read; so they do whether its bytes are
-/// such a table at all.
+/// A table of contexts, wherever it lies. Only clauses read its places and the context at each place, and whether its bytes are such a
+/// table at all.
 pub trait Contexts {
     ghost is_table: { Self → Type 0 };
 
@@ -26,13 +26,13 @@ pub trait Contexts {
 
     ghost context_at: { Self → ℕ → Option SecurityContext };
 
-    /// The index of the context that has this kid, and this kid context or none.
+    /// Returns the index of the context that has this kid, and this kid context or none.
     fn find(&self, kid: &[u8], kid_context: Option<&[u8]>) -> Option<usize>
         requires { is_table self.now }
         ensures found { IfSome result (λ i. FindsAt (context_at self.now) i kid.now (shown kid_context.entry)) }
         ensures none { IfNone result ((i : ℕ) → FindsAt (context_at self.now) i kid.now (shown kid_context.entry) → ⊥) };
 
-    /// Answers a request that names the context at its index.
+    /// Processes a request that names the context at its index.
     fn judge_at(&mut self, request: Named, datagram: &mut [u8], out: &mut [u8; 64]) -> Decided
         requires table { is_table self.old }
         requires named { NamesAt (context_at self.old) request datagram.old }

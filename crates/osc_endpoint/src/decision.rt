@@ -1,11 +1,11 @@
-//! What a server, or a client, decided of a datagram, before it lends slices of it.
+//! What a server or a client decided about a datagram, before it lends slices of the datagram.
 
 use crate::ticket::Ticket;
 use osc_coap::FormatError;
 use osc_context::Piv;
 use osc_protect::{ReadRequest, ReadResponse};
 
-/// What a server decided of a datagram: an outcome, but of a delivery where the parts of its message lie.
+/// What a server decided about a datagram: an outcome, except that a delivery says where the parts of its message lie.
 #[derive(Debug, Drop)]
 pub enum Decision {
     Malformed(FormatError),
@@ -21,14 +21,14 @@ pub enum Decision {
     Deliver(ReadRequest, Ticket),
 }
 
-/// What a server decided, and how many bytes of reply stand at the front of `out`; none where it is 0.
+/// What a server decided, and how many bytes of reply stand at the front of `out`. There is no reply if that is 0.
 #[derive(Debug, Drop)]
 pub struct Decided {
     pub decision: Decision,
     pub reply: usize,
 }
 
-/// What a client decided of a datagram: an outcome, but of a delivery where the parts of its message lie.
+/// What a client decided about a datagram: an outcome, except that a delivery says where the parts of its message lie.
 #[derive(Debug, Drop)]
 pub enum ClientDecision {
     Malformed(FormatError),

@@ -8,7 +8,7 @@ ghost use Rattle.osc_coap.specs.Views.{options_left};
 use osc_coap::Options;
 use osc_coap::option_numbers::ECHO;
 
-/// Whether the first Echo option has this value.
+/// Returns whether the first Echo option has this value.
 pub(crate) fn carries(options: &Options<'_>, echo: &[u8; 8]) -> bool
     ensures yes { result ≡ true → first_of (values_at echo_number (options_left options.now)) ≡ Some echo.now }
     ensures no { result ≡ false → first_of (values_at echo_number (options_left options.now)) ≢ Some echo.now }

@@ -1,4 +1,4 @@
-//! How a context judges a request that names it, from the window on.
+//! How a context processes a request that names it, from the check of the window on.
 
 ghost use Rattle.std.specs.Prelude.{◌≡◌, ◌≤◌, ℕ, List, Option, Some, slice_get, take, drop, true, false};
 ghost use Rattle.osc_endpoint.specs.Agrees.{SlotAgrees};
@@ -27,8 +27,8 @@ use osc_protect::{
 };
 use osc_window::Gate;
 
-/// A request that names a context: its index, its number, what is handed in with it, whom a reply goes to, and what is to be
-/// decrypted.
+/// A request that names a context: the context's index, the request's number, what is passed in with it, the requester that a reply goes
+/// to, and what has to be decrypted.
 #[derive(Drop)]
 pub struct Named {
     pub index: usize,
@@ -39,7 +39,7 @@ pub struct Named {
     pub(crate) sealed: SealedRequest,
 }
 
-/// Whether the gate is open and the number isn't new.
+/// Returns whether the gate is open and the number isn't new.
 #[must_use]
 pub fn is_replay(gate: &Gate, number: Piv) -> bool
     ensures yes { result ≡ true → GateRefuses gate.now (number_of number) }
@@ -71,7 +71,7 @@ impl Slot {
     ghost use Rattle.osc_endpoint.specs.Deciding.{IsOpenedIn};
     ghost use Rattle.osc_endpoint.specs.Judging.{IsNamed, RefusesEcho};
 
-    /// Answers a request that doesn't carry the challenge in force: by one, where an own number is left.
+    /// Answers a request that doesn't carry the challenge in force. The answer is a challenge, if an own Sender Sequence Number is left.
     fn demand(&mut self, request: &Named, out: &mut [u8; 64]) -> Decided
         requires { is_open_gate self.old.gate ≡ false }
         ensures context { self.new.context ≡ self.old.context }
@@ -106,7 +106,7 @@ impl Slot {
         }
     }
 
-    /// Whether the gate is open, or the request that was read carries the challenge in force.
+    /// Returns whether the gate is open, or the request that was read carries the challenge in force.
     fn admits_read(&self, clock: u64, datagram: &[u8], read: ReadRequest) -> bool
         requires { (x : DecryptedRequest) × CanLendRequest datagram.now x read }
         ensures yes { result ≡ true → (l : Life) → SlotAgrees self.now l → is_open l ≡ false
@@ -122,7 +122,7 @@ impl Slot {
         self.admits(clock, &read.opened(datagram))
     }
 
-    /// Answers a request that was decrypted.
+    /// Processes a request that was decrypted.
     fn judge_opened(
         &mut self,
         request: Named,
@@ -171,7 +171,7 @@ impl Slot {
         }
     }
 
-    /// Answers a request that names this context, in its datagram.
+    /// Processes a request that names this context, in its datagram.
     pub(crate) fn judge(
         &mut self,
         request: Named,
@@ -190,14 +190,14 @@ impl Slot {
         ensures within { result.reply ≤ 64 }
         ensures behind { drop result.reply out.new ≡ drop result.reply out.old }
     {
-        // The window is asked before the tag is checked.
+        // The window is checked before the tag.
         if is_replay(&self.gate, request.number) {
             return refuse_replay(&request, out);
         }
         self.judge_new(request, datagram, out)
     }
 
-    /// Answers a request that names this context, and whose number is new or judged by the Echo value, in its datagram.
+    /// Processes a request that names this context, in its datagram. The request's number is new, or the Echo value decides.
     pub fn judge_new(&mut self, request: Named, datagram: &mut [u8], out: &mut [u8; 64]) -> Decided
         requires passes { GatePasses self.old.gate (number_of request.number) }
         requires named { IsNamed (as_server (context_of self.old.context)) (number_of request.number) datagram.old }

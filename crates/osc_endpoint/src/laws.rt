@@ -1,4 +1,4 @@
-//! What holds of every history of a server, or of a client, whose entries are all its answers. A call of such a function does
+//! What holds for every history of a server, or of a client, whose entries are all its answers. Calling one of these functions does
 //! nothing: its contract is there for the proof of its caller.
 
 ghost use Rattle.osc_endpoint.specs.ClientLaws.{ClientNoncesOnce, OneClientAnswer, RequestNumbersOnce};
@@ -10,7 +10,7 @@ use osc_coap::{one_datagram, one_text};
 use osc_context::{one_nonce, one_option_value};
 use osc_protect::{one_head, one_request, one_response, one_sealed, protections_show_heads};
 
-/// After each history of answers an event has one answer at most: the rows of the table don't overlap, and each fixes its
+/// States that an event has at most one answer after each history of answers: the rows of the table don't overlap, and each row fixes its
 /// bytes (RFC 8613, 8.2 and 8.3).
 pub fn one_server_answer()
     ensures { OneServerAnswer }
@@ -22,7 +22,7 @@ pub fn one_server_answer()
     one_sealed();
 }
 
-/// The same of a client: the rows of its table don't overlap, and each fixes its bytes (RFC 8613, 8.1 and 8.4).
+/// States the same for a client: the rows of its table don't overlap, and each row fixes its bytes (RFC 8613, 8.1 and 8.4).
 pub fn one_client_answer()
     ensures { OneClientAnswer }
 {
@@ -32,13 +32,13 @@ pub fn one_client_answer()
     one_sealed();
 }
 
-/// In one life of a context no number is delivered twice (RFC 8613, 7.4).
+/// States that no number is delivered twice in one life of a context (RFC 8613, 7.4).
 pub fn delivered_once()
     ensures { DeliveredOnce }
 {}
 
-/// The own numbers of a life are consecutive, and none is used twice. So are the numbers of a client's requests between two
-/// restarts (RFC 8613, 7.2.1).
+/// States that the own Sender Sequence Numbers of a life are consecutive, and that none is used twice. The same holds for those of a
+/// client's requests between two restarts (RFC 8613, 7.2.1).
 pub fn own_numbers_once()
     ensures server { OwnNumbersOnce }
     ensures client { RequestNumbersOnce }
@@ -46,16 +46,16 @@ pub fn own_numbers_once()
     protections_show_heads();
 }
 
-/// A ticket gives one response at most: no two are to one number in one life of one context (RFC 8613, 8.3). Each accepted
-/// reply has to take a ticket that a delivery gave and that no earlier one took, as it does in a run.
+/// States that a ticket gives at most one response: no two responses are to one number in one life of one context (RFC 8613, 8.3). Each
+/// accepted reply has to take a ticket that a delivery gave and that no earlier reply took, as it does in a run.
 pub fn ticket_once()
     ensures { TicketOnce }
 {
     delivered_once();
 }
 
-/// No two texts that a server seals in one life under one context share a nonce (RFC 8613, 5.2), under the condition of
-/// [`ticket_once`]; nor do two requests that a client seals between two restarts.
+/// States that no two texts that a server seals in one life under one context share a nonce (RFC 8613, 5.2), under the condition of
+/// [`ticket_once`]. No two requests that a client seals between two restarts share a nonce either.
 pub fn nonces_once()
     ensures server { ServerNoncesOnce }
     ensures client { ClientNoncesOnce }
@@ -66,8 +66,9 @@ pub fn nonces_once()
     protections_show_heads();
 }
 
-/// Where tickets may be copied or altered, each request is answered once at most, and no two texts that a server seals in one life
-/// under one context share a nonce, if each accepted reply is to a request that waits for its answer (RFC 8613, 5.2 and 8.3).
+/// States what holds even if tickets may be copied or altered, as long as each accepted reply is to a request that waits for its answer.
+/// Each request is answered at most once, and no two texts that a server seals in one life under one context share a nonce (RFC 8613, 5.2
+/// and 8.3).
 pub fn answered_once()
     ensures once { AnsweredOnce }
     ensures nonces { WaitingNoncesOnce }
@@ -78,8 +79,9 @@ pub fn answered_once()
     protections_show_heads();
 }
 
-/// No two texts that a server seals share key and nonce, under whichever of its contexts, but those of two lives of one context, if no
-/// two of its contexts have one Sender Key (RFC 8613, 3.3 and 5.2): under the condition of [`ticket_once`], or of [`answered_once`].
+/// States that no two texts that a server seals share both key and nonce, under whichever of its contexts, except texts of two lives of one
+/// context. This holds if no two of its contexts have the same Sender Key (RFC 8613, 3.3 and 5.2), under the condition of [`ticket_once`]
+/// or of [`answered_once`].
 pub fn keys_or_nonces_once()
     ensures server { ServerKeysOrNoncesOnce }
     ensures nonces { WaitingKeysOrNoncesOnce }

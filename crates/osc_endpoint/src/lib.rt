@@ -1,4 +1,4 @@
-//! Both ends of OSCORE, a server and a client, over all that happens to them (RFC 8613).
+//! Both ends of OSCORE, a server and a client, over everything that happens to them (RFC 8613).
 #![tactic(auto)]
 
 mod asker;
@@ -51,8 +51,8 @@ pub use server_run::{run_server, run_server_on};
 pub use start::{Fresh, Start};
 pub use ticket::Ticket;
 
-/// What the crates that keep an end elsewhere build on: a server's table, its contexts and a client's requests as values, and the
-/// tickets of a run. Whoever has a server or a client needs none of it.
+/// The base of the crates that keep an end elsewhere: a server's table, its contexts and a client's requests as values, and the tickets of
+/// a run. If you have a server or a client, you need none of it.
 #[doc(hidden)]
 pub mod siblings {
     pub use crate::asker::Asker;

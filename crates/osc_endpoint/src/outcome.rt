@@ -5,30 +5,30 @@ use crate::ticket::Ticket;
 use osc_coap::FormatError;
 use osc_protect::Opened;
 
-/// What a server makes of a datagram: the first of these whose condition holds.
+/// What a server makes of a datagram: the first of these variants whose condition holds.
 #[derive(Debug, Drop)]
 pub enum Outcome<'b> {
-    /// The bytes are no CoAP message.
+    /// The bytes aren't a CoAP message.
     Malformed(FormatError),
     /// The message is not CON or NON with a request code.
     NotRequest,
     /// There is no OSCORE option.
     Plain,
-    /// The OSCORE option can't be used, or there is no payload, or an option for proxies.
+    /// The OSCORE option can't be used, or there is no payload, or there is an option for proxies.
     Undecodable,
     /// No context has this kid and kid context.
     NoContext,
     /// The number isn't new.
     Replay,
-    /// The payload is the protection of no plaintext.
+    /// The payload protects no plaintext.
     BadTag,
-    /// The plaintext is no request that may stand inside.
+    /// The plaintext isn't a request that may stand inside the protection.
     BadInner,
     /// The context was restarted, and the request doesn't carry the Echo value in force. The reply gives that value.
     Challenge { echo: [u8; 8], issued: u64 },
-    /// The same, and no own number is left for the reply.
+    /// The same, but no own Sender Sequence Number is left for the reply.
     SequenceExhausted,
-    /// The keeper of the own numbers failed: never the answer of a `Server`.
+    /// The keeper of the own Sender Sequence Numbers failed. A `Server` never returns this.
     KeeperFailed,
     /// The request is delivered, with the right to reply to it.
     Deliver(Opened<'b>, Ticket),
@@ -43,7 +43,7 @@ impl<'b> Outcome<'b> {
     ghost use Rattle.osc_endpoint.specs.declared.outcome.Outcome.TheVariants.{KeeperFailed};
     ghost use Rattle.osc_endpoint.specs.declared.server_event.Seen.TheVariants as seen;
 
-    /// The outcome as the log of a run shows it, and its ticket.
+    /// Returns the outcome as the log of a run shows it, and its ticket.
     #[must_use]
     pub fn part(self) -> (Seen<'b>, Option<Ticket>)
         ensures shown { (answer : Answer) → Shows self.entry answer
@@ -75,7 +75,7 @@ impl<'b> Outcome<'b> {
     }
 }
 
-/// What a server made of a datagram, and how many bytes of reply stand at the front of `out`; none where it is 0.
+/// What a server made of a datagram, and how many bytes of reply stand at the front of `out`. There is no reply if that is 0.
 #[derive(Debug, Drop)]
 pub struct Taken<'b> {
     pub outcome: Outcome<'b>,

@@ -15,11 +15,11 @@ use osc_context::Piv;
 pub struct Pending {
     pub token: Token,
     pub number: Piv,
-    /// The clock when it was sealed, in milliseconds.
+    /// The clock when the request was sealed, in milliseconds.
     pub moment: u64,
 }
 
-// What stands where the table has no request.
+// What stands in a place of the table that has no request.
 impl Default for Pending {
     fn default() -> Pending {
         let Some(number) = Piv::new(0) else {
@@ -40,7 +40,7 @@ pub(crate) struct Found {
     pub(crate) number: Piv,
 }
 
-/// The request with this token.
+/// Finds the request with this token.
 pub(crate) fn find_request(pending: &[Pending], token: &[u8]) -> Option<Found>
     ensures found { IfSome result (λ f. (r : Asked) × (slice_get (map asked_of pending.now) f.place ≡ Some r)
         × (r.token ≡ token.now) × (r.number ≡ number_of f.number)) }
@@ -57,7 +57,7 @@ pub(crate) fn find_request(pending: &[Pending], token: &[u8]) -> Option<Found>
     None
 }
 
-/// Drops the requests that are older than so many milliseconds. Where there is none, nothing is moved.
+/// Drops the requests that are older than `life_ms` milliseconds. If there is none, nothing is moved.
 pub(crate) fn drop_expired<const N: usize>(
     pending: &mut ArrayVec<Pending, N>,
     clock: u64,

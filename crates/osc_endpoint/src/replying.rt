@@ -14,7 +14,7 @@ use osc_coap::Message;
 use osc_context::Piv;
 use osc_protect::{ProtectError, RequestRef, check_response};
 
-/// The refusal of a reply that a refusal to seal becomes.
+/// Turns a refusal to seal into the refusal of a reply.
 fn lift(error: ProtectError) -> ReplyError
     ensures value { result ≡ lifted error }
     ensures no_keeper_failed { result ≢ KeeperFailed }
@@ -34,7 +34,7 @@ impl Slot {
     ghost use Rattle.osc_endpoint.specs.Replying.{reply_entry, reply_mark};
     ghost use Rattle.osc_endpoint.specs.ServerAnswer.{LifeReply, HasAsked, own_number};
 
-    /// The next own number where one is asked for, and None where one is asked for and none is left.
+    /// Returns the next own Sender Sequence Number if one is asked for, and `None` if one is asked for and none is left.
     fn asked_number(&self, own: bool) -> Option<Option<Piv>>
         ensures given { IfSome result (λ number. (l : Life) → SlotAgrees self.now l
             → (option_map number_of number ≡ own_number own l) × HasAsked own l) }
@@ -50,7 +50,7 @@ impl Slot {
         }
     }
 
-    /// Counts an own number that was used.
+    /// Counts an own Sender Sequence Number if one was used.
     fn count(&mut self, own: bool)
         requires { own ≡ true → self.old.next < 2 ^ 40 }
         ensures context { self.new.context ≡ self.old.context }
@@ -61,8 +61,8 @@ impl Slot {
         }
     }
 
-    /// Seals a reply to the request that had this number and came from this asker in the present life, and answers how many bytes at
-    /// the front of `out` it takes.
+    /// Seals a reply to the request that had this number and came from this requester in the present life. Returns how many bytes it takes
+    /// at the front of `out`.
     pub fn reply_to(
         &mut self,
         number: Piv,

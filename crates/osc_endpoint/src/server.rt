@@ -13,8 +13,8 @@ use osc_context::Context;
 use osc_protect::KeyedContext;
 use osc_window::{Gate, Window, WindowSize};
 
-/// A server of up to eight contexts. It has no socket, no clock and no random source: datagrams, moments in milliseconds and
-/// fresh values are handed in.
+/// A server of up to eight contexts. It has no socket, no clock and no random source: you pass in datagrams, timestamps in milliseconds and
+/// fresh values.
 #[derive(Drop)]
 pub struct Server {
     pub(crate) clock: u64,
@@ -25,7 +25,7 @@ impl Slot {
     ghost use Rattle.osc_endpoint.specs.Agrees.{SlotAgrees};
     ghost use Rattle.osc_endpoint.specs.Life.{born};
 
-    /// A context that begins.
+    /// Begins a context.
     #[must_use]
     pub fn begin(context: Context, start: Start, size: WindowSize) -> Slot
         ensures context { context_of result.context ≡ context }
@@ -52,7 +52,7 @@ impl Server {
     ghost use Rattle.osc_endpoint.specs.Life.{is_open_life};
     ghost use Rattle.osc_endpoint.specs.Views.{added_entry};
 
-    /// A server with no context.
+    /// Makes a server with no context.
     #[must_use]
     pub fn new() -> Server
         ensures { Agrees result Begin }
@@ -63,10 +63,10 @@ impl Server {
         }
     }
 
-    /// Adds a context, and answers its index. The first refusal in the order of `AddError` is answered; it drops the context and
-    /// changes nothing. Two contexts of one Sender Key must not be added (RFC 8613, 3.3): no refusal says so, since the tables ask for
-    /// the lookup alone. Each counts its own numbers, so texts of the two may share key and nonce, and then neither is protected any
-    /// more (RFC 8613, D.4).
+    /// Adds a context, and returns its index. Returns the first refusal in the order of `AddError`. A refusal drops the context and changes
+    /// nothing. You must not add two contexts with the same Sender Key (RFC 8613, 3.3). No refusal reports this, because the tables check
+    /// the lookup alone. Each of the two contexts counts its own numbers, so their texts may share key and nonce, and then neither text is
+    /// protected any more (RFC 8613, D.4).
     pub fn add(
         &mut self,
         context: Context,
@@ -93,8 +93,8 @@ impl Server {
         Ok(index)
     }
 
-    /// Whether the context at an index judges requests by their number: it was added fresh and never restarted, or delivered a
-    /// request in its present life. False where no context has the index.
+    /// Returns whether the context at an index checks requests by their number. It does if it was added fresh and never restarted, or if it
+    /// delivered a request in its present life. Returns false if no context has the index.
     #[must_use]
     pub fn is_open(&self, context: usize) -> bool
         ensures { (h : History) → Agrees self.now h → result ≡ is_open_life (life h context) }
@@ -102,7 +102,7 @@ impl Server {
         is_open_at(self.slots.as_slice(), context)
     }
 
-    /// Moves the clock to a moment in milliseconds, where that is later.
+    /// Moves the clock to `now`, in milliseconds, if that is later.
     pub fn advance(&mut self, now: u64)
         ensures { (h : History) → Agrees self.old h → Agrees self.new (Then h (Advance now) Advanced) }
     {

@@ -3,12 +3,12 @@
 use std::error::Error;
 use std::fmt;
 
-/// Why a context isn't added, in the order in which it is judged.
+/// Why a context isn't added. The variants stand in the order in which they are checked.
 #[derive(Clone, Copy, Debug, PartialEq, Eq)]
 pub enum AddError {
     /// The server has eight contexts; own rule.
     Full,
-    /// One has the same recipient's identifier, and the same ID Context or none as well (RFC 8613, 3.3).
+    /// One of its contexts has the same Recipient ID, and both have the same ID Context or none (RFC 8613, 3.3).
     SameLookup,
 }
 
@@ -28,12 +28,12 @@ impl fmt::Display for AddError {
 
 impl Error for AddError {}
 
-/// Why a context isn't restarted, in the order in which it is judged.
+/// Why a context isn't restarted. The variants stand in the order in which they are checked.
 #[derive(Clone, Copy, Debug, PartialEq, Eq)]
 pub enum RestartError {
     /// No context has this index.
     NoSuchContext,
-    /// It was restarted 2^64 - 1 times.
+    /// The context was restarted 2^64 - 1 times.
     LivesExhausted,
 }
 
@@ -53,22 +53,22 @@ impl fmt::Display for RestartError {
 
 impl Error for RestartError {}
 
-/// Why a reply isn't sealed, in the order in which it is judged.
+/// Why a reply isn't sealed. The variants stand in the order in which they are checked.
 #[derive(Clone, Copy, Debug, PartialEq, Eq)]
 pub enum ReplyError {
-    /// The keeper of the own numbers failed: never the answer of a `Server`.
+    /// The keeper of the own Sender Sequence Numbers failed. A `Server` never returns this.
     KeeperFailed,
-    /// The ticket's context isn't there, or began a new life.
+    /// The ticket's context isn't there, or has begun a new life.
     StaleTicket,
     /// The message has no response code.
     NotThatKind,
-    /// It has an option that can't be sealed: the lowest such number; own rule.
+    /// The message has an option that can't be sealed. The value is the lowest number of such an option; own rule.
     Unsupported(u16),
-    /// An own number is asked for, and none is left.
+    /// An own Sender Sequence Number is asked for, and none is left.
     SequenceExhausted,
     /// The reply would have more than 65,535 bytes; own rule.
     TooLong,
-    /// It would have more bytes than the buffer.
+    /// The reply would have more bytes than the buffer.
     NoRoom,
 }
 

@@ -1,4 +1,4 @@
-//! What happens to a server in a run, and what it makes of it.
+//! The events of a server's run, and their results.
 
 use crate::server_error::{ReplyError, RestartError};
 use crate::start::Fresh;
@@ -6,7 +6,7 @@ use osc_coap::FormatError;
 use osc_context::Piv;
 use osc_protect::Opened;
 
-/// A datagram that comes at a moment in milliseconds, what is drawn anew for it, and room for the reply.
+/// A datagram that arrives at a time in milliseconds, with the values drawn afresh for it and room for the reply.
 #[derive(Drop)]
 pub struct Arrival {
     pub now: u64,
@@ -15,8 +15,8 @@ pub struct Arrival {
     pub out: [u8; 64],
 }
 
-/// An answer to the request of the event at an index: with an own number or not, the message ID of a reply that is no ACK, the
-/// plain message, and room for the reply.
+/// An answer to the request of the event at an index: whether it has an own number, the Message ID of a reply that isn't an ACK, the plain
+/// message, and room for the reply.
 #[derive(Drop)]
 pub struct Answering {
     pub of: usize,
@@ -29,7 +29,7 @@ pub struct Answering {
 /// One event of a server's run.
 #[derive(Drop)]
 pub enum ServerEvent {
-    /// A datagram comes.
+    /// A datagram arrives.
     Datagram(Arrival),
     /// The application answers a request.
     Reply(Answering),
@@ -37,7 +37,7 @@ pub enum ServerEvent {
     Restart { context: usize, next: Piv },
 }
 
-/// What a server made of a datagram in a run: an `Outcome`, but a delivery without its ticket.
+/// What a server made of a datagram in a run: an `Outcome`, except that a delivery has no ticket.
 #[derive(Debug, Drop)]
 pub enum Seen<'a> {
     Malformed(FormatError),
@@ -61,16 +61,16 @@ pub enum Seen<'a> {
     },
 }
 
-/// What one event of a server's run came to.
+/// The result of one event of a server's run.
 #[derive(Debug, Drop)]
 pub enum ServerEntry<'a> {
-    /// What was made of a datagram, and the reply; no bytes where there is none.
+    /// What the server made of a datagram, and the reply, which has no bytes if there is none.
     Took { seen: Seen<'a>, reply: &'a [u8] },
-    /// The reply that was sealed, or why not.
+    /// The reply that was sealed, or why none was sealed.
     Replied(Result<&'a [u8], ReplyError>),
     /// No event at that index has a ticket left.
     NoTicket,
-    /// What the application answered is no CoAP message.
+    /// The application's answer isn't a CoAP message.
     BadPlain(FormatError),
     /// Whether the context was restarted.
     Restarted(Result<(), RestartError>),

@@ -16,9 +16,9 @@ impl Server {
     ghost use Rattle.osc_endpoint.specs.Views.{server_entry, values_of};
     ghost use Rattle.osc_endpoint.specs.declared.server_error.ReplyError.TheVariants.{KeeperFailed};
 
-    /// Seals a reply to the request of a ticket into `out`, and answers how many bytes at its front it takes (RFC 8613, 8.3).
-    /// Of the plain message the code, options and payload are used. The first refusal in the order of `ReplyError` is
-    /// answered: it changes nothing, leaves `out`, and hands the ticket back.
+    /// Seals a reply to the request of a ticket into `out`, and returns how many bytes it takes at the front of `out` (RFC 8613, 8.3). It
+    /// uses the code, options and payload of the plain message. Returns the first refusal in the order of `ReplyError`. A refusal changes
+    /// nothing, leaves `out` unchanged, and returns the ticket.
     pub fn reply(
         &mut self,
         ticket: Ticket,

@@ -31,7 +31,7 @@ impl Slot {
     }
 }
 
-/// Begins a new life of the context of a place.
+/// Begins a new life of the context in a place.
 fn restart_place(place: &mut Option<Slot>, next: Piv) -> Result<(), RestartError>
     ensures answer { (l : Life) → HoldsLife place.old l → LifeRestart (Some l) (restarted_entry result) }
     ensures kept { (l : Life) → HoldsLife place.old l → HoldsLife place.new (life_after result (number_of next) l) }
@@ -69,8 +69,8 @@ impl Server {
     ghost use Rattle.osc_endpoint.specs.ServerAnswer.{ServerAnswer};
     ghost use Rattle.osc_endpoint.specs.ServerHistory.{History, Then, Restart};
 
-    /// Begins a new life of a context: its gate is closed with no challenge, its next own number is the one handed in, and
-    /// older tickets are stale. The first refusal in the order of `RestartError` is answered, and changes nothing.
+    /// Begins a new life of a context: its gate is closed with no challenge, its next own Sender Sequence Number is `next`, and older
+    /// tickets are stale. Returns the first refusal in the order of `RestartError`. A refusal changes nothing.
     pub fn restart(&mut self, context: usize, next: Piv) -> Result<(), RestartError>
         ensures answered { (h : History) → Agrees self.old h
             → ServerAnswer h (Restart context (number_of next)) (restarted_entry result) }

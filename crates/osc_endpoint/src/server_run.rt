@@ -1,4 +1,4 @@
-//! A server over a list of events.
+//! Runs a server over a list of events.
 
 ghost use Rattle.std.specs.Prelude.{◌≡◌, ◌<◌, [], List, Option, None, length, take, drop, vec_len, OnOk, OnErr};
 ghost use Rattle.std.specs.Option.{option_map};
@@ -19,7 +19,7 @@ use osc_context::Piv;
 use std::alloc::{AllocError, Global};
 use std::mem;
 
-/// A datagram, whose entry borrows from it.
+/// Runs a datagram, whose entry borrows from it.
 fn serve_datagram<'a>(
     server: &mut Server,
     arrival: &'a mut Arrival,
@@ -43,7 +43,7 @@ fn serve_datagram<'a>(
     (entry, ticket)
 }
 
-/// A reply by the ticket at an index, whose entry borrows from the room for it.
+/// Runs a reply by the ticket at an index. The entry borrows from the room for the reply.
 fn serve_reply<'a>(
     server: &mut Server,
     tickets: &mut [Option<Ticket>],
@@ -76,7 +76,7 @@ fn serve_reply<'a>(
     }
 }
 
-/// A reply, whose entry borrows from the room for it.
+/// Runs a reply, whose entry borrows from the room for it.
 fn serve_answering<'a>(
     server: &mut Server,
     answering: &'a mut Answering,
@@ -96,7 +96,7 @@ fn serve_answering<'a>(
     serve_reply(server, tickets, *of, *own, *mid, plain, out)
 }
 
-/// A restart, whose entry borrows nothing.
+/// Runs a restart, whose entry borrows nothing.
 fn serve_restart<'a>(server: &mut Server, context: usize, next: Piv) -> ServerEntry<'a>
     ensures { (h : History) (ts : List (Option TicketValues)) → Agrees server.old h
         → (g : History) × Serves h ts (ServerEvent.Restart context next) result None g ts × Agrees server.new g }
@@ -104,7 +104,7 @@ fn serve_restart<'a>(server: &mut Server, context: usize, next: Piv) -> ServerEn
     ServerEntry::Restarted(server.restart(context, next))
 }
 
-/// One event, whose entry borrows from it.
+/// Runs one event, whose entry borrows from it.
 fn serve<'a>(
     server: &mut Server,
     event: &'a mut ServerEvent,
@@ -121,9 +121,9 @@ fn serve<'a>(
     }
 }
 
-/// Runs a server over events: the log gets the entry of each, at the event's index. The entries borrow from the events. It stops
-/// early only where memory for an entry was refused: then the log has the entries of the events before, and `events` is what
-/// is left of them, as it came.
+/// Runs a server over events. The log gets the entry of each event, at the event's index. The entries borrow from the events. The run stops
+/// early only if memory for an entry is refused. In that case the log has the entries of the events before, and `events` is what is left of
+/// them, as it was passed in.
 pub fn run_server_on<'a>(
     alloc: Global,
     server: &mut Server,
@@ -156,7 +156,7 @@ pub fn run_server_on<'a>(
     Ok(())
 }
 
-/// Runs a server over events, as [`run_server_on`] does; what is left of them isn't handed back.
+/// Runs a server over events, as [`run_server_on`] does. It doesn't return what is left of them.
 pub fn run_server<'a>(
     alloc: Global,
     server: &mut Server,

@@ -1,5 +1,4 @@
-//! What a server makes of a datagram: it decides, and says what it leaves in the datagram, of which what was decided lends
-//! slices.
+//! What a server makes of a datagram. It decides, and says what it leaves in the datagram. The decision lends slices of what is left.
 
 ghost use Rattle.std.specs.Prelude.{◌≡◌, ◌≢◌, ◌≤◌, ℕ, List, Option, Some, take, drop};
 ghost use Rattle.osc_endpoint.specs.Deciding.{CanShow, Decides, Leaves, ShowsDecided};
@@ -22,7 +21,7 @@ use crate::start::Fresh;
 use osc_coap::parse;
 use osc_protect::{NoHead, RequestHead, one_reading, one_request};
 
-/// Answers a message that has no head of a request.
+/// Refuses a message that has no request head.
 fn refuse_head(none: NoHead, asker: &Asker, mid: u16, out: &mut [u8; 64]) -> Decided
     ensures decides { (new : List ℕ) → Decides result.decision new (head_answer none) }
     ensures shown { (new : List ℕ) → CanShow result.decision new }
@@ -46,8 +45,8 @@ fn refuse_head(none: NoHead, asker: &Asker, mid: u16, out: &mut [u8; 64]) -> Dec
 }
 
 impl Decision {
-    /// What was decided, as an outcome, which lends slices of the datagram: that of `take`. The datagram is as `Server::decide`
-    /// left it, and the decision the one that it gave. Nothing is read anew.
+    /// Returns the decision as an outcome that lends slices of the datagram, as `take` returns it. Call this on the decision that
+    /// `Server::decide` returned, and pass in the datagram as that call left it. Nothing is read again.
     #[must_use]
     pub fn outcome(self, datagram: &[u8]) -> Outcome<'_>
         requires { CanShow self datagram.now }
@@ -70,8 +69,7 @@ impl Decision {
     }
 }
 
-/// Decides what a datagram is answered by a server whose clock and contexts these are, wherever they lie: what `Server::decide`
-/// does.
+/// Decides the answer to a datagram for a server with this clock and these contexts, wherever they lie. It does what `Server::decide` does.
 pub fn decide_over<T: Contexts>(
     clock: &mut u64,
     contexts: &mut T,
@@ -134,8 +132,8 @@ impl Server {
     ghost use Rattle.osc_endpoint.specs.declared.outcome.Outcome.{Outcome as OutcomeOf};
     ghost use Rattle.osc_coap.specs.Inner.{InnerParts};
 
-    /// Decides what a datagram is answered, where it lies (RFC 8613, 8.2), and says what it leaves in it. The first `reply` bytes
-    /// of `out` are the reply; the rest of `out` stays. `Decision::outcome` lends what was delivered.
+    /// Decides the answer to a datagram in place (RFC 8613, 8.2), and says what it leaves in the datagram. The first `reply` bytes of `out`
+    /// are the reply; the rest of `out` stays unchanged. `Decision::outcome` lends what was delivered.
     pub fn decide(
         &mut self,
         now: u64,
@@ -147,7 +145,7 @@ impl Server {
             → DecidesTo h now fresh datagram.old result datagram.new (take result.reply out.new) self.new }
         ensures shown { CanShow result.decision datagram.new }
         ensures left { LeavesBy self.old result.decision datagram.old datagram.new }
-        // What `Decision::outcome` makes of it is a delivery exactly if the datagram as it came is one.
+        // `Decision::outcome` returns a delivery if and only if the datagram that was passed in is to be delivered.
         ensures delivered { (h : History) (i n : ℕ) (m : InnerParts) (outcome : OutcomeOf) → Agrees self.old h
             → ShowsDecided result.decision datagram.new outcome → delivery_of outcome ≡ Some (i, n, m) → Delivers h now datagram.old i n m }
         ensures delivers { (h : History) (i n : ℕ) (m : InnerParts) (outcome : OutcomeOf) → Agrees self.old h
@@ -160,8 +158,8 @@ impl Server {
         decide_over(&mut self.clock, &mut self.slots, now, fresh, datagram, out)
     }
 
-    /// Answers a datagram, where it lies (RFC 8613, 8.2): `decide`, and what was decided as an outcome. The first `reply` bytes of
-    /// `out` are the reply; the rest of `out` stays. What the datagram holds afterwards is what `decide` says.
+    /// Takes a datagram in place (RFC 8613, 8.2): calls `decide`, and returns the decision as an outcome. The first `reply` bytes of `out`
+    /// are the reply; the rest of `out` stays unchanged. `decide` says what the datagram holds afterwards.
     pub fn take<'b>(
         &mut self,
         now: u64,

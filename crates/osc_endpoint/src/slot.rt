@@ -12,7 +12,7 @@ use osc_context::Piv;
 use osc_protect::{KeyedContext, Opened};
 use osc_window::{Gate, Window, WindowSize};
 
-/// The first own number that isn't there (RFC 8613, 7.2.1).
+/// The first number that can't be a Sender Sequence Number (RFC 8613, 7.2.1).
 pub(crate) const OWN_LIMIT: u64 = 1 << 40;
 
 /// One context of a server, in its present life.
@@ -21,7 +21,7 @@ pub struct Slot {
     pub context: KeyedContext,
     pub size: WindowSize,
     pub gate: Gate,
-    // The next own number, or the limit where none is left.
+    // The next own Sender Sequence Number, or the limit if none is left.
     pub next: u64,
     // How often the context was restarted.
     pub life: u64,
@@ -34,7 +34,7 @@ impl Slot {
     ghost use Rattle.osc_endpoint.specs.Life.{Life, Spoiled, Delivered, Challenged, Answered, Carries, is_open, in_force, marked, born, renewed, next_own};
     ghost use Rattle.osc_endpoint.specs.ServerAnswer.{challenge_given};
 
-    /// Spends a number where the gate is open.
+    /// Spends a number if the gate is open.
     pub(crate) fn spoil(&mut self, number: Piv)
         requires { GatePasses self.old.gate (number_of number) }
         ensures context { self.new.context ≡ self.old.context }
@@ -59,7 +59,7 @@ impl Slot {
         }
     }
 
-    /// Whether the gate is open, or the request carries the challenge in force.
+    /// Returns whether the gate is open, or the request carries the challenge in force.
     pub(crate) fn admits(&self, clock: u64, opened: &Opened<'_>) -> bool
         ensures yes { result ≡ true → (l : Life) → SlotAgrees self.now l → is_open l ≡ false
             → Carries (in_force l clock) (message_of opened.now) }
@@ -79,7 +79,7 @@ impl Slot {
         }
     }
 
-    /// The challenge in force once more, or else the fresh value, issued now.
+    /// Returns the challenge in force once more, or else the fresh value, issued now.
     pub(crate) fn challenge(&mut self, clock: u64, fresh: [u8; 8]) -> ([u8; 8], u64)
         requires closed { is_open_gate self.old.gate ≡ false }
         requires left { self.old.next < 2 ^ 40 }

@@ -23,7 +23,7 @@ use crate::slot::Slot;
 use crate::ticket::Ticket;
 use osc_coap::Message;
 
-/// Whether the context has this kid, and this kid context or none.
+/// Returns whether the context has this kid, and this kid context or none.
 fn is_for(place: &Option<Slot>, kid: &[u8], kid_context: Option<&[u8]>) -> bool
     ensures yes { result ≡ true → LooksUp place.now kid.now (shown kid_context.entry) }
     ensures no { result ≡ false → LooksUp place.now kid.now (shown kid_context.entry) → ⊥ }
@@ -34,7 +34,7 @@ fn is_for(place: &Option<Slot>, kid: &[u8], kid_context: Option<&[u8]>) -> bool
     }
 }
 
-/// The index of the context that has this kid, and this kid context or none.
+/// Returns the index of the context that has this kid, and this kid context or none.
 pub(crate) fn find(slots: &[Option<Slot>], kid: &[u8], kid_context: Option<&[u8]>) -> Option<usize>
     ensures found { IfSome result (λ i. (s : Option Slot) × (slice_get slots.now i ≡ Some s)
         × LooksUp s kid.now (shown kid_context.entry)) }
@@ -49,7 +49,7 @@ pub(crate) fn find(slots: &[Option<Slot>], kid: &[u8], kid_context: Option<&[u8]
     None
 }
 
-/// Answers a request that names the context of a place.
+/// Processes a request that names the context in a place.
 fn judge_place(
     place: &mut Option<Slot>,
     request: Named,
@@ -72,7 +72,7 @@ fn judge_place(
     }
 }
 
-/// Answers a request that names the context at its index.
+/// Processes a request that names the context at its index.
 pub(crate) fn judge_at(
     slots: &mut [Option<Slot>],
     request: Named,
@@ -94,7 +94,7 @@ pub(crate) fn judge_at(
     judge_place(&mut slots[index], request, datagram, out)
 }
 
-/// Seals a reply by a ticket of the context of a place.
+/// Seals a reply by a ticket of the context in a place.
 fn reply_place(
     place: &mut Option<Slot>,
     ticket: &Ticket,
@@ -154,7 +154,7 @@ pub(crate) fn reply_at(
     reply_place(&mut slots[index], ticket, own, mid, plain, out)
 }
 
-/// Whether the context of a place is open.
+/// Returns whether the context in a place is open.
 fn is_open_place(place: &Option<Slot>) -> bool
     ensures some { (l : Life) → HoldsLife place.now l → result ≡ is_open l }
     ensures none { IfNone place.now (result ≡ false) }
@@ -165,7 +165,7 @@ fn is_open_place(place: &Option<Slot>) -> bool
     }
 }
 
-/// Whether the context at an index is there and open.
+/// Returns whether the context at an index is there and open.
 pub(crate) fn is_open_at(slots: &[Option<Slot>], context: usize) -> bool
     ensures { (lives : ℕ → Option Life) → TableAgrees slots.now lives → result ≡ is_open_life (lives context) }
 {

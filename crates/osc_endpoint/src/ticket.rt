@@ -3,12 +3,11 @@
 use crate::asker::Asker;
 use osc_context::Piv;
 
-/// The right to reply once to a request that was delivered. It can't be cloned: only a delivery makes one, and a reply that is
-/// sealed uses it up.
+/// The right to reply once to a request that was delivered. It can't be cloned: only a delivery makes one, and a sealed reply uses it up.
 #[derive(Debug, Drop)]
 pub struct Ticket {
     pub(crate) context: usize,
-    // Which life of the context the request was delivered in.
+    // The life of the context in which the request was delivered.
     pub(crate) life: u64,
     pub(crate) number: Piv,
     pub(crate) asker: Asker,
@@ -19,7 +18,7 @@ impl Ticket {
     ghost use Rattle.osc_context.specs.Views.{number_of};
     ghost use Rattle.osc_endpoint.specs.Views.{values_of};
 
-    /// The request's number.
+    /// Returns the request's number.
     #[must_use]
     pub fn number(&self) -> Piv
         ensures { number_of result ≡ (values_of self.now).number }
@@ -27,7 +26,7 @@ impl Ticket {
         self.number
     }
 
-    /// The index of the context.
+    /// Returns the index of the context.
     #[must_use]
     pub fn context(&self) -> usize
         ensures { result ≡ (values_of self.now).context }
@@ -35,7 +34,7 @@ impl Ticket {
         self.context
     }
 
-    /// How often the context had been restarted when the request was delivered.
+    /// Returns how often the context had been restarted when the request was delivered.
     #[must_use]
     pub fn life(&self) -> u64
         ensures { result ≡ (values_of self.now).life }
@@ -43,7 +42,7 @@ impl Ticket {
         self.life
     }
 
-    /// Whom the reply goes to.
+    /// Returns the requester that the reply goes to.
     #[must_use]
     pub fn asker(&self) -> &Asker
         ensures kind { result.now.kind ≡ (values_of self.now).kind }

@@ -1,4 +1,4 @@
-//! The tickets of a run: one place an event, with the ticket that its delivery gave, as long as no reply took it.
+//! The tickets of a run. Each event has one place, which holds the ticket that its delivery gave until a reply takes it.
 
 ghost use Rattle.std.specs.Prelude.{◌≡◌, ◌+◌, ◌<◌, Some, None, slice_get, slice_set, vec_capacity, vec_len, OnOk};
 ghost use Rattle.std.specs.Option.{option_and_then};
@@ -6,7 +6,7 @@ ghost use Rattle.std.specs.Option.{option_and_then};
 use crate::ticket::Ticket;
 use std::alloc::AllocError;
 
-/// Makes room for one entry more of a run, and for the ticket at its place; where memory is refused both lists have what they had.
+/// Makes room for one more entry of a run, and for the ticket at its place. If memory is refused, both lists keep what they had.
 pub fn make_places<T>(log: &mut Vec<T>, tickets: &mut Vec<Option<Ticket>>) -> Result<(), AllocError>
     ensures entries { (log.new.items ≡ log.old.items) × (vec_len log.new ≡ vec_len log.old) }
     ensures tickets { (tickets.new.items ≡ tickets.old.items) × (vec_len tickets.new ≡ vec_len tickets.old) }
@@ -16,7 +16,7 @@ pub fn make_places<T>(log: &mut Vec<T>, tickets: &mut Vec<Option<Ticket>>) -> Re
     tickets.reserve(1)
 }
 
-/// Puts a ticket back into its place, where there is one.
+/// Puts a ticket back into its place, if there is one.
 pub fn put_back(tickets: &mut [Option<Ticket>], of: usize, ticket: Ticket)
     ensures { tickets.new ≡ slice_set tickets.old of (Some ticket) }
 {
@@ -25,7 +25,7 @@ pub fn put_back(tickets: &mut [Option<Ticket>], of: usize, ticket: Ticket)
     }
 }
 
-/// Takes out the ticket at an index, where one is left.
+/// Takes out the ticket at an index, if one is left.
 pub fn take_out(tickets: &mut [Option<Ticket>], of: usize) -> Option<Ticket>
     ensures ticket { result ≡ option_and_then (λ t. t) (slice_get tickets.old of) }
     ensures rest { tickets.new ≡ slice_set tickets.old of None }

@@ -6,7 +6,7 @@ ghost use Rattle.osc_ccm.specs.Ccm.{ccm};
 use osc_aes::TableAes;
 use osc_ccm::{open, seal};
 
-/// Seals the first 64 bytes of a buffer: with their tag they are 72, and what stands behind stays.
+/// Seals the first 64 bytes of a buffer. With their tag they are 72 bytes, and the rest of the buffer stays.
 pub fn seal_block(key: &[u8; 16], nonce: &[u8; 13], buf: &mut [u8; 128])
     ensures { buf.new ≡ ccm key.now nonce.now [] (take 64 buf.old) ++ drop 72 buf.old }
 {
@@ -15,7 +15,7 @@ pub fn seal_block(key: &[u8; 16], nonce: &[u8; 13], buf: &mut [u8; 128])
     };
 }
 
-/// Opens a buffer that is a plaintext, sealed under this key and nonce: the plaintext stands in front. Answers its length.
+/// Opens a buffer that holds a plaintext sealed under this key and nonce. Puts the plaintext at the front, and returns its length.
 pub fn open_all(key: &[u8; 16], nonce: &[u8; 13], buf: &mut [u8]) -> Option<usize>
     ensures { IfSome result (λ len. buf.old ≡ ccm key.now nonce.now [] (take len buf.new)) }
 {

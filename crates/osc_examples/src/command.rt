@@ -7,8 +7,8 @@ use osc_context::Keeper;
 use std::alloc::Global;
 use std::io::{Read, Write};
 
-/// Runs the command over one keeper, whatever file its words name. Answers whether there was no fault; then nothing was written
-/// to `err`.
+/// Runs the command over one keeper, whatever file its words name. Returns whether there was no fault; if there was none, nothing was
+/// written to `err`.
 pub fn works<R: Read, W: Write, E: Write, K: Keeper + Drop>(
     alloc: Global,
     words: &[String],

@@ -5,8 +5,8 @@ ghost use Rattle.osc_context.specs.Views.{as_client, as_server};
 
 use osc_context::{Context, ContextError, Params};
 
-/// Both ends of a context from one secret and one salt: the client has an empty identifier, the server the identifier 01. Each
-/// is the sender of its own, and what the client seals by is what the server opens by.
+/// Derives both ends of a context from one secret and one salt. The client has an empty identifier, the server the identifier 01.
+/// Each sends under its own identifier, and the server opens with what the client seals with.
 pub fn both_ends<'a>(secret: &'a [u8], salt: &'a [u8]) -> Result<(Context, Context), ContextError>
     ensures { IfOk result (λ ends. as_client ends.0 ≡ as_server ends.1) }
 {

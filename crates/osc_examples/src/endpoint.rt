@@ -8,8 +8,8 @@ ghost use Rattle.osc_endpoint.specs.ServerHistory.{History};
 
 use osc_endpoint::{Decided, Fresh, Outcome, Server};
 
-/// Whether a datagram says this to a lock. The front of `out` goes back to the sender, where there is a reply: how many bytes is
-/// said by the second answer.
+/// Returns whether a datagram gives this order to a lock, and how many bytes the reply has. If there is a reply, the front of `out`
+/// goes back to the sender.
 pub fn obeys(
     server: &mut Server,
     now: u64,
@@ -18,7 +18,8 @@ pub fn obeys(
     out: &mut [u8; 64],
     order: &[u8],
 ) -> (bool, usize)
-    // It says so only where it protects that order, as a request that is new after all that the server was asked before.
+    // The first result is true only if the datagram protects that order, as a request that is new after all that the server was asked
+    // before.
     ensures { IsTrue result.0 → (h : History) → Agrees server.old h
         → (i n : ℕ) × (m : InnerParts) × Delivers h now datagram.old i n m × (m.payload ≡ order.now) }
 {

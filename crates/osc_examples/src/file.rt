@@ -7,8 +7,8 @@ use osc_context::{Numbers, NumbersError, Piv};
 use osc_file::{FileKeeper, TryLock};
 use std::rt::Files;
 
-/// The next two numbers of a sender, over all runs of a program: 0 and 1 in the first run, which leaves 64 in the file, and 64
-/// and 65 in the next one.
+/// Returns the next two Sender Sequence Numbers, over all runs of a program: 0 and 1 in the first run, which leaves 64 in the file,
+/// and 64 and 65 in the next one.
 pub fn next_two<R: Files + Alloc>(rt: &R) -> Result<(Piv, Piv), NumbersError>
 where
     R::File: TryLock,

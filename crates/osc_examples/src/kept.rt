@@ -14,8 +14,8 @@ use osc_context::{Context, Keeper};
 use osc_kept::{KeptError, KeptServer};
 use osc_window::WindowSize;
 
-/// A server whose own numbers outlive it, over any keeper: fresh where the keeper holds 0, and else as after a restart, above
-/// each number that an earlier life may have used. The keeper comes back where it fails, or has no number left.
+/// Starts a server whose own Sender Sequence Numbers outlive it, over any keeper: fresh if the keeper holds 0, and otherwise as after
+/// a restart, above each number that an earlier life may have used. Gives the keeper back if it fails, or has no number left.
 pub fn server_over<K: Keeper + Drop>(
     context: Context,
     keeper: K,

@@ -9,8 +9,8 @@ ghost use Rattle.osc_kept_handle.specs.KeptClientBytes.{AsksWith, StepsClient};
 use osc_coap::Message;
 use osc_kept_handle::{KeptClientHandle, KeptRequestRefusal};
 
-/// Seals a request behind `SaveFirst`, once its number is saved durably: with a number that the save reserved. None where that
-/// isn't the number to save; then the client is as it was.
+/// Seals a request after `SaveFirst`, once its number is saved durably, with a number that the save reserved. Returns `None` if
+/// `saved` isn't the number to save; then the client is unchanged.
 pub fn seal_behind_save(
     client: &mut KeptClientHandle,
     saved: u64,

@@ -1,4 +1,4 @@
-//! The example of each library's page, proved from the public contracts alone: what stands on the page is its module here.
+//! The example of each library's page, proved from the public contracts alone. The example on a library's page is its module here.
 #![tactic(auto)]
 
 pub mod aes;

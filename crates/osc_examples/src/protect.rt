@@ -18,7 +18,7 @@ pub fn seal_and_open<'b>(
     plain: &Message<'_>,
     buf: &'b mut [u8],
 ) -> Result<Result<Opened<'b>, UnprotectError>, ProtectError>
-    // At the other end of the context it opens, as this request, with its code, its inner options and its payload.
+    // It opens at the other end of the context, as this request, with its code, its inner options and its payload.
     ensures { as_client client.now ≡ as_server server.now → IfOk result (λ opened. IsOkAnd opened (λ o.
         (opened_number o ≡ Some (number_of number)) × (message_of o ≡ inside (parts_of plain.now)))) }
 {

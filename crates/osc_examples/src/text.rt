@@ -10,8 +10,8 @@ use osc_text::{Opening, open_text, read_hex};
 use std::alloc::Global;
 use std::io::Write;
 
-/// Prints what a request says that is a word of hex, one part a line, or the one line of a refusal. The status is 0 where it
-/// opens, and 2 where it is refused.
+/// Prints what a request says, one part per line, or the one line of a refusal. The request is a word of hex. The status is 0 if it
+/// opens, and 2 if it is refused.
 pub fn print_request<W: Write>(
     alloc: Global,
     params: Params<'_>,

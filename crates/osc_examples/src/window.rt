@@ -7,8 +7,8 @@ ghost use Rattle.osc_window.specs.Views.{takes};
 use osc_context::Piv;
 use osc_window::Window;
 
-/// Whether a request's number is new; then it is spent, and is a replay from there on. The request was opened before, and its
-/// tag is right.
+/// Returns whether a request's number is new. If it is, the number is spent, and is a replay from then on. The request was opened
+/// before, and its tag is right.
 pub fn spend(window: &mut Window, number: Piv) -> bool
     ensures { (result ≡ takes window.old (number_of number)) × IsTrue (not (takes window.new (number_of number))) }
 {

@@ -2,7 +2,7 @@
 use Rattle.std.specs.Prelude.{◌≡◌, ℕ, List, [], ◌∷◌, ◌++◌}
 use Rattle.std.specs.Str.Parse.{IsNumeral, digits_value}
 
--- one decimal digit or more that write the number, and a newline (own rule)
+-- one or more decimal digits that write the number, and a newline (own rule)
 pub record Spells (number : ℕ) (text : List ℕ) : Type 0 where
   pub digits : List ℕ
   pub numeral : IsNumeral 10 digits

@@ -1,6 +1,6 @@
-//! A keeper over a file: the number of a sender outlives the program (RFC 8613, B.1.1).
+//! A keeper over a file, so that a Sender Sequence Number outlives the program (RFC 8613, B.1.1).
 //!
-//! The next number of a sender, over all runs of a program that calls this:
+//! This returns the next Sender Sequence Number, over all runs of a program that calls it:
 //!
 //!     fn next_number<R: Files + Alloc>(rt: &R) -> Result<Piv, NumbersError>
 //!     where
@@ -13,10 +13,14 @@
 #![tactic(auto)]
 
 mod file_keeper;
+mod file_trouble;
 mod held;
 mod lock;
 mod number_text;
 mod replacing;
+mod telling_keeper;
 
 pub use file_keeper::FileKeeper;
+pub use file_trouble::FileTrouble;
 pub use lock::TryLock;
+pub use telling_keeper::TellingKeeper;

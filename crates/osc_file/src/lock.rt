@@ -1,12 +1,13 @@
-//! The lock of a number's file: a file beside it, which one open at a time has locked.
+//! The lock of a number's file: a file beside it, which only one open at a time has locked.
 
 use std::fs::{self, File, OpenOptions};
 use std::io::{self, ErrorKind};
 use std::rt::Files;
 
-/// An open file of which one open at a time has the lock, until it is closed: at the latest when its program ends, however it does.
+/// An open file that can be locked. Only one open of the file at a time has the lock, until that open is closed: at the latest when
+/// its program ends, however it ends.
 pub trait TryLock {
-    /// Takes the lock, or fails where another open of the file has it. It never waits.
+    /// Takes the lock, or fails if another open of the file has it. It never waits.
     fn try_lock(&self) -> io::Result<()>;
 }
 
@@ -16,7 +17,7 @@ impl TryLock for File {
     }
 }
 
-/// Whether the name is a symbolic link's.
+/// Returns whether the name belongs to a symbolic link.
 pub(crate) fn is_link<R: Files>(rt: &R, name: &str) -> io::Result<bool> {
     match fs::symlink_metadata(rt, name) {
         Ok(found) => Ok(found.is_symlink()),
@@ -25,9 +26,9 @@ pub(crate) fn is_link<R: Files>(rt: &R, name: &str) -> io::Result<bool> {
     }
 }
 
-/// Opens the file NAME.lock, which is made where it is missing and never written, and locks it.
-// NAME itself is another file after each save, so a lock on it would be lost. NAME.lock stays: were it removed, a run that opened it
-// before would lock a file that the next run doesn't find.
+/// Opens the file NAME.lock and locks it. The file is made if it is missing, and is never written.
+// NAME itself is another file after each save, so a lock on it would be lost. NAME.lock stays: if it were removed, a run that opened
+// it before would lock a file that the next run doesn't find.
 pub(crate) fn locked<R: Files + Alloc>(rt: &R, name: &str) -> io::Result<R::File>
 where
     R::File: TryLock,

@@ -5,13 +5,13 @@ ghost use Rattle.osc_file.specs.NumberText.{Spells};
 
 use std::alloc::{AllocError, Allocator};
 
-/// Reads a number below 2^64 from its text; zeros may lead.
+/// Reads a number below 2^64 from its text. Leading zeros are allowed.
 pub(crate) fn parse(text: &str) -> Option<u64>
     ensures accepted { IfSome result (λ n. Spells n text.now) }
     ensures accepts { (n : ℕ) → n < 2 ^ 64 → Spells n text.now → result ≡ Some n }
 {
     let digits = text.strip_suffix('\n')?;
-    // `str::parse` takes a plus before the digits, which is no digit.
+    // `str::parse` accepts a plus before the digits, and a plus isn't a digit.
     if digits.starts_with('+') {
         return None;
     }

@@ -1,4 +1,4 @@
-//! A file in the place of another, at once or not at all.
+//! Puts a file in the place of another, in one step or not at all.
 
 ghost use Rattle.std.specs.Prelude.{◌≡◌, ◌<◌, IfSome, codes, length};
 ghost use Rattle.std.specs.Path.{path_parent};
@@ -9,11 +9,11 @@ use std::io::{self, ErrorKind, Write};
 use std::path::Path;
 use std::rt::Files;
 
-/// Puts a number in the place of what the file holds.
-// NAME.new takes the name only once its number is on the disk, and a rename is one step (POSIX, rename): whenever this stops, NAME
-// is the old file, or none as before, or the new one. The folder holds the name, so without its sync a power cut may bring the
-// old file back after Ok; `fs::open` opens a folder to be read, and `sync_all` syncs it. It is opened before the rename, so that
-// behind the rename the sync alone can fail.
+/// Replaces what the file holds with a number.
+// NAME.new takes the name only once its number is on the disk, and a rename is one step (POSIX, rename). Whenever this stops, NAME is
+// the old file, or missing as before, or the new file. The folder holds the name, so without a sync of the folder a power cut may
+// bring the old file back after Ok. `fs::open` opens a folder for reading, and `sync_all` syncs it. The folder is opened before the
+// rename, so that after the rename only the sync can fail.
 pub(crate) fn replace<R: Files + Alloc>(rt: &R, name: &str, number: u64) -> io::Result<()> {
     let text = spell(rt.alloc(), number)?;
     let new_name = format!(in rt.alloc(); "{name}.new")?;
@@ -25,7 +25,7 @@ pub(crate) fn replace<R: Files + Alloc>(rt: &R, name: &str, number: u64) -> io::
     folder.sync_all()
 }
 
-/// Makes a file of this name, in place of what a save that stopped left there. A link that stands there is removed and not followed.
+/// Makes a new file of this name, in place of what an interrupted save left there. A link there is removed, and not followed.
 fn made_anew<R: Files>(rt: &R, name: &str) -> io::Result<R::File> {
     match fs::remove_file(rt, name) {
         Err(error) if error.kind() != ErrorKind::NotFound => Err(error),
@@ -33,7 +33,7 @@ fn made_anew<R: Files>(rt: &R, name: &str) -> io::Result<R::File> {
     }
 }
 
-/// The folder that holds this name.
+/// Returns the folder that holds this name.
 fn folder_of(name: &str) -> &str
     ensures above { IfSome (path_parent name.now) (λ folder. 0 < length folder → result.now ≡ folder) }
     ensures here { IfSome (path_parent name.now) (λ folder. length folder ≡ 0 → result.now ≡ codes ".") }

@@ -1,4 +1,4 @@
--- To be believed: what the bytes of a client say. c are the bytes, b those of one pending request, h is a history.
+-- To be believed: what the bytes of a client say. c are the bytes, b the bytes of one pending request, h is a history.
 use Rattle.std.specs.Prelude.{◌≡◌, ℕ, ◌≤◌, ◌<◌, ◌^◌, List, Some, map, slice_get, take}
 use Rattle.osc_endpoint.specs.Agrees.{ClientParts, TokensDiffer}
 use Rattle.osc_endpoint.specs.ClientHistory.{Asked, History, clock, context, life_ms, next, pending}
@@ -29,7 +29,7 @@ pub record IsPending (b : PendingHandle) : Type 0 where
   pub token : b.token_len ≤ 8
   pub number : b.number < 2 ^ 40
 
--- bytes of pending requests that a call may have written: at most eight, no two of one token (RFC 7252, 5.3.1; own rule: eight)
+-- bytes of pending requests that a call may have written: at most eight, no two with the same token (RFC 7252, 5.3.1; own rule: eight)
 pub record ArePending (c : ClientHandle) : Type 0 where
   pub fits : c.count ≤ 8
   pub each : (i : ℕ) (b : PendingHandle) → slice_get (pending_in c) i ≡ Some b → IsPending b

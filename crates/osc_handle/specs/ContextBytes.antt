@@ -3,7 +3,7 @@ use Rattle.std.specs.Prelude.{◌≢◌, ℕ, ◌≤◌, ◌==◌, zero, suc, Bo
 use Rattle.osc_context.specs.SecurityContext.{SecurityContext}
 use Rattle.osc_handle.specs.declared.context_handle.ContextHandle.{ContextHandle}
 
--- the ID Context of so many of the bytes, or none where there are none of them (own rule)
+-- the ID Context in this many bytes, or none for 0 bytes (own rule)
 abbrev pub id_context_in : List ℕ → ℕ → Option (List ℕ)
 id_context_in bytes zero = None
 id_context_in bytes (suc n) = Some (take (suc n) bytes)
@@ -20,7 +20,7 @@ server_in h = record { client = take h.recipient_len h.recipient; client_key = h
 abbrev pub is_constant_time_in : ContextHandle → Bool
 is_constant_time_in h = not (h.constant_time == 0)
 
--- bytes that a call may have written: lengths that the fields have room for, and two identifiers (RFC 8613, 3.3)
+-- bytes that a call may have written: lengths that the fields have room for, and two different identifiers (RFC 8613, 3.3)
 pub record IsContext (h : ContextHandle) : Type 0 where
   pub sender_fits : h.sender_len ≤ 7
   pub recipient_fits : h.recipient_len ≤ 7

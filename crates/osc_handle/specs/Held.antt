@@ -1,4 +1,4 @@
--- For the proofs: the contexts that bytes hold are those of what they stand for.
+-- For the proofs: the contexts that bytes hold are the contexts of what they stand for.
 use Rattle.std.specs.Prelude.{◌≡◌, ℕ, List, Option, Some, None, slice_get}
 use Rattle.std.specs.Option.{option_map}
 use Rattle.std.proofs.Common.{refl, ap, sym}

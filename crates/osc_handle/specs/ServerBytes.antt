@@ -27,22 +27,22 @@ use Rattle.osc_handle.specs.declared.reply_refusal.ReplyRefusal.TheVariants.{Bad
 use Rattle.osc_handle.specs.declared.server_handle.ServerHandle.{ServerHandle}
 use Rattle.osc_handle.specs.declared.unanswered_handle.UnansweredHandle.{UnansweredHandle}
 
--- the bytes hold exactly the numbers that wait in this life, and none above those that were spent in it (RFC 8613, 8.3)
+-- the bytes hold exactly the numbers that are waiting in this life, and none above those that were spent in it (RFC 8613, 8.3)
 pub record RemembersLife (u : UnansweredHandle) (of : Life) (waiting : ℕ → Bool) : Type 0 where
   pub held : (n : ℕ) → holds u n ≡ waiting n
   pub reach : (bound : ℕ) → 0 < bound → All (λ m. m < bound) (spent of.open_at_birth of.marks) → u.highest < bound
 
--- the same of the present life of a context, if it is there; waiting takes the count of its lives before (RFC 8613, 8.3)
+-- the same for the present life of a context, if there is one; waiting takes the number of the lives before it (RFC 8613, 8.3)
 abbrev pub RemembersAt : UnansweredHandle → Option Life → (ℕ → ℕ → Bool) → Type 0
 RemembersAt u None waiting = Unit {0}
 RemembersAt u (Some of) waiting = RemembersLife u of (waiting of.count)
 
--- and of each context (RFC 8613, 8.3)
+-- and for each context (RFC 8613, 8.3)
 pub record Remembers (us : List UnansweredHandle) (h : History) : Type 0 where
   pub at : (i : ℕ) (u : UnansweredHandle) → slice_get us i ≡ Some u → RemembersAt u (life h i) (waits h i)
 
--- the bytes stand for a server that is as its history says; each of its entries was the answer, each reply one to a request that waited for
--- it, and no context was added whose Sender Key another had (RFC 8613, 3.1, 3.3 and 8.3)
+-- the bytes stand for a server that is as its history says; each entry of the history was the answer, each reply was one to a request that waited for
+-- it, and no context was added if another had its Sender Key (RFC 8613, 3.1, 3.3 and 8.3)
 pub record Serves (s : ServerHandle) (h : History) : Type 0 where
   pub slots : List (Option Slot)
   pub table : IsTableIn s.contexts slots
@@ -52,45 +52,45 @@ pub record Serves (s : ServerHandle) (h : History) : Type 0 where
   pub waiting : AnswersWaiting h
   pub senders : SendersDiffer h
 
--- a `Server` would add the context, and one that is there has its Sender Key (RFC 8613, 3.3)
+-- a `Server` would add the context, but one of its contexts has the same Sender Key (RFC 8613, 3.3)
 abbrev pub IsSameSender : History → SecurityContext → Type 0
 IsSameSender h s = (added h < 8) × (IsTaken h s → ⊥) × HasSameSender h s
 
--- the entry of an addition; the same Sender Key is no event of a server (how the code is seen)
+-- the entry of an addition; a refusal for the same Sender Key isn't an event of a server (how the code is seen)
 abbrev pub entry_of_add : Result ℕ AddRefusal → Option Entry
 entry_of_add (Ok index) = Some (Added index)
 entry_of_add (Err (NotAddedBy e)) = Some (NotAdded e)
 entry_of_add (Err SameSender) = None
 
--- the entry is the answer to the addition after the history, and the bytes are as both say (RFC 8613, B.1)
+-- after the history, the entry is the answer to the addition, and the bytes are as both say (RFC 8613, B.1)
 abbrev pub AddsIn : History → SecurityContext → Start → WindowSize → Entry → ServerHandle → Type 0
 AddsIn h c start size entry s = ServerAnswer h (Add c start size) entry × Serves s (Then h (Add c start size) entry)
 
--- what was decided of a datagram is the answer after the history, and the bytes are as both say (how the code is seen)
+-- after the history, what was decided about a datagram is the answer, and the bytes are as both say (how the code is seen)
 pub record DecidesIn (h : History) (now : ℕ) (fresh : Fresh) (d : List ℕ) (decision : Decision) (new reply : List ℕ) (s : ServerHandle) : Type 0 where
   pub answer : Answer
   pub row : ServerAnswer h (Datagram now fresh.echo fresh.mid d) (Took answer reply)
   pub decides : Decides decision new answer
   pub serves : Serves s (Then h (Datagram now fresh.echo fresh.mid d) (Took answer reply))
 
--- the outcome shows the answer after the history, and the bytes are as both say (how the code is seen)
+-- after the history, the outcome shows the answer, and the bytes are as both say (how the code is seen)
 pub record TakesIn (h : History) (now : ℕ) (fresh : Fresh) (d : List ℕ) (outcome : Outcome) (reply : List ℕ) (s : ServerHandle) : Type 0 where
   pub answer : Answer
   pub row : ServerAnswer h (Datagram now fresh.echo fresh.mid d) (Took answer reply)
   pub shows : Shows outcome answer
   pub serves : Serves s (Then h (Datagram now fresh.echo fresh.mid d) (Took answer reply))
 
--- the ticket is of the present life of its context, and its request doesn't wait for an answer (RFC 8613, 8.3)
+-- the ticket is of the present life of its context, and its request isn't waiting for an answer (RFC 8613, 8.3)
 abbrev pub IsSpent : History → TicketValues → Type 0
 IsSpent h t = (of : Life) × IsPresent h t of × (waits h t.context t.life t.number ≡ false)
 
--- the entry of a reply, whose text stands at the front of the buffer; a spent ticket and bad bytes are no event of a server (how the code is seen)
+-- the entry of a reply, whose text is at the front of the buffer; a spent ticket or bad bytes aren't an event of a server (how the code is seen)
 abbrev pub entry_of_reply : Result ℕ ReplyRefusal → List ℕ → Option Entry
 entry_of_reply (Ok n) out = Some (Replied (take n out))
 entry_of_reply (Err BadHandle) out = None
 entry_of_reply (Err TicketSpent) out = None
 entry_of_reply (Err (Refused e)) out = Some (NotReplied e)
 
--- the entry is the answer to the reply after the history, and the bytes are as both say (RFC 8613, 8.3)
+-- after the history, the entry is the answer to the reply, and the bytes are as both say (RFC 8613, 8.3)
 abbrev pub RepliesIn : History → TicketValues → Bool → ℕ → Parts → ℕ → Entry → ServerHandle → Type 0
 RepliesIn h t own mid plain room entry s = ServerAnswer h (Reply t own mid plain room) entry × Serves s (Then h (Reply t own mid plain room) entry)

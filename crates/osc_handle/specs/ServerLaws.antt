@@ -5,7 +5,7 @@ use Rattle.osc_endpoint.specs.ServerHistory.{History}
 use Rattle.osc_handle.specs.ServerBytes.{Serves}
 use Rattle.osc_handle.specs.declared.server_handle.ServerHandle.{ServerHandle}
 
--- each request is answered once at most (RFC 8613, 8.3)
+-- each request is answered at most once (RFC 8613, 8.3)
 abbrev pub HandleAnswersOnce : Type 0
 HandleAnswersOnce = (s : ServerHandle) (h : History) → Serves s h → Pairwise AreApart (answered h)
 
@@ -13,6 +13,6 @@ HandleAnswersOnce = (s : ServerHandle) (h : History) → Serves s h → Pairwise
 abbrev pub HandleNoncesOnce : Type 0
 HandleNoncesOnce = (s : ServerHandle) (h : History) → Serves s h → Pairwise HaveTwoNonces (texts h)
 
--- no two texts that it sealed share key and nonce, but those of two lives of one context (RFC 8613, 3.3 and 5.2)
+-- no two texts that it sealed share both key and nonce, except texts of two lives of one context (RFC 8613, 3.3 and 5.2)
 abbrev pub HandleKeysOrNoncesOnce : Type 0
 HandleKeysOrNoncesOnce = (s : ServerHandle) (h : History) → Serves s h → Pairwise HaveTwoKeysOrNonces (texts h)

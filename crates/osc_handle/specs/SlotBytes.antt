@@ -43,7 +43,7 @@ pub record IsSlotIn (b : SlotHandle) (s : Slot) : Type 0 where
 abbrev pub HoldsIn : SlotHandle → Life → Type 0
 HoldsIn b l = (s : Slot) × IsSlotIn b s × SlotAgrees s l
 
--- all but the gate stays (how the code is seen)
+-- everything but the gate stays (how the code is seen)
 pub record SameBut (old new : SlotHandle) : Type 0 where
   pub context : new.context ≡ old.context
   pub places : new.places ≡ old.places

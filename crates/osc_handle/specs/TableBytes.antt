@@ -25,7 +25,7 @@ pub record IsTable (t : ContextsHandle) : Type 0 where
   pub fits : t.count ≤ 8
   pub each : (i : ℕ) (b : SlotHandle) → slice_get (places_in t) i ≡ Some b → IsSlotBytes b
 
--- these are the places of a table (own rule)
+-- the bytes hold these places of a table (own rule)
 pub record IsTableIn (t : ContextsHandle) (slots : List (Option Slot)) : Type 0 where
   pub at : (i : ℕ) → IsPlaceIn (slice_get (places_in t) i) (slice_get slots i)
 

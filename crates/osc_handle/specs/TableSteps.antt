@@ -13,12 +13,12 @@ use Rattle.osc_handle.specs.declared.add_refusal.AddRefusal.TheVariants.{Refused
 use Rattle.osc_handle.specs.declared.contexts_handle.ContextsHandle.{ContextsHandle}
 use Rattle.osc_handle.specs.declared.slot_handle.SlotHandle.{SlotHandle}
 
--- the life that the bytes of a place say (how the code is seen)
+-- whether the bytes of a place say this life (how the code is seen)
 abbrev pub life_in : Option SlotHandle → ℕ → Bool
 life_in None life = false
 life_in (Some b) life = b.life == life
 
--- a context is there, and in this life (RFC 8613, B.1)
+-- whether a context is there, and in this life (RFC 8613, B.1)
 abbrev pub is_present_in : ContextsHandle → ℕ → ℕ → Bool
 is_present_in t i life = life_in (slice_get (places_in t) i) life
 
@@ -32,11 +32,11 @@ RefusesToAdd t s (Refused Full) = t.count ≡ 8
 RefusesToAdd t s (Refused SameLookup) = (t.count ≢ 8) × (i : ℕ) × FindsAt (bytes_at t) i s.client s.id_context
 RefusesToAdd t s SameSender = (t.count ≢ 8) × ((i : ℕ) → FindsAt (bytes_at t) i s.client s.id_context → ⊥) × HasSenderIn t s
 
--- behind these places there is one more, of this life (RFC 8613, B.1)
+-- after these places there is one more, of this life (RFC 8613, B.1)
 abbrev pub GrowsBy : List (Option Slot) → Life → ContextsHandle → Type 0
 GrowsBy slots l t = (s : Slot) × SlotAgrees s l × IsTableIn t (slots ++ Some s ∷ [])
 
--- one place is of this life now, and all others as they were (how the code is seen)
+-- one place is of this life now, and all others are as they were (how the code is seen)
 pub record ChangesAt (slots : List (Option Slot)) (lives : ℕ → Option Life) (i : ℕ) (l : Life) (t : ContextsHandle) : Type 0 where
   pub new : List (Option Slot)
   pub table : IsTableIn t new

@@ -16,7 +16,7 @@ kind_in (suc (suc (suc n))) = Rst
 abbrev pub ticket_in : TicketHandle → TicketValues
 ticket_in t = record { context = t.context; life = t.life; number = t.number; kind = kind_in t.kind; message_id = t.message_id; token = take t.token_len t.token }
 
--- bytes that a call may have written: a kind, a number that is one, and a token's length (RFC 7252, 3; RFC 8613, 7.2.1)
+-- bytes that a call may have written: a valid kind, a valid number and a valid token length (RFC 7252, 3; RFC 8613, 7.2.1)
 pub record IsTicket (t : TicketHandle) : Type 0 where
   pub kind : t.kind ≤ 3
   pub number : t.number < 2 ^ 40

@@ -2,10 +2,10 @@
 
 use osc_endpoint::AddError;
 
-/// Why a context isn't added, in the order in which it is judged.
+/// Why a context isn't added. The variants stand in the order in which they are checked.
 #[derive(Clone, Copy, Debug, PartialEq, Eq)]
 pub enum AddRefusal {
-    /// What a `Server` answers.
+    /// A `Server` refuses the context for this reason.
     Refused(AddError),
     /// A context of the server has the same Sender Key (RFC 8613, 3.3).
     SameSender,

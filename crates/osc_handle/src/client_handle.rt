@@ -23,7 +23,7 @@ use osc_context::{Context, Piv};
 use osc_endpoint::siblings::Pending;
 use osc_endpoint::{Client, ClientDecision, ClientOutcome, RequestError};
 
-/// A client of one context, with up to eight pending requests: the first `count` of the places, oldest first. Moments are
+/// A client of one context, with up to eight pending requests: the first `count` of the places, oldest first. Moments are in
 /// milliseconds.
 #[repr(C)]
 #[derive(Clone, Copy)]
@@ -36,7 +36,7 @@ pub struct ClientHandle {
     pub pending: [PendingHandle; 8],
 }
 
-/// Whether a request with this token is among these.
+/// Returns whether one of these requests has this token.
 fn has_token(requests: &[PendingHandle], token: &[u8]) -> bool
     ensures yes { result ≡ true → IsAmong token.now (map asked_at requests.now) }
     ensures no { result ≡ false → IsAmong token.now (map asked_at requests.now) → ⊥ }
@@ -49,7 +49,7 @@ fn has_token(requests: &[PendingHandle], token: &[u8]) -> bool
     false
 }
 
-/// Writes these requests to the first of the places. What stands behind them stays.
+/// Writes these requests to the first places. The places after them stay.
 fn keep_requests(places: &mut [PendingHandle; 8], requests: &[Pending])
     requires { length requests.now ≤ 8 }
     ensures made { map asked_at (take (length requests.now) places.new) ≡ map asked_of requests.now }
@@ -61,8 +61,8 @@ fn keep_requests(places: &mut [PendingHandle; 8], requests: &[Pending])
 }
 
 impl ClientHandle {
-    /// A client with nothing pending, whose requests are pending for so many milliseconds and no longer; None where the bytes of
-    /// the context are none that a call may have written.
+    /// Makes a client with nothing pending. Its requests are pending for `life_ms` milliseconds and no longer. Returns `None` if the
+    /// context bytes can't have been written by a call.
     pub fn begin(context: &ContextHandle, next: Piv, life_ms: u64) -> Option<ClientHandle>
         ensures made { IfSome result (λ c. Asks c (New (client_in context.now) (number_of next) life_ms)) }
         ensures context { IfSome result (λ c. c.context ≡ context.now) }
@@ -82,7 +82,7 @@ impl ClientHandle {
         })
     }
 
-    /// Whether the pending requests are ones that calls may have written.
+    /// Returns whether calls may have written the pending requests.
     fn are_pending(&self) -> bool
         ensures yes { result ≡ true → ArePending self.now }
         ensures no { result ≡ false → ArePending self.now → ⊥ }
@@ -102,7 +102,7 @@ impl ClientHandle {
         true
     }
 
-    /// Whether the bytes are ones that a call may have written.
+    /// Returns whether a call may have written the bytes.
     pub fn is_whole(&self) -> bool
         ensures yes { result ≡ true → IsClient self.now }
         ensures no { result ≡ false → IsClient self.now → ⊥ }
@@ -110,7 +110,7 @@ impl ClientHandle {
         self.context.is_whole() && self.next <= 1 << 40 && self.are_pending()
     }
 
-    /// The context, or None where no call can have written the client's bytes.
+    /// Returns the context, or `None` if the client's bytes can't have been written by a call.
     fn whole_context(&self) -> Option<Context>
         ensures client { IfSome result (λ c. as_client c ≡ client_in self.now.context) }
         ensures chosen { IfSome result (λ c. is_constant_time c ≡ is_constant_time_in self.now.context) }
@@ -123,7 +123,7 @@ impl ClientHandle {
         self.context.context()
     }
 
-    /// Puts the pending requests into a client that has all else of these bytes.
+    /// Puts the pending requests into a client that has everything else from these bytes.
     fn recall(&self, client: &mut Client<8>)
         requires whole { IsClient self.now }
         requires begun { client_parts client.old ≡ parts_with 0 self.now }
@@ -137,7 +137,7 @@ impl ClientHandle {
         }
     }
 
-    /// Keeps what a client came to.
+    /// Keeps the new state of a client.
     fn keep(&mut self, client: &Client<8>)
         ensures kept { Keeps self.old self.new (client_parts client.now) }
         ensures whole { IsClient self.old → HasTokensApart client.now → IsClient self.new }
@@ -149,7 +149,8 @@ impl ClientHandle {
         keep_requests(&mut self.pending, requests);
     }
 
-    /// Drops every pending request, and goes on at a number. The clock stays. None where no call can have written the bytes.
+    /// Drops every pending request, and continues with `next` as the next Sender Sequence Number. The clock stays. Returns `None` if
+    /// the bytes can't have been written by a call.
     pub fn restart(&mut self, next: Piv) -> Option<()>
         ensures follows { IsSome result → (h : History) → Asks self.old h → Asks self.new (Then h (Restart (number_of next)) Restarted) }
         ensures whole { IsSome result → IsClient self.new }
@@ -166,8 +167,8 @@ impl ClientHandle {
         Some(())
     }
 
-    /// Waits no more for the response to the request of a token, and answers whether it was pending. None where no call can have
-    /// written the bytes.
+    /// Stops waiting for the response to the request with this token. Returns whether the token was pending, or `None` if the bytes
+    /// can't have been written by a call.
     pub fn forget(&mut self, token: &[u8]) -> Option<bool>
         ensures answered { IfSome result (λ was. (h : History) → Asks self.old h → ClientAnswer 8 h (Forget token.now) (Forgot was)) }
         ensures follows { IfSome result (λ was. (h : History) → Asks self.old h → Asks self.new (Then h (Forget token.now) (Forgot was))) }
@@ -186,9 +187,9 @@ impl ClientHandle {
         Some(was_pending)
     }
 
-    /// Seals a request with the next number into `out`, and answers how many bytes at its front it takes (RFC 8613, 8.1). Its
-    /// token is pending from then on. The first refusal in the order of `RequestError` is answered: it leaves `out`, and moves
-    /// the clock alone. None where no call can have written the bytes.
+    /// Seals a request with the next number, writes it to the front of `out`, and returns how many bytes it wrote (RFC 8613, 8.1).
+    /// The request's token is pending from then on. Returns the first refusal in the order of `RequestError`; a refusal leaves `out`
+    /// unchanged, and moves only the clock. Returns `None` if the bytes can't have been written by a call.
     pub fn request(
         &mut self,
         now: u64,
@@ -219,8 +220,8 @@ impl ClientHandle {
         Some(asked)
     }
 
-    /// Decides what a datagram is answered, where it lies (RFC 8613, 8.4), and says what it leaves in it. None where no call can have
-    /// written the bytes. `ClientDecision::outcome` lends what was delivered.
+    /// Decides the answer to a datagram in place (RFC 8613, 8.4), and says what it leaves in the datagram. Returns `None` if the
+    /// bytes can't have been written by a call. `ClientDecision::outcome` lends what was delivered.
     pub fn decide(&mut self, now: u64, datagram: &mut [u8]) -> Option<ClientDecision>
         ensures answered { IfSome result (λ decision. (h : History) → Asks self.old h
             → ClientDecidesIn h now datagram.old decision datagram.new self.new) }
@@ -229,7 +230,7 @@ impl ClientHandle {
         ensures accepts { IsClient self.old → IsSome result }
         ensures shown { IfSome result (λ decision. CanShow decision datagram.new) }
         ensures left { IfSome result (λ decision. LeavesIn (parts_in self.old) decision datagram.old datagram.new) }
-        // What `ClientDecision::outcome` makes of it is a delivery exactly if the datagram as it came is one.
+        // `ClientDecision::outcome` returns a delivery if and only if the datagram that was passed in is to be delivered.
         ensures delivered { IfSome result (λ decision. (h : History) (n : ℕ) (own : Option ℕ) (m : InnerParts) (outcome : OutcomeOf) → Asks self.old h
             → ClientShowsDecided decision datagram.new outcome → client_delivery_of outcome ≡ Some (n, own, m) → Delivers h now datagram.old n own m) }
         ensures delivers { IfSome result (λ decision. (h : History) (n : ℕ) (own : Option ℕ) (m : InnerParts) (outcome : OutcomeOf) → Asks self.old h
@@ -246,8 +247,8 @@ impl ClientHandle {
         Some(decision)
     }
 
-    /// Answers a datagram, where it lies (RFC 8613, 8.4), or None where no call can have written the bytes: `decide`, and what was
-    /// decided as an outcome. What the datagram holds afterwards is what `decide` says.
+    /// Takes a datagram in place (RFC 8613, 8.4): calls `decide`, and returns the decision as an outcome. Returns `None` if the bytes
+    /// can't have been written by a call. `decide` says what the datagram holds afterwards.
     pub fn take<'b>(&mut self, now: u64, datagram: &'b mut [u8]) -> Option<ClientOutcome<'b>>
         ensures answered { IfSome result (λ outcome. (h : History) → Asks self.old h
             → ClientTakesIn h now datagram.old outcome self.new) }

@@ -1,18 +1,19 @@
-//! What holds of every history of a client in bytes. A call of such a function does nothing: its contract is there for the proof of
-//! its caller.
+//! What holds for every history of a client in bytes. Calling one of these functions does nothing: its contract is there for the
+//! proof of its caller.
 
 ghost use Rattle.osc_handle.specs.ClientBytes.{NoncesOnceIn, NumbersOnceIn};
 
 use osc_endpoint::{nonces_once, own_numbers_once};
 
-/// No two requests that a client seals between two restarts share a nonce (RFC 8613, 5.2).
+/// States that no two requests that a client seals between two restarts share a nonce (RFC 8613, 5.2).
 pub fn client_nonces_once()
     ensures { NoncesOnceIn }
 {
     nonces_once();
 }
 
-/// The numbers of a client's requests between two restarts are consecutive, and none is used twice (RFC 8613, 7.2.1).
+/// States that the numbers of a client's requests between two restarts are consecutive, and that none is used twice (RFC 8613,
+/// 7.2.1).
 pub fn client_numbers_once()
     ensures { NumbersOnceIn }
 {

@@ -1,4 +1,4 @@
-//! A context in the caller's memory: plain bytes, of which each may have any value.
+//! A context in the caller's memory: plain bytes, each of which may have any value.
 
 ghost use Rattle.std.specs.Prelude.{◌≡◌, ◌≤◌, ◌||◌, ◌↔◌, take, IfSome, IfNone, IsSome, IsTrue, length, true, false};
 ghost use Rattle.osc_context.specs.SecurityContext.{AnswersTo};
@@ -9,7 +9,7 @@ ghost use Rattle.osc_handle.specs.ContextBytes.{client_in, server_in, id_context
 
 use osc_context::{Context, IdContext, Kid};
 
-/// A context in the caller's memory. An ID Context of no bytes is none.
+/// A context in the caller's memory. If the ID Context has no bytes, there is none.
 #[repr(C)]
 #[derive(Clone, Copy)]
 pub struct ContextHandle {
@@ -27,7 +27,7 @@ pub struct ContextHandle {
 }
 
 impl ContextHandle {
-    /// The bytes of a context.
+    /// Returns the bytes of a context.
     pub fn of(context: &Context) -> ContextHandle
         ensures client { client_in result ≡ as_client context.now }
         ensures server { server_in result ≡ as_server context.now }
@@ -54,7 +54,7 @@ impl ContextHandle {
         }
     }
 
-    /// The bytes of no context.
+    /// Returns the bytes of no context.
     pub(crate) fn unused() -> ContextHandle {
         ContextHandle {
             sender: [0; 7],
@@ -70,7 +70,7 @@ impl ContextHandle {
         }
     }
 
-    /// The context that the handle says, or None where its bytes are none that a call wrote.
+    /// Returns the context that the handle holds, or `None` if its bytes can't have been written by a call.
     pub fn context(&self) -> Option<Context>
         ensures client { IfSome result (λ c. as_client c ≡ client_in self.now) }
         ensures server { IfSome result (λ c. as_server c ≡ server_in self.now) }
@@ -94,7 +94,7 @@ impl ContextHandle {
 }
 
 impl ContextHandle {
-    /// Whether the bytes are ones that a call may have written.
+    /// Returns whether a call may have written the bytes.
     #[must_use]
     pub fn is_whole(&self) -> bool
         ensures yes { result ≡ true → IsContext self.now }
@@ -107,7 +107,7 @@ impl ContextHandle {
                 != self.recipient[..usize::from(self.recipient_len)]
     }
 
-    /// The identifier that requests for the context name it by, as its server.
+    /// Returns the identifier by which requests name the context at its server.
     pub(crate) fn kid(&self) -> &[u8]
         requires { IsContext self.now }
         ensures { result.now ≡ (server_in self.now).client }
@@ -115,7 +115,7 @@ impl ContextHandle {
         &self.recipient[..usize::from(self.recipient_len)]
     }
 
-    /// The ID Context, or none.
+    /// Returns the ID Context, if there is one.
     pub(crate) fn kid_context(&self) -> Option<&[u8]>
         requires { IsContext self.now }
         ensures { shown result ≡ (server_in self.now).id_context }
@@ -126,7 +126,7 @@ impl ContextHandle {
         Some(&self.id_context[..usize::from(self.id_context_len)])
     }
 
-    /// Whether requests with this kid, and this kid context or none, are for the context, as its server.
+    /// Returns whether requests with this kid, and with this kid context or none, are for the context at its server.
     pub(crate) fn answers_to(&self, kid: &[u8], kid_context: Option<&[u8]>) -> bool
         requires { IsContext self.now }
         ensures yes { result ≡ true → AnswersTo (server_in self.now) kid.now (shown kid_context.entry) }
@@ -140,7 +140,7 @@ impl ContextHandle {
         same && &self.recipient[..usize::from(self.recipient_len)] == kid
     }
 
-    /// Whether both have one Sender Key.
+    /// Returns whether both contexts have the same Sender Key.
     pub(crate) fn has_sender_of(&self, other: &ContextHandle) -> bool
         ensures { IsTrue result ↔ HaveSameSender (server_in self.now) (server_in other.now) }
     {
@@ -148,7 +148,7 @@ impl ContextHandle {
     }
 }
 
-/// Whether two keys are equal: the differences of all bytes are gathered, and tested once.
+/// Returns whether two keys are equal. It gathers the differences of all bytes, and tests them once.
 fn is_same_key(key: &[u8; 16], other: &[u8; 16]) -> bool
     ensures { IsTrue result ↔ (key.now ≡ other.now) }
 {
@@ -159,7 +159,7 @@ fn is_same_key(key: &[u8; 16], other: &[u8; 16]) -> bool
     differences == 0
 }
 
-/// The identifier of so many of the bytes, or None where there are not so many.
+/// Returns the identifier in the first `len` bytes, or `None` if there aren't that many.
 fn identifier(bytes: &[u8; 7], len: u8) -> Option<Kid>
     ensures made { IfSome result (λ kid. kid ≡ take len bytes.now) }
     ensures accepted { IsSome result → len ≤ 7 }
@@ -168,7 +168,7 @@ fn identifier(bytes: &[u8; 7], len: u8) -> Option<Kid>
     Kid::new(bytes.get(..usize::from(len))?)
 }
 
-/// The ID Context of so many of the bytes, none for none of them, or None where there are not so many.
+/// Returns the ID Context in the first `len` bytes, or `Some(None)` if `len` is 0. Returns `None` if there aren't that many bytes.
 fn id_context(bytes: &[u8; 32], len: u8) -> Option<Option<IdContext>>
     ensures made { IfSome result (λ id_context. id_context ≡ id_context_in bytes.now len) }
     ensures accepted { IsSome result → len ≤ 32 }
@@ -180,7 +180,7 @@ fn id_context(bytes: &[u8; 32], len: u8) -> Option<Option<IdContext>>
     IdContext::new(bytes.get(..usize::from(len))?).map(Some)
 }
 
-/// The context, with its keys used in constant time where that is asked for.
+/// Returns the context, with its keys used in constant time if that is asked for.
 fn as_asked(context: Context, constant_time: bool) -> Context
     ensures client { as_client result ≡ as_client context }
     ensures server { as_server result ≡ as_server context }
@@ -193,7 +193,7 @@ fn as_asked(context: Context, constant_time: bool) -> Context
     }
 }
 
-/// The bytes at the front of a field, zeros behind them, and how many they are.
+/// Returns a field with the bytes at the front and zeros after them, and how many they are.
 pub(crate) fn padded<const N: usize>(bytes: &[u8]) -> ([u8; N], u8)
     requires fits { length bytes.now ≤ N }
     requires small { N ≤ 255 }

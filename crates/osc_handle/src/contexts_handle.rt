@@ -29,7 +29,7 @@ use osc_endpoint::siblings::{Asker, Contexts, Named, Slot, is_replay, refuse_rep
 use osc_endpoint::{AddError, Decided, ReplyError, RestartError, Start};
 use osc_window::WindowSize;
 
-/// The contexts of a server: the first `count` of the places.
+/// The contexts of a server: the first `count` places.
 #[repr(C)]
 #[derive(Clone, Copy)]
 pub struct ContextsHandle {
@@ -38,7 +38,7 @@ pub struct ContextsHandle {
 }
 
 impl ContextsHandle {
-    /// No context.
+    /// Returns bytes that hold no context.
     #[must_use]
     pub fn none() -> ContextsHandle
         ensures { result.count ≡ 0 }
@@ -49,7 +49,7 @@ impl ContextsHandle {
         }
     }
 
-    /// Whether the bytes are ones that a call may have written.
+    /// Returns whether a call may have written the bytes.
     #[must_use]
     pub fn is_whole(&self) -> bool
         ensures yes { result ≡ true → IsTable self.now }
@@ -66,7 +66,7 @@ impl ContextsHandle {
         true
     }
 
-    /// Whether one of the contexts has this one's Sender Key.
+    /// Returns whether one of the contexts has this one's Sender Key.
     fn has_sender_of(&self, context: &ContextHandle) -> bool
         requires { IsTable self.now }
         ensures { IsTrue result ↔ HasSenderIn self.now (server_in context.now) }
@@ -79,7 +79,7 @@ impl ContextsHandle {
         false
     }
 
-    /// Adds a context, and answers its index.
+    /// Adds a context, and returns its index.
     pub(crate) fn add(
         &mut self,
         context: &ContextHandle,
@@ -102,7 +102,7 @@ impl ContextsHandle {
         if self.find(context.kid(), context.kid_context()).is_some() {
             return Err(AddRefusal::Refused(AddError::SameLookup));
         }
-        // By the key alone: contexts of one key and two Common IVs could still meet in a nonce (RFC 8613, 5.2).
+        // Only the key is compared: contexts with one key and two Common IVs could still use the same nonce (RFC 8613, 5.2).
         if self.has_sender_of(context) {
             return Err(AddRefusal::SameSender);
         }
@@ -136,7 +136,7 @@ impl ContextsHandle {
         Ok(())
     }
 
-    /// Whether a context is there, and in this life.
+    /// Returns whether a context is there, and in this life.
     pub(crate) fn is_present(&self, context: usize, life: u64) -> bool
         requires { IsTable self.now }
         ensures { result ≡ is_present_in self.now context life }
@@ -192,7 +192,7 @@ impl Contexts for ContextsHandle {
         let Some(gate) = self.slots[request.index].gate() else {
             unreachable!();
         };
-        // A replay wants no key schedule.
+        // A replay needs no key schedule.
         if is_replay(&gate, request.number) {
             return refuse_replay(&request, out);
         }

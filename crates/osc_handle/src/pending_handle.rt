@@ -1,4 +1,4 @@
-//! A request that waits for its response, as bytes.
+//! A request that is waiting for its response, as bytes.
 
 ghost use Rattle.std.specs.Prelude.{◌≡◌, ◌≤◌, IfSome, IsSome, take, true, false};
 ghost use Rattle.osc_endpoint.specs.Views.{asked_of};
@@ -9,7 +9,7 @@ use osc_coap::Token;
 use osc_context::Piv;
 use osc_endpoint::siblings::Pending;
 
-/// A request that waits for its response: its number, the clock when it was sealed in milliseconds, and its token.
+/// A request that is waiting for its response: its number, the clock in milliseconds when it was sealed, and its token.
 #[repr(C)]
 #[derive(Clone, Copy)]
 pub struct PendingHandle {
@@ -19,7 +19,7 @@ pub struct PendingHandle {
     pub token_len: u8,
 }
 
-/// The token of so many of the bytes, or None where there are not so many.
+/// Returns the token in the first `len` bytes, or `None` if there aren't that many.
 fn token_of(bytes: &[u8; 8], len: u8) -> Option<Token>
     ensures made { IfSome result (λ token. token.items ≡ take len bytes.now) }
     ensures accepted { IsSome result → len ≤ 8 }
@@ -33,7 +33,7 @@ fn token_of(bytes: &[u8; 8], len: u8) -> Option<Token>
 }
 
 impl PendingHandle {
-    /// What stands where no request is pending.
+    /// The bytes of a place where no request is pending.
     pub(crate) const NONE: PendingHandle = PendingHandle {
         number: 0,
         moment: 0,
@@ -41,7 +41,7 @@ impl PendingHandle {
         token_len: 0,
     };
 
-    /// The bytes of a pending request.
+    /// Returns the bytes of a pending request.
     pub fn of(pending: &Pending) -> PendingHandle
         ensures made { asked_at result ≡ asked_of pending.now }
         ensures whole { IsPending result }
@@ -55,7 +55,7 @@ impl PendingHandle {
         }
     }
 
-    /// Whether the bytes are ones that a call may have written.
+    /// Returns whether a call may have written the bytes.
     pub fn is_whole(&self) -> bool
         ensures yes { result ≡ true → IsPending self.now }
         ensures no { result ≡ false → IsPending self.now → ⊥ }
@@ -63,7 +63,7 @@ impl PendingHandle {
         self.token_len <= 8 && self.number < 1 << 40
     }
 
-    /// The token.
+    /// Returns the token.
     pub(crate) fn token(&self) -> &[u8]
         ensures { result.now ≡ (asked_at self.now).token }
     {
@@ -71,7 +71,7 @@ impl PendingHandle {
         &self.token[..len.min(8)]
     }
 
-    /// The pending request that the bytes say, or None where no call can have written them.
+    /// Returns the pending request that the bytes hold, or `None` if the bytes can't have been written by a call.
     pub fn pending(&self) -> Option<Pending>
         ensures made { IfSome result (λ pending. asked_of pending ≡ asked_at self.now) }
         ensures accepted { IsSome result → IsPending self.now }

@@ -2,13 +2,14 @@
 
 use osc_endpoint::ReplyError;
 
-/// Why a reply isn't sealed. In the order in which it is judged, a spent ticket stands behind a stale one.
+/// Why a reply isn't sealed. The variants stand in the order in which they are checked, except that a spent ticket comes after a
+/// stale one.
 #[derive(Clone, Copy, Debug, PartialEq, Eq)]
 pub enum ReplyRefusal {
-    /// The bytes of the server, or of the ticket, are none that a call may have written.
+    /// The bytes of the server or of the ticket can't have been written by a call.
     BadHandle,
-    /// The request has its answer, or a number 64 or more above was delivered since, or none was delivered that has this number.
+    /// The request has its answer, or a number at least 64 above was delivered since, or no request with this number was delivered.
     TicketSpent,
-    /// What a `Server` answers.
+    /// A `Server` refuses the reply for this reason.
     Refused(ReplyError),
 }

@@ -32,7 +32,7 @@ use osc_endpoint::{
 };
 use osc_window::WindowSize;
 
-/// A server of up to eight contexts: its clock, its contexts, and which requests of each wait for their answers.
+/// A server of up to eight contexts: its clock, its contexts, and which requests of each context are waiting for their answers.
 #[repr(C)]
 #[derive(Clone, Copy)]
 pub struct ServerHandle {
@@ -42,7 +42,7 @@ pub struct ServerHandle {
 }
 
 impl ServerHandle {
-    /// A server with no context.
+    /// Makes a server with no context.
     #[must_use]
     pub fn new() -> ServerHandle
         ensures serves { Serves result Begin }
@@ -55,8 +55,9 @@ impl ServerHandle {
         }
     }
 
-    /// Adds a context, and answers its index (RFC 8613, B.1); None where the bytes are none that a call may have written. Judged in this
-    /// order: what a `Server` refuses, then a Sender Key that one of the contexts has (RFC 8613, 3.3); a refusal changes nothing.
+    /// Adds a context, and returns its index (RFC 8613, B.1). Returns `None` if the bytes can't have been written by a call. Refuses,
+    /// in this order, what a `Server` refuses, and then a Sender Key that one of the contexts has (RFC 8613, 3.3). A refusal changes
+    /// nothing.
     pub fn add(
         &mut self,
         context: &ContextHandle,
@@ -87,8 +88,8 @@ impl ServerHandle {
         }
     }
 
-    /// Begins a new life of a context (RFC 8613, B.1); None where the bytes are none that a call may have written. The first refusal in
-    /// the order of `RestartError` is answered, and changes nothing.
+    /// Begins a new life of a context (RFC 8613, B.1). Returns `None` if the bytes can't have been written by a call. Returns the
+    /// first refusal in the order of `RestartError`; a refusal changes nothing.
     pub fn restart(&mut self, context: usize, next: Piv) -> Option<Result<(), RestartError>>
         ensures accepts { IsTable self.old.contexts → IsSome result }
         ensures accepted { IsSome result → IsTable self.old.contexts }
@@ -135,7 +136,8 @@ impl ServerHandle {
         }
     }
 
-    /// Decides what a datagram is answered, or None where the bytes are none that a call may have written: the first half of `take`.
+    /// Decides the answer to a datagram; this is the first half of `take`. Returns `None` if the bytes can't have been written by a
+    /// call.
     pub fn decide(
         &mut self,
         now: u64,
@@ -170,8 +172,8 @@ impl ServerHandle {
         Some(decided)
     }
 
-    /// Answers a datagram, where it lies (RFC 8613, 8.2), or None where the bytes are none that a call may have written: `decide`, and
-    /// what was decided as an outcome. The first `reply` bytes of `out` are the reply.
+    /// Takes a datagram in place (RFC 8613, 8.2): calls `decide`, and returns the decision as an outcome. The first `reply` bytes of
+    /// `out` are the reply. Returns `None` if the bytes can't have been written by a call.
     pub fn take<'b>(
         &mut self,
         now: u64,
@@ -196,9 +198,9 @@ impl ServerHandle {
         Some(Taken { outcome, reply })
     }
 
-    /// Seals a reply to the request of a ticket into `out`, and answers how many bytes at its front it takes (RFC 8613, 8.3). Of the
-    /// plain message the code, options and payload are used. Judged in this order: bad bytes, a stale ticket, a spent one, and what else
-    /// a `Server` refuses in the order of `ReplyError`; a refusal changes nothing.
+    /// Seals a reply to the request of a ticket, writes it to the front of `out`, and returns how many bytes it wrote (RFC 8613,
+    /// 8.3). It uses the code, options and payload of the plain message. Refuses, in this order, bad bytes, a stale ticket, a spent
+    /// ticket, and whatever else a `Server` refuses, in the order of `ReplyError`. A refusal changes nothing.
     pub fn reply(
         &mut self,
         ticket: &TicketHandle,

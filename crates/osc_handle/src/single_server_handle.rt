@@ -1,4 +1,4 @@
-//! A server of one context, as bytes: what a `ServerHandle` does that has one context, in the room of one.
+//! A server of one context, as bytes. It does what a `ServerHandle` with one context does, in the room of one context.
 
 ghost use Rattle.std.specs.Prelude.{◌≡◌, ◌≢◌, ◌≤◌, ◌∷◌, [], ℕ, List, Option, Err, IfOk, IfSome, IsSome, None, OnErr, length, take, drop};
 ghost use Rattle.osc_coap.specs.Views.{parts_of};
@@ -33,7 +33,7 @@ use osc_endpoint::{
 };
 use osc_window::WindowSize;
 
-/// A server of one context, which has index 0: its clock, the context, and which of its requests wait for their answers.
+/// A server of one context, which has index 0: its clock, the context, and which of its requests are waiting for their answers.
 #[repr(C)]
 #[derive(Clone, Copy)]
 pub struct SingleServerHandle {
@@ -43,8 +43,8 @@ pub struct SingleServerHandle {
 }
 
 impl SingleServerHandle {
-    /// A server with this context (RFC 8613, B.1), as `ServerHandle::add` adds the first one; None where the bytes of the context are
-    /// none that a call may have written.
+    /// Makes a server with this context (RFC 8613, B.1), as `ServerHandle::add` adds the first one. Returns `None` if the context
+    /// bytes can't have been written by a call.
     pub fn begin(
         context: &ContextHandle,
         start: Start,
@@ -69,8 +69,8 @@ impl SingleServerHandle {
         })
     }
 
-    /// Begins a new life of the context (RFC 8613, B.1); None where the bytes are none that a call may have written. `LivesExhausted`
-    /// is the one refusal, and changes nothing.
+    /// Begins a new life of the context (RFC 8613, B.1). Returns `None` if the bytes can't have been written by a call.
+    /// `LivesExhausted` is the only refusal, and changes nothing.
     pub fn restart(&mut self, next: Piv) -> Option<Result<(), RestartError>>
         ensures accepts { IsSlotBytes self.old.slot → IsSome result }
         ensures accepted { IsSome result → IsSlotBytes self.old.slot }
@@ -117,7 +117,8 @@ impl SingleServerHandle {
         }
     }
 
-    /// Decides what a datagram is answered, or None where the bytes are none that a call may have written: the first half of `take`.
+    /// Decides the answer to a datagram; this is the first half of `take`. Returns `None` if the bytes can't have been written by a
+    /// call.
     pub fn decide(
         &mut self,
         now: u64,
@@ -145,8 +146,8 @@ impl SingleServerHandle {
         Some(decided)
     }
 
-    /// Answers a datagram, where it lies (RFC 8613, 8.2), or None where the bytes are none that a call may have written: `decide`, and
-    /// what was decided as an outcome. The first `reply` bytes of `out` are the reply.
+    /// Takes a datagram in place (RFC 8613, 8.2): calls `decide`, and returns the decision as an outcome. The first `reply` bytes of
+    /// `out` are the reply. Returns `None` if the bytes can't have been written by a call.
     pub fn take<'b>(
         &mut self,
         now: u64,
@@ -171,16 +172,16 @@ impl SingleServerHandle {
         Some(Taken { outcome, reply })
     }
 
-    /// Whether a ticket is of the context's present life.
+    /// Returns whether a ticket is of the context's present life.
     fn is_of(&self, ticket: &TicketHandle) -> bool
         ensures { result ≡ is_present_in (table_of self.now.slot) ticket.now.context ticket.now.life }
     {
         ticket.context == 0 && self.slot.life == ticket.life
     }
 
-    /// Seals a reply to the request of a ticket into `out`, and answers how many bytes at its front it takes (RFC 8613, 8.3). Of the
-    /// plain message the code, options and payload are used. Judged in this order: bad bytes, a stale ticket, a spent one, and what else
-    /// a `Server` refuses in the order of `ReplyError`; a refusal changes nothing.
+    /// Seals a reply to the request of a ticket, writes it to the front of `out`, and returns how many bytes it wrote (RFC 8613,
+    /// 8.3). It uses the code, options and payload of the plain message. Refuses, in this order, bad bytes, a stale ticket, a spent
+    /// ticket, and whatever else a `Server` refuses, in the order of `ReplyError`. A refusal changes nothing.
     pub fn reply(
         &mut self,
         ticket: &TicketHandle,

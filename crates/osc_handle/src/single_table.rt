@@ -1,4 +1,4 @@
-//! One context in its present life, as the table of a server that has this context alone.
+//! One context in its present life, as the table of a server that has only this context.
 
 ghost use Rattle.std.specs.Prelude.{◌≡◌, ◌≢◌, ◌≤◌, ℕ, List, Option, Some, IfOk, IfErr, OnErr, length, drop};
 ghost use Rattle.osc_context.specs.Views.{number_of};
@@ -86,7 +86,7 @@ impl Contexts for SlotHandle {
         let Some(gate) = self.gate() else {
             unreachable!();
         };
-        // A replay wants no key schedule.
+        // A replay needs no key schedule.
         if is_replay(&gate, request.number) {
             return refuse_replay(&request, out);
         }

@@ -29,13 +29,13 @@ use osc_window::{Gate, Window, WindowParts, WindowSize};
 #[derive(Clone, Copy)]
 pub struct SlotHandle {
     pub context: ContextHandle,
-    /// The places of the window that the context gets: 32 or 64.
+    /// The number of places in the window that the context gets: 32 or 64.
     pub places: u8,
-    /// The places of the window that is open.
+    /// The number of places in the window that is open.
     pub window_places: u8,
-    /// 0 closed, 1 closed with a challenge, 2 open with no number, 3 open.
+    /// 0: closed, 1: closed with a challenge, 2: open with no number, 3: open.
     pub gate: u8,
-    /// The challenge.
+    /// The Echo value of the challenge.
     pub echo: [u8; 8],
     /// The moment of the challenge, or the highest number.
     pub at: u64,
@@ -44,7 +44,7 @@ pub struct SlotHandle {
     pub life: u64,
 }
 
-/// The size of a window with so many places, 32 or 64; None where there is none.
+/// Returns the size of a window with this number of places, 32 or 64, or `None` for any other number.
 #[must_use]
 pub fn size_with(places: u8) -> Option<WindowSize>
     ensures made { IfSome result (λ size. places_of size ≡ places) }
@@ -59,7 +59,8 @@ pub fn size_with(places: u8) -> Option<WindowSize>
 }
 
 impl SlotHandle {
-    /// The highest number of the open window, or none; None where there is no such number, or the gate is closed.
+    /// Returns the highest number of the open window, or `Some(None)` if it has none. Returns `None` if the bytes hold no such
+    /// number, or if the gate isn't open.
     fn highest(&self) -> Option<Option<Piv>>
         ensures made { IfSome result (λ highest. IsHighestIn self.now (option_map number_of highest)) }
         ensures accepts_none { self.now.gate ≡ 2 → IsSome result }
@@ -73,7 +74,7 @@ impl SlotHandle {
         }
     }
 
-    /// The gate, or None where the bytes are none.
+    /// Returns the gate, or `None` if the bytes aren't a gate.
     pub(crate) fn gate(&self) -> Option<Gate>
         ensures made { IfSome result (λ gate. IsGateIn self.now gate) }
         ensures accepts { IsGateBytes self.now → IsSome result }
@@ -126,7 +127,7 @@ impl SlotHandle {
         }
     }
 
-    /// Keeps what a context came to: the gate, the next own number and the life. The context and the size stay.
+    /// Keeps the new state of a context: the gate, the next own number and the life. The context and the size stay.
     pub(crate) fn keep(&mut self, slot: &Slot)
         ensures kept { (before : SlotOf) → IsSlotIn self.old before → slot.now.context ≡ before.context → slot.now.size ≡ before.size → IsSlotIn self.new slot.now }
         ensures bytes { IsSlotBytes self.old → IsSlotBytes self.new }
@@ -137,7 +138,7 @@ impl SlotHandle {
         self.life = slot.life;
     }
 
-    /// Whether the bytes are ones that a call may have written.
+    /// Returns whether a call may have written the bytes.
     #[must_use]
     pub fn is_whole(&self) -> bool
         ensures yes { result ≡ true → IsSlotBytes self.now }
@@ -149,7 +150,7 @@ impl SlotHandle {
             && self.next <= 1 << 40
     }
 
-    /// The context in its life, whose gate this is.
+    /// Returns the context in its life, with this gate.
     pub(crate) fn slot_with(&self, gate: Gate) -> Slot
         requires bytes { IsSlotBytes self.now }
         requires gate { IsGateIn self.now gate }
@@ -169,7 +170,7 @@ impl SlotHandle {
         }
     }
 
-    /// The context in its life.
+    /// Returns the context in its life.
     fn slot(&self) -> Slot
         requires { IsSlotBytes self.now }
         ensures { IsSlotIn self.now result }
@@ -180,7 +181,7 @@ impl SlotHandle {
         self.slot_with(gate)
     }
 
-    /// The bytes of a place that isn't in use.
+    /// Returns the bytes of a place that isn't in use.
     pub(crate) fn unused() -> SlotHandle {
         SlotHandle {
             context: ContextHandle::unused(),
@@ -195,7 +196,7 @@ impl SlotHandle {
         }
     }
 
-    /// The bytes of a context in its life.
+    /// Returns the bytes of a context in its life.
     pub(crate) fn of(context: &ContextHandle, slot: &Slot) -> SlotHandle
         requires handle { IsContext context.now }
         requires same { as_server (context_of slot.now.context) ≡ server_in context.now }
@@ -219,7 +220,7 @@ impl SlotHandle {
         bytes
     }
 
-    /// Whether another life may begin: a count of 64 bits has room for it.
+    /// Returns whether another life may begin: whether a count of 64 bits has room for it.
     pub(crate) fn can_renew(&self) -> bool
         ensures yes { result ≡ true → self.now.life + 1 < 2 ^ 64 }
         ensures no { result ≡ false → 2 ^ 64 ≤ self.now.life + 1 }
@@ -239,8 +240,8 @@ impl SlotHandle {
         self.keep(&slot);
     }
 
-    /// Seals a reply to the request of the present life that had this number and came from this asker, and answers how many bytes at the
-    /// front of `out` it takes.
+    /// Seals a reply to the request of the present life with this number from this requester, writes it to the front of `out`, and
+    /// returns how many bytes it wrote.
     pub(crate) fn reply_to(
         &mut self,
         number: Piv,

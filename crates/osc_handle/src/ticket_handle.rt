@@ -1,5 +1,5 @@
-//! The right to answer one request, as bytes. They can be copied, which the right can't: the server keeps which requests wait for
-//! their answers.
+//! The right to answer one request, as bytes. The bytes can be copied, but the right can't: the server keeps track of which requests
+//! are waiting for their answers.
 
 ghost use Rattle.std.specs.Prelude.{◌≡◌, ◌≤◌, IfSome, IsSome, take, true, false};
 ghost use Rattle.osc_context.specs.Views.{number_of};
@@ -27,7 +27,7 @@ pub struct TicketHandle {
     pub token_len: u8,
 }
 
-/// The number of a kind, as it stands in a datagram (RFC 7252, 3).
+/// Returns the number of a kind, as the Type field of a datagram has it (RFC 7252, 3).
 fn number_of_kind(kind: Kind) -> u8
     ensures is { kind_in result ≡ kind }
     ensures within { result ≤ 3 }
@@ -40,7 +40,7 @@ fn number_of_kind(kind: Kind) -> u8
     }
 }
 
-/// The kind that has this number, or None where none has it.
+/// Returns the kind that has this number, or `None` if no kind has it.
 fn kind_with(number: u8) -> Option<Kind>
     ensures is { IfSome result (λ kind. kind ≡ kind_in number) }
     ensures accepts { number ≤ 3 → IsSome result }
@@ -56,7 +56,7 @@ fn kind_with(number: u8) -> Option<Kind>
 }
 
 impl TicketHandle {
-    /// The bytes of a ticket.
+    /// Returns the bytes of a ticket.
     #[must_use]
     pub fn of(ticket: &Ticket) -> TicketHandle
         ensures ticket { ticket_in result ≡ values_of ticket.now }
@@ -76,7 +76,7 @@ impl TicketHandle {
         }
     }
 
-    /// Whom the reply goes to, or None where the bytes are none that a call may have written.
+    /// Returns the requester that the reply goes to. Returns `None` if the bytes can't have been written by a call.
     fn asker(&self) -> Option<Asker>
         ensures kind { IfSome result (λ asker. asker.kind ≡ kind_in self.now.kind) }
         ensures message_id { IfSome result (λ asker. asker.message_id ≡ self.now.message_id) }
@@ -95,7 +95,8 @@ impl TicketHandle {
         })
     }
 
-    /// The number of the request, and whom the reply goes to; None where the bytes are none that a call may have written.
+    /// Returns the number of the request, and the requester that the reply goes to. Returns `None` if the bytes can't have been
+    /// written by a call.
     #[must_use]
     pub fn parts(&self) -> Option<(Piv, Asker)>
         ensures number { IfSome result (λ parts. number_of parts.0 ≡ self.now.number) }
@@ -110,7 +111,7 @@ impl TicketHandle {
         Some((number, asker))
     }
 
-    /// Whether the bytes are ones that a call may have written.
+    /// Returns whether a call may have written the bytes.
     #[must_use]
     pub fn is_whole(&self) -> bool
         ensures yes { result ≡ true → IsTicket self.now }

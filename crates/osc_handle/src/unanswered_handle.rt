@@ -1,4 +1,4 @@
-//! The requests of one context that wait for their answers, as bytes.
+//! The requests of one context that are waiting for their answers, as bytes.
 //!
 //!     forgotten | 63 .. 2 1 0 |        bit i of the mask is the number highest - i
 //!                           ^ highest
@@ -6,8 +6,8 @@
 ghost use Rattle.std.specs.Prelude.{◌≡◌, ◌<◌, ◌+◌, ◌-◌, ◌==◌, ◌&&◌, ◌||◌, ℕ, max, nat_le, nat_lt, not, false};
 ghost use Rattle.osc_handle.specs.UnansweredBytes.{holds, has_bit};
 
-/// The numbers of the requests of one context's present life that were delivered and aren't answered yet: as far as they lie less than
-/// 64 below the highest number that was delivered.
+/// The numbers of the requests of one context's present life that were delivered and aren't answered yet, as far as they are less
+/// than 64 below the highest number that was delivered.
 #[repr(C)]
 #[derive(Clone, Copy)]
 pub struct UnansweredHandle {
@@ -16,7 +16,7 @@ pub struct UnansweredHandle {
 }
 
 impl UnansweredHandle {
-    /// No number.
+    /// Returns bytes that hold no number.
     #[must_use]
     pub fn none() -> UnansweredHandle
         ensures holds { (n : ℕ) → holds result n ≡ false }
@@ -28,7 +28,7 @@ impl UnansweredHandle {
         }
     }
 
-    /// Whether this is one of the numbers.
+    /// Returns whether this is one of the numbers.
     #[must_use]
     pub fn has(&self, number: u64) -> bool
         ensures { result ≡ holds self.now number }
@@ -38,7 +38,7 @@ impl UnansweredHandle {
             && self.mask >> (self.highest - number) & 1 == 1
     }
 
-    /// Adds the number of a request that was delivered, and forgets those that lie 64 or more below it.
+    /// Adds the number of a request that was delivered, and forgets the numbers that are 64 or more below it.
     #[tactic(auto, using(crate::proofs::Bits::added_above, crate::proofs::Bits::added_inside))]
     pub fn add(&mut self, number: u64)
         ensures holds { self.old.highest < number + 64 → (n : ℕ)
@@ -53,7 +53,7 @@ impl UnansweredHandle {
         }
     }
 
-    /// Takes a number out once its request is answered.
+    /// Removes a number once its request is answered.
     #[tactic(auto, using(crate::proofs::Bits::removed_inside, crate::proofs::Bits::removed_outside))]
     pub fn remove(&mut self, number: u64)
         ensures holds { (n : ℕ) → holds self.new n ≡ (not (n == number) && holds self.old n) }
@@ -65,7 +65,7 @@ impl UnansweredHandle {
     }
 }
 
-/// The mask once the highest number has grown by this jump, and is one of the numbers itself.
+/// Returns the mask once the highest number has grown by this jump, and is one of the numbers itself.
 #[tactic(auto, using(crate::proofs::Bits::moved_near, crate::proofs::Bits::moved_far))]
 fn moved_up(mask: u64, jump: u64) -> u64
     requires { 0 < jump }
@@ -74,7 +74,7 @@ fn moved_up(mask: u64, jump: u64) -> u64
     if jump < 64 { mask << jump | 1 } else { 1 }
 }
 
-/// The mask with the bit of one number more.
+/// Returns the mask with the bit of one more number.
 #[tactic(auto, using(crate::proofs::Bits::bit_set))]
 fn with_bit(mask: u64, below: u64) -> u64
     requires { below < 64 }
@@ -83,7 +83,7 @@ fn with_bit(mask: u64, below: u64) -> u64
     mask | 1 << below
 }
 
-/// The mask without the bit of one number.
+/// Returns the mask without the bit of one number.
 #[tactic(auto, using(crate::proofs::Bits::bit_cleared))]
 fn without_bit(mask: u64, below: u64) -> u64
     requires { below < 64 }

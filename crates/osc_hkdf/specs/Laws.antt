@@ -1,5 +1,5 @@
--- To be believed: laws on lengths, over the definitions alone (RFC 2104, 2, and RFC 5869, 2). key, message, salt,
--- secret, prk and info are lists of bytes, n is a length.
+-- To be believed: laws about lengths, from the definitions alone (RFC 2104, 2, and RFC 5869, 2). key, message, salt,
+-- secret, prk and info are lists of bytes, and n is a length.
 use Rattle.std.specs.Prelude.{◌≡◌, ℕ, List, length}
 use Rattle.osc_hkdf.specs.Hmac.{hmac}
 use Rattle.osc_hkdf.specs.Hkdf.{expand_of, extract_of}
@@ -12,6 +12,6 @@ HmacLen = (key message : List ℕ) → length (hmac key message) ≡ 32
 abbrev pub ExtractLen : Type 0
 ExtractLen = (salt secret : List ℕ) → length (extract_of salt secret) ≡ 32
 
--- the output of a length has that length (RFC 5869, 2.3)
+-- the output of a given length has that length (RFC 5869, 2.3)
 abbrev pub ExpandLen : Type 0
 ExpandLen = (prk info : List ℕ) (n : ℕ) → length (expand_of prk info n) ≡ n

@@ -7,18 +7,18 @@ use crate::mac::hmac_sha256;
 use std::error::Error;
 use std::fmt;
 
-/// The bytes of a block of output.
+/// The length of an output block in bytes.
 const OUTPUT_BLOCK_LEN: usize = 32;
 
-/// The most bytes of output: as many blocks as one byte counts (RFC 5869, 2.3).
+/// The most bytes of output: as many blocks as one byte can count (RFC 5869, 2.3).
 pub const MOST_OUTPUT: usize = 255 * 32;
 
-/// More output was asked for than one byte can count blocks of.
+/// The caller asked for more blocks of output than one byte can count.
 #[derive(Clone, Copy, Debug, PartialEq, Eq)]
 pub struct TooLong;
 
-/// The pseudorandom key of a salt and a secret; an absent salt is the empty one, since both are filled with zeros
-/// (RFC 5869, 2.2).
+/// Extracts the pseudorandom key from a salt and a secret. An absent salt is the same as an empty one, because both are
+/// padded with zeros (RFC 5869, 2.2).
 #[must_use]
 pub fn extract(salt: &[u8], secret: &[u8]) -> [u8; 32]
     ensures { result ≡ extract_of salt.now secret.now }
@@ -26,7 +26,7 @@ pub fn extract(salt: &[u8], secret: &[u8]) -> [u8; 32]
     hmac_sha256(salt, &[secret])
 }
 
-/// Fills `out` with output of a pseudorandom key in a context, or refuses and leaves it (RFC 5869, 2.3).
+/// Fills `out` with the output of a pseudorandom key in a context. If it refuses, `out` stays as it is (RFC 5869, 2.3).
 pub fn expand(prk: &[u8; 32], info: &[u8], out: &mut [u8]) -> Result<(), TooLong>
     ensures filled { OnOk result (out.new ≡ expand_of prk.now info.now (length out.old)) }
     ensures refused { IsErr result → 8160 < length out.old }

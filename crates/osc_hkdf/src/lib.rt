@@ -1,4 +1,4 @@
-//! HMAC and HKDF over SHA-256 (RFC 2104, RFC 5869), by the SHA-256 of the crate `sha2`.
+//! HMAC and HKDF with SHA-256 (RFC 2104, RFC 5869). The SHA-256 is that of the crate `sha2`.
 //!
 //! ```
 //! let prk = extract(salt, secret);

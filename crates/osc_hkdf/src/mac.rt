@@ -7,15 +7,15 @@ ghost use Rattle.sha2.specs.Sha256.{sha256};
 
 use sha2::{Digest, Sha256};
 
-/// The bytes of a block of SHA-256.
+/// The length of a SHA-256 block in bytes.
 const BLOCK_LEN: usize = 64;
 
 const INNER_PAD: u8 = 0x36;
 
 const OUTER_PAD: u8 = 0x5c;
 
-/// The code of a message under a key of any length; the message is handed in as parts, one after the other, which are
-/// never put together (RFC 2104, 2).
+/// Computes the code of a message under a key of any length. You pass in the message as parts, one after the other. The
+/// parts are never put together (RFC 2104, 2).
 #[must_use]
 pub fn hmac_sha256(key: &[u8], parts: &[&[u8]]) -> [u8; 32]
     ensures { result ≡ hmac key.now (flat_map (λ part. part.now) parts.now) }
@@ -25,7 +25,7 @@ pub fn hmac_sha256(key: &[u8], parts: &[&[u8]]) -> [u8; 32]
     keyed_digest(&padded_key(&short, OUTER_PAD), &[inner.as_slice()])
 }
 
-/// A key filled with zeros to a block; a longer one is hashed first.
+/// Pads a key with zeros to one block. A longer key is hashed first.
 fn short_key(key: &[u8]) -> [u8; 64]
     ensures { (i : ℕ) → slice_index result i ≡ slice_index (short_key key.now) i }
 {
@@ -37,7 +37,7 @@ fn short_key(key: &[u8]) -> [u8; 64]
     }
 }
 
-/// Up to 64 bytes, and zeros behind them.
+/// Returns up to 64 bytes, with zeros after them.
 fn filled(bytes: &[u8]) -> [u8; 64]
     requires { length bytes.now ≤ 64 }
     ensures { (i : ℕ) → slice_index result i ≡ slice_index bytes.now i }
@@ -49,7 +49,7 @@ fn filled(bytes: &[u8]) -> [u8; 64]
     block
 }
 
-/// Each byte of a key added to a pad.
+/// Adds a pad to each byte of a key.
 fn padded_key(short: &[u8; 64], pad: u8) -> [u8; 64]
     ensures { result ≡ padded_key short.now pad }
 {
@@ -60,7 +60,7 @@ fn padded_key(short: &[u8; 64], pad: u8) -> [u8; 64]
     padded
 }
 
-/// The digest of a padded key and the parts of a message.
+/// Returns the digest of a padded key and the parts of a message.
 fn keyed_digest(key: &[u8; 64], parts: &[&[u8]]) -> [u8; 32]
     ensures { result ≡ sha256 (key.now ++ flat_map (λ part. part.now) parts.now) }
 {

@@ -1,4 +1,4 @@
--- To be believed: what holds of a world that meets the premises, at each event over what stands before it (RFC 8613, 5.2, 7.4 and 8.4).
+-- To be believed: what holds of a world that meets the premises, at each event over the events before it (RFC 8613, 5.2, 7.4 and 8.4).
 -- s is the security context, w the world before the event.
 use Rattle.std.specs.Prelude.{◌≡◌, ℕ, true, Option, Some}
 use Rattle.osc_coap.specs.Inner.{InnerParts}
@@ -12,14 +12,14 @@ use Rattle.osc_endpoint.specs.ServerHistory as server
 use Rattle.osc_kept.specs.Premises.{AtEach, IsLawful}
 use Rattle.osc_kept.specs.World.{World, Event, AtClient, AtServer, Has, Request, Response, client_history, server_life, sent, answered, delivered}
 
--- a request that is delivered was sealed by the client before, with that code, these inner options and that payload, and wasn't delivered before, in
+-- a request that is delivered was sealed by the client before, with that code, those inner options and that payload, and it wasn't delivered before, in
 -- any life (RFC 8613, 7.4)
 abbrev pub DeliversOnce : SecurityContext → World → Event → Type 0
 DeliversOnce s w (AtServer (server.Datagram now echo mid d) (server.Took (server.Deliver received ticket) reply)) =
     Has (record { number = ticket.number; message = received.message }) (sent s w) × (Has ticket.number (delivered w) → ⊥)
 DeliversOnce s w event = Unit {0}
 
--- the server sealed it for request n, which is one (RFC 8613, 8.4)
+-- the server sealed the response for request n, and there is exactly one such request (RFC 8613, 8.4)
 pub record IsForThatRequest (s : SecurityContext) (w : World) (n : ℕ) (own : Option ℕ) (m : InnerParts) : Type 0 where
   pub was_answered : Has (record { number = n; own = own; message = m }) (answered s w)
   pub request : Request
@@ -32,16 +32,16 @@ abbrev pub AnswersThatRequest : SecurityContext → World → Event → Type 0
 AnswersThatRequest s w (AtClient (client.Datagram now d) (client.Took (client.Deliver received number))) = IsForThatRequest s w number received.number received.message
 AnswersThatRequest s w event = Unit {0}
 
--- the client seals under a nonce under which it didn't before (RFC 8613, 5.2)
+-- the client seals under a nonce that it didn't seal under before (RFC 8613, 5.2)
 abbrev pub IsNewForClient : SecurityContext → World → ℕ → Type 0
 IsNewForClient s w number = (r : Request) → Has r (sent s w) → nonce_of s.common_iv s.client r.number ≡ nonce_of s.common_iv s.client number → ⊥
 
--- the server seals under a nonce under which it didn't before (RFC 8613, 5.2)
+-- the server seals under a nonce that it didn't seal under before (RFC 8613, 5.2)
 abbrev pub IsNewForServer : SecurityContext → World → ℕ → Option ℕ → Type 0
 IsNewForServer s w n own = (r : Response) → Has r (answered s w)
     → response_nonce s.common_iv s.client s.server r.number r.own ≡ response_nonce s.common_iv s.client s.server n own → ⊥
 
--- no end seals under a nonce under which it sealed before: a request, a challenge, a reply (RFC 8613, 5.2 and 7.2.1)
+-- no end seals a request, a challenge or a reply under a nonce that it sealed under before (RFC 8613, 5.2 and 7.2.1)
 abbrev pub SealsUnderNewNonce : SecurityContext → World → Event → Type 0
 SealsUnderNewNonce s w (AtClient (client.Request now p room) (client.Sent bytes)) =
     (h : client.History) → client_history s w ≡ Some h → IsNewForClient s w (client.next h)
@@ -57,6 +57,6 @@ pub record BothEnds (s : SecurityContext) (w : World) : Type 0 where
   pub that_request : AtEach (AnswersThatRequest s) w
   pub nonces : AtEach (SealsUnderNewNonce s) w
 
--- whatever happens at both ends and between them: where it meets the premises, this holds (RFC 8613, 5.2, 7.4 and 8.4)
+-- whatever happens at both ends and between them, this holds if it meets the premises (RFC 8613, 5.2, 7.4 and 8.4)
 abbrev pub TwoEnds : Type 0
 TwoEnds = (n : ℕ) (s : SecurityContext) (w : World) → IsLawful n s w → BothEnds s w

@@ -1,6 +1,6 @@
--- To be believed: that the premises on two ends can be met, and that none can be left out (RFC 8613, 5.2, 7.2.1, 7.4 and B.1; RFC 9175, 2.3): lists of
--- what happens at both ends, over whatever datagrams their tables answer so. s is the security context, n for how many pending requests the client has
--- room, p what the plain message of a request or a reply says, d a sealed request, a a sealed response, r and v what is delivered of them, t a ticket.
+-- To be believed: that the premises on two ends can be met, and that three of them can't be left out (RFC 8613, 5.2, 7.2.1, 7.4 and B.1; RFC 9175, 2.3):
+-- lists of what happens at both ends, over any datagrams that their tables answer this way. s is the security context, n is how many pending requests the
+-- client has room for, p what a plain request or reply says, d a sealed request, a a sealed response, r and v what is delivered of them, t a ticket.
 use Rattle.std.specs.Prelude.{◌≡◌, ℕ, List, [], false, Some}
 use Rattle.osc_coap.specs.Datagram.{Parts}
 use Rattle.osc_coap.specs.OptionNumbers as options
@@ -18,14 +18,14 @@ use Rattle.osc_kept.specs.Claims.{DeliversOnce}
 use Rattle.osc_kept.specs.Premises.{Answers, AtEach, EchoIsNew, FreshWhileNothingDelivered, IsLawful, NobodyForges, NumbersAreKept}
 use Rattle.osc_kept.specs.World.{World, Begin, Then, Client, Server, ClientStarts, ServerStarts, Draws, Reserves, AtClient, AtServer}
 
--- what the events of these lists speak of: the first number of a server, its window, for how long a request is pending (own rule)
+-- what the events of these lists refer to: the first number of a server, its window, and how long a request is pending (own rule)
 pub record Ends : Type 0 where
   pub zero_number : Piv
   pub is_zero : number_of zero_number ≡ 0
   pub size : WindowSize
   pub life_ms : ℕ
 
--- a request, its datagram, and what it says to the server that takes it: its ticket has the number (own rule)
+-- a request: what its plain message says, the length of the buffer for it, and its datagram (own rule)
 pub record Asked : Type 0 where
   pub plain : Parts
   pub room : ℕ
@@ -43,7 +43,7 @@ asks q w = Then w (AtClient (client.Request 0 q.plain q.room) (client.Sent q.byt
 abbrev pub delivers : ℕ → ℕ → Received → List ℕ → List ℕ → World → World
 delivers life n r echo d w = Then w (AtServer (server.Datagram 0 echo 0 d) (server.Took (server.Deliver r (ticket_of life n r)) []))
 
--- it takes this datagram, and challenges request n with the fresh Echo value (own rule)
+-- the server takes this datagram, and challenges request n with the fresh Echo value (own rule)
 abbrev pub challenges : ℕ → List ℕ → List ℕ → List ℕ → World → World
 challenges n echo d reply w = Then w (AtServer (server.Datagram 0 echo 0 d) (server.Took (server.Challenge 0 n echo 0) reply))
 
@@ -51,7 +51,7 @@ challenges n echo d reply w = Then w (AtServer (server.Datagram 0 echo 0 d) (ser
 abbrev pub CarriesValue : Asked → List ℕ → Type 0
 CarriesValue q echo = first_of (values_at options.echo (inside q.plain).options) ≡ Some echo
 
--- both ends start at 0, and have a number in hand (RFC 8613, B.1.1)
+-- each end starts, the server at 0 and the client at what it loaded, and then has a number in hand (RFC 8613, B.1.1)
 abbrev pub start_server : Ends → World → World
 start_server x w = Then (Then w (ServerStarts (starts.Fresh x.zero_number) x.size)) (Reserves Server)
 
@@ -60,29 +60,29 @@ start_client x loaded w = Then (Then w (ClientStarts loaded x.life_ms)) (Reserve
 
 -- ---- the premises can be met
 
--- an exchange: a request is delivered, and the response to it (RFC 8613, 8.1 to 8.4)
+-- an exchange: a request is delivered, and so is the response to it (RFC 8613, 8.1 to 8.4)
 abbrev pub exchange : Ends → Asked → Received → List ℕ → Parts → ℕ → List ℕ → Received → World
 exchange x q r echo p room a v =
     Then (Then (delivers 0 0 r echo q.bytes (start_server x (asks q (start_client x 0 Begin))))
     (AtServer (server.Reply (ticket_of 0 0 r) false 0 p room) (server.Replied a))) (AtClient (client.Datagram 0 a) (client.Took (client.Deliver v 0)))
 
--- both ends are restarted, at what their keepers hold, and have a number in hand again once the client has asked (RFC 8613, B.1)
+-- both ends are restarted at what their keepers hold; the client draws a number and asks with it, and then the server draws one (RFC 8613, B.1)
 abbrev pub restarts : Asked → World → World
 restarts q w = Then (asks q (Then (Then (Then w (AtServer (server.Restart 0 64) server.Restarted)) (AtClient (client.Restart 64) client.Restarted)) (Reserves Client))) (Reserves Server)
 
--- the request is challenged, and asked again with the value, which delivers it (RFC 8613, B.1.2)
+-- the request is challenged; the client asks again with the value, and that request is delivered (RFC 8613, B.1.2)
 abbrev pub through_a_challenge : Asked → Asked → List ℕ → List ℕ → Received → Received → World → World
 through_a_challenge q again echo c v r w =
     delivers 1 65 r echo again.bytes (asks again (Then (Then (challenges 64 echo q.bytes c w) (AtClient (client.Datagram 0 c) (client.Took (client.Deliver v 64)))) (Draws Client)))
 
--- an exchange, a restart of both ends, a challenge and a delivery through it: where both ends answer so, the list meets all premises (RFC 8613, B.1.2)
+-- an exchange, a restart of both ends, a challenge and a delivery through it: if both ends answer in this way, the list meets all premises (RFC 8613, B.1.2)
 abbrev pub PremisesCanBeMet : Type 0
 PremisesCanBeMet = (n : ℕ) (s : SecurityContext) (x : Ends) (first second again : Asked) (r k v u : Received) (echo a c : List ℕ) (p : Parts) (room : ℕ)
     → IsUsable s → (CarriesValue first echo → ⊥) → (CarriesValue second echo → ⊥)
     → AtEach (Answers n s) (through_a_challenge second again echo c u k (restarts second (exchange x first r echo p room a v)))
     → IsLawful n s (through_a_challenge second again echo c u k (restarts second (exchange x first r echo p room a v)))
 
--- ---- none can be left out
+-- ---- none of these can be left out
 
 -- a request that the client didn't seal (RFC 8613, 12.3 and 12.6)
 abbrev pub forged : Ends → Received → List ℕ → List ℕ → World
@@ -105,7 +105,7 @@ RepeatedValueBreaks = (n : ℕ) (s : SecurityContext) (x : Ends) (q : Asked) (r 
     → AtEach (NobodyForges s) (repeated_value x q r k echo c) × AtEach (NumbersAreKept s) (repeated_value x q r k echo c)
     × AtEach FreshWhileNothingDelivered (repeated_value x q r k echo c) × (AtEach (DeliversOnce s) (repeated_value x q r k echo c) → ⊥)
 
--- the client seals with 1, and starts anew below that at 0; request 0 comes through a challenge, and opens the window below 1 (RFC 8613, 7.2.1 and B.1.2)
+-- the client seals with 1, and starts anew below that, at 0; request 0 comes through a challenge, and opens the window below 1 (RFC 8613, 7.2.1 and B.1.2)
 abbrev pub number_out_of_order : Ends → Asked → Asked → Received → Received → Received → List ℕ → List ℕ → World
 number_out_of_order x q later r k m echo c =
     delivers 1 1 m echo q.bytes (delivers 1 0 k echo later.bytes (asks later (start_client x 0 (challenges 1 echo q.bytes c
@@ -118,7 +118,7 @@ NumberOutOfOrderBreaks = (n : ℕ) (s : SecurityContext) (x : Ends) (q later : A
     → AtEach (NobodyForges s) (number_out_of_order x q later r k m echo c) × AtEach (EchoIsNew s) (number_out_of_order x q later r k m echo c)
     × AtEach FreshWhileNothingDelivered (number_out_of_order x q later r k m echo c) × (AtEach (DeliversOnce s) (number_out_of_order x q later r k m echo c) → ⊥)
 
--- without one of these premises a request is delivered that the client didn't seal, or twice (RFC 8613, 7.4)
+-- without any one of these premises, a request is delivered that the client didn't seal, or one is delivered twice (RFC 8613, 7.4)
 pub record NoneCanBeLeftOut : Type 0 where
   pub forgery : ForgeryBreaks
   pub repeated_value : RepeatedValueBreaks

@@ -1,5 +1,5 @@
--- To be believed: a client whose numbers are kept (RFC 8613, 7.2.1 and B.1.1): each call is zero or one draw and then one event of a client. h is
--- a history, room for how many pending requests there is room, old and new the numbers before and after.
+-- To be believed: a client whose numbers are kept (RFC 8613, 7.2.1 and B.1.1): each call is zero or one draw and then one event of a client. h is a
+-- history, N is how many pending requests there is room for, room the length of the buffer, old and new are the numbers before and after.
 use Rattle.std.specs.Prelude.{◌≡◌, ℕ, List, Bool, true, false, Option, Some, None}
 use Rattle.osc_endpoint.specs.declared.client.Client.{Client}
 use Rattle.osc_endpoint.specs.declared.client_outcome.ClientOutcome.{ClientOutcome}
@@ -11,12 +11,12 @@ use Rattle.osc_endpoint.specs.ClientHistory.{History, Then, Event, Entry, Answer
 use Rattle.osc_endpoint.specs.Views.{ClientShows}
 use Rattle.osc_kept.specs.Numbering.{Own, Steps, upcoming}
 
--- whether a number is drawn before an event: each request wants one (RFC 8613, 8.1)
+-- whether a number is drawn before an event: each request needs one (RFC 8613, 8.1)
 abbrev pub draws : Event → Bool
 draws (Request now plain room) = true
 draws event = false
 
--- the number that an event used, if it did (RFC 8613, 7.2.1)
+-- the number that an event used, if it used one (RFC 8613, 7.2.1)
 abbrev pub uses : History → Event → Entry → Option ℕ
 uses h (Request now plain room) (Sent bytes) = Some (next h)
 uses h event entry = None
@@ -26,13 +26,13 @@ pub record IsKept {N : ℕ} (c : Client N) (number : ℕ) (h : History) : Type 0
   pub agrees : ClientAgrees c h
   pub next_is : next h ≡ number
 
--- the client answers the event so; where it seals, it does so with the number in hand, which was drawn before (RFC 8613, 8.1 and B.1.1)
+-- this is how the client answers the event; if it seals, it uses the number in hand, which was drawn before (RFC 8613, 8.1 and B.1.1)
 pub record KeptStep {N : ℕ} (h : History) (event : Event) (entry : Entry) (old new : Own) (c : Client N) : Type 0 where
   pub row : ClientAnswer N h event entry
   pub kept : IsKept c (upcoming new) (Then h event entry)
   pub numbers : Steps (draws event) (uses h event entry) old new
 
--- what was decided of a datagram; no number is drawn for it, and none used (RFC 8613, 8.4)
+-- what was decided about a datagram; no number is drawn or used for it (RFC 8613, 8.4)
 pub record KeptDecides {N : ℕ} (h : History) (now : ℕ) (d : List ℕ) (result : ClientDecision) (left : List ℕ) (own : Own) (c : Client N) : Type 0 where
   pub answer : Answer
   pub decides : Decides result left answer

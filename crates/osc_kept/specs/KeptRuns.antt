@@ -36,7 +36,7 @@ use Rattle.osc_kept.specs.Numbering.{Goes, Load, Steps}
 use Rattle.osc_kept.specs.Owning.{own_in}
 use Rattle.osc_kept.specs.Refusals.{Loaded, RefusesAt}
 
--- the log has one entry an event, each a step from the state that the one before left (own rule)
+-- the log has one entry for each event, and each is a step from the state that the one before left (own rule)
 abbrev pub RunOf : {S E X : Type 0} → (S → E → X → S → Type 0) → S → List E → List X → S → Type 0
 RunOf Step s [] [] t = t ≡ s
 RunOf Step s [] (x ∷ xs) t = ⊥
@@ -53,18 +53,18 @@ Worked {k = k} old new = k.failures new.keeper ≡ k.failures old.keeper
 
 -- ---- servers
 
--- a kept server in a run: its history, its numbers, and the tickets of the run, one place an event (own rule)
+-- a kept server in a run: its history, its numbers, and the tickets of the run, with one place for each event (own rule)
 pub record ServerState {K : Type 0} (k : keeper.Ghosts K) : Type 0 where
   pub history : server.History
   pub source : Source K k
   pub tickets : List (Option server.TicketValues)
 
--- what became of the numbers in an event that a server answered: a draw where it asks for one, then the use of what it sealed with (RFC 8613, 7.2.1
--- and B.1.1)
+-- what became of the numbers in an event that a server answered: a draw if the event asks for one, then the use of the number that the server sealed with
+-- (RFC 8613, 7.2.1 and B.1.1)
 abbrev pub ServerNumbers : {K : Type 0} {k : keeper.Ghosts K} → server.History → server.Event → server.Entry → Source K k → Source K k → Type 0
 ServerNumbers h event entry old new = Steps (serving.draws h event) (serving.uses h event entry) (own_in old) (own_in new) × Worked old new
 
--- a datagram's entry, and the ticket that it gives; where the keeper failed, the clock alone moved (own rule)
+-- a datagram's entry, and the ticket that it gives; if the keeper failed, only the clock moved (own rule)
 abbrev pub ArrivalStep : {K : Type 0} {k : keeper.Ghosts K} → server.History → Source K k → Arrival → ServerEntry → server.History → Source K k → Option server.TicketValues → Type 0
 ArrivalStep h old a (served.Took seen.KeeperFailed reply) g new o = (g ≡ server.Then h (server.Advance a.now) server.Advanced) × Failed old new × (reply.now ≡ []) × (o ≡ None)
 ArrivalStep h old a (served.Took x reply) g new o = (answer : server.Answer) × server_run.Logs x answer
@@ -72,7 +72,7 @@ ArrivalStep h old a (served.Took x reply) g new o = (answer : server.Answer) × 
     × ServerNumbers h (server.Datagram a.now a.fresh.echo a.fresh.mid a.bytes.items) (server.Took answer reply.now) old new × (o ≡ server_run.ticket_of answer)
 ArrivalStep h old a entry g new o = ⊥
 
--- a reply by the ticket at a place, and the tickets that are left; where the keeper failed, nothing else changed (RFC 8613, 8.3)
+-- a reply by the ticket at a place, and the tickets that are left; if the keeper failed, nothing else changed (RFC 8613, 8.3)
 abbrev pub ReplyStep : {K : Type 0} {k : keeper.Ghosts K} → server.History → Source K k → List (Option server.TicketValues) → ℕ → Bool → ℕ → List ℕ → ℕ → ServerEntry → server.History → Source K k → List (Option server.TicketValues) → Type 0
 ReplyStep h old ts of own mid plain room (served.Replied (Ok text)) g new us = (t : server.TicketValues) × (server_run.ticket_at ts of ≡ Some t)
     × (p : Parts) × IsDatagram p plain × server_run.GoesOn h (server.Reply t own mid p room) (server.Replied text.now) g
@@ -84,7 +84,7 @@ ReplyStep h old ts of own mid plain room (served.Replied (Err e)) g new us = (t 
     × ServerNumbers h (server.Reply t own mid p room) (server.NotReplied e) old new × (us ≡ ts)
 ReplyStep h old ts of own mid plain room entry g new us = server_run.ReplyStep h ts of own mid plain room entry g us × (new ≡ old)
 
--- a restart's entry; where it is refused, nothing but the keeper changed (RFC 8613, B.1)
+-- a restart's entry; if it is refused, nothing but the keeper changed (RFC 8613, B.1)
 abbrev pub RestartStep : {K : Type 0} {k : keeper.Ghosts K} → server.History → Source K k → KeptServerEntry → server.History → Source K k → Type 0
 RestartStep {k = k} h old (server_entries.Restarted (Ok x)) g new = (loaded : ℕ) × Loaded k.loads k.failures old.keeper loaded new.keeper
     × Goes (Load loaded) (own_in old) (own_in new) × server_run.GoesOn h (server.Restart 0 loaded) server.Restarted g
@@ -92,14 +92,14 @@ RestartStep {k = k} h old (server_entries.Restarted (Err e)) g new = RefusesAt k
     × (e ≡ LivesExhausted → (loaded : ℕ) → ServerAnswer h (server.Restart 0 loaded) (server.NotRestarted restarts.LivesExhausted))
 RestartStep h old entry g new = ⊥
 
--- one event and its entry; o is the ticket that it gives, if it does, us are the tickets that are left (own rule)
+-- one event and its entry; o is the ticket that it gives, if it gives one, and us are the tickets that are left (own rule)
 abbrev pub Serves : {K : Type 0} {k : keeper.Ghosts K} → ServerState k → KeptServerEvent → KeptServerEntry → server.History → Source K k → List (Option server.TicketValues) → Option server.TicketValues → Type 0
 Serves s (server_events.Datagram a) (server_entries.Served entry) g new us o = ArrivalStep s.history s.source a entry g new o × (us ≡ s.tickets)
 Serves s (server_events.Reply r) (server_entries.Served entry) g new us o = ReplyStep s.history s.source s.tickets r.of r.own r.mid r.plain.items (length r.out.items) entry g new us × (o ≡ None)
 Serves s server_events.Restart entry g new us o = RestartStep s.history s.source entry g new × (us ≡ s.tickets) × (o ≡ None)
 Serves s event entry g new us o = ⊥
 
--- one step of a run: the tickets get a place more (own rule)
+-- one step of a run: the tickets get one more place (own rule)
 abbrev pub ServerStep : {K : Type 0} {k : keeper.Ghosts K} → ServerState k → KeptServerEvent → KeptServerEntry → ServerState k → Type 0
 ServerStep s event entry t = (us : List (Option server.TicketValues)) × (o : Option server.TicketValues)
     × Serves s event entry t.history t.source us o × (t.tickets ≡ us ++ o ∷ [])
@@ -115,7 +115,7 @@ pub record ClientState {K : Type 0} (k : keeper.Ghosts K) : Type 0 where
   pub history : client.History
   pub source : Source K k
 
--- what became of the numbers in the last event: a draw where it asks for one, then the use of what it sealed with (RFC 8613, 7.2.1 and B.1.1)
+-- what became of the numbers in the last event: a draw if it asks for one, then the use of the number that it sealed with (RFC 8613, 7.2.1 and B.1.1)
 abbrev pub ClientNumbers : {K : Type 0} {k : keeper.Ghosts K} → ClientState k → ClientState k → Type 0
 ClientNumbers s t = (event : client.Event) × (entry : client.Entry) × (t.history ≡ client.Then s.history event entry)
     × Steps (asking.draws event) (asking.uses s.history event entry) (own_in s.source) (own_in t.source) × Worked s.source t.source
@@ -124,13 +124,13 @@ ClientNumbers s t = (event : client.Event) × (entry : client.Entry) × (t.histo
 abbrev pub Asks : {K : Type 0} {k : keeper.Ghosts K} → ℕ → ClientState k → ClientEvent → ClientEntry → ClientState k → Type 0
 Asks n s event entry t = client_run.ClientRunStep n s.history event entry t.history × ClientNumbers s t
 
--- a request's entry; where the keeper failed, the clock alone moved (own rule)
+-- a request's entry; if the keeper failed, only the clock moved (own rule)
 abbrev pub RequestStep : {K : Type 0} {k : keeper.Ghosts K} → ℕ → ClientState k → ℕ → List ℕ → ℕ → ClientEntry → ClientState k → Type 0
 RequestStep n s now plain room (asked.NotSent requests.KeeperFailed) t =
     (p : Parts) × IsDatagram p plain × (t.history ≡ client.Then s.history (client.Advance now) client.Advanced) × Failed s.source t.source
 RequestStep n s now plain room entry t = client_run.RequestStep n s.history now plain room entry t.history × ClientNumbers s t
 
--- a restart's entry; where it is refused, nothing but the keeper changed (RFC 8613, B.1.1)
+-- a restart's entry; if it is refused, nothing but the keeper changed (RFC 8613, B.1.1)
 abbrev pub ClientRestartStep : {K : Type 0} {k : keeper.Ghosts K} → ℕ → ClientState k → KeptClientEntry → ClientState k → Type 0
 ClientRestartStep {k = k} n s (client_entries.Restarted (Ok x)) t = (loaded : ℕ) × Loaded k.loads k.failures s.source.keeper loaded t.source.keeper
     × Goes (Load loaded) (own_in s.source) (own_in t.source) × client_run.GoesOn n s.history (client.Restart loaded) client.Restarted t.history
@@ -138,7 +138,7 @@ ClientRestartStep {k = k} n s (client_entries.Restarted (Err e)) t =
     RefusesAt k.loads k.failures s.source.keeper e t.source.keeper × (t.history ≡ s.history) × (own_in t.source ≡ own_in s.source)
 ClientRestartStep n s entry t = ⊥
 
--- one event and its entry; n is for how many pending requests there is room (own rule)
+-- one event and its entry; n is how many pending requests there is room for (own rule)
 abbrev pub ClientStep : {K : Type 0} {k : keeper.Ghosts K} → ℕ → ClientState k → KeptClientEvent → KeptClientEntry → ClientState k → Type 0
 ClientStep n s (client_events.Request now plain out) (client_entries.Asked entry) t = RequestStep n s now plain.items (length out.items) entry t
 ClientStep n s (client_events.Datagram now bytes) (client_entries.Asked entry) t = Asks n s (asks.Datagram now bytes) entry t
@@ -150,10 +150,10 @@ ClientStep n s event entry t = ⊥
 abbrev pub ClientRun : {K : Type 0} {k : keeper.Ghosts K} → ℕ → ClientState k → List KeptClientEvent → List KeptClientEntry → ClientState k → Type 0
 ClientRun n s events log t = RunOf (ClientStep n) s events log t
 
--- a server's state by its parts (own rule)
+-- a server's state, from its parts (own rule)
 abbrev pub server_state : {K : Type 0} {k : keeper.Ghosts K} → server.History → Source K k → List (Option server.TicketValues) → ServerState k
 server_state h source ts = record { history = h; source = source; tickets = ts }
 
--- a client's state by its parts (own rule)
+-- a client's state, from its parts (own rule)
 abbrev pub client_state : {K : Type 0} {k : keeper.Ghosts K} → client.History → Source K k → ClientState k
 client_state h source = record { history = h; source = source }

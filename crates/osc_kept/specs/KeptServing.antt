@@ -17,13 +17,13 @@ use Rattle.osc_endpoint.specs.ServerHistory.{History, Then, Event, Entry, Answer
 use Rattle.osc_endpoint.specs.Views.{Shows}
 use Rattle.osc_kept.specs.Numbering.{Own, Load, Reserve, Steps, after, upcoming}
 
--- whether a number is drawn before an event: where a challenge may be the answer, or a reply asks for an own number (RFC 8613, 8.3 and B.1.2)
+-- whether a number is drawn before an event: if a challenge may be the answer, or if a reply asks for its own number (RFC 8613, 8.3 and B.1.2)
 abbrev pub draws : History → Event → Bool
 draws h (Datagram now echo mid d) = not (is_open_life (life h 0))
 draws h (Reply ticket own mid plain room) = own
 draws h event = false
 
--- the own number that an event used, if it did: a challenge, or a reply that asked for it (RFC 8613, 7.2.1)
+-- the own number that an event used, if it used one: a challenge does, and so does a reply that asked for it (RFC 8613, 7.2.1)
 abbrev pub uses : History → Event → Entry → Option ℕ
 uses h (Datagram now echo mid d) (Took (Challenge i n given issued) reply) = option_map next_own (life h i)
 uses h (Reply ticket true mid plain room) (Replied bytes) = option_map next_own (life h ticket.context)
@@ -35,13 +35,13 @@ pub record IsKept (s : Server) (next : ℕ) (h : History) : Type 0 where
   pub one : added h ≡ 1
   pub next_is : option_map next_own (life h 0) ≡ Some next
 
--- the server answers the event so; where it seals, it does so with the number in hand, which was drawn before (RFC 8613, 8.2, 8.3 and B.1.1)
+-- this is how the server answers the event; if it seals with its own number, it uses the one in hand, which was drawn before (RFC 8613, 8.2, 8.3 and B.1.1)
 pub record KeptStep (h : History) (event : Event) (entry : Entry) (old new : Own) (s : Server) : Type 0 where
   pub row : ServerAnswer h event entry
   pub kept : IsKept s (upcoming new) (Then h event entry)
   pub numbers : Steps (draws h event) (uses h event entry) old new
 
--- what was decided of a datagram (RFC 8613, 8.2)
+-- what was decided about a datagram (RFC 8613, 8.2)
 pub record KeptDecides (h : History) (now : ℕ) (fresh : Fresh) (d : List ℕ) (result : Decided) (left reply : List ℕ) (old new : Own) (s : Server) : Type 0 where
   pub answer : Answer
   pub decides : Decides result.decision left answer
@@ -53,12 +53,12 @@ pub record KeptTakes (h : History) (now : ℕ) (fresh : Fresh) (d : List ℕ) (o
   pub shows : Shows outcome answer
   pub step : KeptStep h (Datagram now fresh.echo fresh.mid d) (Took answer reply) old new s
 
--- how a server starts at the number that was loaded: fresh exactly at 0 (RFC 8613, B.1.1 and B.1.2)
+-- how a server starts at the number that was loaded: fresh if and only if that is 0 (RFC 8613, B.1.1 and B.1.2)
 abbrev pub IsStart : Start → ℕ → Type 0
 IsStart (starts.Fresh first) loaded = (number_of first ≡ loaded) × (loaded ≡ 0)
 IsStart (starts.Restarted first) loaded = (number_of first ≡ loaded) × (loaded ≢ 0)
 
--- its numbers then: a fresh server has drawn its first number, so 64 are saved, and no later start is fresh (RFC 8613, B.1.1)
+-- its numbers after the start: a fresh server has drawn its first number, so 64 is saved, and no later start is fresh (RFC 8613, B.1.1)
 abbrev pub started : Start → ℕ → Own → Own
 started (starts.Fresh first) loaded o = after Reserve (after (Load loaded) o)
 started (starts.Restarted first) loaded o = after (Load loaded) o

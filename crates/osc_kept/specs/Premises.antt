@@ -1,6 +1,6 @@
--- To be believed: what a world has to meet, at each event over what stands before it (RFC 8613, 7.2.1, 7.4, 8 and B.1; RFC 9175, 2.3). Each premise is a
--- record or a definition of its own, with who has to see to it. w is the world before the event, s the security context, n for how many pending
--- requests the client has room.
+-- To be believed: what a world has to meet, at each event over the events before it (RFC 8613, 7.2.1, 7.4, 8 and B.1; RFC 9175, 2.3). Each premise is a
+-- record or a definition of its own, and says who has to see to it. w is the world before the event, s the security context, n is how many pending
+-- requests the client has room for.
 use Rattle.std.specs.Prelude.{◌≡◌, ℕ, ◌≤◌, List, [], Option, Some, None, Contains, max}
 use Rattle.osc_coap.specs.Inner.{InnerParts}
 use Rattle.osc_coap.specs.OptionNumbers as options
@@ -18,20 +18,20 @@ use Rattle.osc_endpoint.specs.ServerHistory as server
 use Rattle.osc_kept.specs.Numbering.{Allowed, Load}
 use Rattle.osc_kept.specs.World.{World, Event, Begin, Then, End, Client, Server, ServerStarts, AtClient, AtServer, Has, Request, Response, client_history, server_history, effect, numbers, sent, answered, delivered}
 
--- a fact of each event, over the world before it (own rule)
+-- a fact about each event, over the world before it (own rule)
 abbrev pub AtEach : (World → Event → Type 0) → World → Type 0
 AtEach P Begin = Unit {0}
 AtEach P (Then w event) = AtEach P w × P w event
 
--- ---- what both ends do: the contracts of Client, Server and of the kept types say it
+-- ---- what both ends do: the contracts of Client, Server and the kept types say so
 
--- the event is no Add: a server has the one context with which it starts (own rule)
+-- the event isn't an Add: a server has the one context with which it starts (own rule)
 abbrev pub IsNoAdd : server.Event → Type 0
 IsNoAdd (server.Add context start size) = ⊥
 IsNoAdd event = Unit {0}
 
--- an end that runs answers by its tables; a context that starts is a usable one; a server has one context, and replies by tickets that deliveries
--- gave (RFC 8613, 8.1 to 8.4)
+-- a running end answers by its tables; a context that starts is usable; a server has one context, and replies by tickets that deliveries gave
+-- (RFC 8613, 8.1 to 8.4)
 abbrev pub Answers : ℕ → SecurityContext → World → Event → Type 0
 Answers n s w (ServerStarts start size) = ServerAnswer server.Begin (server.Add s start size) (server.Added 0)
 Answers n s w (AtClient event entry) = (h : client.History) × (client_history s w ≡ Some h) × ClientAnswer n h event entry
@@ -39,7 +39,7 @@ Answers n s w (AtServer event entry) = (h : server.History) × (server_history s
     × IsNoAdd event × TakesTickets (server.Then h event entry)
 Answers n s w event = Unit {0}
 
--- ---- I: whoever keeps the keys sees to it, and the cipher
+-- ---- I: whoever keeps the keys sees to it, and so does the cipher
 
 -- the text is the payload of a request that the client sealed, under this key, nonce and additional data (RFC 8613, 5 and 8.1)
 pub record SealedByClient (s : SecurityContext) (w : World) (input : CipherInput) (text : List ℕ) : Type 0 where
@@ -50,7 +50,7 @@ pub record SealedByClient (s : SecurityContext) (w : World) (input : CipherInput
   pub protects : ProtectsRequest s request.number request.message bytes
   pub text_is : protects.outer.payload ≡ text
 
--- the same of a response that the server sealed (RFC 8613, 5 and 8.3)
+-- the same for a response that the server sealed (RFC 8613, 5 and 8.3)
 pub record SealedByServer (s : SecurityContext) (w : World) (input : CipherInput) (text : List ℕ) : Type 0 where
   pub response : Response
   pub was_answered : Has response (answered s w)
@@ -59,8 +59,8 @@ pub record SealedByServer (s : SecurityContext) (w : World) (input : CipherInput
   pub protects : ProtectsResponse s response.number response.own response.message bytes
   pub text_is : protects.outer.payload ≡ text
 
--- what comes to the server and opens as request n is a text that the client sealed before, under the same key, nonce and additional data: both ends
--- alone know the keys, and whoever doesn't makes no text that opens (RFC 8613, 12.3 and 12.6)
+-- what comes to the server and opens as request n is a text that the client sealed before, under the same key, nonce and additional data: only the two
+-- ends know the keys, and nobody else makes a text that opens (RFC 8613, 12.3 and 12.6)
 abbrev pub NobodyForgesRequests : SecurityContext → World → List ℕ → Type 0
 NobodyForgesRequests s w d = (n : ℕ) (m : InnerParts) (p : ProtectsRequest s n m d) → SealedByClient s w (request_seal s n) p.outer.payload
 
@@ -69,7 +69,7 @@ abbrev pub NobodyForgesResponses : SecurityContext → World → List client.Ask
 NobodyForgesResponses s w pending d = (r : client.Asked) (own : Option ℕ) (m : InnerParts) → Contains pending r → (p : ProtectsResponse s r.number own m d)
     → SealedByServer s w (response_seal s r.number own) p.outer.payload
 
--- both, of the datagrams that come (RFC 8613, 12.3 and 12.6)
+-- both of these, for the datagrams that arrive (RFC 8613, 12.3 and 12.6)
 abbrev pub NobodyForges : SecurityContext → World → Event → Type 0
 NobodyForges s w (AtServer (server.Datagram now echo mid d) entry) = NobodyForgesRequests s w d
 NobodyForges s w (AtClient (client.Datagram now d) entry) = (h : client.History) → client_history s w ≡ Some h
@@ -78,22 +78,22 @@ NobodyForges s w event = Unit {0}
 
 -- ---- F: whoever draws the Echo values sees to it
 
--- where a challenge gives a value that was drawn afresh, no request that was sealed before carries that value (RFC 9175, 2.3)
+-- if a challenge gives a value that was newly drawn, no request that was sealed before carries that value (RFC 9175, 2.3)
 abbrev pub EchoIsNew : SecurityContext → World → Event → Type 0
 EchoIsNew s w (AtServer (server.Datagram now echo mid d) (server.Took (server.Challenge i n given issued) reply)) =
     (h : server.History) (of : Life) → server_history s w ≡ Some h → server.life h i ≡ Some of → in_force of (max (server.clock h) now) ≡ None
     → (r : Request) → Has r (sent s w) → first_of (values_at options.echo r.message.options) ≡ Some given → ⊥
 EchoIsNew s w event = Unit {0}
 
--- ---- N: whoever writes a keeper sees to it; KeptServer and KeptClient to the rest
+-- ---- N: whoever writes a keeper sees to it; KeptServer and KeptClient see to the rest
 
--- each event goes with the numbers of both ends: what is used is the number in hand, one is drawn where none is, and no load gives one below the floor
--- (RFC 8613, 7.2.1 and B.1.1)
+-- each event agrees with the numbers of both ends: what is used is the number in hand, a number is drawn only if none is in hand, and no load gives one
+-- below the floor (RFC 8613, 7.2.1 and B.1.1)
 pub record NumbersAreKept (s : SecurityContext) (w : World) (event : Event) : Type 0 where
   pub client : Allowed (effect Client s w event) (numbers Client s w)
   pub server : Allowed (effect Server s w event) (numbers Server s w)
 
--- no life of an end begins below the floor: what a load gives is no less than what was saved before, in whatever process (RFC 8613, B.1.1)
+-- no life of an end begins below the floor: a load gives no number below what was saved before, in whatever process (RFC 8613, B.1.1)
 abbrev pub LoadsNoneBelow : End → SecurityContext → World → Event → Type 0
 LoadsNoneBelow of s w event = (n : ℕ) → effect of s w event ≡ Load n → (numbers of s w).floor ≤ n
 

@@ -1,4 +1,4 @@
--- How the code is seen: the numbers of an end as its keeper's floor, its Numbers and the one in hand say them.
+-- How the code is seen: the numbers of an end, given by its keeper's floor, its Numbers and the number in hand.
 use Rattle.std.specs.Prelude.{ℕ, List, Option, codes}
 use Rattle.std.specs.Option.{option_map}
 use Rattle.osc_context.specs.Views.{limit_of, next_of, number_of}
@@ -14,11 +14,11 @@ use Rattle.osc_kept.specs.Numbering.{Own, upcoming}
 abbrev pub own_of : ℕ → Numbers → Option Piv → Own
 own_of floor numbers in_hand = record { floor = floor; next = next_of numbers; limit = limit_of numbers; hand = option_map number_of in_hand }
 
--- the number with which it seals next; the floor says nothing of it (how the code is seen)
+-- the number with which the end seals next; it doesn't depend on the floor (how the code is seen)
 abbrev pub upcoming_of : Numbers → Option Piv → ℕ
 upcoming_of numbers in_hand = upcoming (own_of 0 numbers in_hand)
 
--- the refusal of a kept end that a refusal of its numbers becomes (own rule)
+-- the refusal of a kept end that stands for a refusal of its numbers (own rule)
 abbrev pub lifted : NumbersError → KeptError
 lifted numbers.KeeperFailed = KeeperFailed
 lifted numbers.KeptTooLarge = KeptTooLarge

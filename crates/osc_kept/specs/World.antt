@@ -1,6 +1,6 @@
 -- To be believed: two ends of one security context over all their lives (RFC 8613, 7.2.1, 7.4 and B.1): one list of what happened at both, in the
--- order in which it happened, each event with what it came to. w is a world, s the security context. A save that fails or is stopped leaves the
--- floor, and the call that made it gives nothing: it is no event.
+-- order in which it happened, each event with what came of it. w is a world, s the security context. A save that fails or is stopped leaves the
+-- floor, and the call that made it gives nothing, so it isn't an event.
 use Rattle.std.specs.Prelude.{◌≡◌, ◌⊎◌, ◌++◌, ◌∷◌, [], ℕ, List, Bool, true, Option, Some, None}
 use Rattle.std.specs.Option.{option_map, option_and_then}
 use Rattle.osc_coap.specs.Datagram.{Parts}
@@ -22,8 +22,8 @@ pub data End : Type 0 where
   Client : End
   Server : End
 
--- what happens: the program of an end starts, at what its keeper loaded, and knows nothing of earlier runs; an end draws a number, of those that are
--- reserved or behind a save that reserves more; something happens to an end that runs, and came to this entry (RFC 8613, 7.2.1 and B.1.1)
+-- what happens: the program of an end starts at what its keeper loaded, and knows nothing of earlier runs; an end draws a number that is reserved, or draws
+-- one after a save that reserves more; something happens to a running end, with this entry as its result (RFC 8613, 7.2.1 and B.1.1)
 pub data Event : Type 0 where
   ClientStarts : (loaded life_ms : ℕ) → Event
   ServerStarts : (start : Start) (size : WindowSize) → Event
@@ -32,24 +32,24 @@ pub data Event : Type 0 where
   AtClient : (event : client.Event) (entry : client.Entry) → Event
   AtServer : (event : server.Event) (entry : server.Entry) → Event
 
--- nothing yet, or one more event behind those before (own rule)
+-- nothing yet, or one more event after those before (own rule)
 pub data World : Type 0 where
   Begin : World
   Then : (before : World) (event : Event) → World
 
--- it is one of these (own rule)
+-- the element is one of these (own rule)
 abbrev pub Has : {A : Type 0} → A → List A → Type 0
 Has x [] = ⊥
 Has x (y ∷ ys) = (x ≡ y) ⊎ Has x ys
 
--- the history of the client that runs: what happened to it since it started (own rule)
+-- the history of the running client: what happened to it since it started (own rule)
 abbrev pub client_history : SecurityContext → World → Option client.History
 client_history s Begin = None
 client_history s (Then w (ClientStarts loaded ms)) = Some (client.New s loaded ms)
 client_history s (Then w (AtClient event entry)) = option_map (λ h. client.Then h event entry) (client_history s w)
 client_history s (Then w event) = client_history s w
 
--- the history of the server that runs (own rule)
+-- the history of the running server (own rule)
 abbrev pub server_history : SecurityContext → World → Option server.History
 server_history s Begin = None
 server_history s (Then w (ServerStarts start size)) = Some (server.Then server.Begin (server.Add s start size) (server.Added 0))
@@ -62,7 +62,7 @@ server_life s w = option_and_then (λ h. server.life h 0) (server_history s w)
 
 -- ---- the numbers of both ends
 
--- the use of a number by an event of a running end, if it is one (RFC 8613, 7.2.1)
+-- what an event does to the numbers of a running end: a restart loads one, and any other event may use one (RFC 8613, 7.2.1)
 abbrev pub client_effect : Option client.History → client.Event → client.Entry → Effect
 client_effect None event entry = Stay
 client_effect (Some h) (client.Restart next) client.Restarted = Load next

@@ -15,7 +15,7 @@ use osc_endpoint::ClientEntry;
 use std::alloc::{AllocError, Global};
 use std::mem;
 
-/// A request, whose entry borrows from the room for it. One that is no message moves the clock alone.
+/// Runs a request. Its entry borrows from the room for it. If the plain text isn't a message, only the clock moves.
 fn run_request<'a, K: Keeper, const N: usize>(
     client: &mut KeptClient<K, N>,
     now: u64,
@@ -42,7 +42,7 @@ fn run_request<'a, K: Keeper, const N: usize>(
     }
 }
 
-/// A restart, whose entry borrows nothing.
+/// Runs a restart. Its entry borrows nothing.
 fn run_restart<'a, K: Keeper, const N: usize>(client: &mut KeptClient<K, N>) -> KeptClientEntry<'a>
     ensures { (h : History) → IsKept client.old.client (upcoming (own_in client.old.source)) h
         → (g : History) × ClientRestartStep N (client_state h client.old.source) result (client_state g client.new.source)
@@ -51,7 +51,7 @@ fn run_restart<'a, K: Keeper, const N: usize>(client: &mut KeptClient<K, N>) -> 
     KeptClientEntry::Restarted(client.restart())
 }
 
-/// One event, whose entry borrows from it.
+/// Runs one event. Its entry borrows from the event.
 fn run_event<'a, K: Keeper, const N: usize>(
     client: &mut KeptClient<K, N>,
     event: &'a mut KeptClientEvent,
@@ -74,9 +74,10 @@ fn run_event<'a, K: Keeper, const N: usize>(
     }
 }
 
-/// Runs a kept client over events: the log gets the entry of each, at the event's index. The entries borrow from the events. It
-/// stops early only where memory for an entry was refused: then the log has the entries of the events before, and `events` is
-/// what is left of them, as it came. `alloc` is there as [`crate::run_kept_server_on`] has it, for tickets: a client keeps none.
+/// Runs a kept client over events. The log gets the entry of each event, at the event's index, and the entries borrow from the
+/// events. The run stops early only if memory for an entry is refused. In that case the log has the entries of the events before, and
+/// `events` is what is left of them, as it was passed in. `alloc` is here because [`crate::run_kept_server_on`] has it, for tickets:
+/// a client keeps none.
 pub fn run_kept_client_on<'a, K: Keeper, const N: usize>(
     alloc: Global,
     client: &mut KeptClient<K, N>,
@@ -106,7 +107,7 @@ pub fn run_kept_client_on<'a, K: Keeper, const N: usize>(
     Ok(())
 }
 
-/// Runs a kept client over events, as [`run_kept_client_on`] does; what is left of them isn't handed back.
+/// Runs a kept client over events, as [`run_kept_client_on`] does. It doesn't return what is left of them.
 pub fn run_kept_client<'a, K: Keeper, const N: usize>(
     alloc: Global,
     client: &mut KeptClient<K, N>,

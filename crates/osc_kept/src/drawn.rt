@@ -1,4 +1,4 @@
-//! What a kept server does with its endpoint and its numbers: a draw where an event asks for one, and then the event.
+//! What a kept server does with its endpoint and its numbers: it draws a number if an event asks for one, and then handles the event.
 
 ghost use Rattle.std.specs.Prelude.{◌≡◌, ◌≢◌, ◌≤◌, ◌+◌, ℕ, not, IsOk, IsErr, IfOk, IfErr, OnErr, length, take, drop};
 ghost use Rattle.osc_coap.specs.Views.{parts_of};
@@ -17,7 +17,7 @@ use osc_coap::Message;
 use osc_context::{Keeper, KeeperError};
 use osc_endpoint::{Decided, Decision, Fresh, ReplyError, Server, Ticket};
 
-/// Draws a number for a challenge, where the gate is closed.
+/// Draws a number for a challenge, if the gate is closed.
 pub(crate) fn draw_for_datagram<K: Keeper>(
     server: &Server,
     source: &mut Source<K>,
@@ -33,7 +33,7 @@ pub(crate) fn draw_for_datagram<K: Keeper>(
     source.draw()
 }
 
-/// Draws a number for a reply, where it asks for one.
+/// Draws a number for a reply, if the reply asks for one.
 pub(crate) fn draw_for_reply<K: Keeper>(
     own: bool,
     source: &mut Source<K>,
@@ -49,7 +49,7 @@ pub(crate) fn draw_for_reply<K: Keeper>(
     Ok(())
 }
 
-/// Decides what a datagram is answered, behind the draw for it; a challenge uses the number in hand.
+/// Decides the answer to a datagram, after the draw for it. A challenge uses the number in hand.
 pub(crate) fn decide_drawn<K: Keeper>(
     server: &mut Server,
     source: &mut Source<K>,
@@ -74,7 +74,7 @@ pub(crate) fn decide_drawn<K: Keeper>(
     decided
 }
 
-/// Seals a reply, behind the draw for it; one with an own number uses the one in hand.
+/// Seals a reply, after the draw for it. A reply with its own number uses the number in hand.
 pub(crate) fn reply_drawn<K: Keeper>(
     server: &mut Server,
     source: &mut Source<K>,

@@ -1,6 +1,6 @@
-//! The calls and runs of kept ends within the list of what happened at both ends (RFC 8613, 7.4, 8.1 to 8.4 and B.1). Each is the call
-//! that it is named for, with a contract on that list: where the list meets the premises and this end runs in it, the call adds to it,
-//! the longer list meets the premises too, and all of it is as `both_ends` says. Nothing else is done here.
+//! The calls and runs of kept ends within the list of what happened at both ends (RFC 8613, 7.4, 8.1 to 8.4 and B.1). Each function
+//! makes the call that it is named for, and nothing else; its contract is about that list. If the list meets the premises and this
+//! end runs in it, the call adds to the list, the longer list meets the premises too, and all of it is as `both_ends` says.
 
 ghost use Rattle.std.specs.Prelude.{◌≡◌, ◌≢◌, ◌≤◌, ◌<◌, ◌+◌, ℕ, [], Err, IsErr, IsOk, IfErr, IfOk, IsErrOf, OnErr, OnOk, drop, length, take, vec_len};
 ghost use Rattle.osc_coap.specs.Views.{parts_of};
@@ -37,8 +37,8 @@ use osc_endpoint::{
 use osc_window::WindowSize;
 use std::alloc::{AllocError, Global};
 
-/// `KeptServer::start`, over a keeper that needn't know the floor of that list, as one of a later process doesn't: where the number
-/// that it loads isn't below that floor.
+/// Calls `KeptServer::start`. The keeper needn't know the floor of that list, as the keeper of a later process doesn't. Its claim
+/// about that list assumes that the number that the keeper loads isn't below that floor.
 pub fn start_server_in_world<K: Keeper>(
     context: Context,
     keeper: K,
@@ -55,7 +55,7 @@ pub fn start_server_in_world<K: Keeper>(
     KeptServer::start(context, keeper, size)
 }
 
-/// `KeptServer::restart`, where the number that the keeper loads isn't below the floor of that list.
+/// Calls `KeptServer::restart`. Its claim about that list assumes that the number that the keeper loads isn't below the list's floor.
 pub fn restart_server_in_world<K: Keeper>(server: &mut KeptServer<K>) -> Result<(), KeptError>
     ensures begins { IsOk result → (loaded : ℕ) × Loaded K.loads K.failures server.old.source.keeper loaded server.new.source.keeper
         × ((n : ℕ) (s : SecurityContext) (w : World) → IsLawful n s w → RunsIn s w server.old → RestartsInWorld n s w loaded server.old server.new) }
@@ -66,7 +66,8 @@ pub fn restart_server_in_world<K: Keeper>(server: &mut KeptServer<K>) -> Result<
     server.restart()
 }
 
-/// `KeptServer::decide`, where nobody forged the datagram, and no request carries the fresh Echo value yet.
+/// Calls `KeptServer::decide`. Its claim about that list assumes that nobody forged the datagram, and that no request carries the
+/// fresh Echo value yet.
 pub fn decide_in_world<K: Keeper>(
     server: &mut KeptServer<K>,
     now: u64,
@@ -86,7 +87,8 @@ pub fn decide_in_world<K: Keeper>(
     server.decide(now, fresh, datagram, out)
 }
 
-/// `KeptServer::take`, where nobody forged the datagram, and no request carries the fresh Echo value yet.
+/// Calls `KeptServer::take`. Its claim about that list assumes that nobody forged the datagram, and that no request carries the fresh
+/// Echo value yet.
 pub fn take_in_world<'b, K: Keeper>(
     server: &mut KeptServer<K>,
     now: u64,
@@ -106,7 +108,7 @@ pub fn take_in_world<'b, K: Keeper>(
     server.take(now, fresh, datagram, out)
 }
 
-/// `KeptServer::reply`, with a ticket that a delivery gave and no reply took.
+/// Calls `KeptServer::reply`. Its claim about that list assumes a ticket that a delivery gave and that no reply took.
 pub fn reply_in_world<K: Keeper>(
     server: &mut KeptServer<K>,
     ticket: Ticket,
@@ -126,7 +128,7 @@ pub fn reply_in_world<K: Keeper>(
     server.reply(ticket, own, mid, plain, out)
 }
 
-/// `run_kept_server_on`, where others see to what is theirs at each of its events (`ServerRunTrusts`).
+/// Calls `run_kept_server_on`. Its claim about that list assumes that others do their part at each of its events (`ServerRunTrusts`).
 pub fn run_server_in_world<'a, K: Keeper>(
     alloc: Global,
     server: &mut KeptServer<K>,
@@ -144,8 +146,8 @@ pub fn run_server_in_world<'a, K: Keeper>(
     run_kept_server_on(alloc, server, events, log)
 }
 
-/// `KeptClient::start`, over a keeper that needn't know the floor of that list, as one of a later process doesn't: where the number
-/// that it loads isn't below that floor.
+/// Calls `KeptClient::start`. The keeper needn't know the floor of that list, as the keeper of a later process doesn't. Its claim
+/// about that list assumes that the number that the keeper loads isn't below that floor.
 pub fn start_client_in_world<K: Keeper, const N: usize>(
     context: Context,
     keeper: K,
@@ -161,7 +163,7 @@ pub fn start_client_in_world<K: Keeper, const N: usize>(
     KeptClient::start(context, keeper, life_ms)
 }
 
-/// `KeptClient::restart`, where the number that the keeper loads isn't below the floor of that list.
+/// Calls `KeptClient::restart`. Its claim about that list assumes that the number that the keeper loads isn't below the list's floor.
 pub fn restart_client_in_world<K: Keeper, const N: usize>(
     client: &mut KeptClient<K, N>,
 ) -> Result<(), KeptError>
@@ -175,7 +177,7 @@ pub fn restart_client_in_world<K: Keeper, const N: usize>(
     client.restart()
 }
 
-/// `KeptClient::request`.
+/// Calls `KeptClient::request`.
 pub fn request_in_world<K: Keeper, const N: usize>(
     client: &mut KeptClient<K, N>,
     now: u64,
@@ -193,7 +195,7 @@ pub fn request_in_world<K: Keeper, const N: usize>(
     client.request(now, plain, out)
 }
 
-/// `KeptClient::decide`, where nobody forged the datagram.
+/// Calls `KeptClient::decide`. Its claim about that list assumes that nobody forged the datagram.
 pub fn decide_response_in_world<K: Keeper, const N: usize>(
     client: &mut KeptClient<K, N>,
     now: u64,
@@ -206,7 +208,7 @@ pub fn decide_response_in_world<K: Keeper, const N: usize>(
     client.decide(now, datagram)
 }
 
-/// `KeptClient::take`, where nobody forged the datagram.
+/// Calls `KeptClient::take`. Its claim about that list assumes that nobody forged the datagram.
 pub fn take_response_in_world<'b, K: Keeper, const N: usize>(
     client: &mut KeptClient<K, N>,
     now: u64,
@@ -219,7 +221,7 @@ pub fn take_response_in_world<'b, K: Keeper, const N: usize>(
     client.take(now, datagram)
 }
 
-/// `KeptClient::forget`.
+/// Calls `KeptClient::forget`.
 pub fn forget_in_world<K: Keeper, const N: usize>(
     client: &mut KeptClient<K, N>,
     token: &[u8],
@@ -231,7 +233,7 @@ pub fn forget_in_world<K: Keeper, const N: usize>(
     client.forget(token)
 }
 
-/// `KeptClient::advance`.
+/// Calls `KeptClient::advance`.
 pub fn advance_in_world<K: Keeper, const N: usize>(client: &mut KeptClient<K, N>, now: u64)
     ensures advanced { (s : SecurityContext) (w : World) → IsLawful N s w → ClientRunsIn s w client.old
         → ClientAfter s w (asked.Advance now) asked.Advanced client.old client.new }
@@ -240,7 +242,7 @@ pub fn advance_in_world<K: Keeper, const N: usize>(client: &mut KeptClient<K, N>
     client.advance(now);
 }
 
-/// `run_kept_client_on`, where others see to what is theirs at each of its events (`ClientRunTrusts`).
+/// Calls `run_kept_client_on`. Its claim about that list assumes that others do their part at each of its events (`ClientRunTrusts`).
 pub fn run_client_in_world<'a, K: Keeper, const N: usize>(
     alloc: Global,
     client: &mut KeptClient<K, N>,

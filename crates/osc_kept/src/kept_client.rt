@@ -1,4 +1,4 @@
-//! A client whose numbers outlive it (RFC 8613, 7.2.1 and B.1.1).
+//! A client whose Sender Sequence Numbers outlive it (RFC 8613, 7.2.1 and B.1.1).
 
 ghost use Rattle.std.specs.Prelude.{◌≡◌, ◌≢◌, ◌≤◌, ◌+◌, ℕ, Err, IsOk, IfOk, IfErr, IsErrOf, OnErr, length, drop};
 ghost use Rattle.osc_coap.specs.Views.{parts_of};
@@ -21,8 +21,8 @@ use osc_coap::Message;
 use osc_context::{Context, Keeper, Piv};
 use osc_endpoint::{Client, ClientDecision, ClientOutcome, RequestError};
 
-/// A client, and the keeper of its numbers: it seals with drawn numbers alone, each of which the keeper reserved before; a
-/// later life begins at none that lies below what was saved.
+/// A client, and the keeper of its numbers. It seals only with numbers that it has drawn, and the keeper reserved each of them
+/// before. No later life begins at a number below what was saved.
 #[derive(Drop)]
 pub struct KeptClient<K: Keeper, const N: usize> {
     pub(crate) client: Client<N>,
@@ -31,8 +31,8 @@ pub struct KeptClient<K: Keeper, const N: usize> {
 }
 
 impl<K: Keeper, const N: usize> KeptClient<K, N> {
-    /// Starts a client of a context at the number that the keeper loads, with nothing pending; a request is pending for so many
-    /// milliseconds. The first refusal in the order of `KeptError` is answered; it hands the keeper back and drops the context.
+    /// Starts a client of a context at the number that the keeper loads, with nothing pending. Each request is pending for `life_ms`
+    /// milliseconds. Returns the first refusal in the order of `KeptError`; a refusal gives the keeper back and drops the context.
     pub fn start(
         context: Context,
         keeper: K,
@@ -54,8 +54,8 @@ impl<K: Keeper, const N: usize> KeptClient<K, N> {
         }
     }
 
-    /// Drops every pending request, and goes on at the number that the keeper loads; the number in hand is dropped. The first
-    /// refusal in the order of `KeptError` is answered, and changes nothing but the keeper.
+    /// Drops every pending request and the number in hand, and continues at the number that the keeper loads. Returns the first
+    /// refusal in the order of `KeptError`; a refusal changes nothing but the keeper.
     pub fn restart(&mut self) -> Result<(), KeptError>
         ensures begins { IsOk result → (loaded : ℕ) × Loaded K.loads K.failures self.old.source.keeper loaded self.new.source.keeper
             × Goes (Load loaded) (own_in self.old.source) (own_in self.new.source)
@@ -74,7 +74,7 @@ impl<K: Keeper, const N: usize> KeptClient<K, N> {
         Ok(())
     }
 
-    /// As `request`, but answers the number of the request too.
+    /// Seals a request as `request` does, and returns the number of the request too.
     pub(crate) fn send(
         &mut self,
         now: u64,
@@ -108,8 +108,8 @@ impl<K: Keeper, const N: usize> KeptClient<K, N> {
         }
     }
 
-    /// Seals a request as `Client::request` does. A number is drawn before anything else where none is in hand; where the keeper
-    /// fails then, KeeperFailed is answered, and the clock alone moves. After another refusal the number stays in hand.
+    /// Seals a request as `Client::request` does. If no number is in hand, it draws one before anything else. If the keeper fails
+    /// then, it returns KeeperFailed, and only the clock moves. After any other refusal the number stays in hand.
     pub fn request(
         &mut self,
         now: u64,
@@ -134,7 +134,7 @@ impl<K: Keeper, const N: usize> KeptClient<K, N> {
         }
     }
 
-    /// Decides what a datagram is answered, as `Client::decide` does. No number is drawn.
+    /// Decides the answer to a datagram, as `Client::decide` does. Draws no number.
     pub fn decide(&mut self, now: u64, datagram: &mut [u8]) -> ClientDecision
         ensures answered { (h : History) → IsKept self.old.client (upcoming (own_in self.old.source)) h
             → KeptDecides h now datagram.old result datagram.new (own_in self.old.source) self.new.client }
@@ -145,7 +145,7 @@ impl<K: Keeper, const N: usize> KeptClient<K, N> {
         self.client.decide(now, datagram)
     }
 
-    /// Answers a datagram, where it lies, as `Client::take` does. No number is drawn.
+    /// Takes a datagram in place, as `Client::take` does. Draws no number.
     pub fn take<'b>(&mut self, now: u64, datagram: &'b mut [u8]) -> ClientOutcome<'b>
         ensures answered { (h : History) → IsKept self.old.client (upcoming (own_in self.old.source)) h
             → KeptTakes h now datagram.old result (own_in self.old.source) self.new.client }
@@ -154,7 +154,7 @@ impl<K: Keeper, const N: usize> KeptClient<K, N> {
         self.client.take(now, datagram)
     }
 
-    /// Waits no more for the response to the request of a token, and answers whether it was pending. No number is drawn.
+    /// Stops waiting for the response to the request with this token. Returns whether the token was pending. Draws no number.
     pub fn forget(&mut self, token: &[u8]) -> bool
         ensures answered { (h : History) → IsKept self.old.client (upcoming (own_in self.old.source)) h
             → KeptStep h (Forget token.now) (Forgot result) (own_in self.old.source) (own_in self.old.source) self.new.client }
@@ -163,7 +163,7 @@ impl<K: Keeper, const N: usize> KeptClient<K, N> {
         self.client.forget(token)
     }
 
-    /// Moves the clock to a moment in milliseconds, as `Client::advance` does. No number is drawn.
+    /// Moves the clock to `now`, in milliseconds, as `Client::advance` does. Draws no number.
     pub fn advance(&mut self, now: u64)
         ensures advanced { (h : History) → IsKept self.old.client (upcoming (own_in self.old.source)) h
             → KeptStep h (Advance now) Advanced (own_in self.old.source) (own_in self.old.source) self.new.client }
@@ -172,7 +172,7 @@ impl<K: Keeper, const N: usize> KeptClient<K, N> {
         self.client.advance(now);
     }
 
-    /// Ends the client, and gives its keeper.
+    /// Ends the client, and returns its keeper.
     pub fn into_keeper(self) -> K
         ensures { result ≡ self.source.keeper }
     {

@@ -1,4 +1,4 @@
-//! Why an end whose numbers are kept begins no life.
+//! Why an end whose numbers are kept doesn't begin a life.
 
 ghost use Rattle.std.specs.Prelude.{◌≡◌};
 ghost use Rattle.osc_kept.specs.Views.{lifted};
@@ -7,7 +7,7 @@ use osc_context::NumbersError;
 use std::error::Error;
 use std::fmt;
 
-/// Why an end whose numbers are kept begins no life, in the order in which the reasons are judged.
+/// Why an end whose numbers are kept doesn't begin a life. The variants stand in the order in which they are checked.
 #[derive(Clone, Copy, Debug, PartialEq, Eq)]
 pub enum KeptError {
     /// The keeper failed in this call.
@@ -16,11 +16,11 @@ pub enum KeptError {
     KeptTooLarge,
     /// No number below 2^40 is left (RFC 8613, 7.2.1).
     NumbersExhausted,
-    /// The server's context was restarted 2^64 - 1 times: never the answer of a start, or of a client.
+    /// The server's context was restarted 2^64 - 1 times. Neither a start nor a client ever returns this.
     LivesExhausted,
 }
 
-/// The refusal that a refusal of the numbers is.
+/// Returns the refusal of a kept end that stands for a refusal of its numbers.
 pub(crate) fn lift(error: NumbersError) -> KeptError
     ensures { result ≡ lifted error }
 {

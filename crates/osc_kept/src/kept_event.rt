@@ -1,4 +1,4 @@
-//! What happens in a run to an end whose numbers are kept, and what it makes of it.
+//! What happens in a run to an end whose numbers are kept, and what comes of it.
 
 use crate::kept_error::KeptError;
 use osc_endpoint::{Answering, Arrival, ClientEntry, ServerEntry};
@@ -6,7 +6,7 @@ use osc_endpoint::{Answering, Arrival, ClientEntry, ServerEntry};
 /// One event of a kept server's run.
 #[derive(Drop)]
 pub enum KeptServerEvent {
-    /// A datagram comes.
+    /// A datagram arrives.
     Datagram(Arrival),
     /// The application answers a request.
     Reply(Answering),
@@ -14,10 +14,10 @@ pub enum KeptServerEvent {
     Restart,
 }
 
-/// What one event of a kept server's run came to.
+/// The result of one event of a kept server's run.
 #[derive(Debug, Drop)]
 pub enum KeptServerEntry<'a> {
-    /// What became of a datagram or of a reply, as a server's run has it; KeeperFailed is an answer too.
+    /// What became of a datagram or of a reply, as in a server's run. KeeperFailed is possible too.
     Served(ServerEntry<'a>),
     /// Whether the context was restarted.
     Restarted(Result<(), KeptError>),
@@ -26,29 +26,29 @@ pub enum KeptServerEntry<'a> {
 /// One event of a kept client's run.
 #[derive(Drop)]
 pub enum KeptClientEvent {
-    /// The application asks, at a moment in milliseconds: the plain message, and room for the request.
+    /// The application makes a request at `now`, in milliseconds. `plain` is the plain message, and `out` is room for the request.
     Request {
         now: u64,
         plain: Vec<u8>,
         out: Vec<u8>,
     },
-    /// A datagram comes, at a moment in milliseconds.
+    /// A datagram arrives at `now`, in milliseconds.
     Datagram {
         now: u64,
         bytes: Vec<u8>,
     },
-    /// The application waits no more for the response to the request of a token.
+    /// The application stops waiting for the response to the request with this token.
     Forget {
         token: Vec<u8>,
     },
-    /// The client drops every pending request, and goes on at the number that the keeper loads.
+    /// The client drops every pending request, and continues at the number that the keeper loads.
     Restart,
 }
 
-/// What one event of a kept client's run came to.
+/// The result of one event of a kept client's run.
 #[derive(Debug, Drop)]
 pub enum KeptClientEntry<'a> {
-    /// What became of a request, a datagram or a forgotten token, as a client's run has it; KeeperFailed is an answer too.
+    /// What became of a request, a datagram or a forgotten token, as in a client's run. KeeperFailed is possible too.
     Asked(ClientEntry<'a>),
     /// Whether the client was restarted.
     Restarted(Result<(), KeptError>),

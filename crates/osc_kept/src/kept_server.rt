@@ -1,4 +1,4 @@
-//! A server of one context whose own numbers outlive it (RFC 8613, 7.2.1 and B.1.1).
+//! A server of one context whose own Sender Sequence Numbers outlive it (RFC 8613, 7.2.1 and B.1.1).
 
 ghost use Rattle.std.specs.Prelude.{◌≡◌, ◌≢◌, ◌≤◌, ◌+◌, ℕ, Ok, Err, IsOk, IsErr, IfOk, IfErr, OnErr, length, take, drop};
 ghost use Rattle.osc_coap.specs.Views.{parts_of};
@@ -27,8 +27,8 @@ use osc_context::{Context, Keeper, KeeperError};
 use osc_endpoint::{Decided, Fresh, Outcome, ReplyError, Server, Start, Taken, Ticket};
 use osc_window::WindowSize;
 
-/// A server of one context, and the keeper of its own numbers: it seals with drawn numbers alone, each of which the keeper
-/// reserved before; a later life begins at none that lies below what was saved.
+/// A server of one context, and the keeper of its own numbers. It seals only with numbers that it has drawn, and the keeper reserved
+/// each of them before. No later life begins at a number below what was saved.
 #[derive(Drop)]
 pub struct KeptServer<K: Keeper> {
     pub(crate) server: Server,
@@ -37,9 +37,9 @@ pub struct KeptServer<K: Keeper> {
 }
 
 impl<K: Keeper> KeptServer<K> {
-    /// Starts a server of a context at the number that the keeper loads: fresh exactly if that is 0, and then the first number is
-    /// drawn before it answers, so that no later start is fresh; else as after a restart. The first refusal in the order of
-    /// `KeptError` is answered; it hands the keeper back and drops the context.
+    /// Starts a server of a context at the number that the keeper loads. It starts fresh if and only if that number is 0; then the
+    /// first number is drawn before `start` returns, so that no later start is fresh. Otherwise it starts as after a restart. Returns
+    /// the first refusal in the order of `KeptError`; a refusal gives the keeper back and drops the context.
     pub fn start(
         context: Context,
         keeper: K,
@@ -68,7 +68,7 @@ impl<K: Keeper> KeptServer<K> {
         Ok(KeptServer::begin(context, source, Start::Fresh(first), size))
     }
 
-    /// A server of a context that starts at the number with which the source goes on.
+    /// Makes a server of a context that starts at the number with which the source goes on.
     fn begin(context: Context, source: Source<K>, start: Start, size: WindowSize) -> KeptServer<K>
         requires { upcoming (own_in source) ≡ (born (as_server context) start size).first }
         ensures kept { IsKept result.server (upcoming (own_in source)) (Then Begin (Add (as_server context) start size) (Added 0)) }
@@ -81,8 +81,8 @@ impl<K: Keeper> KeptServer<K> {
         }
     }
 
-    /// Begins a new life of the context at the number that the keeper loads, as after a restart; the number in hand is dropped. The
-    /// first refusal in the order of `KeptError` is answered, and changes nothing but the keeper.
+    /// Begins a new life of the context at the number that the keeper loads, as after a restart, and drops the number in hand.
+    /// Returns the first refusal in the order of `KeptError`; a refusal changes nothing but the keeper.
     pub fn restart(&mut self) -> Result<(), KeptError>
         ensures begins { IsOk result → (loaded : ℕ) × Loaded K.loads K.failures self.old.source.keeper loaded self.new.source.keeper
             × Goes (Load loaded) (own_in self.old.source) (own_in self.new.source)
@@ -106,8 +106,8 @@ impl<K: Keeper> KeptServer<K> {
         Ok(())
     }
 
-    /// Decides what a datagram is answered, as `Server::decide` does: the first half of `take`. A number is drawn before anything
-    /// else where the gate is closed and none is in hand; where the keeper fails then, the clock alone moves.
+    /// Decides the answer to a datagram, as `Server::decide` does; this is the first half of `take`. If the gate is closed and no
+    /// number is in hand, it draws one before anything else. If the keeper fails then, only the clock moves.
     pub fn decide(
         &mut self,
         now: u64,
@@ -135,8 +135,8 @@ impl<K: Keeper> KeptServer<K> {
         Ok(decide_drawn(server, source, now, fresh, datagram, out))
     }
 
-    /// Answers a datagram, where it lies, as `Server::take` does: `decide`, and what was decided as an outcome. KeeperFailed comes before all other
-    /// outcomes; then the clock alone has moved, and `out` and the datagram are as they were.
+    /// Takes a datagram in place, as `Server::take` does: it calls `decide`, and returns the decision as an outcome. KeeperFailed
+    /// comes before all other outcomes; then only the clock has moved, and `out` and the datagram are unchanged.
     pub fn take<'b>(
         &mut self,
         now: u64,
@@ -168,9 +168,8 @@ impl<K: Keeper> KeptServer<K> {
         }
     }
 
-    /// Seals a reply as `Server::reply` does. With `own` a number is drawn before anything else where none is in hand; where the
-    /// keeper fails then, KeeperFailed is answered, and nothing changes. Each refusal hands the ticket back; the number stays in
-    /// hand.
+    /// Seals a reply as `Server::reply` does. With `own`, it draws a number before anything else if none is in hand. If the keeper
+    /// fails then, it returns KeeperFailed, and nothing changes. Each refusal gives the ticket back, and the number stays in hand.
     pub fn reply(
         &mut self,
         ticket: Ticket,
@@ -198,7 +197,7 @@ impl<K: Keeper> KeptServer<K> {
         reply_drawn(server, source, ticket, own, mid, plain, out)
     }
 
-    /// Ends the server, and gives its keeper.
+    /// Ends the server, and returns its keeper.
     pub fn into_keeper(self) -> K
         ensures { result ≡ self.source.keeper }
     {

@@ -1,5 +1,5 @@
-//! What holds of both ends of a security context over all their lives (RFC 8613, 5.2, 7.2.1, 7.4 and 8.4), and how the calls
-//! of the kept ends add to such a list. They are there for their contracts alone.
+//! What holds of both ends of a security context over all their lives (RFC 8613, 5.2, 7.2.1, 7.4 and 8.4), and how the calls of the
+//! kept ends add to a list of what happens at both ends. These functions exist only for their contracts.
 
 ghost use Rattle.osc_kept.specs.Claims.{TwoEnds};
 ghost use Rattle.osc_kept.specs.Examples.{NoneCanBeLeftOut, PremisesCanBeMet};
@@ -12,11 +12,11 @@ use osc_context::{Keeper, one_nonce, one_option_value};
 use osc_endpoint::ticket_once;
 use osc_protect::{one_cipher_input, sealed_opens};
 
-/// Over each list of what happens at both ends and between them, restarts and lost memory of either among it: a request is
-/// delivered at most once, and the client sealed it; a response is delivered for the very request that it answers, and the
-/// server sealed it for that; no end seals twice under one nonce. The list has to meet the premises (`IsLawful`): both ends
-/// answer by their tables, nobody else makes texts that open, Echo values are new, numbers are kept, and a server starts fresh
-/// only while nothing was delivered.
+/// States what holds for each list of what happens at both ends and between them, including restarts and lost memory of either end. A
+/// request is delivered at most once, and the client sealed it. A response is delivered for the very request that it answers, and the
+/// server sealed it for that request. No end seals twice under one nonce. The list has to meet the premises (`IsLawful`): both ends
+/// answer by their tables, nobody else makes texts that open, Echo values are new, numbers are kept, and a server starts fresh only
+/// while nothing was delivered.
 pub fn both_ends()
     ensures { TwoEnds }
 {
@@ -26,27 +26,28 @@ pub fn both_ends()
     one_nonce();
 }
 
-/// A call of a kept end adds zero or one draw to such a list, and then its event, and the numbers stay kept (RFC 8613, B.1.1).
+/// States that a call of a kept end adds zero or one draw to such a list, and then its event, and that the numbers stay kept (RFC
+/// 8613, B.1.1).
 pub fn kept_ends_go_on()
     ensures server { ServerGoesOn }
     ensures client { ClientGoesOn }
 {}
 
-/// The start of a kept end adds to such a list too, and the numbers stay kept where its keeper loads none below the floor
-/// (RFC 8613, B.1.1 and B.1.2).
+/// States that the start of a kept end adds to such a list too, and that the numbers stay kept if its keeper loads no number below
+/// the floor (RFC 8613, B.1.1 and B.1.2).
 pub fn kept_ends_begin()
     ensures server { ServerBegins }
     ensures client { ClientBegins }
 {}
 
-/// A server that starts fresh at 0 alone, and for which a number is saved before it takes a datagram, starts fresh only while
-/// nothing was delivered (RFC 8613, B.1.1 and B.1.2).
+/// States that a server that starts fresh only at 0, and for which a number is saved before it takes a datagram, starts fresh only
+/// while nothing was delivered (RFC 8613, B.1.1 and B.1.2).
 pub fn fresh_by_saving()
     ensures { FreshBySaving }
 {}
 
-/// The premises can be met: an exchange, a restart of both ends, and a challenge with a delivery through it, over whatever
-/// datagrams both ends answer so, meet them all.
+/// States that the premises can be met. An exchange, a restart of both ends, and a challenge with a delivery through it meet them
+/// all, over any datagrams that both ends answer in this way.
 pub fn premises_can_be_met()
     ensures { PremisesCanBeMet }
 {
@@ -54,8 +55,8 @@ pub fn premises_can_be_met()
     sealed_opens();
 }
 
-/// The premises are needed: with forged requests alone, with an Echo value that a request carried before, or with numbers that
-/// are each used once, but not in order, what `both_ends` says fails of a list that meets all others.
+/// States that three of the premises are needed. With forged requests alone, with an Echo value that a request carried before, or
+/// with numbers that are each used once but out of order, what `both_ends` says fails of a list that meets all the others.
 pub fn premises_are_needed()
     ensures { NoneCanBeLeftOut }
 {
@@ -63,8 +64,8 @@ pub fn premises_are_needed()
     sealed_opens();
 }
 
-/// Each answer of a kept end, and each start, adds to a list that meets the premises: the longer one meets them too, and all of it is
-/// as `both_ends` says, where others see to what is theirs (`ServerTrusts`, `ClientTrusts`).
+/// States that each answer and each start of a kept end adds to a list that meets the premises. If others do their part
+/// (`ServerTrusts`, `ClientTrusts`), the longer list meets the premises too, and all of it is as `both_ends` says.
 pub fn kept_ends_in_world()
     ensures server { ServerInWorld }
     ensures client { ClientInWorld }
@@ -74,8 +75,9 @@ pub fn kept_ends_in_world()
     both_ends();
 }
 
-/// Each run of a kept end does so too, over whatever keeper, where others see to what is theirs in it (`ServerRunTrusts`,
-/// `ClientRunTrusts`). That a reply takes a ticket that is left is no part of that: a run takes only what its own deliveries gave.
+/// States that each run of a kept end does so too, over any keeper, if others do their part in it (`ServerRunTrusts`,
+/// `ClientRunTrusts`). They needn't see to it that a reply takes a ticket that is left: a run takes only the tickets that its own
+/// deliveries gave.
 pub fn kept_runs_in_world<K: Keeper>()
     ensures server { ServerRunInWorld K.Keeper }
     ensures client { ClientRunInWorld K.Keeper }

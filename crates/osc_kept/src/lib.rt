@@ -1,4 +1,4 @@
-//! Both ends of OSCORE with numbers that outlive them (RFC 8613, 7.2.1 and B.1.1).
+//! Both ends of OSCORE with Sender Sequence Numbers that outlive them (RFC 8613, 7.2.1 and B.1.1).
 #![tactic(auto)]
 
 mod client_run;

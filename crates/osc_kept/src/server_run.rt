@@ -19,7 +19,7 @@ use osc_endpoint::{Answering, Arrival, Outcome, Seen, ServerEntry, Taken, Ticket
 use std::alloc::{AllocError, Global};
 use std::mem;
 
-/// A datagram, whose entry borrows from it.
+/// Serves a datagram. The entry borrows from its arrival.
 fn serve_datagram<'a, K: Keeper>(
     server: &mut KeptServer<K>,
     arrival: &'a mut Arrival,
@@ -50,7 +50,7 @@ fn serve_datagram<'a, K: Keeper>(
     (entry, ticket)
 }
 
-/// A reply by the ticket at an index, whose entry borrows from the room for it.
+/// Seals a reply by the ticket at an index. The entry borrows from the room for the reply.
 fn serve_reply<'a, K: Keeper>(
     server: &mut KeptServer<K>,
     tickets: &mut [Option<Ticket>],
@@ -83,7 +83,7 @@ fn serve_reply<'a, K: Keeper>(
     }
 }
 
-/// A reply, whose entry borrows from the room for it.
+/// Serves a reply. The entry borrows from the room for the reply.
 fn serve_answering<'a, K: Keeper>(
     server: &mut KeptServer<K>,
     answering: &'a mut Answering,
@@ -104,7 +104,7 @@ fn serve_answering<'a, K: Keeper>(
     KeptServerEntry::Served(serve_reply(server, tickets, *of, *own, *mid, plain, out))
 }
 
-/// A restart, whose entry borrows nothing.
+/// Serves a restart. The entry borrows nothing.
 fn serve_restart<'a, K: Keeper>(server: &mut KeptServer<K>) -> KeptServerEntry<'a>
     ensures { (h : History) → IsKept server.old.server (upcoming (own_in server.old.source)) h
         → (g : History) × RestartStep h server.old.source result g server.new.source
@@ -113,7 +113,7 @@ fn serve_restart<'a, K: Keeper>(server: &mut KeptServer<K>) -> KeptServerEntry<'
     KeptServerEntry::Restarted(server.restart())
 }
 
-/// One event, whose entry borrows from it.
+/// Serves one event. The entry borrows from the event.
 fn serve<'a, K: Keeper>(
     server: &mut KeptServer<K>,
     event: &'a mut KeptServerEvent,
@@ -134,9 +134,9 @@ fn serve<'a, K: Keeper>(
     }
 }
 
-/// Runs a kept server over events: the log gets the entry of each, at the event's index. The entries borrow from the events. It
-/// stops early only where memory for an entry was refused: then the log has the entries of the events before, and `events` is
-/// what is left of them, as it came.
+/// Runs a kept server over events. The log gets the entry of each event, at the event's index, and the entries borrow from the
+/// events. The run stops early only if memory for an entry is refused. In that case the log has the entries of the events before, and
+/// `events` is what is left of them, as it was passed in.
 pub fn run_kept_server_on<'a, K: Keeper>(
     alloc: Global,
     server: &mut KeptServer<K>,
@@ -169,7 +169,7 @@ pub fn run_kept_server_on<'a, K: Keeper>(
     Ok(())
 }
 
-/// Runs a kept server over events, as [`run_kept_server_on`] does; what is left of them isn't handed back.
+/// Runs a kept server over events, as [`run_kept_server_on`] does. It doesn't return what is left of them.
 pub fn run_kept_server<'a, K: Keeper>(
     alloc: Global,
     server: &mut KeptServer<K>,

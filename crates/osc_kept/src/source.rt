@@ -21,7 +21,7 @@ pub(crate) struct Source<K: Keeper> {
     pub ghost last_drawn: { ForSome in_hand (λ p. number_of p + 1 ≡ next_of numbers) },
 }
 
-/// Loads the numbers of a life, and its first number. The first refusal in the order of `NumbersError` is answered.
+/// Loads the numbers of a life, and returns them with the first number. Returns the first refusal in the order of `NumbersError`.
 fn load<K: Keeper>(keeper: &mut K) -> Result<(Numbers, Piv), NumbersError>
     ensures begins { IfOk result (λ r. Loaded K.loads K.failures keeper.old (number_of r.1) keeper.new
         × (next_of r.0 ≡ number_of r.1) × (limit_of r.0 ≡ number_of r.1)) }
@@ -39,7 +39,7 @@ fn load<K: Keeper>(keeper: &mut K) -> Result<(Numbers, Piv), NumbersError>
 impl<K: Keeper> Source<K> {
     ghost use Rattle.osc_kept.specs.Owning.{own_in};
 
-    /// Begins at what the keeper loads, and answers the first number too. A refusal hands the keeper back.
+    /// Begins at the number that the keeper loads, and returns this first number too. A refusal gives the keeper back.
     pub(crate) fn start(mut keeper: K) -> Result<(Source<K>, Piv), (NumbersError, K)>
         ensures begins { IfOk result (λ r. Loaded K.loads K.failures keeper (number_of r.1) r.0.keeper
             × Goes (Load (number_of r.1)) (nothing_drawn (K.floor keeper)) (own_in r.0)) }
@@ -59,7 +59,7 @@ impl<K: Keeper> Source<K> {
         }
     }
 
-    /// Loads the numbers of a further life, and its first number; those of the present one stay.
+    /// Loads the numbers of a further life, and returns them with its first number. The numbers of the present life stay.
     pub(crate) fn reload(&mut self) -> Result<(Numbers, Piv), NumbersError>
         ensures begins { IfOk result (λ r. Loaded K.loads K.failures self.old.keeper (number_of r.1) self.new.keeper
             × (next_of r.0 ≡ number_of r.1) × (limit_of r.0 ≡ number_of r.1)) }
@@ -70,7 +70,7 @@ impl<K: Keeper> Source<K> {
         load(&mut self.keeper)
     }
 
-    /// Begins a life with numbers that were loaded. The number in hand is dropped.
+    /// Begins a life with numbers that were loaded, and drops the number in hand.
     pub(crate) fn begin(&mut self, numbers: Numbers)
         requires least { K.floor self.old.keeper ≤ next_of numbers }
         requires none_reserved { limit_of numbers ≡ next_of numbers }
@@ -81,7 +81,7 @@ impl<K: Keeper> Source<K> {
         self.in_hand = None;
     }
 
-    /// Draws the next number where none is in hand, unless none is left. Where the keeper fails, nothing of the numbers changes.
+    /// Draws the next number if none is in hand, unless none is left. If the keeper fails, the numbers don't change.
     pub(crate) fn draw(&mut self) -> Result<(), KeeperError>
         ensures drawn { IsOk result → Draws true (own_in self.old) (own_in self.new) }
         ensures left { IsErr result → own_in self.new ≡ own_in self.old }
@@ -101,7 +101,7 @@ impl<K: Keeper> Source<K> {
         }
     }
 
-    /// Uses up the number in hand.
+    /// Uses up the number in hand, and returns it.
     pub(crate) fn spend(&mut self) -> Option<Piv>
         ensures number { result ≡ self.old.in_hand }
         ensures used { (n : ℕ) → own_in self.new ≡ after (Use n) (own_in self.old) }

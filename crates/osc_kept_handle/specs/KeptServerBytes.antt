@@ -20,7 +20,7 @@ use Rattle.osc_kept_handle.specs.declared.kept_refusal.KeptReplyRefusal.{KeptRep
 use Rattle.osc_kept_handle.specs.declared.kept_refusal.KeptReplyRefusal.TheVariants.{BadHandle, SaveFirst, TicketSpent, Refused}
 use Rattle.osc_kept_handle.specs.declared.kept_server_handle.KeptServerHandle.{KeptServerHandle}
 
--- bytes that a call may have written: the next own number of the context isn't above the first that isn't reserved (RFC 8613, 7.2.1)
+-- bytes that a call may have written: the next own number of the context isn't above the first number that isn't reserved (RFC 8613, 7.2.1)
 pub record IsKeptServer (k : KeptServerHandle) : Type 0 where
   pub bytes : IsSlotBytes k.server.slot
   pub next : k.server.slot.next ≤ k.reserved
@@ -34,27 +34,27 @@ pub record ServesWith (k : KeptServerHandle) (o : Own) (h : History) : Type 0 wh
   pub next_is : option_map next_own (life h 0) ≡ Some (upcoming o)
   pub numbers : AreReserved o k.reserved
 
--- the entry is the answer to the event after the history; where the server seals, it does so with the number in hand, which was drawn before; and the bytes
--- are as all this says (RFC 8613, 8.2, 8.3 and B.1.1)
+-- after the history, the entry is the answer to the event; if the server seals with a number of its own, it uses the one in hand, which was drawn before;
+-- and the bytes are as all this says (RFC 8613, 8.2, 8.3 and B.1.1)
 pub record StepsServer (h : History) (event : Event) (entry : Entry) (old : Own) (k : KeptServerHandle) : Type 0 where
   pub row : ServerAnswer h event entry
   pub new : Own
   pub numbers : Steps (draws h event) (uses h event entry) old new
   pub serves : ServesWith k new (Then h event entry)
 
--- so does what was decided of a datagram (RFC 8613, 8.2)
+-- the same for what was decided about a datagram (RFC 8613, 8.2)
 pub record DecidesWith (h : History) (now : ℕ) (fresh : Fresh) (d : List ℕ) (decision : Decision) (left reply : List ℕ) (old : Own) (k : KeptServerHandle) : Type 0 where
   pub answer : Answer
   pub decides : Decides decision left answer
   pub step : StepsServer h (Datagram now fresh.echo fresh.mid d) (Took answer reply) old k
 
--- and what became of it (RFC 8613, 8.2)
+-- and for what became of it (RFC 8613, 8.2)
 pub record TakesWith (h : History) (now : ℕ) (fresh : Fresh) (d : List ℕ) (outcome : Outcome) (reply : List ℕ) (old : Own) (k : KeptServerHandle) : Type 0 where
   pub answer : Answer
   pub shows : Shows outcome answer
   pub step : StepsServer h (Datagram now fresh.echo fresh.mid d) (Took answer reply) old k
 
--- the entry of a reply, whose text stands at the front of the buffer; bad bytes, a save that comes first and a spent ticket are no event (own rule)
+-- the entry of a reply, whose text is at the front of the buffer; bad bytes, a save that comes first and a spent ticket aren't events (own rule)
 abbrev pub entry_of_kept_reply : Result ℕ KeptReplyRefusal → List ℕ → Option Entry
 entry_of_kept_reply (Ok n) out = Some (Replied (take n out))
 entry_of_kept_reply (Err BadHandle) out = None

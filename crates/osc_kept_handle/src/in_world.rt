@@ -3,24 +3,32 @@
 //! the longer list meets the premises too, and all of it is as `both_ends` says. Nothing else is done here. What a caller sees to is
 //! that the number of an accepted `saved` is saved durably before that call, and that what it loads is no less than what it saved last.
 
-ghost use Rattle.std.specs.Prelude.{◌≡◌, ◌≢◌, ◌≤◌, ℕ, IfOk, IfSome, None, OnErr, Some, true, length, take};
+ghost use Rattle.std.specs.Prelude.{◌≡◌, ◌≢◌, ◌≤◌, ℕ, Err, IfOk, IfSome, IsNone, IsSome, None, OnErr, Some, true, false, not, length, take, drop};
 ghost use Rattle.osc_coap.specs.Views.{parts_of};
+ghost use Rattle.osc_context.specs.Reserving.{next_limit};
 ghost use Rattle.osc_context.specs.SecurityContext.{SecurityContext};
 ghost use Rattle.osc_context.specs.Views.{number_of};
 ghost use Rattle.osc_endpoint.specs.ClientHistory as asked;
+ghost use Rattle.osc_endpoint.specs.Life.{is_open_life};
 ghost use Rattle.osc_endpoint.specs.ServerHistory as served;
 ghost use Rattle.osc_endpoint.specs.declared.start.Start.{Start as StartOf};
-ghost use Rattle.osc_handle.specs.ContextBytes.{client_in, server_in};
-ghost use Rattle.osc_handle.specs.TicketBytes.{ticket_in};
+ghost use Rattle.osc_handle.specs.ContextBytes.{IsContext, client_in, server_in};
+ghost use Rattle.osc_handle.specs.ServerBytes.{IsSpent};
+ghost use Rattle.osc_handle.specs.TicketBytes.{IsTicket, ticket_in};
 ghost use Rattle.osc_kept.specs.CallsInWorld.{NobodyForgesTo};
 ghost use Rattle.osc_kept.specs.GoingOn.{HasSavedFirst};
 ghost use Rattle.osc_kept.specs.InWorld.{IsUnseen};
 ghost use Rattle.osc_kept.specs.KeptServing.{IsStart};
+ghost use Rattle.osc_kept.specs.Numbering.{Allowed, Own, Reserve, upcoming};
 ghost use Rattle.osc_kept.specs.Premises.{IsLawful, NobodyForgesRequests};
 ghost use Rattle.osc_kept.specs.World.{World, Client as ClientEnd, Server as ServerEnd, numbers};
 ghost use Rattle.osc_kept_handle.specs.BytesInWorld.{ClientAfter, ClientDecidesInWorld, ClientRunsWith, ClientSavesInWorld, ClientStartsInWorld, ClientTakesInWorld, DecidesInWorld, GivesTicket, IsUnsaved, RunsWith, SavesInWorld, ServerAfter, StartsInWorld, TakesInWorld};
-ghost use Rattle.osc_kept_handle.specs.KeptClientBytes.{entry_of_kept_request};
-ghost use Rattle.osc_kept_handle.specs.KeptServerBytes.{entry_of_kept_reply};
+ghost use Rattle.osc_kept_handle.specs.KeptClientBytes.{AsksWith, IsKeptClient, entry_of_kept_request};
+ghost use Rattle.osc_kept_handle.specs.KeptServerBytes.{IsKeptServer, ServesWith, entry_of_kept_reply};
+ghost use Rattle.osc_kept_handle.specs.Reserved.{WantsSave};
+ghost use Rattle.osc_kept_handle.specs.declared.kept_refusal.KeptRefusal.TheVariants as refusals;
+ghost use Rattle.osc_kept_handle.specs.declared.kept_refusal.KeptReplyRefusal.TheVariants as replies;
+ghost use Rattle.osc_kept_handle.specs.declared.kept_refusal.KeptRequestRefusal.TheVariants as requests;
 ghost use Rattle.osc_window.specs.declared.window_size.WindowSize.{WindowSize as WindowSizeOf};
 
 use crate::kept_client_handle::KeptClientHandle;
@@ -44,6 +52,8 @@ pub fn begin_server_in_world(
         × (number_of loaded ≢ 0 → (n : ℕ) (w : World) → IsLawful n (server_in context.now) w → HasSavedFirst (server_in context.now) w
         → (numbers ServerEnd (server_in context.now) w).floor ≤ number_of loaded → StartsInWorld n (server_in context.now) w start size k)) }
     ensures made { number_of loaded ≡ 0 → IfSome result (λ k. (start : StartOf) × IsUnsaved (server_in context.now) start size k) }
+    ensures accepts { IsContext context.now → IsSome result }
+    ensures accepted { IsSome result → IsContext context.now }
 {
     kept_ends_in_world();
     KeptServerHandle::begin(context, loaded, size)
@@ -55,6 +65,10 @@ pub fn server_saved_in_world(server: &mut KeptServerHandle, number: u64) -> Opti
         → SavesInWorld n s w number server.new }
     ensures begins { result ≡ Some true → (n : ℕ) (s : SecurityContext) (w : World) (start : StartOf) (size : WindowSizeOf) → IsLawful n s w → HasSavedFirst s w
         → (numbers ServerEnd s w).floor ≤ 0 → IsUnsaved s start size server.old → StartsInWorld n s w start size server.new }
+    ensures refused { result ≡ Some false → (h : served.History) (o : Own) → ServesWith server.old o h
+        → Allowed Reserve o → number ≡ next_limit o.limit → ⊥ }
+    ensures accepts { IsKeptServer server.old → IsSome result }
+    ensures accepted { IsSome result → IsKeptServer server.old }
     ensures unchanged { result ≢ Some true → server.new ≡ server.old }
 {
     both_ends();
@@ -73,6 +87,14 @@ pub fn decide_bytes_in_world(
     ensures answered { IfOk result (λ d. (n : ℕ) (s : SecurityContext) (w : World) → IsLawful n s w → RunsWith s w server.old
         → NobodyForgesRequests s w datagram.old → IsUnseen s w fresh.echo
         → DecidesInWorld n s w now fresh datagram.old d.decision datagram.new (take d.reply out.new) server.new) }
+    ensures refused { (number : ℕ) → result ≡ Err (refusals.SaveFirst number) → (number ≡ next_limit server.old.reserved)
+        × ((h : served.History) (o : Own) → ServesWith server.old o h → WantsSave (not (is_open_life (served.life h 0))) (upcoming o) server.old.reserved) }
+    ensures refuses { (h : served.History) (o : Own) → ServesWith server.old o h → WantsSave (not (is_open_life (served.life h 0))) (upcoming o) server.old.reserved
+        → result ≡ Err (refusals.SaveFirst (next_limit server.old.reserved)) }
+    ensures bad { result ≡ Err refusals.BadHandle → IsKeptServer server.old → ⊥ }
+    ensures accepted { result ≢ Err refusals.BadHandle → IsKeptServer server.old }
+    ensures within { IfOk result (λ decided. decided.reply ≤ 64) }
+    ensures behind { IfOk result (λ decided. drop decided.reply out.new ≡ drop decided.reply out.old) }
     ensures unchanged { OnErr result ((server.new ≡ server.old) × (datagram.new ≡ datagram.old) × (out.new ≡ out.old)) }
 {
     kept_ends_in_world();
@@ -90,6 +112,14 @@ pub fn take_bytes_in_world<'b>(
     ensures answered { IfOk result (λ t. (n : ℕ) (s : SecurityContext) (w : World) → IsLawful n s w → RunsWith s w server.old
         → NobodyForgesRequests s w datagram.old → IsUnseen s w fresh.echo
         → TakesInWorld n s w now fresh datagram.old t.outcome (take t.reply out.new) server.new) }
+    ensures refused { (number : ℕ) → result ≡ Err (refusals.SaveFirst number) → (number ≡ next_limit server.old.reserved)
+        × ((h : served.History) (o : Own) → ServesWith server.old o h → WantsSave (not (is_open_life (served.life h 0))) (upcoming o) server.old.reserved) }
+    ensures refuses { (h : served.History) (o : Own) → ServesWith server.old o h → WantsSave (not (is_open_life (served.life h 0))) (upcoming o) server.old.reserved
+        → result ≡ Err (refusals.SaveFirst (next_limit server.old.reserved)) }
+    ensures bad { result ≡ Err refusals.BadHandle → IsKeptServer server.old → ⊥ }
+    ensures accepted { result ≢ Err refusals.BadHandle → IsKeptServer server.old }
+    ensures within { IfOk result (λ taken. taken.reply ≤ 64) }
+    ensures behind { IfOk result (λ taken. drop taken.reply out.new ≡ drop taken.reply out.old) }
     ensures unchanged { OnErr result ((server.new ≡ server.old) × (out.new ≡ out.old)) }
 {
     kept_ends_in_world();
@@ -108,6 +138,15 @@ pub fn reply_bytes_in_world(
     ensures answered { (n : ℕ) (s : SecurityContext) (w : World) → IsLawful n s w → RunsWith s w server.old → GivesTicket s w (ticket_in ticket.now)
         → IfSome (entry_of_kept_reply result out.new) (λ entry.
         ServerAfter n s w (served.Reply (ticket_in ticket.now) own mid (parts_of plain.now) (length out.old)) entry server.new) }
+    ensures refused { (number : ℕ) → result ≡ Err (replies.SaveFirst number) → (number ≡ next_limit server.old.reserved)
+        × ((h : served.History) (o : Own) → ServesWith server.old o h → WantsSave own (upcoming o) server.old.reserved) }
+    ensures refuses { (h : served.History) (o : Own) → ServesWith server.old o h → IsTicket ticket.now → WantsSave own (upcoming o) server.old.reserved
+        → result ≡ Err (replies.SaveFirst (next_limit server.old.reserved)) }
+    ensures spent { result ≡ Err replies.TicketSpent → (h : served.History) (o : Own) → ServesWith server.old o h → IsSpent h (ticket_in ticket.now) }
+    ensures bad { result ≡ Err replies.BadHandle → IsKeptServer server.old → IsTicket ticket.now → ⊥ }
+    ensures accepted { result ≢ Err replies.BadHandle → IsKeptServer server.old × IsTicket ticket.now }
+    ensures within { IfOk result (λ n. n ≤ length out.new) }
+    ensures behind { IfOk result (λ n. drop n out.new ≡ drop n out.old) }
     ensures unchanged { OnErr result ((out.new ≡ out.old) × (server.new ≡ server.old)) }
 {
     answered_once();
@@ -124,6 +163,8 @@ pub fn begin_client_in_world(
     ensures begins { IfSome result (λ k. (w : World) → IsLawful 8 (client_in context.now) w
         → (numbers ClientEnd (client_in context.now) w).floor ≤ number_of loaded
         → ClientStartsInWorld (client_in context.now) w (number_of loaded) life_ms k) }
+    ensures accepts { IsContext context.now → IsSome result }
+    ensures accepted { IsSome result → IsContext context.now }
 {
     kept_ends_in_world();
     KeptClientHandle::begin(context, loaded, life_ms)
@@ -133,6 +174,10 @@ pub fn begin_client_in_world(
 pub fn client_saved_in_world(client: &mut KeptClientHandle, number: u64) -> Option<bool>
     ensures saved { result ≡ Some true → (s : SecurityContext) (w : World) → IsLawful 8 s w → ClientRunsWith s w client.old
         → ClientSavesInWorld s w number client.new }
+    ensures refused { result ≡ Some false → (h : asked.History) (o : Own) → AsksWith client.old o h
+        → Allowed Reserve o → number ≡ next_limit o.limit → ⊥ }
+    ensures accepts { IsKeptClient client.old → IsSome result }
+    ensures accepted { IsSome result → IsKeptClient client.old }
     ensures unchanged { result ≢ Some true → client.new ≡ client.old }
 {
     both_ends();
@@ -148,6 +193,14 @@ pub fn request_bytes_in_world(
 ) -> Result<usize, KeptRequestRefusal>
     ensures answered { (s : SecurityContext) (w : World) → IsLawful 8 s w → ClientRunsWith s w client.old → IfSome (entry_of_kept_request result out.new) (λ entry.
         ClientAfter s w (asked.Request now (parts_of plain.now) (length out.old)) entry client.new) }
+    ensures refused { (number : ℕ) → result ≡ Err (requests.SaveFirst number) → (number ≡ next_limit client.old.reserved)
+        × ((h : asked.History) (o : Own) → AsksWith client.old o h → WantsSave true (upcoming o) client.old.reserved) }
+    ensures refuses { (h : asked.History) (o : Own) → AsksWith client.old o h → WantsSave true (upcoming o) client.old.reserved
+        → result ≡ Err (requests.SaveFirst (next_limit client.old.reserved)) }
+    ensures bad { result ≡ Err requests.BadHandle → IsKeptClient client.old → ⊥ }
+    ensures accepted { result ≢ Err requests.BadHandle → IsKeptClient client.old }
+    ensures within { IfOk result (λ n. n ≤ length out.new) }
+    ensures behind { IfOk result (λ n. drop n out.new ≡ drop n out.old) }
     ensures same { entry_of_kept_request result out.new ≡ None → client.new ≡ client.old }
     ensures unchanged { OnErr result (out.new ≡ out.old) }
 {
@@ -163,6 +216,9 @@ pub fn decide_response_bytes_in_world(
 ) -> Option<ClientDecision>
     ensures answered { IfSome result (λ decision. (s : SecurityContext) (w : World) → IsLawful 8 s w → ClientRunsWith s w client.old → NobodyForgesTo s w now datagram.old
         → ClientDecidesInWorld s w now datagram.old decision datagram.new client.new) }
+    ensures accepts { IsKeptClient client.old → IsSome result }
+    ensures accepted { IsSome result → IsKeptClient client.old }
+    ensures unchanged { IsNone result → (client.new ≡ client.old) × (datagram.new ≡ datagram.old) }
 {
     kept_ends_in_world();
     client.decide(now, datagram)
@@ -176,6 +232,9 @@ pub fn take_response_bytes_in_world<'b>(
 ) -> Option<ClientOutcome<'b>>
     ensures answered { IfSome result (λ outcome. (s : SecurityContext) (w : World) → IsLawful 8 s w → ClientRunsWith s w client.old → NobodyForgesTo s w now datagram.old
         → ClientTakesInWorld s w now datagram.old outcome client.new) }
+    ensures accepts { IsKeptClient client.old → IsSome result }
+    ensures accepted { IsSome result → IsKeptClient client.old }
+    ensures unchanged { IsNone result → client.new ≡ client.old }
 {
     kept_ends_in_world();
     client.take(now, datagram)
@@ -185,6 +244,9 @@ pub fn take_response_bytes_in_world<'b>(
 pub fn forget_bytes_in_world(client: &mut KeptClientHandle, token: &[u8]) -> Option<bool>
     ensures answered { IfSome result (λ was. (s : SecurityContext) (w : World) → IsLawful 8 s w → ClientRunsWith s w client.old
         → ClientAfter s w (asked.Forget token.now) (asked.Forgot was) client.new) }
+    ensures accepts { IsKeptClient client.old → IsSome result }
+    ensures accepted { IsSome result → IsKeptClient client.old }
+    ensures unchanged { IsNone result → client.new ≡ client.old }
 {
     kept_ends_in_world();
     client.forget(token)

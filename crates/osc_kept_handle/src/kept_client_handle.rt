@@ -1,4 +1,4 @@
-//! A client whose numbers outlive it, as bytes.
+//! A client whose Sender Sequence Numbers outlive it, as bytes.
 
 ghost use Rattle.std.specs.Prelude.{◌≡◌, ◌≢◌, ◌≤◌, ℕ, Ok, Err, IfOk, IfSome, IsSome, IsNone, None, OnErr, Some, true, false, length, drop};
 ghost use Rattle.osc_coap.specs.Views.{parts_of};
@@ -22,7 +22,7 @@ use osc_context::Piv;
 use osc_endpoint::{ClientDecision, ClientOutcome};
 use osc_handle::{ClientHandle, ContextHandle};
 
-/// A client of one context, and the first of its numbers that isn't reserved: it seals with reserved numbers alone, and tells its
+/// A client of one context, and the first of its numbers that isn't reserved. It seals only with reserved numbers, and tells its
 /// caller when a number has to be saved first.
 #[repr(C)]
 #[derive(Clone, Copy)]
@@ -32,9 +32,9 @@ pub struct KeptClientHandle {
 }
 
 impl KeptClientHandle {
-    /// A client of a context that starts at the number that was loaded, with nothing pending; a request is pending for so many
-    /// milliseconds. None where the bytes of the context are none that a call may have written. A new life is a new client: there is no
-    /// other restart.
+    /// Makes a client of a context that starts at the number that was loaded, with nothing pending. Each request is pending for
+    /// `life_ms` milliseconds. Returns `None` if the context bytes can't have been written by a call. For a new life, make a new
+    /// client: there is no other restart.
     pub fn begin(context: &ContextHandle, loaded: Piv, life_ms: u64) -> Option<KeptClientHandle>
         ensures begins { IfSome result (λ k. (floor : ℕ) → floor ≤ number_of loaded
             → AsksWith k (after (Load (number_of loaded)) (nothing_drawn floor)) (New (client_in context.now) (number_of loaded) life_ms)) }
@@ -50,7 +50,7 @@ impl KeptClientHandle {
         }
     }
 
-    /// Whether the bytes are ones that a call may have written.
+    /// Returns whether a call may have written the bytes.
     #[must_use]
     pub fn is_whole(&self) -> bool
         ensures yes { result ≡ true → IsKeptClient self.now }
@@ -59,7 +59,7 @@ impl KeptClientHandle {
         self.client.is_whole() && self.client.next <= self.reserved && self.reserved <= 1 << 40
     }
 
-    /// The number to save before a request can be sealed, if there is one.
+    /// Returns the number to save before a request can be sealed, if there is one.
     fn save_first(&self) -> Option<u64>
         requires { IsKeptClient self.now }
         ensures refused { IfSome result (λ number. (number ≡ next_limit self.now.reserved)
@@ -69,8 +69,8 @@ impl KeptClientHandle {
         save_first(true, self.client.next, self.reserved)
     }
 
-    /// Goes on, now that this number is saved durably: answers whether it is the one that has to be saved next, and where it isn't,
-    /// changes nothing. None where the bytes are none that a call may have written.
+    /// Goes on after this number was saved durably. Returns whether it is the number that has to be saved next; if it isn't, nothing
+    /// changes. Returns `None` if the bytes can't have been written by a call.
     pub fn saved(&mut self, number: u64) -> Option<bool>
         ensures saved { result ≡ Some true → (h : History) (o : Own) → AsksWith self.old o h
             → Goes Reserve o (after Reserve o) × (number ≡ next_limit o.limit) × AsksWith self.new (after Reserve o) h }
@@ -93,9 +93,9 @@ impl KeptClientHandle {
         Some(true)
     }
 
-    /// Seals a request with the next number into `out`, as `ClientHandle::request` does, and answers how many bytes at its front it
-    /// takes. Where a number has to be saved first, it answers which, and nothing changes, the clock neither; after what a `Client`
-    /// answers, the clock alone has moved.
+    /// Seals a request with the next number, as `ClientHandle::request` does, writes it to the front of `out`, and returns how many
+    /// bytes it wrote. If a number has to be saved first, it returns that number, and nothing changes, not even the clock. After a
+    /// refusal by a `Client`, only the clock has moved.
     pub fn request(
         &mut self,
         now: u64,
@@ -130,8 +130,8 @@ impl KeptClientHandle {
         }
     }
 
-    /// Decides what a datagram is answered, as `ClientHandle::decide` does. No number is needed. None where the bytes are none that a
-    /// call may have written.
+    /// Decides the answer to a datagram, as `ClientHandle::decide` does. Needs no number. Returns `None` if the bytes can't have been
+    /// written by a call.
     pub fn decide(&mut self, now: u64, datagram: &mut [u8]) -> Option<ClientDecision>
         ensures answered { IfSome result (λ decision. (h : History) (old : Own) → AsksWith self.old old h
             → ClientDecidesWith h now datagram.old decision datagram.new old self.new) }
@@ -148,8 +148,8 @@ impl KeptClientHandle {
         self.client.decide(now, datagram)
     }
 
-    /// Answers a datagram, where it lies (RFC 8613, 8.4): `decide`, and what was decided as an outcome. None where the bytes are none
-    /// that a call may have written.
+    /// Takes a datagram in place (RFC 8613, 8.4): calls `decide`, and returns the decision as an outcome. Returns `None` if the bytes
+    /// can't have been written by a call.
     pub fn take<'b>(&mut self, now: u64, datagram: &'b mut [u8]) -> Option<ClientOutcome<'b>>
         ensures answered { IfSome result (λ outcome. (h : History) (old : Own) → AsksWith self.old old h
             → ClientTakesWith h now datagram.old outcome old self.new) }
@@ -164,8 +164,8 @@ impl KeptClientHandle {
         Some(decision.outcome(datagram))
     }
 
-    /// Waits no more for the response to the request of a token, and answers whether it was pending. No number is needed. None where the
-    /// bytes are none that a call may have written.
+    /// Stops waiting for the response to the request with this token. Returns whether the token was pending, or `None` if the bytes
+    /// can't have been written by a call. Needs no number.
     pub fn forget(&mut self, token: &[u8]) -> Option<bool>
         ensures answered { IfSome result (λ was. (h : History) (old : Own) → AsksWith self.old old h
             → StepsClient h (Forget token.now) (Forgot was) old self.new) }

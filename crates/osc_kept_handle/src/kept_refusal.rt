@@ -1,36 +1,37 @@
-//! Why a kept end in bytes doesn't do what it was asked for.
+//! Why a kept end in bytes doesn't do what it was asked to do.
 
 use osc_endpoint::{ReplyError, RequestError};
 
-/// Why a datagram isn't taken, in the order in which it is judged.
+/// Why a datagram isn't taken. The variants stand in the order in which they are checked.
 #[derive(Clone, Copy, Debug, PartialEq, Eq)]
 pub enum KeptRefusal {
-    /// The bytes of the server are none that a call may have written.
+    /// The bytes of the server can't have been written by a call.
     BadHandle,
-    /// This number has to be saved durably first; then `saved` is told it, and the same call is made again. Nothing changed.
+    /// This number has to be saved durably first. Save it, pass it to `saved`, and make the same call again. Nothing has changed.
     SaveFirst(u64),
 }
 
-/// Why a reply isn't sealed. In the order in which it is judged, a spent ticket stands behind a stale one.
+/// Why a reply isn't sealed. The variants stand in the order in which they are checked, except that a spent ticket comes after a
+/// stale one.
 #[derive(Clone, Copy, Debug, PartialEq, Eq)]
 pub enum KeptReplyRefusal {
-    /// The bytes of the server, or of the ticket, are none that a call may have written.
+    /// The bytes of the server or of the ticket can't have been written by a call.
     BadHandle,
-    /// As that of `KeptRefusal`.
+    /// The same as `KeptRefusal::SaveFirst`.
     SaveFirst(u64),
-    /// The request has its answer, or a number 64 or more above was delivered since, or none was delivered that has this number.
+    /// The request has its answer, or a number at least 64 above was delivered since, or no request with this number was delivered.
     TicketSpent,
-    /// What a `Server` answers.
+    /// A `Server` refuses the reply for this reason.
     Refused(ReplyError),
 }
 
-/// Why a request isn't sealed, in the order in which it is judged.
+/// Why a request isn't sealed. The variants stand in the order in which they are checked.
 #[derive(Clone, Copy, Debug, PartialEq, Eq)]
 pub enum KeptRequestRefusal {
-    /// The bytes of the client are none that a call may have written.
+    /// The bytes of the client can't have been written by a call.
     BadHandle,
-    /// As that of `KeptRefusal`: the clock too is as it was.
+    /// The same as `KeptRefusal::SaveFirst`; the clock hasn't moved either.
     SaveFirst(u64),
-    /// What a `Client` answers.
+    /// A `Client` refuses the request for this reason.
     Refused(RequestError),
 }

@@ -1,4 +1,4 @@
-//! A server of one context whose own numbers outlive it, as bytes.
+//! A server of one context whose own Sender Sequence Numbers outlive it, as bytes.
 
 ghost use Rattle.std.specs.Prelude.{◌≡◌, ◌≢◌, ◌≤◌, ℕ, List, Option, Ok, Err, IfOk, IfSome, IsSome, None, OnErr, Some, true, false, not, length, take, drop};
 ghost use Rattle.osc_coap.specs.Views.{parts_of};
@@ -31,7 +31,7 @@ use osc_endpoint::{Decided, Fresh, Start, Taken};
 use osc_handle::{ContextHandle, ReplyRefusal, SingleServerHandle, TicketHandle};
 use osc_window::WindowSize;
 
-/// A server of one context, and the first of its own numbers that isn't reserved: it seals with reserved numbers alone, and tells its
+/// A server of one context, and the first of its own numbers that isn't reserved. It seals only with reserved numbers, and tells its
 /// caller when a number has to be saved first.
 #[repr(C)]
 #[derive(Clone, Copy)]
@@ -40,7 +40,7 @@ pub struct KeptServerHandle {
     pub reserved: u64,
 }
 
-/// How a server starts at the number that was loaded.
+/// Returns how a server starts at the number that was loaded.
 fn start_at(loaded: Piv) -> Start
     ensures { IsStart result (number_of loaded) }
 {
@@ -52,8 +52,9 @@ fn start_at(loaded: Piv) -> Start
 }
 
 impl KeptServerHandle {
-    /// A server of a context that starts at the number that was loaded: fresh exactly if that is 0, else as after a restart. None where
-    /// the bytes of the context are none that a call may have written. A new life is a new server: there is no other restart.
+    /// Makes a server of a context that starts at the number that was loaded: fresh if and only if that is 0, and otherwise as after
+    /// a restart. Returns `None` if the context bytes can't have been written by a call. For a new life, make a new server: there is
+    /// no other restart.
     pub fn begin(context: &ContextHandle, loaded: Piv, size: WindowSize) -> Option<KeptServerHandle>
         ensures begins { IfSome result (λ k. (start : StartOf) × IsStart start (number_of loaded)
             × ((floor : ℕ) → floor ≤ number_of loaded → ServesWith k (after (Load (number_of loaded)) (nothing_drawn floor))
@@ -70,7 +71,7 @@ impl KeptServerHandle {
         }
     }
 
-    /// Whether the bytes are ones that a call may have written.
+    /// Returns whether a call may have written the bytes.
     #[must_use]
     pub fn is_whole(&self) -> bool
         ensures yes { result ≡ true → IsKeptServer self.now }
@@ -81,14 +82,14 @@ impl KeptServerHandle {
             && self.reserved <= 1 << 40
     }
 
-    /// Whether the gate of the context is closed, so that a challenge may be the answer.
+    /// Returns whether the gate of the context is closed, so that a challenge may be the answer.
     fn is_closed(&self) -> bool
         ensures { (h : History) (o : Own) → ServesWith self.now o h → result ≡ not (is_open_life (life h 0)) }
     {
         self.server.slot.gate < 2
     }
 
-    /// The number to save before the server goes on, if there is one; `asked` says that it needs a number.
+    /// Returns the number to save before the server goes on, if there is one. `asked` says whether the server needs a number.
     fn save_first(&self, asked: bool) -> Option<u64>
         requires { IsKeptServer self.now }
         ensures refused { IfSome result (λ number. (number ≡ next_limit self.now.reserved)
@@ -98,8 +99,8 @@ impl KeptServerHandle {
         save_first(asked, self.server.slot.next, self.reserved)
     }
 
-    /// Goes on, now that this number is saved durably: answers whether it is the one that has to be saved next, and where it isn't,
-    /// changes nothing. None where the bytes are none that a call may have written.
+    /// Goes on after this number was saved durably. Returns whether it is the number that has to be saved next; if it isn't, nothing
+    /// changes. Returns `None` if the bytes can't have been written by a call.
     pub fn saved(&mut self, number: u64) -> Option<bool>
         ensures saved { result ≡ Some true → (h : History) (o : Own) → ServesWith self.old o h
             → Goes Reserve o (after Reserve o) × (number ≡ next_limit o.limit) × ServesWith self.new (after Reserve o) h }
@@ -122,8 +123,8 @@ impl KeptServerHandle {
         Some(true)
     }
 
-    /// Decides what a datagram is answered, as `SingleServerHandle::decide` does: the first half of `take`. Where a number has to be saved
-    /// first, it answers which, and the datagram is decided when it is handed in again. A refusal changes nothing.
+    /// Decides the answer to a datagram, as `SingleServerHandle::decide` does; this is the first half of `take`. If a number has to
+    /// be saved first, it returns that number, and decides the datagram when it is passed in again. A refusal changes nothing.
     pub fn decide(
         &mut self,
         now: u64,
@@ -159,8 +160,8 @@ impl KeptServerHandle {
         }
     }
 
-    /// Answers a datagram, where it lies (RFC 8613, 8.2): `decide`, and what was decided as an outcome. The first `reply` bytes of `out`
-    /// are the reply. A refusal changes nothing; what else is left in the datagram, `decide` says.
+    /// Takes a datagram in place (RFC 8613, 8.2): calls `decide`, and returns the decision as an outcome. The first `reply` bytes of
+    /// `out` are the reply. A refusal changes nothing; otherwise `decide` says what is left in the datagram.
     pub fn take<'b>(
         &mut self,
         now: u64,
@@ -191,9 +192,9 @@ impl KeptServerHandle {
         }
     }
 
-    /// Seals a reply to the request of a ticket into `out`, as `SingleServerHandle::reply` does, and answers how many bytes at its front it
-    /// takes. With `own` it needs a number; where one has to be saved first, it answers which. Judged in the order of `KeptReplyRefusal`;
-    /// a refusal changes nothing.
+    /// Seals a reply to the request of a ticket, as `SingleServerHandle::reply` does, writes it to the front of `out`, and returns
+    /// how many bytes it wrote. With `own`, it needs a number. If a number has to be saved first, it returns that number. Refuses in
+    /// the order of `KeptReplyRefusal`; a refusal changes nothing.
     pub fn reply(
         &mut self,
         ticket: &TicketHandle,

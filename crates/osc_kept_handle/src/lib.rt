@@ -1,4 +1,4 @@
-//! Both ends of OSCORE (RFC 8613) in plain bytes, with numbers that outlive them and no callback.
+//! Both ends of OSCORE (RFC 8613) in plain bytes, with Sender Sequence Numbers that outlive them and no callback.
 #![tactic(auto)]
 
 mod in_world;

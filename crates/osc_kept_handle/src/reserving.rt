@@ -10,8 +10,8 @@ const NUMBER_LIMIT: u64 = 1 << 40;
 /// How many numbers one save reserves.
 const STEP: u64 = 64;
 
-/// The number to save before the end goes on, if there is one. `asked` says that it needs a number, `next` is the next one, and
-/// `reserved` the first that isn't reserved.
+/// Returns the number to save before the end goes on, if there is one. `asked` says whether the end needs a number, `next` is its
+/// next number, and `reserved` is the first number that isn't reserved.
 pub(crate) fn save_first(asked: bool, next: u64, reserved: u64) -> Option<u64>
     requires { reserved ≤ 2 ^ 40 }
     ensures refused { IfSome result (λ number. (number ≡ next_limit reserved) × WantsSave asked next reserved) }

@@ -1,6 +1,6 @@
--- To be believed: what the cipher of a message takes beside the plaintext, and what that input fixes (RFC 8613, 5): a
--- contract of laws.rt. s and t are security contexts, n, j and k requests' numbers, i is a response's own number, own
--- and other are one or none, m and l messages, d and e datagrams.
+-- To be believed: what the cipher of a message takes besides the plaintext, and what that input fixes (RFC 8613, 5): a contract of laws.rt.
+-- s and t are security contexts, n, j and k are numbers of requests, i is a response's own number, own and other are such a number or none,
+-- m and l are messages, d and e are datagrams.
 use Rattle.std.specs.Prelude.{◌≡◌, ◌≢◌, ◌<◌, ◌^◌, ℕ, List, Option, Some, None, IfSome}
 use Rattle.osc_coap.specs.Inner.{InnerParts}
 use Rattle.osc_context.specs.SecurityContext.{SecurityContext, IsUsable}
@@ -9,7 +9,7 @@ use Rattle.osc_context.specs.AdditionalData.{additional_data_of}
 use Rattle.osc_ccm.specs.Ccm.{ccm}
 use Rattle.osc_protect.specs.Protection.{Protects, request_cipher, requests, response_cipher, response_nonce, responses}
 
--- what the cipher of a message takes beside the plaintext (RFC 8613, 5)
+-- what the cipher of a message takes besides the plaintext (RFC 8613, 5)
 pub record CipherInput : Type 0 where
   pub key : List ℕ
   pub nonce : List ℕ
@@ -23,18 +23,18 @@ request_seal s n = record { key = s.client_key; nonce = nonce_of s.common_iv s.c
 abbrev pub response_seal : SecurityContext → ℕ → Option ℕ → CipherInput
 response_seal s n own = record { key = s.server_key; nonce = response_nonce s.common_iv s.client s.server n own; additional_data = additional_data_of s.client n }
 
--- a plaintext protected by this input: its ciphertext and tag (RFC 8613, 5)
+-- the ciphertext and tag that protect a plaintext under this input (RFC 8613, 5)
 abbrev pub ccm_of : CipherInput → List ℕ → List ℕ
 ccm_of input plaintext = ccm input.key input.nonce input.additional_data plaintext
 
--- of requests: the cipher goes by the input, which is of one number and protects one message in one payload (RFC 8613, 5)
+-- for requests: the cipher uses this input, the input belongs to one number, and one payload under it protects one message (RFC 8613, 5)
 pub record OneRequestInput : Type 0 where
   pub cipher : (s : SecurityContext) (n : ℕ) (plaintext : List ℕ) → request_cipher s n plaintext ≡ ccm_of (request_seal s n) plaintext
   pub number : (s : SecurityContext) (n k : ℕ) → IsUsable s → n < 2 ^ 40 → k < 2 ^ 40 → request_seal s n ≡ request_seal s k → n ≡ k
   pub message : (s t : SecurityContext) (n k : ℕ) (m l : InnerParts) (d e : List ℕ) (x : Protects (requests s) n m d) (y : Protects (requests t) k l e)
       → request_seal s n ≡ request_seal t k → x.outer.payload ≡ y.outer.payload → m ≡ l
 
--- of responses the same: the input is of the request's number and of the own one or none; no own number makes a request's nonce (RFC 8613, 5 and 5.2)
+-- the same for responses: the input belongs to the request's number and to one own number or none; no own number gives the nonce of a request (RFC 8613, 5 and 5.2)
 pub record OneResponseInput : Type 0 where
   pub cipher : (s : SecurityContext) (n : ℕ) (own : Option ℕ) (plaintext : List ℕ) → response_cipher s n own plaintext ≡ ccm_of (response_seal s n own) plaintext
   pub numbers : (s : SecurityContext) (n k : ℕ) (own other : Option ℕ) → IsUsable s → n < 2 ^ 40 → k < 2 ^ 40 → IfSome own (λ i. i < 2 ^ 40) → IfSome other (λ i. i < 2 ^ 40)

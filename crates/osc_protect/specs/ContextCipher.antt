@@ -4,12 +4,12 @@ use Rattle.osc_aes.specs.Keyed.{key_of, plane_key_of}
 use Rattle.osc_protect.specs.declared.context_cipher.ContextCipher.{ContextCipher}
 use Rattle.osc_protect.specs.declared.context_cipher.ContextCipher.TheVariants.{ByTables, ConstantTime}
 
--- the key (how the code is seen)
+-- the key of the cipher (how the code is seen)
 abbrev pub key_under : ContextCipher → List ℕ
 key_under (ByTables cipher) = key_of cipher
 key_under (ConstantTime cipher) = plane_key_of cipher
 
--- it is the one in constant time (own rule)
+-- the cipher is the one in constant time (own rule)
 abbrev pub is_in_constant_time : ContextCipher → Bool
 is_in_constant_time (ByTables cipher) = false
 is_in_constant_time (ConstantTime cipher) = true

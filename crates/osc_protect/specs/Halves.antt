@@ -1,5 +1,5 @@
--- For the proofs: what the parts of sealing and of opening make (RFC 8613, 8). f is a protection, i a number that it
--- knows, p what a message says, room the length of the buffer, u a usage, d a datagram, o is what was opened.
+-- For the proofs: what the parts of sealing and of opening make (RFC 8613, 8). f is a protection, i one of its numbers, p what a message
+-- says, room the length of the buffer, u a usage, d a datagram, o the opened message.
 use Rattle.std.specs.Prelude.{◌≡◌, ◌≢◌, ◌≤◌, ◌++◌, ℕ, List, [], Option, length, take, drop, true, false}
 use Rattle.osc_coap.specs.Views.{options_left}
 use Rattle.osc_coap.specs.Datagram.{Parts, IsDatagram}
@@ -18,7 +18,7 @@ use Rattle.osc_protect.specs.Views.{message_of}
 use Rattle.osc_protect.specs.declared.usage.Usage.{Usage}
 use Rattle.osc_protect.specs.declared.opened.Opened.{Opened}
 
--- by the number a message can be sealed, what is made has this length, and there is room for it (how the code is seen)
+-- a message can be sealed under the number, the result has this length, and there is room for it (how the code is seen)
 abbrev pub Makes : {I : Type 0} → Protection I → I → Parts → ℕ → ℕ → Type 0
 Makes f i p room len = CanBeSealed f.usage p × (value : List ℕ) × IsOscoreValue (f.parts i) value × (len ≡ sealed_length p value) × (len ≤ 65535) × (len ≤ room)
 
@@ -28,14 +28,14 @@ pub record HasPayload (p : Parts) (d : List ℕ) (len : ℕ) : Type 0 where
   pub filled : p.payload ≢ []
   pub long : len ≡ length p.payload
 
--- the message's payload became, in the new datagram, the plaintext of this length and the old tag (RFC 8613, 5.3)
+-- in the new datagram, the message's payload became the plaintext of this length, followed by the old tag (RFC 8613, 5.3)
 pub record DecryptsPayload (cipher : List ℕ → List ℕ) (p : Parts) (len : ℕ) (new : List ℕ) : Type 0 where
   pub plaintext : List ℕ
   pub seals : p.payload ≡ cipher plaintext
   pub left : IsDatagram (record p { payload = plaintext ++ drop (length plaintext) p.payload }) new
   pub long : len ≡ length plaintext
 
--- what was read of the plaintext of this length at the payload's front (RFC 8613, 8.2 and 8.4)
+-- what was read from the plaintext of this length at the front of the payload (RFC 8613, 8.2 and 8.4)
 pub record ReadsInner (u : Usage) (d : List ℕ) (number : Option Piv) (len : ℕ) (o : Opened) : Type 0 where
   pub outer : Parts
   pub datagram : IsDatagram outer d
@@ -45,6 +45,6 @@ pub record ReadsInner (u : Usage) (d : List ℕ) (number : Option Piv) (len : �
   pub code : is_code_of u o.code ≡ true
   pub allowed : has_number is_barred (options_left o.inner) ≡ false
 
--- that plaintext is a bad one (RFC 8613, 8.2 and 8.4)
+-- the plaintext of this length at the front of the payload is a bad one (RFC 8613, 8.2 and 8.4)
 abbrev pub RefusesInner : Usage → List ℕ → ℕ → Type 0
 RefusesInner u d len = (p : Parts) × IsDatagram p d × IsBadInner u (take len p.payload)

@@ -1,5 +1,5 @@
--- To be believed: what a protected message says to whoever has no key (RFC 8613, 8.2 and 8.4, steps 1 and 2). d is a
--- datagram, p the parts of a message, h a head, u its usage, v the parts of an OSCORE option.
+-- To be believed: what a protected message shows to a reader without the key (RFC 8613, 8.2 and 8.4, steps 1 and 2). d is a datagram, p the
+-- parts of a message, h a head, u its usage, v the parts of an OSCORE option.
 use Rattle.std.specs.Prelude.{◌≡◌, ◌≢◌, ◌≤◌, ◌⊎◌, ℕ, List, [], ◌∷◌, length, true, false}
 use Rattle.osc_coap.specs.declared.message.Kind.{Kind}
 use Rattle.osc_coap.specs.Datagram.{Parts, IsDatagram}
@@ -16,7 +16,7 @@ use Rattle.osc_protect.specs.declared.head_error.NoHead.TheVariants as none
 use Rattle.osc_protect.specs.declared.head_error.HeadError.{HeadError}
 use Rattle.osc_protect.specs.declared.head_error.HeadError.TheVariants.{Format, NotThatKind, NoOscore, Undecodable}
 
--- a head: the message's own, what its OSCORE option says, and the ciphertext (RFC 8613, 8.2 and 8.4)
+-- a head: the message's own head, what its OSCORE option says, and the ciphertext (RFC 8613, 8.2 and 8.4)
 pub record Head : Type 0 where
   pub kind : Kind
   pub message_id : ℕ
@@ -24,7 +24,7 @@ pub record Head : Type 0 where
   pub parts : OscoreParts
   pub payload : List ℕ
 
--- the message has this head: one OSCORE option, a payload, no proxy's option (RFC 8613, 8.2 and 8.4)
+-- the message has this head: it has exactly one OSCORE option, a payload, and no option for proxies (RFC 8613, 8.2 and 8.4)
 pub record ShowsHead (u : Usage) (p : Parts) (h : Head) : Type 0 where
   pub kind : h.kind ≡ p.kind
   pub message_id : h.message_id ≡ p.message_id
@@ -46,7 +46,7 @@ HasHead u d h = (p : Parts) × IsDatagram p d × ShowsHead u p h
 abbrev pub HasSeveralValues : Parts → Type 0
 HasSeveralValues p = 2 ≤ length (values_at oscore p.options)
 
--- the one OSCORE option has no value (RFC 8613, 6.1)
+-- the value of the one OSCORE option can't be read (RFC 8613, 6.1)
 abbrev pub HasUnreadableValue : Parts → Type 0
 HasUnreadableValue p = (value : List ℕ) × (values_at oscore p.options ≡ value ∷ []) × ((v : OscoreParts) → IsOscoreValue v value → ⊥)
 
@@ -54,17 +54,17 @@ HasUnreadableValue p = (value : List ℕ) × (values_at oscore p.options ≡ val
 abbrev pub HasWrongParts : Usage → Parts → Type 0
 HasWrongParts u p = (value : List ℕ) × (values_at oscore p.options ≡ value ∷ []) × (v : OscoreParts) × IsOscoreValue v value × (is_complete u v ≡ false)
 
--- own rule: one of these, no payload, or a proxy's option, makes a message undecodable (RFC 8613, 8.2 and 8.4)
+-- own rule: a message is undecodable if one of these holds, or if it has no payload, or if it has an option for proxies (RFC 8613, 8.2 and 8.4)
 abbrev pub IsUndecodable : Usage → Parts → Type 0
 IsUndecodable u p = HasSeveralValues p ⊎ HasUnreadableValue p ⊎ HasWrongParts u p ⊎ (p.payload ≡ []) ⊎ (has_number is_proxy p.options ≡ true)
 
--- why a message has no head: not of the usage, no OSCORE option, or an undecodable one (RFC 8613, 8.2 and 8.4)
+-- why a message has no head: it isn't of the usage, it has no OSCORE option, or it is undecodable (RFC 8613, 8.2 and 8.4)
 abbrev pub ShowsNoHead : Usage → Parts → NoHead → Type 0
 ShowsNoHead u p none.NotThatKind = is_used u p.kind p.code ≡ false
 ShowsNoHead u p none.NoOscore = (is_used u p.kind p.code ≡ true) × (values_at oscore p.options ≡ [])
 ShowsNoHead u p none.Undecodable = (is_used u p.kind p.code ≡ true) × (values_at oscore p.options ≢ []) × IsUndecodable u p
 
--- why a datagram has no head: it is no message, or one without a head (RFC 8613, 8.2 and 8.4)
+-- why a datagram has no head: it isn't a message, or it is a message without a head (RFC 8613, 8.2 and 8.4)
 abbrev pub HasNoHead : Usage → List ℕ → HeadError → Type 0
 HasNoHead u d (Format e) = HasFault d e.fault e.place
 HasNoHead u d NotThatKind = (p : Parts) × IsDatagram p d × ShowsNoHead u p none.NotThatKind

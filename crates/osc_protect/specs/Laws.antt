@@ -1,6 +1,6 @@
--- To be believed: what holds of all datagrams, of requests and of responses (RFC 8613, 8): contracts of laws.rt. f and g
--- are protections of one usage, i, j and k numbers that they know, u is a usage, s and t are security contexts, d is a
--- datagram, h a head, o and q are what was opened.
+-- To be believed: what holds for all datagrams of requests and of responses (RFC 8613, 8): contracts of laws.rt. f and g are protections of
+-- one usage, i, j and k are their numbers, u is a usage, s and t are security contexts, d is a datagram, h a head, o and q are opened
+-- messages.
 use Rattle.std.specs.Prelude.{◌≡◌, ◌<◌, ◌≤◌, ◌⊎◌, ◌^◌, ℕ, List, length, Option, IfSome}
 use Rattle.osc_coap.specs.Datagram.{Parts}
 use Rattle.osc_coap.specs.Inner.{InnerParts}
@@ -21,7 +21,7 @@ use Rattle.osc_protect.specs.declared.protect_error.ProtectError.{ProtectError}
 use Rattle.osc_protect.specs.declared.unprotect_error.UnprotectError.{UnprotectError}
 use Rattle.osc_protect.specs.declared.unprotect_error.UnprotectError.TheVariants.{Tag, Inner}
 
--- a datagram, or a message, has one head, any number in it below 2 ^ 40, or one refusal of it, never both (RFC 8613, 8.2 and 8.4)
+-- a datagram or a message has at most one head, with any number in it below 2 ^ 40, and at most one refusal, never both (RFC 8613, 8.2 and 8.4)
 pub record OneHead (u : Usage) : Type 0 where
   pub shown : (p : Parts) (h k : Head) → ShowsHead u p h → ShowsHead u p k → h ≡ k
   pub never_shown : (p : Parts) (h : Head) (e : NoHead) → ShowsHead u p h → ShowsNoHead u p e → ⊥
@@ -31,63 +31,63 @@ pub record OneHead (u : Usage) : Type 0 where
   pub refusal : (d : List ℕ) (e g : HeadError) → HasNoHead u d e → HasNoHead u d g → e ≡ g
   pub in_range : (d : List ℕ) (h : Head) → HasHead u d h → IfSome h.parts.piv (λ n. n < 2 ^ 40)
 
--- the head of a request is one (RFC 8613, 8.2)
+-- there is at most one head of a request (RFC 8613, 8.2)
 abbrev pub OneRequestHead : Type 0
 OneRequestHead = OneHead Request
 
--- the head of a response is one (RFC 8613, 8.4)
+-- there is at most one head of a response (RFC 8613, 8.4)
 abbrev pub OneResponseHead : Type 0
 OneResponseHead = OneHead Response
 
--- two contexts that one head names have the same client, and the same ID Context or none (RFC 8613, 8.2)
+-- two contexts that one head names have the same client, and the same ID Context or both none (RFC 8613, 8.2)
 abbrev pub NamesOneClient : Type 0
 NamesOneClient = (h : Head) (s t : SecurityContext) (n m : ℕ) → Names (requests s) h n → Names (requests t) h m → (s.client ≡ t.client) × (s.id_context ≡ t.id_context)
 
--- a datagram protects one message by one number, or has one refusal, never both (RFC 8613, 8.2 and 8.4)
+-- a datagram protects at most one message under one number, or has at most one refusal, never both (RFC 8613, 8.2 and 8.4)
 pub record OneMessage {I : Type 0} (f : Protection I) : Type 0 where
   pub number : (d : List ℕ) (i j : I) (m l : InnerParts) → Protects f i m d → Protects f j l d → i ≡ j
   pub message : (d : List ℕ) (i j : I) (m l : InnerParts) → Protects f i m d → Protects f j l d → m ≡ l
   pub never_both : (d : List ℕ) (i : I) (m : InnerParts) (e : UnprotectError) → Protects f i m d → RefusesToOpen f d e → ⊥
   pub refusal : (d : List ℕ) (e g : UnprotectError) → RefusesToOpen f d e → RefusesToOpen f d g → e ≡ g
 
--- a datagram protects one request under one number, or has one refusal (RFC 8613, 8.2)
+-- a datagram protects at most one request under one number, or has at most one refusal (RFC 8613, 8.2)
 abbrev pub OneRequest : Type 0
 OneRequest = (s : SecurityContext) → OneMessage (requests s)
 
--- a datagram protects one response to a request, or has one refusal (RFC 8613, 8.4)
+-- a datagram protects at most one response to a request, or has at most one refusal (RFC 8613, 8.4)
 abbrev pub OneResponse : Type 0
 OneResponse = (s : SecurityContext) (n : ℕ) → OneMessage (responses s n)
 
--- what is protected has a head that says the number; once sealed, of the plain message's kind, message ID and token (RFC 8613, 8.1 and 8.3)
+-- a protected message has a head that says its number; a sealed one also keeps the plain message's Type, Message ID and token (RFC 8613, 8.1 and 8.3)
 pub record ProtectionsShowHeads {I : Type 0} (f : Protection I) : Type 0 where
   pub protects : (d : List ℕ) (i : I) (m : InnerParts) → Protects f i m d → (h : Head) × HasHead f.usage d h × Names f h i
   pub sealed : (d : List ℕ) (i : I) (p : Parts) → IsSealed f i p d → (h : Head) × HasHead f.usage d h × Names f h i × (h.kind ≡ p.kind) × (h.message_id ≡ p.message_id) × (h.token ≡ p.token)
 
--- a request that is protected shows its head (RFC 8613, 8.1)
+-- a protected request shows its head (RFC 8613, 8.1)
 abbrev pub RequestsShowHeads : Type 0
 RequestsShowHeads = (s : SecurityContext) → ProtectionsShowHeads (requests s)
 
--- a response that is protected shows its head (RFC 8613, 8.3)
+-- a protected response shows its head (RFC 8613, 8.3)
 abbrev pub ResponsesShowHeads : Type 0
 ResponsesShowHeads = (s : SecurityContext) (n : ℕ) → ProtectionsShowHeads (responses s n)
 
--- where the head names the context, the tag is refused or the plaintext, and nothing else (RFC 8613, 8.2 and 8.4)
+-- if the head names the context, a refusal is for the tag or for the plaintext, and for nothing else (RFC 8613, 8.2 and 8.4)
 abbrev pub NamedRefusals : {I : Type 0} → Protection I → Type 0
 NamedRefusals {I} f = (d : List ℕ) (h : Head) (i : I) (e : UnprotectError) → HasHead f.usage d h → Names f h i → RefusesToOpen f d e → (e ≡ Tag) ⊎ (e ≡ Inner)
 
--- how a request is refused whose head names the context (RFC 8613, 8.2)
+-- how a request whose head names the context is refused (RFC 8613, 8.2)
 abbrev pub NamedRequestRefusals : Type 0
 NamedRequestRefusals = (s : SecurityContext) → NamedRefusals (requests s)
 
--- how a response is refused whose head says a number or none (RFC 8613, 8.4)
+-- how a response whose head says a number or none is refused (RFC 8613, 8.4)
 abbrev pub NamedResponseRefusals : Type 0
 NamedResponseRefusals = (s : SecurityContext) (n : ℕ) → NamedRefusals (responses s n)
 
--- where the head says what f says by i, and g protects the datagram by j, f and g say the same (RFC 8613, 8.2 and 8.4)
+-- if the head says what f says under i, and g protects the datagram under j, then f and g say the same (RFC 8613, 8.2 and 8.4)
 abbrev pub SaysOneThing : {I J : Type 0} → Protection I → Protection J → Type 0
 SaysOneThing {I} {J} f g = (d : List ℕ) (h : Head) (i : I) (j : J) (m : InnerParts) → HasHead f.usage d h → Names f h i → Protects g j m d → f.parts i ≡ g.parts j
 
--- a datagram opens as one message, with one head, number and hosts (RFC 8613, 8.2 and 8.4)
+-- a datagram opens as one message, with one head, one number, and one pair of Uri-Host and Uri-Port (RFC 8613, 8.2 and 8.4)
 pub record OneOpened {I : Type 0} (f : Protection I) : Type 0 where
   pub kind : (d : List ℕ) (o q : Opened) → Opens f d o → Opens f d q → o.kind ≡ q.kind
   pub message_id : (d : List ℕ) (o q : Opened) → Opens f d o → Opens f d q → o.message_id ≡ q.message_id
@@ -97,33 +97,33 @@ pub record OneOpened {I : Type 0} (f : Protection I) : Type 0 where
   pub number : (d : List ℕ) (o q : Opened) → Opens f d o → Opens f d q → opened_number o ≡ opened_number q
   pub message : (d : List ℕ) (o q : Opened) → Opens f d o → Opens f d q → message_of o ≡ message_of q
 
--- whoever reads a request, its option says one thing, and it opens as one message (RFC 8613, 8.2)
+-- for every reader, a request's OSCORE option says one thing, and the request opens as one message (RFC 8613, 8.2)
 pub record OneRequestReading : Type 0 where
   pub named : (s t : SecurityContext) → SaysOneThing (requests s) (requests t)
   pub opened : (s : SecurityContext) → OneOpened (requests s)
 
--- whoever reads a response, its option says one thing, and it opens as one message (RFC 8613, 8.4)
+-- for every reader, a response's OSCORE option says one thing, and the response opens as one message (RFC 8613, 8.4)
 pub record OneResponseReading : Type 0 where
   pub named : (s t : SecurityContext) (n m : ℕ) → SaysOneThing (responses s n) (responses t m)
   pub opened : (s : SecurityContext) (n : ℕ) → OneOpened (responses s n)
 
--- the datagram protects the message by this number, and nothing else (RFC 8613, 8.2 and 8.4)
+-- the datagram protects the message under this number, and nothing else (RFC 8613, 8.2 and 8.4)
 pub record ProtectsAlone {I : Type 0} (f : Protection I) (i : I) (m : InnerParts) (d : List ℕ) : Type 0 where
   pub opens : Protects f i m d
   pub nothing_else : (k : I) (l : InnerParts) → Protects f k l d → (k ≡ i) × (l ≡ m)
 
--- what one end of a context seals protects the plain message's inside at the other, and nothing else (RFC 8613, 8.1 to 8.4)
+-- what one end of a context seals protects the inner part of the plain message at the other end, and nothing else (RFC 8613, 8.1 to 8.4)
 pub record SealedOpens : Type 0 where
   pub request : (s : SecurityContext) (n : ℕ) (p : Parts) (d : List ℕ) → SealsRequest s n p d → ProtectsAlone (requests s) n (inside p) d
   pub response : (s : SecurityContext) (n : ℕ) (own : Option ℕ) (p : Parts) (d : List ℕ) → SealsResponse s n own p d → ProtectsAlone (responses s n) own (inside p) d
 
--- a plain message has one sealed form by one number, or one refusal, never both where that form has room (RFC 8613, 8.1 and 8.3)
+-- a plain message has at most one sealed form under one number, or at most one refusal, never both if there is room for that form (RFC 8613, 8.1 and 8.3)
 pub record OneForm {I : Type 0} (f : Protection I) : Type 0 where
   pub bytes : (i : I) (p : Parts) (d e : List ℕ) → IsSealed f i p d → IsSealed f i p e → d ≡ e
   pub never_both : (i : I) (p : Parts) (room : ℕ) (d : List ℕ) (e : ProtectError) → IsSealed f i p d → length d ≤ room → RefusesToSeal f i p room e → ⊥
   pub refusal : (i : I) (p : Parts) (room : ℕ) (e g : ProtectError) → RefusesToSeal f i p room e → RefusesToSeal f i p room g → e ≡ g
 
--- requests and responses have one sealed form (RFC 8613, 8.1 and 8.3)
+-- requests and responses have at most one sealed form (RFC 8613, 8.1 and 8.3)
 pub record OneSealed : Type 0 where
   pub request : (s : SecurityContext) → OneForm (requests s)
   pub response : (s : SecurityContext) (n : ℕ) → OneForm (responses s n)

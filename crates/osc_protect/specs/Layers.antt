@@ -1,4 +1,4 @@
--- For the proofs: what the layers below hold of all bytes.
+-- For the proofs: what holds for all bytes in the layers below.
 use Rattle.osc_coap.specs.Laws.{DatagramIsOneMessage, DatagramHasOneFault, DatagramHasNoFault, PlaintextIsOneMessage, PlaintextHasNoFault}
 use Rattle.osc_context.specs.Laws.{OneValue, ValueNumberInRange}
 use Rattle.osc_ccm.specs.Laws.{OnePlaintext, ProtectionLength}

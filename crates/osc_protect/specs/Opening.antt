@@ -1,5 +1,5 @@
--- To be believed: what opening gives (RFC 8613, 8.2 and 8.4). f is a protection, of requests or of responses, d a
--- datagram, p the parts of a message, o what was opened.
+-- To be believed: what opening returns (RFC 8613, 8.2 and 8.4). f is a protection, of requests or of responses, d a datagram, p the parts
+-- of a message, o the opened message.
 use Rattle.std.specs.Prelude.{◌≡◌, ℕ, List}
 use Rattle.osc_coap.specs.Datagram.{Parts, IsDatagram}
 use Rattle.osc_coap.specs.Search.{values_at, first_of}
@@ -8,7 +8,7 @@ use Rattle.osc_protect.specs.Protection.{Protection, Protects}
 use Rattle.osc_protect.specs.Views.{shown, message_of, opened_number}
 use Rattle.osc_protect.specs.declared.opened.Opened.{Opened}
 
--- what comes from outside the protection: the head, the first Uri-Host and Uri-Port (RFC 8613, 8.2 and 8.4)
+-- what comes from outside the protection: the head, and the first Uri-Host and Uri-Port (RFC 8613, 8.2 and 8.4)
 pub record ShowsOuter (p : Parts) (o : Opened) : Type 0 where
   pub kind : o.kind ≡ p.kind
   pub message_id : o.message_id ≡ p.message_id
@@ -16,7 +16,7 @@ pub record ShowsOuter (p : Parts) (o : Opened) : Type 0 where
   pub uri_host : shown o.uri_host ≡ first_of (values_at uri_host p.options)
   pub uri_port : shown o.uri_port ≡ first_of (values_at uri_port p.options)
 
--- the datagram protects what was opened, and shows the rest outside (RFC 8613, 8.2 and 8.4)
+-- the datagram protects the opened message, and shows the rest outside the protection (RFC 8613, 8.2 and 8.4)
 pub record Opens {I : Type 0} (f : Protection I) (d : List ℕ) (o : Opened) : Type 0 where
   pub number : I
   pub number_is : opened_number o ≡ (f.parts number).piv

@@ -1,10 +1,10 @@
--- To be believed: which options stand nowhere in a protected message, or not inside (RFC 8613, 4.1). n is the number of
--- an option.
+-- To be believed: which options a protected message doesn't have at all, or doesn't have inside (RFC 8613, 4.1). n is the number of an
+-- option.
 use Rattle.std.specs.Prelude.{ℕ, ◌==◌, ◌||◌, Bool}
 use Rattle.osc_coap.specs.Class.{class, is_outer}
 use Rattle.osc_coap.specs.OptionNumbers.{block1, block2, observe, oscore, proxy_scheme, proxy_uri}
 
--- own rule: Observe and block-wise transfer, which are left out (RFC 8613, 4.1.3.4 and 4.1.3.5)
+-- own rule: Observe and block-wise transfer are left out (RFC 8613, 4.1.3.4 and 4.1.3.5)
 abbrev pub is_left_out : ℕ → Bool
 is_left_out n = (n == observe) || (n == block2) || (n == block1)
 
@@ -12,10 +12,10 @@ is_left_out n = (n == observe) || (n == block2) || (n == block1)
 abbrev pub is_proxy : ℕ → Bool
 is_proxy n = (n == proxy_uri) || (n == proxy_scheme)
 
--- own rule: a message with such an option isn't sealed; the OSCORE option is made where it is (RFC 8613, 4.1)
+-- own rule: a message with such an option isn't sealed; sealing itself makes the OSCORE option (RFC 8613, 4.1)
 abbrev pub is_unsupported : ℕ → Bool
 is_unsupported n = is_left_out n || is_proxy n || (n == oscore)
 
--- own rule: the option may not stand inside a protected message: one that is left out, or of class U (RFC 8613, 4.1)
+-- own rule: the option may not stand inside a protected message, because it is left out or is of class U (RFC 8613, 4.1)
 abbrev pub is_barred : ℕ → Bool
 is_barred n = is_left_out n || is_outer (class n)

@@ -1,6 +1,6 @@
--- To be believed: what protects a request, and what a response to it (RFC 8613, 5 and 8.1 to 8.4). s is a security
--- context, n the request's number, own the response's own number or none, d a datagram; a message is its code, inner
--- options and payload.
+-- To be believed: what protects a request, and what protects a response to it (RFC 8613,
+-- 5 and 8.1 to 8.4). s is a security context, n the request's number, own the response's
+-- own number or none, d a datagram; a message is its code, inner options and payload.
 use Rattle.std.specs.Prelude.{◌≡◌, ℕ, List, [], ◌∷◌, Option, Some, None, true, false}
 use Rattle.osc_coap.specs.Datagram.{Parts, IsDatagram}
 use Rattle.osc_coap.specs.Inner.{InnerParts, IsInner}
@@ -16,34 +16,34 @@ use Rattle.osc_protect.specs.Usage.{is_code_of, is_used, value_of_request, value
 use Rattle.osc_protect.specs.declared.usage.Usage.{Usage}
 use Rattle.osc_protect.specs.declared.usage.Usage.TheVariants.{Request, Response}
 
--- a plaintext protected as request n: its ciphertext and tag (RFC 8613, 5)
+-- the ciphertext and tag that protect a plaintext as request n (RFC 8613, 5)
 unfoldable pub request_cipher : SecurityContext → ℕ → List ℕ → List ℕ
 request_cipher s n plaintext = ccm s.client_key (nonce_of s.common_iv s.client n) (additional_data_of s.client n) plaintext
 
--- the nonce of a response: of the server and its own number, or else that of the client's request (RFC 8613, 5.2)
+-- the nonce of a response: from the server and its own number, or else the nonce of the client's request (RFC 8613, 5.2)
 abbrev pub response_nonce : List ℕ → List ℕ → List ℕ → ℕ → Option ℕ → List ℕ
 response_nonce common_iv client server n None = nonce_of common_iv client n
 response_nonce common_iv client server n (Some own) = nonce_of common_iv server own
 
--- a plaintext protected as a response to request n; the additional data is the request's (RFC 8613, 5 and 5.4)
+-- the ciphertext and tag that protect a plaintext as a response to request n; the additional data is the request's (RFC 8613, 5 and 5.4)
 unfoldable pub response_cipher : SecurityContext → ℕ → Option ℕ → List ℕ → List ℕ
 response_cipher s n own plaintext = ccm s.server_key (response_nonce s.common_iv s.client s.server n own) (additional_data_of s.client n) plaintext
 
--- how messages are protected: their usage, and by number what the OSCORE option says and the cipher (RFC 8613, 5 and 6)
+-- how messages are protected: their usage, and for each number the cipher and what the OSCORE option says (RFC 8613, 5 and 6)
 pub record Protection (I : Type 0) : Type 0 where
   pub usage : Usage
   pub parts : I → OscoreParts
   pub cipher : I → List ℕ → List ℕ
 
--- the protection of requests, each by its number (RFC 8613, 8.1)
+-- the protection of requests, each under its number (RFC 8613, 8.1)
 abbrev pub requests : SecurityContext → Protection ℕ
 requests s = record { usage = Request; parts = λ n. value_of_request n s.id_context s.client; cipher = request_cipher s }
 
--- the protection of responses to request n, each by its own number or none (RFC 8613, 8.3)
+-- the protection of responses to request n, each under its own number or none (RFC 8613, 8.3)
 abbrev pub responses : SecurityContext → ℕ → Protection (Option ℕ)
 responses s n = record { usage = Response; parts = value_of_response; cipher = response_cipher s n }
 
--- the datagram is this protection of the message, by the number i (RFC 8613, 8.1 and 8.3)
+-- the datagram protects the message with this protection, under the number i (RFC 8613, 8.1 and 8.3)
 pub record Protects {I : Type 0} (f : Protection I) (i : I) (message : InnerParts) (d : List ℕ) : Type 0 where
   pub outer : Parts
   pub datagram : IsDatagram outer d
@@ -58,10 +58,10 @@ pub record Protects {I : Type 0} (f : Protection I) (i : I) (message : InnerPart
   pub spells : IsInner message plaintext
   pub sealed : outer.payload ≡ f.cipher i plaintext
 
--- the datagram is the protection of the message as request n (RFC 8613, 8.1)
+-- the datagram protects the message as request n (RFC 8613, 8.1)
 abbrev pub ProtectsRequest : SecurityContext → ℕ → InnerParts → List ℕ → Type 0
 ProtectsRequest s n message d = Protects (requests s) n message d
 
--- the datagram is the protection of the message as a response to request n (RFC 8613, 8.3)
+-- the datagram protects the message as a response to request n (RFC 8613, 8.3)
 abbrev pub ProtectsResponse : SecurityContext → ℕ → Option ℕ → InnerParts → List ℕ → Type 0
 ProtectsResponse s n own message d = Protects (responses s n) own message d

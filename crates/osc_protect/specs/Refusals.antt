@@ -1,6 +1,6 @@
--- To be believed: why a datagram doesn't open (RFC 8613, 8.2 and 8.4), row by row in the order in which they are
--- judged. f is a protection, of requests or of responses, i a number that it knows, d a datagram, h a head, e a
--- refusal.
+-- To be believed: why a datagram doesn't open (RFC 8613, 8.2 and 8.4), row by
+-- row in the order in which the rows are checked. f is a protection, of requests
+-- or of responses, i one of its numbers, d a datagram, h a head, e a refusal.
 use Rattle.std.specs.Prelude.{◌≡◌, ◌≢◌, ◌⊎◌, ℕ, List, true, false}
 use Rattle.osc_coap.specs.declared.format_error.Fault.{Fault}
 use Rattle.osc_coap.specs.Inner.{InnerParts, IsInner}
@@ -15,17 +15,17 @@ use Rattle.osc_protect.specs.declared.head_error.HeadError.TheVariants as heads
 use Rattle.osc_protect.specs.declared.unprotect_error.UnprotectError.{UnprotectError}
 use Rattle.osc_protect.specs.declared.unprotect_error.UnprotectError.TheVariants.{Format, NotThatKind, NoOscore, Undecodable, WrongContext, Tag, Inner}
 
--- the head says what this protection says by the number (RFC 8613, 8.2 and 8.4)
+-- the head says what this protection says under the number (RFC 8613, 8.2 and 8.4)
 abbrev pub Names : {I : Type 0} → Protection I → Head → I → Type 0
 Names f h i = h.parts ≡ f.parts i
 
--- the plaintext is no message, or not of a code of the usage, or has a barred option (RFC 8613, 8.2 and 8.4)
+-- the plaintext isn't a message, or its code isn't one of the usage, or it has a barred option (RFC 8613, 8.2 and 8.4)
 abbrev pub IsBadInner : Usage → List ℕ → Type 0
 IsBadInner u plaintext =
     ((fault : Fault) × (place : ℕ) × HasInnerFault plaintext fault place)
     ⊎ ((m : InnerParts) × IsInner m plaintext × ((is_code_of u m.code ≡ false) ⊎ (has_number is_barred m.options ≡ true)))
 
--- the head says what this protection says by no number: of a request, another kid or kid context (RFC 8613, 8.2)
+-- there is no number under which this protection says what the head says: in a request, the kid or the kid context differs (RFC 8613, 8.2)
 abbrev pub RefusesContext : {I : Type 0} → Protection I → List ℕ → Type 0
 RefusesContext {I} f d = (h : Head) × HasHead f.usage d h × ((i : I) → Names f h i → ⊥)
 
@@ -37,7 +37,7 @@ RefusesTag {I} f d = (h : Head) × HasHead f.usage d h × (i : I) × Names f h i
 abbrev pub RefusesPlaintext : {I : Type 0} → Protection I → List ℕ → Type 0
 RefusesPlaintext {I} f d = (h : Head) × HasHead f.usage d h × (i : I) × Names f h i × (plaintext : List ℕ) × (h.payload ≡ f.cipher i plaintext) × IsBadInner f.usage plaintext
 
--- the condition of each refusal to open, which no earlier one meets (RFC 8613, 8.2 and 8.4)
+-- the condition of each refusal to open, which excludes the earlier ones (RFC 8613, 8.2 and 8.4)
 abbrev pub RefusesToOpen : {I : Type 0} → Protection I → List ℕ → UnprotectError → Type 0
 RefusesToOpen f d (Format e) = HasNoHead f.usage d (heads.Format e)
 RefusesToOpen f d NotThatKind = HasNoHead f.usage d heads.NotThatKind

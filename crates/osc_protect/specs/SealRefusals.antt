@@ -1,6 +1,6 @@
--- To be believed: why a message isn't sealed (RFC 8613, 8.1 and 8.3; own rules: which options, and the limit), row by
--- row in the order in which they are judged. p is what the plain message says, u its usage, parts what its OSCORE
--- option is to say, room the length of the buffer, f a protection, i a number that it knows.
+-- To be believed: why a message isn't sealed (RFC 8613, 8.1 and 8.3; own rules: which options, and the limit), row by row in the order in
+-- which the rows are checked. p is what the plain message says, u its usage, parts what its OSCORE option has to say, room the length of
+-- the buffer, f a protection, i one of its numbers.
 use Rattle.std.specs.Prelude.{◌≡◌, ℕ, ◌<◌, ◌≤◌, ◌==◌, List, true, false}
 use Rattle.osc_coap.specs.OptionSpelling.{Entry}
 use Rattle.osc_coap.specs.Datagram.{Parts}
@@ -15,7 +15,7 @@ use Rattle.osc_protect.specs.declared.usage.Usage.TheVariants.{Request, Response
 use Rattle.osc_protect.specs.declared.protect_error.ProtectError.{ProtectError}
 use Rattle.osc_protect.specs.declared.protect_error.ProtectError.TheVariants.{NotThatKind, Unsupported, TooLong, NoRoom}
 
--- of the options that can't be sealed this is the lowest that there is (own rule)
+-- this is the lowest number among the message's options that can't be sealed (own rule)
 pub record IsLowestUnsupported (entries : List Entry) (n : ℕ) : Type 0 where
   pub unsupported : is_unsupported n ≡ true
   pub among : has_number (λ k. k == n) entries ≡ true
@@ -28,11 +28,11 @@ RefusesPlain u p (Unsupported n) = (is_used u p.kind p.code ≡ true) × IsLowes
 RefusesPlain u p TooLong = ⊥
 RefusesPlain u p NoRoom = ⊥
 
--- the message is one of this usage that can be sealed where there is room (RFC 8613, 8.1 and 8.3)
+-- the message is one of this usage that can be sealed if there is room (RFC 8613, 8.1 and 8.3)
 abbrev pub CanBeSealed : Usage → Parts → Type 0
 CanBeSealed u p = (is_used u p.kind p.code ≡ true) × (has_number is_unsupported p.options ≡ false)
 
--- the message is a request that can be sealed where there is room (RFC 8613, 8.1)
+-- the message is a request that can be sealed if there is room (RFC 8613, 8.1)
 abbrev pub IsPlainRequest : Parts → Type 0
 IsPlainRequest p = CanBeSealed Request p
 
@@ -40,7 +40,7 @@ IsPlainRequest p = CanBeSealed Request p
 abbrev pub RefusesPlainRequest : Parts → ProtectError → Type 0
 RefusesPlainRequest p e = RefusesPlain Request p e
 
--- the message is a response that can be sealed where there is room (RFC 8613, 8.3)
+-- the message is a response that can be sealed if there is room (RFC 8613, 8.3)
 abbrev pub IsPlainResponse : Parts → Type 0
 IsPlainResponse p = CanBeSealed Response p
 
@@ -48,25 +48,25 @@ IsPlainResponse p = CanBeSealed Response p
 abbrev pub RefusesPlainResponse : Parts → ProtectError → Type 0
 RefusesPlainResponse p e = RefusesPlain Response p e
 
--- why what is sealed finds no room, by its length (own rule)
+-- why there is no room for a sealed message of this length (own rule)
 abbrev pub RefusesSize : ℕ → ℕ → ProtectError → Type 0
 RefusesSize len room NotThatKind = ⊥
 RefusesSize len room (Unsupported n) = ⊥
 RefusesSize len room TooLong = 65535 < len
 RefusesSize len room NoRoom = (len ≤ 65535) × (room < len)
 
--- the same for an OSCORE option that says these parts (own rule)
+-- the same for a message whose OSCORE option says these parts (own rule)
 abbrev pub RefusesRoom : Parts → OscoreParts → ℕ → ProtectError → Type 0
 RefusesRoom p parts room e = (value : List ℕ) × IsOscoreValue parts value × RefusesSize (sealed_length p value) room e
 
--- the condition of each refusal to seal, which no earlier one meets (RFC 8613, 8.1 and 8.3)
+-- the condition of each refusal to seal, which excludes the earlier ones (RFC 8613, 8.1 and 8.3)
 abbrev pub RefusesToSeal : {I : Type 0} → Protection I → I → Parts → ℕ → ProtectError → Type 0
 RefusesToSeal f i p room NotThatKind = RefusesPlain f.usage p NotThatKind
 RefusesToSeal f i p room (Unsupported k) = RefusesPlain f.usage p (Unsupported k)
 RefusesToSeal f i p room TooLong = CanBeSealed f.usage p × RefusesRoom p (f.parts i) room TooLong
 RefusesToSeal f i p room NoRoom = CanBeSealed f.usage p × RefusesRoom p (f.parts i) room NoRoom
 
--- a message can be sealed, and there is room for it (RFC 8613, 8.1 and 8.3)
+-- the message can be sealed, and there is room for it (RFC 8613, 8.1 and 8.3)
 abbrev pub FitsToSeal : {I : Type 0} → Protection I → I → Parts → ℕ → Type 0
 FitsToSeal f i p room = CanBeSealed f.usage p
     × ((value : List ℕ) → IsOscoreValue (f.parts i) value → (sealed_length p value ≤ 65535) × (sealed_length p value ≤ room))

@@ -1,4 +1,4 @@
--- For the proofs: the two sides of a protection (RFC 8613, 4.1), and that a writer takes options.
+-- For the proofs: the two sides of a protection (RFC 8613, 4.1), and when a writer takes options.
 use Rattle.std.specs.Prelude.{◌≡◌, ℕ, Bool, List, [], filter}
 use Rattle.osc_coap.specs.declared.class.Class.{Class}
 use Rattle.osc_coap.specs.Class.{class, is_inner, is_outer}
@@ -16,7 +16,7 @@ stands_on Inside k = is_inner k
 abbrev pub options_on : Side → List Entry → List Entry
 options_on side entries = filter (λ entry. stands_on side (class entry.0)) entries
 
--- a draft can be followed by these options, in a buffer of this length (RFC 7252, 3.1)
+-- these options can follow a draft in a buffer of this length (RFC 7252, 3.1)
 pub record TakesAll (room : ℕ) (draft : Draft) (entries : List Entry) : Type 0 where
   pub filled : ¬ IsEmptyMessage draft
   pub unfinished : payload_of draft ≡ []

@@ -1,5 +1,5 @@
--- How the code is seen: the values that the stages of opening hand on. s is a security context, n a request's number, d,
--- old and new are datagrams, o is what was opened.
+-- How the code is seen: the values that the stages of opening pass on. s is a security context, n a request's number, d, old and new are
+-- datagrams, o is the opened message.
 use Rattle.std.specs.Prelude.{◌≡◌, ℕ, List, Option}
 use Rattle.std.specs.Option.{option_map}
 use Rattle.osc_coap.specs.Inner.{InnerParts}
@@ -18,11 +18,11 @@ use Rattle.osc_protect.specs.declared.stages.SealedRequest.{SealedRequest}
 use Rattle.osc_protect.specs.declared.stages.SealedResponse.{SealedResponse}
 use Rattle.osc_protect.specs.declared.usage.Usage.TheVariants.{Request, Response}
 
--- the value is of the datagram's head, which names the context (how the code is seen)
+-- the value comes from the datagram's head, which names the context (how the code is seen)
 abbrev pub IsSealedRequest : Protection ℕ → List ℕ → SealedRequest → Type 0
 IsSealedRequest f d x = HasSealed f d (number_of x.number) x.len
 
--- the value is of the datagram's head, which is of a response (how the code is seen)
+-- the value comes from the datagram's head, which is one of a response (how the code is seen)
 abbrev pub IsSealedResponse : Protection (Option ℕ) → List ℕ → SealedResponse → Type 0
 IsSealedResponse f d x = HasSealed f d (option_map number_of x.number) x.len
 
@@ -30,47 +30,47 @@ IsSealedResponse f d x = HasSealed f d (option_map number_of x.number) x.len
 abbrev pub DecryptsRequest : Protection ℕ → List ℕ → DecryptedRequest → List ℕ → Type 0
 DecryptsRequest f old x new = Decrypts f old (number_of x.number) x.len new
 
--- the value says what the old datagram was decrypted to, of a response (how the code is seen)
+-- the value says what the old datagram was decrypted to, as a response (how the code is seen)
 abbrev pub DecryptsResponse : Protection (Option ℕ) → List ℕ → DecryptedResponse → List ℕ → Type 0
 DecryptsResponse f old x new = Decrypts f old (option_map number_of x.number) x.len new
 
--- the datagram's payload is the plaintext of the value and a tag (how the code is seen)
+-- the datagram's payload is as long as the value's plaintext and a tag (how the code is seen)
 abbrev pub FitsRequest : List ℕ → DecryptedRequest → Type 0
 FitsRequest d x = HasPayloadOf d x.len
 
--- the same of a response (how the code is seen)
+-- the same for a response (how the code is seen)
 abbrev pub FitsResponse : List ℕ → DecryptedResponse → Type 0
 FitsResponse d x = HasPayloadOf d x.len
 
--- each datagram that was decrypted to this one, as a request, protects what was read of it (RFC 8613, 8.2)
+-- each datagram that was decrypted to this one as a request protects what was read from it (RFC 8613, 8.2)
 abbrev pub OpensRequestAfter : List ℕ → DecryptedRequest → Opened → Type 0
 OpensRequestAfter new x o = (s : SecurityContext) (old : List ℕ) → DecryptsRequest (requests s) old x new → Opens (requests s) old o
 
--- each datagram that was decrypted to this one, as a request, protects a message (RFC 8613, 8.2)
+-- each datagram that was decrypted to this one as a request protects a message (RFC 8613, 8.2)
 abbrev pub AcceptsRequestAfter : List ℕ → DecryptedRequest → Type 0
 AcceptsRequestAfter new x = (s : SecurityContext) (old : List ℕ) → DecryptsRequest (requests s) old x new → (n : ℕ) × (m : InnerParts) × ProtectsRequest s n m old
 
--- each datagram that was decrypted to this one, as a request, protects a bad plaintext (RFC 8613, 8.2)
+-- each datagram that was decrypted to this one as a request protects a bad plaintext (RFC 8613, 8.2)
 abbrev pub RefusesRequestAfter : List ℕ → DecryptedRequest → Type 0
 RefusesRequestAfter new x = (s : SecurityContext) (old : List ℕ) → DecryptsRequest (requests s) old x new → RefusesPlaintext (requests s) old
 
--- each datagram that was decrypted to this one, as a response, protects what was read of it (RFC 8613, 8.4)
+-- each datagram that was decrypted to this one as a response protects what was read from it (RFC 8613, 8.4)
 abbrev pub OpensResponseAfter : List ℕ → DecryptedResponse → Opened → Type 0
 OpensResponseAfter new x o = (s : SecurityContext) (n : ℕ) (old : List ℕ) → DecryptsResponse (responses s n) old x new → Opens (responses s n) old o
 
--- each datagram that was decrypted to this one, as a response, protects a message (RFC 8613, 8.4)
+-- each datagram that was decrypted to this one as a response protects a message (RFC 8613, 8.4)
 abbrev pub AcceptsResponseAfter : List ℕ → DecryptedResponse → Type 0
 AcceptsResponseAfter new x = (s : SecurityContext) (n : ℕ) (old : List ℕ) → DecryptsResponse (responses s n) old x new
     → (own : Option ℕ) × (m : InnerParts) × ProtectsResponse s n own m old
 
--- each datagram that was decrypted to this one, as a response, protects a bad plaintext (RFC 8613, 8.4)
+-- each datagram that was decrypted to this one as a response protects a bad plaintext (RFC 8613, 8.4)
 abbrev pub RefusesResponseAfter : List ℕ → DecryptedResponse → Type 0
 RefusesResponseAfter new x = (s : SecurityContext) (n : ℕ) (old : List ℕ) → DecryptsResponse (responses s n) old x new → RefusesPlaintext (responses s n) old
 
--- the value was read of the datagram, which holds the good plaintext of the decrypted request (how the code is seen)
+-- the value was read from the datagram, which holds the good plaintext of the decrypted request (how the code is seen)
 abbrev pub CanLendRequest : List ℕ → DecryptedRequest → ReadRequest → Type 0
 CanLendRequest d x r = (r.number ≡ x.number) × (r.len ≡ x.len) × HasPlaintext Request d r.len r.payload_len
 
--- the same of a response (how the code is seen)
+-- the same for a response (how the code is seen)
 abbrev pub CanLendResponse : List ℕ → DecryptedResponse → ReadResponse → Type 0
 CanLendResponse d x r = (r.number ≡ x.number) × (r.len ≡ x.len) × HasPlaintext Response d r.len r.payload_len

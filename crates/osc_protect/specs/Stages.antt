@@ -1,5 +1,5 @@
--- To be believed: what the stages of opening hand on, and what they leave (RFC 8613, 8.2 and 8.4). f is a protection, of
--- requests or of responses, u a usage, i a number that it knows, len and n are numbers of bytes, d, old and new datagrams.
+-- To be believed: what the stages of opening pass on, and what they leave (RFC 8613, 8.2 and 8.4). f is a protection, of requests or of
+-- responses, u a usage, i one of the protection's numbers, len and n are numbers of bytes, d, old and new are datagrams.
 use Rattle.std.specs.Prelude.{◌≡◌, ◌+◌, ◌++◌, ℕ, List, length, take, drop, true, false}
 use Rattle.osc_ccm.specs.Ccm.{tag_length}
 use Rattle.osc_coap.specs.Datagram.{Parts, IsDatagram}
@@ -12,18 +12,18 @@ use Rattle.osc_protect.specs.OptionSets.{is_barred}
 use Rattle.osc_protect.specs.Usage.{is_code_of}
 use Rattle.osc_protect.specs.declared.usage.Usage.{Usage}
 
--- the datagram's head names the context by the number, and its payload has this length (RFC 8613, 8.2 and 8.4)
+-- the datagram's head names the context and the number, and its payload has this length (RFC 8613, 8.2 and 8.4)
 pub record HasSealed {I : Type 0} (f : Protection I) (d : List ℕ) (i : I) (len : ℕ) : Type 0 where
   pub head : Head
   pub has : HasHead f.usage d head
   pub names : Names f head i
   pub long : len ≡ length head.payload
 
--- a head after decrypting: its payload is the plaintext, and behind it the old tag (RFC 8613, 8.2 and 8.4)
+-- a head after decrypting: its payload is the plaintext, followed by the old tag (RFC 8613, 8.2 and 8.4)
 abbrev pub decrypted_head : Head → List ℕ → Head
 decrypted_head h plaintext = record h { payload = plaintext ++ drop (length plaintext) h.payload }
 
--- of the old datagram the payload became the plaintext and the old tag, all else stayed (RFC 8613, 8.2 and 8.4)
+-- the payload of the old datagram became the plaintext, followed by the old tag; all else stayed (RFC 8613, 8.2 and 8.4)
 pub record Decrypts {I : Type 0} (f : Protection I) (old : List ℕ) (i : I) (len : ℕ) (new : List ℕ) : Type 0 where
   pub outer : Parts
   pub head : Head
@@ -40,11 +40,11 @@ pub record Decrypts {I : Type 0} (f : Protection I) (old : List ℕ) (i : I) (le
 abbrev pub HoldsPlaintext : {I : Type 0} → Protection I → List ℕ → Type 0
 HoldsPlaintext {I} f d = (h : Head) × HasHead f.usage d h × (i : I) × Names f h i × (plaintext : List ℕ) × (h.payload ≡ f.cipher i plaintext)
 
--- the datagram's payload is as many bytes and a tag (RFC 8613, 8.2 and 8.4)
+-- the datagram's payload is as long as this many bytes and a tag (RFC 8613, 8.2 and 8.4)
 abbrev pub HasPayloadOf : List ℕ → ℕ → Type 0
 HasPayloadOf d len = (p : Parts) × IsDatagram p d × (len + tag_length ≡ length p.payload)
 
--- a good plaintext of this length lies at the payload's front, and its own payload has that length (RFC 8613, 8.2 and 8.4)
+-- a good plaintext of len bytes lies at the front of the payload, and its own payload has n bytes (RFC 8613, 8.2 and 8.4)
 pub record HasPlaintext (u : Usage) (d : List ℕ) (len n : ℕ) : Type 0 where
   pub outer : Parts
   pub datagram : IsDatagram outer d

@@ -1,5 +1,5 @@
--- To be believed: what tells a request from a response (RFC 8613, 4.2 and 8): kind and codes, and the parts that its
--- OSCORE option says.
+-- To be believed: what tells a request from a response (RFC 8613, 4.2
+-- and 8): Type and codes, and the parts that its OSCORE option says.
 use Rattle.std.specs.Prelude.{ℕ, ◌&&◌, Bool, List, Option, Some, None, is_none, is_some}
 use Rattle.osc_coap.specs.declared.message.Kind.{Kind}
 use Rattle.osc_context.specs.OscoreValue.{OscoreParts}
@@ -7,30 +7,30 @@ use Rattle.osc_coap.specs.Code.{is_request, is_request_code, is_response, is_res
 use Rattle.osc_protect.specs.declared.usage.Usage.{Usage}
 use Rattle.osc_protect.specs.declared.usage.Usage.TheVariants.{Request, Response}
 
--- kind and code are of this usage (RFC 7252, 4.2 and 4.3)
+-- the Type and code belong to this usage (RFC 7252, 4.2 and 4.3)
 abbrev pub is_used : Usage → Kind → ℕ → Bool
 is_used Request kind code = is_request kind code
 is_used Response kind code = is_response kind code
 
--- the code is of this usage (RFC 7252, 12.1)
+-- the code belongs to this usage (RFC 7252, 12.1)
 abbrev pub is_code_of : Usage → ℕ → Bool
 is_code_of Request code = is_request_code code
 is_code_of Response code = is_response_code code
 
--- the code that what is sealed has outside: 0.02, POST, or 2.04, Changed (RFC 8613, 4.2)
+-- the outer code of a sealed message: 0.02, POST, or 2.04, Changed (RFC 8613, 4.2)
 abbrev pub outer_code_of : Usage → ℕ
 outer_code_of Request = 2
 outer_code_of Response = 68
 
--- a request says number and kid; own rule: a response says neither kid nor kid context (RFC 8613, 5 and 8.3)
+-- a request has a Partial IV and a kid; own rule: a response has neither kid nor kid context (RFC 8613, 5 and 8.3)
 abbrev pub is_complete : Usage → OscoreParts → Bool
 is_complete Request v = is_some v.piv && is_some v.kid
 is_complete Response v = is_none v.kid && is_none v.kid_context
 
--- what a request's OSCORE option says; own rule: a kid context exactly if there's an ID Context (RFC 8613, 5 and 6.1)
+-- what a request's OSCORE option says; own rule: it has a kid context exactly if there's an ID Context (RFC 8613, 5 and 6.1)
 abbrev pub value_of_request : ℕ → Option (List ℕ) → List ℕ → OscoreParts
 value_of_request number kid_context kid = record { piv = Some number; kid_context = kid_context; kid = Some kid }
 
--- what the OSCORE option of a response says: its own number, where it has one, and no more (RFC 8613, 6.1 and 8.3)
+-- what a response's OSCORE option says: its own number if it has one, and no more (RFC 8613, 6.1 and 8.3)
 abbrev pub value_of_response : Option ℕ → OscoreParts
 value_of_response own = record { piv = own; kid_context = None; kid = None }

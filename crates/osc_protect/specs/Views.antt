@@ -1,4 +1,4 @@
--- How the code is seen: heads, opened messages and ciphers as numbers and lists, without where the bytes lie.
+-- How the code is seen: heads, opened messages and ciphers as numbers and lists, without saying where the bytes lie.
 use Rattle.std.specs.Prelude.{ℕ, List, Option}
 use Rattle.std.specs.Option.{option_map}
 use Rattle.std.specs.Borrow.{Bor}
@@ -19,7 +19,7 @@ use Rattle.osc_protect.specs.declared.response_head.ResponseHead.{ResponseHead}
 use Rattle.osc_protect.specs.declared.request_ref.RequestRef.{RequestRef}
 use Rattle.osc_protect.specs.declared.opened.Opened.{Opened}
 
--- the bytes of a part, where it is there (how the code is seen)
+-- the bytes of a part, if it is there (how the code is seen)
 abbrev pub shown : Option (Bor (List ℕ)) → Option (List ℕ)
 shown part = option_map (λ bytes. bytes.now) part
 
@@ -35,7 +35,7 @@ seen_head h = record { kind = h.kind; message_id = h.message_id; token = h.token
 abbrev pub seen_response_head : ResponseHead → Head
 seen_response_head h = record { kind = h.kind; message_id = h.message_id; token = h.token.items; parts = value_of_response (option_map number_of h.number); payload = h.payload.now }
 
--- the number of the request that is named (how the code is seen)
+-- the number of the named request (how the code is seen)
 abbrev pub request_number : RequestRef → ℕ
 request_number r = number_of r.number
 
@@ -43,7 +43,7 @@ request_number r = number_of r.number
 unfoldable pub cipher_of : Aead → List ℕ → List ℕ
 cipher_of a plaintext = ccm (key_under a.schedule.now) a.nonce a.additional_data.items plaintext
 
--- the context whose schedules are kept (how the code is seen)
+-- the context of a keyed context (how the code is seen)
 abbrev pub context_of : KeyedContext → Context
 context_of k = k.context
 
@@ -67,6 +67,6 @@ opened_responses c r = responses (as_client c) (request_number r)
 abbrev pub message_of : Opened → InnerParts
 message_of o = record { code = o.code; options = options_left o.inner; payload = o.payload.now }
 
--- the number of an opened message, where it has one (how the code is seen)
+-- the number of an opened message, if it has one (how the code is seen)
 abbrev pub opened_number : Opened → Option ℕ
 opened_number o = option_map number_of o.piv

@@ -1,9 +1,9 @@
-//! The cipher of one message (RFC 8613, 5): the one place in which a nonce and the additional data are made.
+//! The cipher of one message (RFC 8613, 5): the only place that makes a nonce and the additional data.
 //!
-//!                           key of      nonce of                 additional data of
-//!     a request             client      client, its number       client, its number
-//!     a response            server      client, the request's    client, the request's
-//!     one with a number     server      server, its number       client, the request's
+//!                                  key of    nonce from                       additional data from
+//!     request                      client    client, its number               client, its number
+//!     response                     server    client, the request's number     client, the request's number
+//!     response with its number     server    server, its number               client, the request's number
 
 ghost use Rattle.std.specs.Prelude.{◌≡◌, ◌≢◌, ◌≤◌, ◌+◌, ◌++◌, [], ℕ, List, length, take, drop, IfSome, IfNone};
 ghost use Rattle.std.specs.Option.{option_map};
@@ -21,7 +21,7 @@ use osc_ccm::{open, protection_length, seal};
 use osc_coap::payload_stands_last;
 use osc_context::{Kid, Piv, aad, nonce};
 
-/// What the cipher of one message takes beside the plaintext: the schedule of a key, nonce and additional data.
+/// What the cipher of one message takes besides the plaintext: the schedule of a key, the nonce and the additional data.
 #[derive(Drop)]
 pub(crate) struct Aead<'a> {
     schedule: &'a ContextCipher,
@@ -32,7 +32,8 @@ pub(crate) struct Aead<'a> {
 ghost use Rattle.osc_protect.specs.Views.{cipher_of};
 ghost use Rattle.osc_protect.specs.Halves.{HasPayload, DecryptsPayload};
 
-/// The nonce of a response: of the server's own number, or else of the client's request (RFC 8613, 5.2).
+/// Returns the nonce of a response. It comes from the server's own number if the response has one, and otherwise from the client's request
+/// (RFC 8613, 5.2).
 fn nonce_of_response(
     common_iv: &[u8; 13],
     client: &Kid,
@@ -49,7 +50,7 @@ fn nonce_of_response(
 }
 
 impl<'a> Aead<'a> {
-    /// The cipher of a request: nonce and additional data are of the client and its number (RFC 8613, 5.2 and 5.4).
+    /// Makes the cipher of a request. The nonce and the additional data come from the client and its number (RFC 8613, 5.2 and 5.4).
     pub(crate) fn of_request(client: End<'a>, common_iv: &[u8; 13], number: Piv) -> Aead<'a>
         ensures { (s : SecurityContext) (m : List ℕ) → IsClientOf s client.entry → common_iv.now ≡ s.common_iv
             → cipher_of result m ≡ request_cipher s (number_of number) m }
@@ -61,8 +62,8 @@ impl<'a> Aead<'a> {
         }
     }
 
-    /// The cipher of a response to a client's request: its nonce is of the server's own number, or else the request's; the
-    /// additional data is of the request (RFC 8613, 5.2 and 5.4).
+    /// Makes the cipher of a response to a client's request. The nonce comes from the server's own number if the response has one, and is
+    /// otherwise the request's. The additional data is the request's (RFC 8613, 5.2 and 5.4).
     pub(crate) fn of_response(
         server: End<'a>,
         common_iv: &[u8; 13],
@@ -80,7 +81,7 @@ impl<'a> Aead<'a> {
         }
     }
 
-    /// Seals the plaintext at the front of `payload` where it lies, and answers the length with the tag.
+    /// Seals the plaintext at the front of `payload` in place, and returns its length with the tag.
     #[tactic(auto, unfolding(crate::specs::Views::cipher_of))]
     pub(crate) fn seal(&self, payload: &mut [u8], len: usize) -> usize
         requires room { len + tag_length ≤ length payload.old }
@@ -100,7 +101,7 @@ impl<'a> Aead<'a> {
         }
     }
 
-    /// Opens `payload` where it lies, and answers the length of the plaintext, or None where it protects none.
+    /// Opens `payload` in place, and returns the length of the plaintext, or `None` if `payload` protects none.
     #[tactic(auto, unfolding(crate::specs::Views::cipher_of))]
     fn open(&self, payload: &mut [u8]) -> Option<usize>
         requires { length payload.old ≤ 65535 }
@@ -120,7 +121,7 @@ impl<'a> Aead<'a> {
         opened.ok()
     }
 
-    /// Opens the payload of a datagram, its last `len` bytes, where it lies.
+    /// Opens the payload of a datagram, its last `len` bytes, in place.
     pub(crate) fn open_payload(&self, datagram: &mut [u8], len: usize) -> Option<usize>
         requires { (p : Parts) × HasPayload p datagram.old len }
         ensures decrypted { (p : Parts) → HasPayload p datagram.old len

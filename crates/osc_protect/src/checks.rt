@@ -10,8 +10,8 @@ use crate::protect_error::ProtectError;
 use crate::usage::{Usage, is_used};
 use osc_coap::{Message, options_ascend};
 
-/// Whether a message can be sealed as a request, whatever its length: CON or NON with a request code, and none of the options
-/// 6, 9, 23, 27, 35 and 39, of which the lowest is named (RFC 8613, 8.1; own rule: the options).
+/// Checks whether a message can be sealed as a request, whatever its length. It must be CON or NON with a request code, and must have none
+/// of the options 6, 9, 23, 27, 35 and 39. A refusal names the lowest of these options (RFC 8613, 8.1; own rule: the options).
 pub fn check_request(plain: &Message<'_>) -> Result<(), ProtectError>
     ensures accepted { IsOk result → IsPlainRequest (parts_of plain.now) }
     ensures accepts { IsPlainRequest (parts_of plain.now) → IsOk result }
@@ -21,8 +21,8 @@ pub fn check_request(plain: &Message<'_>) -> Result<(), ProtectError>
     judge(Usage::Request, plain)
 }
 
-/// Whether a message can be sealed as a response, whatever its length: CON, NON or ACK with a response code, and none of the
-/// options that a request may not have (RFC 8613, 8.3; own rule: the options).
+/// Checks whether a message can be sealed as a response, whatever its length. It must be CON, NON or ACK with a response code, and must
+/// have none of the options that a request may not have (RFC 8613, 8.3; own rule: the options).
 pub fn check_response(plain: &Message<'_>) -> Result<(), ProtectError>
     ensures accepted { IsOk result → IsPlainResponse (parts_of plain.now) }
     ensures accepts { IsPlainResponse (parts_of plain.now) → IsOk result }
@@ -32,7 +32,7 @@ pub fn check_response(plain: &Message<'_>) -> Result<(), ProtectError>
     judge(Usage::Response, plain)
 }
 
-/// Judges kind and code, and then the options.
+/// Checks the Type and the code, and then the options.
 fn judge(usage: Usage, plain: &Message<'_>) -> Result<(), ProtectError>
     ensures accepted { IsOk result → CanBeSealed usage (parts_of plain.now) }
     ensures refused { IfErr result (λ e. RefusesPlain usage (parts_of plain.now) e) }

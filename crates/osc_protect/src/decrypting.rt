@@ -1,5 +1,5 @@
-//! The stage of opening that needs a key: a payload is decrypted where it lies (RFC 8613, 8.2 and 8.4). The head was read
-//! before, and named the context, so a bad tag is the one refusal.
+//! The stage of opening that needs a key: it decrypts a payload in place (RFC 8613, 8.2 and 8.4). The head was read before, and it names
+//! the context, so the only refusal is a bad tag.
 
 ghost use Rattle.std.specs.Prelude.{◌≡◌, IfOk, IsErr, IsOk, OnErr};
 ghost use Rattle.osc_protect.specs.Refusals.{RefusesTag};
@@ -15,8 +15,8 @@ use crate::request_ref::RequestRef;
 use crate::stage_error::BadTag;
 use crate::stages::{DecryptedRequest, DecryptedResponse, SealedRequest, SealedResponse};
 
-/// Decrypts a request in its datagram. `sealed` is of the datagram's head, and this head names the context. At Ok the payload
-/// is the plaintext, and behind it the old tag (RFC 8613, 8.2, steps 3 to 6).
+/// Decrypts a request in its datagram. `sealed` comes from the datagram's head, and this head names the context. On `Ok` the payload is the
+/// plaintext, followed by the old tag (RFC 8613, 8.2, steps 3 to 6).
 pub fn decrypt_request(
     context: &KeyedContext,
     datagram: &mut [u8],
@@ -34,8 +34,8 @@ pub fn decrypt_request(
     decrypt_request_either(context, datagram, sealed)
 }
 
-/// Decrypts a response in its datagram. `sealed` is of the datagram's head. At Ok the payload is the plaintext, and behind it
-/// the old tag (RFC 8613, 8.4, steps 3 to 6).
+/// Decrypts a response in its datagram. `sealed` comes from the datagram's head. On `Ok` the payload is the plaintext, followed by the old
+/// tag (RFC 8613, 8.4, steps 3 to 6).
 pub fn decrypt_response(
     context: &KeyedContext,
     request: &RequestRef,
@@ -54,7 +54,7 @@ pub fn decrypt_response(
     decrypt_response_either(context, request, datagram, sealed)
 }
 
-/// Decrypts a request under the schedule that is kept, or is made.
+/// Decrypts a request under the kept schedule, or under one that it makes.
 fn decrypt_request_either(
     context: &KeyedContext,
     datagram: &mut [u8],
@@ -94,7 +94,7 @@ pub(crate) fn decrypt_request_forward(
     }
 }
 
-/// Decrypts a response under the schedule that is kept, or is made.
+/// Decrypts a response under the kept schedule, or under one that it makes.
 fn decrypt_response_either(
     context: &KeyedContext,
     request: &RequestRef,

@@ -1,5 +1,5 @@
-//! The ends of a context (RFC 8613, 3.1), each with the schedule of its key: identifier and key travel together, so that a
-//! key never meets the identifier of the other end.
+//! The ends of a context (RFC 8613, 3.1), each with the schedule of its key. Identifier and key travel together, so a key never meets the
+//! identifier of the other end.
 
 ghost use Rattle.std.specs.Prelude.{◌≡◌};
 ghost use Rattle.osc_context.specs.Views.{as_client, as_server, is_constant_time};
@@ -8,14 +8,14 @@ ghost use Rattle.osc_protect.specs.ContextCipher.{is_in_constant_time, key_under
 use crate::context_cipher::ContextCipher;
 use osc_context::{Context, Kid};
 
-/// An end, as the cipher of a message takes it: its identifier, and the schedule of its key.
+/// An end, as the cipher of a message needs it: its identifier, and the schedule of its key.
 #[derive(Clone, Copy)]
 pub(crate) struct End<'a> {
     pub(crate) kid: &'a Kid,
     pub(crate) schedule: &'a ContextCipher,
 }
 
-/// A context with the schedule of the sender's key: what this end seals with.
+/// A context with the schedule of the Sender Key. This end seals with it.
 #[derive(Clone, Copy)]
 pub(crate) struct Sender<'a> {
     pub(crate) context: &'a Context,
@@ -23,7 +23,7 @@ pub(crate) struct Sender<'a> {
     ghost keyed: { key_under schedule.now ≡ (as_client context.now).client_key },
 }
 
-/// A context with the schedule of the recipient's key: what this end opens with.
+/// A context with the schedule of the Recipient Key. This end opens with it.
 #[derive(Clone, Copy)]
 pub(crate) struct Recipient<'a> {
     pub(crate) context: &'a Context,
@@ -34,7 +34,7 @@ pub(crate) struct Recipient<'a> {
 impl<'a> Sender<'a> {
     ghost use Rattle.osc_protect.specs.Ends.{IsClientOf, IsServerOf};
 
-    /// The schedule of the sender's key.
+    /// Makes the schedule of the Sender Key.
     pub(crate) fn schedule_of(context: &Context) -> ContextCipher
         ensures key { key_under result ≡ (as_client context.now).client_key }
         ensures chosen { is_in_constant_time result ≡ is_constant_time context.now }
@@ -42,7 +42,7 @@ impl<'a> Sender<'a> {
         ContextCipher::new(context.sender_key(), context.is_constant_time())
     }
 
-    /// A context with that schedule.
+    /// Pairs a context with the schedule of its Sender Key.
     pub(crate) fn new(context: &'a Context, schedule: &'a ContextCipher) -> Sender<'a>
         requires { key_under schedule.now ≡ (as_client context.now).client_key }
         ensures { result.context.now ≡ context.entry.now }
@@ -50,7 +50,7 @@ impl<'a> Sender<'a> {
         Sender { context, schedule }
     }
 
-    /// This end: the client of requests, and the server of responses.
+    /// Returns this end. It is the client of requests, and the server of responses.
     pub(crate) fn end(self) -> End<'a>
         ensures client { IsClientOf (as_client self.entry.context.now) result }
         ensures server { IsServerOf (as_server self.entry.context.now) result }
@@ -65,7 +65,7 @@ impl<'a> Sender<'a> {
 impl<'a> Recipient<'a> {
     ghost use Rattle.osc_protect.specs.Ends.{IsClientOf, IsServerOf};
 
-    /// The schedule of the recipient's key.
+    /// Makes the schedule of the Recipient Key.
     pub(crate) fn schedule_of(context: &Context) -> ContextCipher
         ensures key { key_under result ≡ (as_server context.now).client_key }
         ensures chosen { is_in_constant_time result ≡ is_constant_time context.now }
@@ -73,7 +73,7 @@ impl<'a> Recipient<'a> {
         ContextCipher::new(context.recipient_key(), context.is_constant_time())
     }
 
-    /// A context with that schedule.
+    /// Pairs a context with the schedule of its Recipient Key.
     pub(crate) fn new(context: &'a Context, schedule: &'a ContextCipher) -> Recipient<'a>
         requires { key_under schedule.now ≡ (as_server context.now).client_key }
         ensures { result.context.now ≡ context.entry.now }
@@ -81,7 +81,7 @@ impl<'a> Recipient<'a> {
         Recipient { context, schedule }
     }
 
-    /// The other end: the client of requests, and the server of responses.
+    /// Returns the other end. It is the client of requests, and the server of responses.
     pub(crate) fn end(self) -> End<'a>
         ensures client { IsClientOf (as_server self.entry.context.now) result }
         ensures server { IsServerOf (as_client self.entry.context.now) result }

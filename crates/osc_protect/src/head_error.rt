@@ -4,16 +4,16 @@ use osc_coap::FormatError;
 use std::error::Error;
 use std::fmt;
 
-/// Why a message has no head of a protected message, in the order in which it is judged.
+/// Why a message has no head of a protected message. The variants stand in the order in which they are checked.
 #[derive(Clone, Copy, Debug, PartialEq, Eq)]
 pub enum NoHead {
-    /// The message is not of the kind and code that was asked for: of a request CON or NON with a request code, of a response
-    /// CON, NON or ACK with a response code.
+    /// The Type and code aren't the ones that were asked for. A request is CON or NON with a request code. A response is CON, NON or ACK
+    /// with a response code.
     NotThatKind,
     /// There is no OSCORE option.
     NoOscore,
-    /// There are two or more OSCORE options, or one whose value can't be read; in a request it lacks a Partial IV or a kid, in
-    /// a response it has a kid or a kid context; or there is no payload, or an option for proxies.
+    /// One of these holds: there are two or more OSCORE options; the value of the one OSCORE option can't be read; in a request, it lacks a
+    /// Partial IV or a kid; in a response, it has a kid or a kid context; there is no payload; there is an option for proxies.
     Undecodable,
 }
 
@@ -34,17 +34,17 @@ impl fmt::Display for NoHead {
 
 impl Error for NoHead {}
 
-/// Why a datagram has no head of a protected request, in the order in which it is judged.
+/// Why a datagram has no head of a protected request. The variants stand in the order in which they are checked.
 #[derive(Clone, Copy, Debug, PartialEq, Eq)]
 pub enum HeadError {
-    /// The bytes are no CoAP message.
+    /// The bytes aren't a CoAP message.
     Format(FormatError),
     /// The message is not CON or NON with a request code.
     NotThatKind,
     /// There is no OSCORE option.
     NoOscore,
-    /// There are two or more OSCORE options, or one whose value can't be read, or lacks a Partial IV or a kid; or there is
-    /// no payload, or an option for proxies.
+    /// One of these holds: there are two or more OSCORE options; the value of the one OSCORE option can't be read, or lacks a Partial IV or
+    /// a kid; there is no payload; there is an option for proxies.
     Undecodable,
 }
 

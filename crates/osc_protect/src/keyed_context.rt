@@ -1,4 +1,4 @@
-//! A security context that keeps the schedules of its two keys, or makes each where it is used.
+//! A security context that keeps the schedules of its two keys, or makes each one when it needs it.
 
 ghost use Rattle.std.specs.Prelude.{◌≡◌, ◌≢◌, ◌≤◌, ℕ, List, Option, Some, length, take, drop, IfOk, IfErr, IsOk, IsOkAnd, IsErrOf, OnErr};
 ghost use Rattle.std.specs.Option.{ForSome, option_map};
@@ -22,8 +22,8 @@ use osc_coap::Message;
 use osc_context::{Context, Piv};
 use std::fmt;
 
-/// A security context, and the schedules of its two keys for an end that seals and opens more than one message. Its `Debug`
-/// shows no key and no schedule.
+/// A security context with the schedules of its two keys, for an end that seals and opens more than one message. Its `Debug` shows no key
+/// and no schedule.
 #[derive(Drop)]
 pub struct KeyedContext {
     context: Context,
@@ -56,8 +56,8 @@ impl KeyedContext {
         }
     }
 
-    /// Keeps no schedule: each call makes the one that it needs, as the calls over a `Context` do. For an end that is there for one
-    /// message.
+    /// Keeps no schedule. Each call makes the schedule that it needs, as the calls over a `Context` do. Use this for an end that exists for
+    /// one message.
     #[must_use]
     pub fn for_one_message(context: Context) -> KeyedContext
         ensures { context_of result ≡ context }
@@ -69,7 +69,7 @@ impl KeyedContext {
         }
     }
 
-    /// The context.
+    /// Returns the context.
     #[must_use]
     pub fn context(&self) -> &Context
         ensures { result.now ≡ context_of self.now }
@@ -77,7 +77,7 @@ impl KeyedContext {
         &self.context
     }
 
-    /// What this end seals with, where its schedule is kept.
+    /// Returns what this end seals with, if its schedule is kept.
     fn kept_sender(&self) -> Option<Sender<'_>>
         ensures { ForSome result (λ sender. sender.context.now ≡ context_of self.now) }
     {
@@ -87,7 +87,7 @@ impl KeyedContext {
         }
     }
 
-    /// What this end opens with, where its schedule is kept.
+    /// Returns what this end opens with, if its schedule is kept.
     pub(crate) fn kept_recipient(&self) -> Option<Recipient<'_>>
         ensures { ForSome result (λ recipient. recipient.context.now ≡ context_of self.now) }
     {
@@ -97,7 +97,7 @@ impl KeyedContext {
         }
     }
 
-    /// As [`crate::seal_request`], under the schedule that is kept, or is made.
+    /// Seals a request as [`crate::seal_request`] does, under the kept schedule or under one that it makes.
     pub fn seal_request(
         &self,
         number: Piv,
@@ -119,7 +119,7 @@ impl KeyedContext {
         }
     }
 
-    /// As [`crate::seal_response`], under the schedule that is kept, or is made.
+    /// Seals a response as [`crate::seal_response`] does, under the kept schedule or under one that it makes.
     pub fn seal_response(
         &self,
         request: &RequestRef,
@@ -145,7 +145,7 @@ impl KeyedContext {
         }
     }
 
-    /// As [`crate::open_request`], under the schedule that is kept, or is made.
+    /// Opens a request as [`crate::open_request`] does, under the kept schedule or under one that it makes.
     pub fn open_request<'b>(&self, datagram: &'b mut [u8]) -> Result<Opened<'b>, UnprotectError>
         ensures opened { IfOk result (λ o. Opens (opened_requests (context_of self.now)) datagram.old o) }
         ensures accepts { (n : ℕ) (m : InnerParts) → ProtectsRequest (as_server (context_of self.now)) n m datagram.old
@@ -159,7 +159,7 @@ impl KeyedContext {
         }
     }
 
-    /// As [`crate::open_response`], under the schedule that is kept, or is made.
+    /// Opens a response as [`crate::open_response`] does, under the kept schedule or under one that it makes.
     pub fn open_response<'b>(
         &self,
         request: &RequestRef,
@@ -181,7 +181,7 @@ impl KeyedContext {
 }
 
 impl fmt::Debug for KeyedContext {
-    /// Shows the context as that shows itself; the schedules are left out.
+    /// Shows the context as the context's own `Debug` does, and leaves the schedules out.
     fn fmt<W: fmt::Write>(&self, f: &mut fmt::Formatter<W>) -> fmt::Result {
         f.debug_struct("KeyedContext")
             .field("context", &self.context)

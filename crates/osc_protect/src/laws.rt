@@ -1,4 +1,4 @@
-//! What holds of all datagrams. A call of such a function does nothing: its contract is there for the proof of its
+//! What holds for all datagrams. Calling one of these functions does nothing: its contract is there for the proof of its
 //! caller.
 
 ghost use Rattle.osc_protect.specs.CipherLaws.{OneRequestInput, OneResponseInput};
@@ -9,7 +9,7 @@ use osc_ccm::{one_plaintext, protection_length};
 use osc_coap::{lengths_by_parts, one_datagram, one_inner, one_text};
 use osc_context::{one_additional_data, one_nonce, one_option_value};
 
-/// What the layers below promise of all bytes.
+/// States what the layers below promise for all bytes.
 pub(crate) fn layer_laws()
     ensures { LayerLaws }
 {
@@ -20,8 +20,8 @@ pub(crate) fn layer_laws()
     protection_length();
 }
 
-/// A datagram has one head of a request or one refusal of it, and one head of a response or one refusal of that, never both
-/// (RFC 8613, 8.2 and 8.4).
+/// States that a datagram has at most one head of a request and at most one refusal of one, and never both. It states the same for a
+/// response (RFC 8613, 8.2 and 8.4).
 pub fn one_head()
     ensures request { OneRequestHead }
     ensures response { OneResponseHead }
@@ -29,13 +29,13 @@ pub fn one_head()
     layer_laws();
 }
 
-/// Two contexts that the head of a request names have the same client, and the same ID Context or none (RFC 8613, 8.2).
+/// States that two contexts that one request head names have the same client, and the same ID Context or both none (RFC 8613, 8.2).
 pub fn one_client()
     ensures { NamesOneClient }
 {}
 
-/// A datagram that is protected, a request or a response, has a head, which says what the context says by the message's
-/// number; of a datagram that was sealed, kind, message ID and token there are the plain message's (RFC 8613, 8.1 and 8.3).
+/// States that a protected request or response has a head that says what the context says under the message's number. If the datagram was
+/// sealed, this head has the Type, Message ID and token of the plain message (RFC 8613, 8.1 and 8.3).
 pub fn protections_show_heads()
     ensures request { RequestsShowHeads }
     ensures response { ResponsesShowHeads }
@@ -43,7 +43,7 @@ pub fn protections_show_heads()
     layer_laws();
 }
 
-/// A datagram whose head names the context is refused, if at all, for its tag or for its plaintext (RFC 8613, 8.2 and 8.4).
+/// States that a datagram whose head names the context is refused, if at all, for its tag or for its plaintext (RFC 8613, 8.2 and 8.4).
 pub fn named_refusals()
     ensures request { NamedRequestRefusals }
     ensures response { NamedResponseRefusals }
@@ -51,24 +51,24 @@ pub fn named_refusals()
     one_head();
 }
 
-/// A datagram protects one request under one number or has one refusal, never both (RFC 8613, 8.2).
+/// States that a datagram protects at most one request under one number, or has at most one refusal, never both (RFC 8613, 8.2).
 pub fn one_request()
     ensures { OneRequest }
 {
     layer_laws();
 }
 
-/// A datagram protects one response to a request, under one own number or none, or has one refusal, never both (RFC 8613,
-/// 8.4).
+/// States that a datagram protects at most one response to a request, under one own number or none, or has at most one refusal, never both
+/// (RFC 8613, 8.4).
 pub fn one_response()
     ensures { OneResponse }
 {
     layer_laws();
 }
 
-/// Whoever reads a datagram reads one thing. Where its head names one context and it protects a message under another, both
-/// contexts say the same in the OSCORE option; and what opens has one head, one number, one pair of hosts and one message
-/// (RFC 8613, 8.2 and 8.4).
+/// States that everyone who reads a datagram reads the same. If its head names one context and it protects a message under another, both
+/// contexts say the same in the OSCORE option. A datagram that opens has one head, one number, one pair of Uri-Host and Uri-Port, and one
+/// message (RFC 8613, 8.2 and 8.4).
 pub fn one_reading()
     ensures request { OneRequestReading }
     ensures response { OneResponseReading }
@@ -76,7 +76,7 @@ pub fn one_reading()
     layer_laws();
 }
 
-/// What one end seals, a request or a response to it, opens at the other end as the plain message's code, inner options and
+/// States that what one end seals, a request or a response to it, opens at the other end as the plain message's code, inner options and
 /// payload, and as no other message (RFC 8613, 8.1 to 8.4).
 pub fn sealed_opens()
     ensures { SealedOpens }
@@ -85,8 +85,8 @@ pub fn sealed_opens()
     one_response();
 }
 
-/// A plain request has one sealed form under one number, or one refusal, never both where there is room for that form; a
-/// plain response too (RFC 8613, 8.1 and 8.3).
+/// States that a plain request has at most one sealed form under one number and at most one refusal, and never both if there is room for
+/// that form. It states the same for a plain response (RFC 8613, 8.1 and 8.3).
 pub fn one_sealed()
     ensures { OneSealed }
 {
@@ -97,10 +97,10 @@ pub fn one_sealed()
     protection_length();
 }
 
-/// The cipher of a message takes key, nonce and additional data beside the plaintext. In a usable context these are of one
-/// request's number, and of a response also of one own number or none; a response's nonce of its own number is no request's.
-/// Whatever the contexts and datagrams are, one payload protects one message under the same three (RFC 8613, 5 and
-/// 5.2).
+/// States what the input of a message's cipher fixes: the key, the nonce and the additional data, which the cipher takes besides the
+/// plaintext. In a usable context this input belongs to one request number, and for a response also to one own number or none. There, the
+/// nonce of a response's own number is never the nonce of a request. In all contexts and datagrams, one payload protects one message under
+/// the same input (RFC 8613, 5 and 5.2).
 pub fn one_cipher_input()
     ensures request { OneRequestInput }
     ensures response { OneResponseInput }

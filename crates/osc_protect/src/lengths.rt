@@ -1,4 +1,4 @@
-//! How long what is sealed will be, known before a byte is written.
+//! The length of a sealed message, known before a byte is written.
 
 ghost use Rattle.std.specs.Prelude.{◌≡◌, ◌+◌, ◌-◌, ◌<◌, ◌≤◌, ◌⊎◌, length, IfErr, IfNone, IfSome, IsOk};
 ghost use Rattle.osc_coap.specs.Class.{inner_options, outer_options};
@@ -12,18 +12,18 @@ use osc_ccm::TAG_LEN;
 use osc_coap::option_numbers::OSCORE;
 use osc_coap::{Class, MOST_DATAGRAM, Message, Options, class_of, head_len, option_len};
 
-/// How far a list of options has come: the number of its last one, and its bytes so far.
+/// A count over a list of options so far: the number of the last option, and the bytes up to there.
 #[derive(Clone, Copy)]
 struct Tally {
     number: u16,
     len: usize,
 }
 
-/// Before the first option.
+/// The count before the first option.
 const NO_OPTIONS: Tally = Tally { number: 0, len: 0 };
 
 impl Tally {
-    /// One option more, or None above what a datagram can hold.
+    /// Adds one option. Returns `None` if the sum is more than a datagram can hold.
     fn with(self, number: u16, value_len: usize) -> Option<Tally>
         requires { self.len ≤ 65535 }
         ensures number { IfSome result (λ t. t.number ≡ number) }
@@ -42,7 +42,7 @@ impl Tally {
     }
 }
 
-/// The options outside and those inside, or None where one of the two is longer than a datagram can be.
+/// Counts the outer and the inner options. Returns `None` if either of the two lists is longer than a datagram can be.
 fn tally_options(options: Options<'_>) -> Option<(Tally, Tally)>
     ensures outer { IfSome result (λ t. t.0.len ≡ spelling_length 0 (outer_options (options_left options.entry))) }
     ensures last { IfSome result (λ t. t.0.number ≡ last_number 0 (outer_options (options_left options.entry))) }
@@ -64,7 +64,7 @@ fn tally_options(options: Options<'_>) -> Option<(Tally, Tally)>
     Some((outer, inner))
 }
 
-/// The bytes of a marker and a payload, or 0 where there is none.
+/// Returns how many bytes a marker and the payload take, or 0 if the payload is empty.
 fn marked_len(payload: &[u8]) -> usize
     ensures { result ≡ length (marked payload.now) }
 {
@@ -75,7 +75,7 @@ fn marked_len(payload: &[u8]) -> usize
     }
 }
 
-/// Judges the length of what is sealed with this value of the OSCORE option, in a buffer of this length.
+/// Checks the length that the message has once it is sealed with this value of the OSCORE option, for a buffer of `room` bytes.
 pub(crate) fn judge_length(
     plain: &Message<'_>,
     value: &[u8],

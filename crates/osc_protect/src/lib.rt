@@ -1,5 +1,5 @@
-//! Sealing and opening one request (RFC 8613, 8.1 and 8.2), or a response to it (8.3 and 8.4), with no state. What opens is
-//! opened in the datagram that carries it.
+//! Seals and opens one request (RFC 8613, 8.1 and 8.2), or a response to it (8.3 and 8.4), without any state. A message is opened
+//! in the datagram that carries it.
 //!
 //! ```
 //! let context = KeyedContext::new(Context::derive(Params { secret, salt, id_context: None, sender, recipient })?);
@@ -9,10 +9,9 @@
 //! let len = context.seal_response(&RequestRef::new(number), None, &plain, &mut out)?;
 //! ```
 //!
-//! A call is `open_request`. `open_request_by` is the same over the end whose key it takes, for a `Context` and a
-//! `KeyedContext` alike; `open_request_forward` does the work, and has the clauses that run from its answer to what holds, to
-//! which the call adds their converses by a law. Other calls have such workers under the same names, where a proof needs
-//! them.
+//! `open_request`, for example, is a call. `open_request_by` does the same over the end whose key it takes, for a `Context` and a
+//! `KeyedContext` alike. `open_request_forward` does the work. Its clauses lead from its result to what holds, and the call adds their
+//! converses by a law. Other calls have such workers with the same endings of names, if a proof needs them.
 #![tactic(auto)]
 
 mod aead;

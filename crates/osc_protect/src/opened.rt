@@ -1,11 +1,11 @@
-//! A message that was opened.
+//! An opened message.
 
 use osc_coap::{Kind, Options, Token};
 use osc_context::Piv;
 
-/// A message that was opened, in the datagram that carried it. Kind, message ID and token are those of the datagram; code,
-/// inner options and payload were protected. `uri_host` and `uri_port` are the first outer Uri-Host and Uri-Port: they
-/// were **not** protected. Every other outer option is dropped.
+/// An opened message, in the datagram that carried it. The Type, Message ID and token are the datagram's. The code, inner options and
+/// payload were protected. `uri_host` and `uri_port` are the first outer Uri-Host and Uri-Port: they were **not** protected. Every other
+/// outer option is dropped.
 #[derive(Debug, Drop)]
 pub struct Opened<'b> {
     pub kind: Kind,
@@ -16,7 +16,7 @@ pub struct Opened<'b> {
     pub uri_host: Option<&'b [u8]>,
     pub uri_port: Option<&'b [u8]>,
     pub payload: &'b [u8],
-    /// The number of the message: of a request always, of a response where it has one of its own.
+    /// The Partial IV of the message. A request always has one; a response has one only if it has its own.
     pub piv: Option<Piv>,
     pub(crate) inner: Options<'b>,
 }
@@ -26,7 +26,7 @@ impl<'b> Opened<'b> {
     ghost use Rattle.osc_coap.specs.Views.{options_left};
     ghost use Rattle.osc_protect.specs.Views.{message_of};
 
-    /// The inner options in ascending number, each one's number and value.
+    /// Returns the inner options in ascending order of their numbers, each with its number and value.
     #[must_use]
     pub fn inner(&self) -> Options<'b>
         ensures { options_left result ≡ (message_of self.now).options }

@@ -1,5 +1,5 @@
-//! Opening a request or a response in the datagram that carries it (RFC 8613, 8.2 and 8.4): its stages one after the other,
-//! over a context, of which each call makes the schedule of one key.
+//! Opens a request or a response in the datagram that carries it (RFC 8613, 8.2 and 8.4). Each call runs the stages one after the other
+//! over a context, and makes the schedule of one of its keys.
 
 ghost use Rattle.std.specs.Prelude.{◌≡◌, ◌≢◌, ℕ, List, Option, Some, IfOk, IfErr, IsOkAnd, IsErrOf};
 ghost use Rattle.osc_coap.specs.Inner.{InnerParts};
@@ -25,14 +25,14 @@ use crate::stages::{SealedRequest, SealedResponse};
 use crate::unprotect_error::UnprotectError;
 use osc_context::Context;
 
-/// Opens a request in its datagram: reads the head, asks whether it names the context, decrypts and reads. The first refusal
-/// in the order of `UnprotectError` is answered. `decrypt_request` says what the datagram holds afterwards.
+/// Opens a request in its datagram: reads the head, checks whether it names the context, decrypts and reads. Returns the first refusal in
+/// the order of `UnprotectError`. `decrypt_request` says what the datagram holds afterwards.
 pub fn open_request<'b>(
     context: &Context,
     datagram: &'b mut [u8],
 ) -> Result<Opened<'b>, UnprotectError>
     ensures opened { IfOk result (λ o. Opens (opened_requests context.now) datagram.old o) }
-    // Whatever message the datagram protects, that is what opens.
+    // Whatever message the datagram protects, that message opens.
     ensures accepts { (n : ℕ) (m : InnerParts) → ProtectsRequest (as_server context.now) n m datagram.old
         → IsOkAnd result (λ o. (opened_number o ≡ Some n) × (message_of o ≡ m)) }
     ensures refused { IfErr result (λ e. RefusesToOpen (opened_requests context.now) datagram.old e) }
@@ -42,15 +42,15 @@ pub fn open_request<'b>(
     open_request_by(Recipient::new(context, &schedule), datagram)
 }
 
-/// Opens a response to a request in its datagram: reads the head, decrypts and reads. The first refusal in the order of
-/// `UnprotectError` is answered. `decrypt_response` says what the datagram holds afterwards.
+/// Opens a response to a request in its datagram: reads the head, decrypts and reads. Returns the first refusal in the order of
+/// `UnprotectError`. `decrypt_response` says what the datagram holds afterwards.
 pub fn open_response<'b>(
     context: &Context,
     request: &RequestRef,
     datagram: &'b mut [u8],
 ) -> Result<Opened<'b>, UnprotectError>
     ensures opened { IfOk result (λ o. Opens (opened_responses context.now request.now) datagram.old o) }
-    // Whatever message the datagram protects, that is what opens.
+    // Whatever message the datagram protects, that message opens.
     ensures accepts { (own : Option ℕ) (m : InnerParts)
         → ProtectsResponse (as_client context.now) (request_number request.now) own m datagram.old
         → IsOkAnd result (λ o. (opened_number o ≡ own) × (message_of o ≡ m)) }
@@ -95,7 +95,7 @@ pub(crate) fn open_response_by<'b>(
     open_response_forward(recipient, request, datagram)
 }
 
-/// The stages of a request, one after the other.
+/// Runs the stages of a request, one after the other.
 fn open_request_forward<'b>(
     recipient: Recipient<'_>,
     datagram: &'b mut [u8],
@@ -113,7 +113,7 @@ fn open_request_forward<'b>(
     }
 }
 
-/// The stages of a response, one after the other.
+/// Runs the stages of a response, one after the other.
 fn open_response_forward<'b>(
     recipient: Recipient<'_>,
     request: &RequestRef,
@@ -133,7 +133,7 @@ fn open_response_forward<'b>(
     }
 }
 
-/// Reads the head of a request, and asks whether it names the context.
+/// Reads the head of a request, and checks whether it names the context.
 fn find_request(context: &Context, datagram: &[u8]) -> Result<SealedRequest, UnprotectError>
     ensures found { IfOk result (λ x. IsSealedRequest (opened_requests context.now) datagram.now x) }
     ensures refused { IfErr result (λ e. RefusesToOpen (opened_requests context.now) datagram.now e) }
@@ -142,7 +142,7 @@ fn find_request(context: &Context, datagram: &[u8]) -> Result<SealedRequest, Unp
         Ok(head) => head,
         Err(error) => return Err(UnprotectError::from(error)),
     };
-    // The context is asked before the tag is checked (RFC 8613, 8.2).
+    // The context is checked before the tag (RFC 8613, 8.2).
     if !head.names(context) {
         return Err(UnprotectError::WrongContext);
     }

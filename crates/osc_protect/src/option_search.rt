@@ -1,4 +1,4 @@
-//! Options found by their numbers (RFC 7252, 5.10; RFC 8613, 2 and 4.1).
+//! Finds options by their numbers (RFC 7252, 5.10; RFC 8613, 2 and 4.1).
 
 ghost use Rattle.std.specs.Prelude.{◌≡◌, ◌∷◌, ℕ, List};
 ghost use Rattle.osc_coap.specs.OptionNumbers.{oscore, uri_host, uri_port};
@@ -12,7 +12,7 @@ use crate::option_sets::{is_barred, is_proxy, is_unsupported};
 use osc_coap::Options;
 use osc_coap::option_numbers::{OSCORE, URI_HOST, URI_PORT};
 
-/// How many options of one number there are, and the value of a single one.
+/// How many options of one number there are, and the value if there is exactly one.
 #[derive(Clone, Copy, Debug)]
 pub(crate) enum Found<'a> {
     Nothing,
@@ -23,7 +23,7 @@ pub(crate) enum Found<'a> {
 impl<'a> Found<'a> {
     ghost use Rattle.osc_protect.specs.Found.{FindsBefore};
 
-    /// What was found with one more value.
+    /// Adds one more value to what was found.
     fn and(self, value: &'a [u8]) -> Found<'a>
         ensures { (rest values : List (List ℕ)) → FindsBefore self.entry (value.now ∷ rest) values → FindsBefore result rest values }
     {
@@ -34,7 +34,7 @@ impl<'a> Found<'a> {
     }
 }
 
-/// What the options outside say of the protection.
+/// What the outer options say about the protection.
 #[derive(Clone, Copy, Debug)]
 pub(crate) struct OuterOptions<'a> {
     pub(crate) oscore: Found<'a>,
@@ -44,7 +44,7 @@ pub(crate) struct OuterOptions<'a> {
 ghost use Rattle.osc_protect.specs.Found.{Finds};
 
 impl<'a> OuterOptions<'a> {
-    /// Goes through the options once: which are OSCORE, and whether one is for proxies.
+    /// Goes through the options once, and finds the OSCORE options and whether any option is for proxies.
     pub(crate) fn of(options: Options<'a>) -> OuterOptions<'a>
         ensures oscore { Finds result.oscore (values_at oscore (options_left options.entry)) }
         ensures proxy { result.has_proxy ≡ has_number is_proxy (options_left options.entry) }
@@ -91,7 +91,7 @@ impl<'a> OuterUri<'a> {
     }
 }
 
-/// Whether one of the options may not stand inside.
+/// Returns whether any of the options may not stand inside the protection.
 pub(crate) fn has_barred(options: Options<'_>) -> bool
     ensures { result ≡ has_number is_barred (options_left options.entry) }
 {
@@ -103,7 +103,7 @@ pub(crate) fn has_barred(options: Options<'_>) -> bool
     false
 }
 
-/// The number of the first of the options with which a message can't be sealed.
+/// Returns the number of the first option that keeps a message from being sealed.
 pub(crate) fn first_unsupported(options: Options<'_>) -> Option<u16>
     ensures { result ≡ first_number is_unsupported (options_left options.entry) }
 {

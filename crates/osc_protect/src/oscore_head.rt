@@ -1,4 +1,4 @@
-//! What a protected message says to whoever has no key (RFC 8613, 8.2 and 8.4, steps 1 and 2).
+//! What a protected message shows to a reader without the key (RFC 8613, 8.2 and 8.4, steps 1 and 2).
 
 ghost use Rattle.std.specs.Prelude.{◌≡◌, IfOk, IfErr};
 ghost use Rattle.osc_coap.specs.Views.{parts_of};
@@ -22,7 +22,7 @@ pub(crate) struct OscoreHead<'a> {
 ghost use Rattle.osc_protect.specs.Head.{HasHead, HasNoHead, ShowsNoHead, ShowsHead};
 ghost use Rattle.osc_protect.specs.Views.{head_of};
 
-/// The same token once more.
+/// Returns a copy of the token.
 fn copy_of(token: &Token) -> Token
     ensures { result.items ≡ token.now.items }
 {

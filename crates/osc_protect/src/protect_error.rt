@@ -3,17 +3,17 @@
 use std::error::Error;
 use std::fmt;
 
-/// Why a message isn't sealed, in the order in which it is judged.
+/// Why a message isn't sealed. The variants stand in the order in which they are checked.
 #[derive(Clone, Copy, Debug, PartialEq, Eq)]
 pub enum ProtectError {
-    /// The message is not CON or NON with a request code, or, of a response, not CON, NON or ACK with a response code.
+    /// A request isn't CON or NON with a request code, or a response isn't CON, NON or ACK with a response code.
     NotThatKind,
-    /// It has an option that can't be sealed: the lowest number of Observe, OSCORE, Block2, Block1, Proxy-Uri and
+    /// The message has an option that can't be sealed. The value is the lowest number of Observe, OSCORE, Block2, Block1, Proxy-Uri and
     /// Proxy-Scheme that it has; own rule.
     Unsupported(u16),
-    /// It would have more than 65,535 bytes; own rule.
+    /// The sealed message would have more than 65,535 bytes; own rule.
     TooLong,
-    /// It would have more bytes than the buffer.
+    /// The sealed message would have more bytes than the buffer.
     NoRoom,
 }
 

@@ -1,5 +1,5 @@
-//! The last stage of opening: the plaintext of a datagram that was decrypted is read, and slices of the datagram are lent
-//! (RFC 8613, 8.2 and 8.4). A bad plaintext is the one refusal.
+//! The last stage of opening: it reads the plaintext of a decrypted datagram, and lends slices of the datagram (RFC 8613, 8.2 and 8.4). The
+//! only refusal is a bad plaintext.
 
 ghost use Rattle.std.specs.Prelude.{◌≡◌, ℕ, List, Option, Some, IfOk, IsErr, IsOk, IsOkAnd, OnErr, OnOk};
 ghost use Rattle.osc_coap.specs.Inner.{InnerParts};
@@ -22,8 +22,8 @@ use osc_ccm::TAG_LEN;
 use osc_coap::{one_datagram, one_inner, parse_inner, parsed, parsed_inner, payload_stands_last};
 use osc_context::Piv;
 
-/// Reads a request that was decrypted, and borrows nothing: `ReadRequest::opened` lends what was read, without a second reading.
-/// The datagram is as `decrypt_request` left it, and the value the one that it gave (RFC 8613, 8.2).
+/// Reads a decrypted request, and borrows nothing: `ReadRequest::opened` lends what was read, without reading it again. Pass in the
+/// datagram as `decrypt_request` left it, and the value that it returned (RFC 8613, 8.2).
 pub fn inspect_request(
     datagram: &[u8],
     decrypted: DecryptedRequest,
@@ -64,7 +64,7 @@ fn inspect_request_forward(
 }
 
 impl ReadRequest {
-    /// The message, in slices of the datagram. The datagram is as it was when the value was read of it.
+    /// Lends the message, in slices of the datagram. The datagram must be as it was when the value was read from it.
     #[must_use]
     pub fn opened(self, datagram: &[u8]) -> Opened<'_>
         requires { (x : DecryptedRequest) × CanLendRequest datagram.now x self }
@@ -76,7 +76,7 @@ impl ReadRequest {
     }
 }
 
-/// Reads a request that was decrypted. The datagram is as `decrypt_request` left it, and the value the one that it gave.
+/// Reads a decrypted request. Pass in the datagram as `decrypt_request` left it, and the value that it returned.
 pub fn read_request(datagram: &[u8], decrypted: DecryptedRequest) -> Result<Opened<'_>, BadInner>
     requires { FitsRequest datagram.now decrypted }
     ensures opened { IfOk result (λ o. OpensRequestAfter datagram.now decrypted o) }
@@ -105,8 +105,8 @@ fn read_request_forward(
     }
 }
 
-/// Reads a response that was decrypted, and borrows nothing: `ReadResponse::opened` lends what was read, without a second reading.
-/// The datagram is as `decrypt_response` left it, and the value the one that it gave (RFC 8613, 8.4).
+/// Reads a decrypted response, and borrows nothing: `ReadResponse::opened` lends what was read, without reading it again. Pass in the
+/// datagram as `decrypt_response` left it, and the value that it returned (RFC 8613, 8.4).
 pub fn inspect_response(
     datagram: &[u8],
     decrypted: DecryptedResponse,
@@ -147,7 +147,7 @@ fn inspect_response_forward(
 }
 
 impl ReadResponse {
-    /// The message, in slices of the datagram. The datagram is as it was when the value was read of it.
+    /// Lends the message, in slices of the datagram. The datagram must be as it was when the value was read from it.
     #[must_use]
     pub fn opened(self, datagram: &[u8]) -> Opened<'_>
         requires { (x : DecryptedResponse) × CanLendResponse datagram.now x self }
@@ -165,7 +165,7 @@ impl ReadResponse {
     }
 }
 
-/// Reads a response that was decrypted. The datagram is as `decrypt_response` left it, and the value the one that it gave.
+/// Reads a decrypted response. Pass in the datagram as `decrypt_response` left it, and the value that it returned.
 pub fn read_response(datagram: &[u8], decrypted: DecryptedResponse) -> Result<Opened<'_>, BadInner>
     requires { FitsResponse datagram.now decrypted }
     ensures opened { IfOk result (λ o. OpensResponseAfter datagram.now decrypted o) }
@@ -194,7 +194,7 @@ fn read_response_forward(
     }
 }
 
-/// Reads the plaintext of `len` bytes at the front of the payload, and answers the length of its own payload.
+/// Reads the plaintext of `len` bytes at the front of the payload, and returns the length of the plaintext's own payload.
 fn inspect(usage: Usage, datagram: &[u8], len: usize) -> Result<usize, BadInner>
     requires { HasPayloadOf datagram.now len }
     ensures accepted { IfOk result (λ n. HasPlaintext usage datagram.now len n) }

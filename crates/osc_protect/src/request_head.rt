@@ -1,5 +1,5 @@
-//! What a protected request says to whoever has no key (RFC 8613, 8.2, steps 1 and 2). It is read by itself, since a
-//! server needs it to find the context by which the rest is opened.
+//! What a protected request shows to a reader without the key (RFC 8613, 8.2, steps 1 and 2). It is read separately, because a server needs
+//! it to find the context that opens the rest.
 
 ghost use Rattle.std.specs.Prelude.{IfOk, IfErr, IsOkAnd, IsErrOf, List, ℕ, ◌≡◌, ◌≢◌, true, false};
 ghost use Rattle.osc_context.specs.Views.{as_server, number_of, oscore_parts_of};
@@ -13,13 +13,13 @@ use crate::usage::Usage;
 use osc_coap::{Kind, Message, Token};
 use osc_context::{Context, Piv};
 
-/// The head of a protected request. Nothing in it was protected yet.
+/// The head of a protected request. None of it counts as protected yet.
 #[derive(Debug, Drop)]
 pub struct RequestHead<'a> {
     pub kind: Kind,
     pub message_id: u16,
     pub token: Token,
-    /// The identifier of the client, as the request names it.
+    /// The client's identifier, as the request gives it.
     pub kid: &'a [u8],
     pub kid_context: Option<&'a [u8]>,
     pub number: Piv,
@@ -41,8 +41,8 @@ impl<'a> RequestHead<'a> {
     ghost use Rattle.osc_protect.specs.Views.{opened_requests};
     ghost use Rattle.osc_protect.specs.declared.head_error.NoHead.{NoHead};
 
-    /// Reads what a message says, as a protected request, to whoever has no key. The first refusal in the order of `NoHead` is
-    /// answered (RFC 8613, 8.2, steps 1 and 2); kind, message ID and token of a refused message are its own.
+    /// Reads what a message, as a protected request, shows to a reader without the key. Returns the first refusal in the order of `NoHead`
+    /// (RFC 8613, 8.2, steps 1 and 2). The Type, Message ID and token of a refused message are those of the message itself.
     pub fn read(message: &Message<'a>) -> Result<RequestHead<'a>, NoHead>
         ensures head { IfOk result (λ h. ShowsRequestHead (parts_of message.now) (seen_head h)) }
         ensures refused { IfErr result (λ e. ShowsNoRequestHead (parts_of message.now) e) }
@@ -64,7 +64,7 @@ impl<'a> RequestHead<'a> {
         }
     }
 
-    /// What `decrypt_request` takes of the head: where the ciphertext lies, and the number.
+    /// Returns what `decrypt_request` needs from the head: where the ciphertext lies, and the Partial IV.
     #[must_use]
     pub fn sealed(&self) -> SealedRequest
         ensures { (s : SecurityContext) (d : List ℕ) → HasRequestHead d (seen_head self.now) → Names (requests s) (seen_head self.now) (number_of self.now.number)
@@ -76,7 +76,7 @@ impl<'a> RequestHead<'a> {
         }
     }
 
-    /// Whether the head names the context of this end, which is the server, as [`Context::answers_to`] tells (RFC 8613, 8.2,
+    /// Returns whether the head names the context of this end, which is the server. [`Context::answers_to`] decides this (RFC 8613, 8.2,
     /// step 2).
     #[must_use]
     pub fn names(&self, context: &Context) -> bool
@@ -87,7 +87,7 @@ impl<'a> RequestHead<'a> {
     }
 }
 
-/// The head of a request, which has a number and a kid.
+/// Converts the head of a request, which has a Partial IV and a kid.
 fn of_request(head: OscoreHead<'_>) -> RequestHead<'_>
     requires { is_complete Request (oscore_parts_of head.option) ≡ true }
     ensures { seen_head result ≡ head_of head.entry }
@@ -117,8 +117,8 @@ fn head_of_request_forward(datagram: &[u8]) -> Result<RequestHead<'_>, HeadError
     }
 }
 
-/// Reads what a protected request says to whoever has no key: kind, message ID, token, kid, kid context and number. It is
-/// `parse`, and then `RequestHead::read`. The first refusal in the order of `HeadError` is answered (RFC 8613, 8.2).
+/// Reads what a protected request shows to a reader without the key: Type, Message ID, token, kid, kid context and Partial IV. It does what
+/// `parse` and then `RequestHead::read` do. Returns the first refusal in the order of `HeadError` (RFC 8613, 8.2).
 pub fn head_of_request(datagram: &[u8]) -> Result<RequestHead<'_>, HeadError>
     ensures head { IfOk result (λ h. HasRequestHead datagram.now (seen_head h)) }
     ensures refused { IfErr result (λ e. HasNoRequestHead datagram.now e) }

@@ -1,4 +1,4 @@
-//! What a protected response says to whoever has no key (RFC 8613, 8.4, steps 1 and 2).
+//! What a protected response shows to a reader without the key (RFC 8613, 8.4, steps 1 and 2).
 
 ghost use Rattle.std.specs.Prelude.{IfOk, IfErr, IsOkAnd, IsErrOf, List, ℕ, ◌≡◌, true};
 ghost use Rattle.osc_coap.specs.Views.{parts_of};
@@ -14,13 +14,13 @@ use crate::usage::Usage;
 use osc_coap::{Kind, Message, Token};
 use osc_context::Piv;
 
-/// The head of a protected response. Nothing in it was protected yet; which request it answers its token tells.
+/// The head of a protected response. None of it counts as protected yet. Its token tells which request it answers.
 #[derive(Debug, Drop)]
 pub struct ResponseHead<'a> {
     pub kind: Kind,
     pub message_id: u16,
     pub token: Token,
-    /// The number of the response, where it has one of its own.
+    /// The Partial IV of the response, if it has one of its own.
     pub number: Option<Piv>,
     pub(crate) payload: &'a [u8],
 }
@@ -34,8 +34,8 @@ impl<'a> ResponseHead<'a> {
     ghost use Rattle.osc_protect.specs.Protection.{responses};
     ghost use Rattle.osc_protect.specs.StageViews.{IsSealedResponse};
 
-    /// Reads what a message says, as a protected response, to whoever has no key. The first refusal in the order of `NoHead`
-    /// is answered (RFC 8613, 8.4, steps 1 and 2).
+    /// Reads what a message, as a protected response, shows to a reader without the key. Returns the first refusal in the order of `NoHead`
+    /// (RFC 8613, 8.4, steps 1 and 2).
     pub fn read(message: &Message<'a>) -> Result<ResponseHead<'a>, NoHead>
         ensures head { IfOk result (λ h. ShowsResponseHead (parts_of message.now) (seen_response_head h)) }
         ensures refused { IfErr result (λ e. ShowsNoResponseHead (parts_of message.now) e) }
@@ -57,7 +57,7 @@ impl<'a> ResponseHead<'a> {
         }
     }
 
-    /// What `decrypt_response` takes of the head: where the ciphertext lies, and the number, where there is one.
+    /// Returns what `decrypt_response` needs from the head: where the ciphertext lies, and the Partial IV if there is one.
     #[must_use]
     pub fn sealed(&self) -> SealedResponse
         ensures { (s : SecurityContext) (n : ℕ) (d : List ℕ) → HasResponseHead d (seen_response_head self.now) → IsSealedResponse (responses s n) d result }
@@ -69,7 +69,7 @@ impl<'a> ResponseHead<'a> {
     }
 }
 
-/// The head of a response, which has no kid and no kid context.
+/// Converts the head of a response, which has no kid and no kid context.
 fn of_response(head: OscoreHead<'_>) -> ResponseHead<'_>
     requires { is_complete Response (oscore_parts_of head.option) ≡ true }
     ensures { seen_response_head result ≡ head_of head.entry }

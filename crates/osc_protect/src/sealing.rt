@@ -1,7 +1,7 @@
-//! Sealing a request or a response into the caller's buffer (RFC 8613, 8.1 and 8.3). Its length is known before a byte is
-//! written.
+//! Seals a request or a response into the caller's buffer (RFC 8613, 8.1 and 8.3). The length of the sealed message is known before a
+//! byte is written.
 //!
-//!     head, code outside | token | options of class U | OSCORE option | ff | plaintext, sealed where it lies | tag
+//!     head, outer code | token | options of class U | OSCORE option | ff | plaintext, sealed in place | tag
 
 ghost use Rattle.std.specs.Prelude.{◌≡◌, ◌≢◌, ◌≤◌, ◌+◌, [], ℕ, List, length, take, drop, IfOk, IfErr, IsErrOf, IsOk, OnErr, false};
 ghost use Rattle.std.specs.Option.{option_map};
@@ -35,10 +35,10 @@ use osc_coap::option_numbers::OSCORE;
 use osc_coap::{Message, Writer, options_ascend, payload_stands_last};
 use osc_context::{Context, OscoreOption, Piv, one_option_value};
 
-/// What stands in front of a payload.
+/// The byte in front of a payload.
 const MARKER: u8 = 0xff;
 
-/// Writes what stands outside of the protection, and answers how long that is.
+/// Writes what stands outside the protection, and returns its length.
 fn write_outside(plain: &Message<'_>, code: u8, value: &[u8], out: &mut [u8]) -> usize
     requires code { code ≢ 0 }
     requires supported { has_number is_unsupported (parts_of plain.now).options ≡ false }
@@ -59,7 +59,7 @@ fn write_outside(plain: &Message<'_>, code: u8, value: &[u8], out: &mut [u8]) ->
     writer.finish()
 }
 
-/// Writes the plaintext, and answers how long it is.
+/// Writes the plaintext, and returns its length.
 fn write_inside(plain: &Message<'_>, buf: &mut [u8]) -> usize
     requires room { inner_length (inside (parts_of plain.now)) ≤ length buf.old }
     requires fits { inner_length (inside (parts_of plain.now)) ≤ 65535 }
@@ -77,7 +77,7 @@ fn write_inside(plain: &Message<'_>, buf: &mut [u8]) -> usize
     writer.finish()
 }
 
-/// Makes the plaintext behind a message and a marker's place into its payload, where it lies.
+/// Seals a plaintext in place. It lies after a message and the place of a marker, and becomes the message's payload.
 fn seal_behind(aead: &Aead<'_>, out: &mut [u8], at: usize, len: usize) -> usize
     requires room { at + 9 + len ≤ length out.old }
     requires fits { at + 9 + len ≤ 65535 }
@@ -94,7 +94,7 @@ fn seal_behind(aead: &Aead<'_>, out: &mut [u8], at: usize, len: usize) -> usize
     at + 1 + sealed
 }
 
-/// Writes the value that says this of the OSCORE option.
+/// Writes the value of this OSCORE option.
 fn write_value(option: OscoreOption<'_>, value: &mut ArrayVec<u8, 255>)
     requires { most_len (oscore_parts_of option) ≤ 255 }
     ensures reads { IsOscoreValue (oscore_parts_of option.entry) value.new.items }
@@ -105,7 +105,7 @@ fn write_value(option: OscoreOption<'_>, value: &mut ArrayVec<u8, 255>)
     };
 }
 
-/// Writes the value of a request's OSCORE option: number, ID Context and the sender's identifier (RFC 8613, 6.1).
+/// Writes the value of a request's OSCORE option: Partial IV, ID Context and the sender's identifier (RFC 8613, 6.1).
 fn write_request_value(context: &Context, number: Piv, value: &mut ArrayVec<u8, 255>)
     ensures reads { IsOscoreValue ((sealed_requests context.now).parts (number_of number)) value.new.items }
     ensures short { array_vec_len value.new ≤ 255 }
@@ -118,7 +118,7 @@ fn write_request_value(context: &Context, number: Piv, value: &mut ArrayVec<u8, 
     write_value(option, value);
 }
 
-/// Writes the value of a response's OSCORE option: its own number, where it has one (RFC 8613, 6.1 and 8.3).
+/// Writes the value of a response's OSCORE option: its own Partial IV, if it has one (RFC 8613, 6.1 and 8.3).
 fn write_response_value(own: Option<Piv>, value: &mut ArrayVec<u8, 255>)
     ensures reads { IsOscoreValue (value_of_response (option_map number_of own)) value.new.items }
     ensures short { array_vec_len value.new ≤ 255 }
@@ -131,7 +131,7 @@ fn write_response_value(own: Option<Piv>, value: &mut ArrayVec<u8, 255>)
     write_value(option, value);
 }
 
-/// Seals a message that was judged: there is room for it.
+/// Seals a message that passed the checks: there is room for it.
 fn seal_judged(
     usage: Usage,
     value: &[u8],
@@ -152,7 +152,7 @@ fn seal_judged(
     seal_behind(aead, out, at, len)
 }
 
-/// Judges the length of a message that can be sealed, then seals it.
+/// Checks the length of a message that can be sealed, then seals it.
 fn seal_in_room(
     usage: Usage,
     value: &[u8],
@@ -175,10 +175,10 @@ fn seal_in_room(
     Ok(seal_judged(usage, value, aead, plain, out))
 }
 
-/// Seals a request under the next number of the sender, and answers how many bytes at the front of `out` it takes; what
-/// stands behind them stays. Kind, message ID and token are those of the plain message, the code outside is 0.02. The first
-/// refusal in the order of `ProtectError` is answered, and leaves `out`. The caller keeps the number fresh: no two messages
-/// may be sealed with one (RFC 8613, 8.1).
+/// Seals a request with the sender's next Sender Sequence Number, and returns how many bytes it takes at the front of `out`. The bytes
+/// after them stay unchanged. Type, Message ID and token are the plain message's; the outer code is 0.02. Returns the first refusal in the
+/// order of `ProtectError`. A refusal leaves `out` unchanged. The caller keeps the number fresh: no two messages may be sealed with the
+/// same one (RFC 8613, 8.1).
 pub fn seal_request(
     context: &Context,
     number: Piv,
@@ -198,10 +198,10 @@ pub fn seal_request(
     seal_request_by(Sender::new(context, &schedule), number, plain, out)
 }
 
-/// Seals a response to a request, under an own number of the server or else with the request's nonce, and answers how many
-/// bytes at the front of `out` it takes; what stands behind them stays. Kind, message ID and token are those of the plain
-/// message, the code outside is 2.04. The first refusal in the order of `ProtectError` is answered, and leaves `out`. The
-/// caller keeps the own number fresh, and seals at most one response to a request without one (RFC 8613, 8.3).
+/// Seals a response to a request, with the server's own Partial IV or else with the request's nonce. Returns how many bytes it takes at
+/// the front of `out`; the bytes after them stay unchanged. Type, Message ID and token are the plain message's; the outer code is 2.04.
+/// Returns the first refusal in the order of `ProtectError`. A refusal leaves `out` unchanged. The caller keeps the own number fresh, and
+/// seals at most one response without one to each request (RFC 8613, 8.3).
 pub fn seal_response(
     context: &Context,
     request: &RequestRef,
@@ -265,7 +265,7 @@ pub(crate) fn seal_response_by(
     seal_response_forward(sender, request, own, plain, out)
 }
 
-/// Judges a request, then its length, then seals it.
+/// Checks a request, then its length, then seals it.
 fn seal_request_forward(
     sender: Sender<'_>,
     number: Piv,
@@ -287,7 +287,7 @@ fn seal_request_forward(
     seal_in_room(Usage::Request, value.as_slice(), &aead, plain, out)
 }
 
-/// Judges a response, then its length, then seals it.
+/// Checks a response, then its length, then seals it.
 fn seal_response_forward(
     sender: Sender<'_>,
     request: &RequestRef,

@@ -1,4 +1,4 @@
-//! The options of a message, parted by where its protection puts them (RFC 8613, 4.1).
+//! The options of a message, split by where its protection puts them (RFC 8613, 4.1).
 
 ghost use Rattle.std.specs.Prelude.{◌≡◌, ℕ, List, length};
 ghost use Rattle.osc_coap.specs.Class.{class};
@@ -11,15 +11,15 @@ use osc_coap::{Class, Options, Writer, class_of};
 /// A side of the protection.
 #[derive(Clone, Copy)]
 pub(crate) enum Side {
-    /// Where the options of class U stand.
+    /// The side of the options of class U.
     Outside,
-    /// Where the options of class E stand, and those of both classes; own rule.
+    /// The side of the options of class E, and of those of both classes; own rule.
     Inside,
 }
 
 ghost use Rattle.osc_protect.specs.Split.{TakesAll, options_on, stands_on};
 
-/// Whether an option of this number stands on this side.
+/// Returns whether an option of this number stands on this side.
 fn stands_on(side: Side, number: u16) -> bool
     ensures { result ≡ stands_on side (class number) }
 {
@@ -29,7 +29,7 @@ fn stands_on(side: Side, number: u16) -> bool
     }
 }
 
-/// Writes the options that stand on one side, in order. There is room for them.
+/// Writes the options that stand on one side, in order. There must be room for them.
 pub(crate) fn write_side(writer: &mut Writer<'_>, options: Options<'_>, side: Side)
     requires { (draft : Draft) × (old : List ℕ) × Holds writer.old draft old
         × TakesAll (length old) draft (options_on side (options_left options)) }

@@ -1,9 +1,9 @@
-//! The one refusal of each stage of opening that works on the ciphertext or on the plaintext.
+//! The only refusal of each stage of opening that works on the ciphertext or on the plaintext.
 
 use std::error::Error;
 use std::fmt;
 
-/// The payload is the protection of no plaintext: the one refusal of decrypting.
+/// The payload protects no plaintext. This is the only refusal of decrypting.
 #[derive(Clone, Copy, Debug, PartialEq, Eq)]
 pub struct BadTag;
 
@@ -20,8 +20,8 @@ impl fmt::Display for BadTag {
 
 impl Error for BadTag {}
 
-/// The plaintext is no message, or not of the code of a request, or of a response, or has an option that may not stand inside:
-/// the one refusal of reading.
+/// The plaintext isn't a message; or a request's code isn't a request code, or a response's code isn't a response code; or it has an option
+/// that may not stand inside the protection. This is the only refusal of reading.
 #[derive(Clone, Copy, Debug, PartialEq, Eq)]
 pub struct BadInner;
 

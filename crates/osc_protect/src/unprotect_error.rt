@@ -5,24 +5,24 @@ use osc_coap::FormatError;
 use std::error::Error;
 use std::fmt;
 
-/// Why a datagram doesn't open, in the order in which it is judged (RFC 8613, 8.2 and 8.4).
+/// Why a datagram doesn't open. The variants stand in the order in which they are checked (RFC 8613, 8.2 and 8.4).
 #[derive(Clone, Copy, Debug, PartialEq, Eq)]
 pub enum UnprotectError {
-    /// The bytes are no CoAP message.
+    /// The bytes aren't a CoAP message.
     Format(FormatError),
-    /// The message is not CON or NON with a request code, or, of a response, not CON, NON or ACK with a response code.
+    /// A request isn't CON or NON with a request code, or a response isn't CON, NON or ACK with a response code.
     NotThatKind,
     /// There is no OSCORE option.
     NoOscore,
-    /// There are two or more OSCORE options, or one whose value can't be read; in a request it lacks a Partial IV or a kid, in
-    /// a response it has a kid or a kid context; or there is no payload, or an option for proxies.
+    /// One of these holds: there are two or more OSCORE options; the value of the one OSCORE option can't be read; in a request, it lacks a
+    /// Partial IV or a kid; in a response, it has a kid or a kid context; there is no payload; there is an option for proxies.
     Undecodable,
-    /// The kid is not the client's identifier, or the kid context not the ID Context; never of a response.
+    /// The kid isn't the client's identifier, or the kid context isn't the ID Context. A response is never refused for this.
     WrongContext,
-    /// The payload is the protection of no plaintext.
+    /// The payload protects no plaintext.
     Tag,
-    /// The plaintext is no message, or not of the code of a request, or of a response, or has an option that may not stand
-    /// inside.
+    /// The plaintext isn't a message; or a request's code isn't a request code, or a response's code isn't a response code; or it has an
+    /// option that may not stand inside the protection.
     Inner,
 }
 

@@ -6,13 +6,13 @@ ghost use Rattle.osc_context.specs.Views.{oscore_parts_of};
 use osc_coap::{Message, is_request_code, is_response_code};
 use osc_context::OscoreOption;
 
-/// The code that a sealed request has outside: 0.02, POST (RFC 8613, 4.2).
+/// The outer code of a sealed request: 0.02, POST (RFC 8613, 4.2).
 const OUTER_REQUEST_CODE: u8 = 0x02;
 
-/// The code that a sealed response has outside: 2.04, Changed (RFC 8613, 4.2).
+/// The outer code of a sealed response: 2.04, Changed (RFC 8613, 4.2).
 const OUTER_RESPONSE_CODE: u8 = 0x44;
 
-/// What a message of an exchange is.
+/// What a message is in an exchange: a request or a response.
 #[derive(Clone, Copy, Debug)]
 pub(crate) enum Usage {
     Request,
@@ -21,7 +21,7 @@ pub(crate) enum Usage {
 
 ghost use Rattle.osc_protect.specs.Usage.{is_code_of, is_complete, is_used, outer_code_of};
 
-/// Whether the code is of this usage.
+/// Returns whether the code belongs to this usage.
 pub(crate) fn is_code_of(usage: Usage, code: u8) -> bool
     ensures { result ≡ is_code_of usage code }
 {
@@ -31,7 +31,7 @@ pub(crate) fn is_code_of(usage: Usage, code: u8) -> bool
     }
 }
 
-/// Whether kind and code are of this usage.
+/// Returns whether the Type and code belong to this usage.
 pub(crate) fn is_used(usage: Usage, message: &Message<'_>) -> bool
     ensures { result ≡ is_used usage message.now.kind message.now.code }
 {
@@ -41,7 +41,7 @@ pub(crate) fn is_used(usage: Usage, message: &Message<'_>) -> bool
     }
 }
 
-/// The code that what is sealed has outside.
+/// Returns the outer code of a sealed message.
 pub(crate) fn outer_code(usage: Usage) -> u8
     ensures { result ≡ outer_code_of usage }
 {
@@ -51,8 +51,8 @@ pub(crate) fn outer_code(usage: Usage) -> u8
     }
 }
 
-/// Whether the OSCORE option says what it has to, and no more: in a request a Partial IV and a kid, in a response neither kid
-/// nor kid context; own rule: the response (RFC 8613, 5 and 8.3).
+/// Returns whether the OSCORE option says what it has to, and no more: in a request a Partial IV and a kid, in a response neither kid nor
+/// kid context; own rule: the response (RFC 8613, 5 and 8.3).
 pub(crate) fn is_complete(usage: Usage, option: OscoreOption<'_>) -> bool
     ensures { result ≡ is_complete usage (oscore_parts_of option.entry) }
 {

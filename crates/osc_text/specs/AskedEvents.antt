@@ -2,7 +2,7 @@
 use Rattle.std.specs.Prelude.{◌≡◌, ℕ, ◌^◌, List, [], ◌∷◌, codes}
 use Rattle.osc_text.specs.Inputs.{SaysBelow, SaysBytes, parted}
 
--- what a line asks of a client: to send a request, to take a datagram, to forget a token, to begin anew (own rule)
+-- what a line asks of a client: to send a request, to take a datagram, to forget a token, or to begin anew (own rule)
 pub data AskedEvent : Type 0 where
   Request : (now : ℕ) (plain : List ℕ) → AskedEvent
   Take : (now : ℕ) (datagram : List ℕ) → AskedEvent

@@ -1,4 +1,4 @@
--- For the proofs: how the events of a client are read, one function a reader of the code.
+-- For the proofs: how the events of a client are read, one function for each reader of the code.
 use Rattle.std.specs.Prelude.{◌≡◌, ℕ, ◌+◌, ◌^◌, List, length, codes, bytes_eq, Option, Some, None, if◌then◌else◌}
 use Rattle.std.specs.Option.{option_map, option_and_then}
 use Rattle.osc_context.specs.Views.{number_of}
@@ -7,7 +7,7 @@ use Rattle.osc_endpoint.specs.declared.client_event.ClientEvent.TheVariants as e
 use Rattle.osc_text.specs.AskedEvents.{AskedEvent, Request, Take, Forget, Restart, SpellsAsked}
 use Rattle.osc_text.specs.InputReading.{SpellsSeen, bytes_read, number_read, split_once}
 
--- a moment and bytes, by what their words say (how the code is seen)
+-- a moment and bytes, from what their words say (how the code is seen)
 abbrev pub timed_of : Option ℕ → Option (List ℕ) → Option (ℕ × List ℕ)
 timed_of (Some now) (Some bytes) = Some (now, bytes)
 timed_of now bytes = None

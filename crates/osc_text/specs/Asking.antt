@@ -1,5 +1,5 @@
--- To be believed: what `run` prints of a client and its input (RFC 8613, 8.1 and 8.4; own rule: the lines). g is what the
--- context is derived from, h and k are the histories before and after.
+-- To be believed: what `run` prints for a client and its input (RFC 8613, 8.1 and 8.4; own rule: the lines). g is what the context is
+-- derived from, h and k are the histories before and after.
 use Rattle.std.specs.Prelude.{◌≡◌, ◌+◌, ℕ, List, Bool, length}
 use Rattle.osc_coap.specs.Datagram.{Parts, IsDatagram}
 use Rattle.osc_coap.specs.Fault.{HasFault}
@@ -21,15 +21,15 @@ use Rattle.osc_text.specs.InputText.{InputText}
 use Rattle.osc_text.specs.Inputs.{IsFirstBadLine}
 use Rattle.osc_text.specs.declared.asking.Asking.{Asking}
 
--- for how many pending requests there is room (own rule)
+-- how many pending requests there is room for (own rule)
 abbrev pub places : ℕ
 places = 16
 
--- the room that each request has: that of its plain message and 128 bytes (own rule)
+-- the room for each request: the length of its plain message plus 128 bytes (own rule)
 abbrev pub request_room : List ℕ → ℕ
 request_room plain = length plain + 128
 
--- a request by a plain message, and the line of its entry; one that is sealed has the next number (RFC 8613, 7.2.1 and 8.1)
+-- a request with a plain message, and the line of its entry; a sealed request has the next number (RFC 8613, 7.2.1 and 8.1)
 pub data RequestLine (h : History) (now : ℕ) (plain line : List ℕ) (k : History) : Type 0 where
   bad_plain : (fault : MessageFault) (place : ℕ) → HasFault plain fault place → GoesOn places h (Advance now) Advanced k
       → line ≡ bad_plain_line fault place → RequestLine h now plain line k
@@ -45,11 +45,11 @@ ClientLine h (asked.Take now d) line k = (answer : Answer) × GoesOn places h (D
 ClientLine h (asked.Forget token) line k = (was_pending : Bool) × GoesOn places h (Forget token) (Forgot was_pending) k × (line ≡ forgot_line was_pending)
 ClientLine h (asked.Restart first) line k = GoesOn places h (Restart first) Restarted k × (line ≡ restarted_line)
 
--- what `run` prints of a client: one line for each event of the input (RFC 8613, 8.1 and 8.4)
+-- what `run` prints for a client: one line for each event of the input (RFC 8613, 8.1 and 8.4)
 abbrev pub AskText : Params → Asking → List ℕ → Told
 AskText g asking bytes = InContext g (InputText SpellsAsked ClientLine (New (client_context_of g) (number_of asking.next) asking.life_ms) bytes)
 
--- the context is there, and the line of this number, counted from 1, is the first that spells no event (own rule)
+-- the context is derived, and the line with this number, counted from 1, is the first that spells no event (own rule)
 pub record HasBadAskedLine (g : Params) (bytes : List ℕ) (number : ℕ) : Type 0 where
   pub in_context : (e : ContextError) → ¬ RefusesParams g e
   pub first_bad : IsFirstBadLine SpellsAsked bytes number

@@ -1,5 +1,5 @@
--- To be believed: how the entries of a client's log print, one a line (own rule: the words). number is that of a request,
--- own that of a response, if it has one.
+-- To be believed: how the entries of a client's log print, one per line (own rule: the words). number is the number of a request, own is
+-- the own number of a response, if it has one.
 use Rattle.std.specs.Prelude.{ℕ, Bool, true, false, List, ◌++◌, Option, codes}
 use Rattle.std.specs.Fmt.{decimal}
 use Rattle.osc_coap.specs.Inner.{InnerParts}
@@ -7,11 +7,11 @@ use Rattle.osc_endpoint.specs.ClientHistory.{Answer, Malformed, NotResponse, Unk
 use Rattle.osc_text.specs.EntryLines.{entry_line, fault_text, message_text}
 use Rattle.osc_text.specs.Lines.{bytes_text, number_text}
 
--- a delivery: number, own number, or a dash for none, code, options and payload (own rule)
+-- a delivery: number, own number or a dash if there is none, code, options and payload (own rule)
 abbrev pub response_text : (number : ℕ) (own : Option ℕ) → InnerParts → List ℕ
 response_text number own m = codes "deliver " ++ (decimal number ++ (codes " " ++ (number_text own ++ (codes " " ++ message_text m))))
 
--- what a datagram was answered (own rule)
+-- the text for the answer to a datagram (own rule)
 abbrev pub answer_text : Answer → List ℕ
 answer_text (Malformed fault place) = codes "malformed " ++ fault_text fault place
 answer_text NotResponse = codes "not-response"
@@ -22,15 +22,15 @@ answer_text BadTag = codes "bad-tag"
 answer_text BadInner = codes "bad-inner"
 answer_text (Deliver received number) = response_text number received.number received.message
 
--- the line of what a datagram was answered (own rule)
+-- the line for the answer to a datagram (own rule)
 abbrev pub answer_line : Answer → List ℕ
 answer_line answer = entry_line (answer_text answer)
 
--- a request that was sealed: its number and its bytes (own rule)
+-- a sealed request: its number and its bytes (own rule)
 abbrev pub sent_text : ℕ → List ℕ → List ℕ
 sent_text number bytes = codes "sent " ++ (decimal number ++ (codes " " ++ bytes_text bytes))
 
--- its line (own rule)
+-- the line for a sealed request (own rule)
 abbrev pub sent_line : ℕ → List ℕ → List ℕ
 sent_line number bytes = entry_line (sent_text number bytes)
 
@@ -39,6 +39,6 @@ abbrev pub forgot_text : Bool → List ℕ
 forgot_text true = codes "forgotten"
 forgot_text false = codes "not-pending"
 
--- the line of a token that is waited for no more (own rule)
+-- the line for a token that the client stops waiting for (own rule)
 abbrev pub forgot_line : Bool → List ℕ
 forgot_line was_pending = entry_line (forgot_text was_pending)

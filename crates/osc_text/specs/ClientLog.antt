@@ -10,7 +10,7 @@ use Rattle.osc_endpoint.specs.declared.client_outcome.ClientOutcome.TheVariants 
 use Rattle.osc_text.specs.ClientLines.{forgot_text, response_text, sent_text}
 use Rattle.osc_text.specs.EntryLines.{entry_line, fault_text}
 
--- what was made of a datagram, as it prints (how the code is seen)
+-- what the client made of a datagram, as it prints (how the code is seen)
 abbrev pub outcome_text : ClientOutcome → List ℕ
 outcome_text (outcomes.Malformed e) = codes "malformed " ++ fault_text e.fault e.place
 outcome_text outcomes.NotResponse = codes "not-response"

@@ -8,20 +8,20 @@ use Rattle.osc_context.specs.declared.context_error.ContextError.{ContextError}
 use Rattle.osc_context.specs.declared.parameters.Params.{Params}
 use Rattle.osc_text.specs.Lines.{bytes_line, refused_line}
 
--- lines and status that a call has (own rule)
+-- which lines and which status a call has (own rule)
 abbrev pub Told : Type 1
 Told = List (List ℕ) → ℕ → Type 0
 
--- what a call prints: the line of the first refusal of its context, or what it tells under that (RFC 8613, 3.2)
+-- what a call prints: the line of the first refusal of its context, or what is told under that context (RFC 8613, 3.2)
 pub data InContext (g : Params) (told : Told) (lines : List (List ℕ)) (status : ℕ) : Type 0 where
   no_context : (e : ContextError) → IsFirstParamsRefusal g e → lines ≡ refused_line (context_error_text e) ∷ [] → status ≡ 2 → InContext g told lines status
   in_context : ((e : ContextError) → ¬ RefusesParams g e) → told lines status → InContext g told lines status
 
--- the lines of the sender's key, the recipient's key and the Common IV, of which the sender is the client (own rule)
+-- the lines with the Sender Key, the Recipient Key and the Common IV, with the client as the sender (own rule)
 abbrev pub key_lines : SecurityContext → List (List ℕ)
 key_lines s = bytes_line (codes "sender key") s.client_key ∷ bytes_line (codes "recipient key") s.server_key ∷ bytes_line (codes "common iv") s.common_iv ∷ []
 
--- what `derive` prints of a context, with status 0 (own rule)
+-- what `derive` prints for a context, with status 0 (own rule)
 abbrev pub KeyText : SecurityContext → Told
 KeyText s lines status = (lines ≡ key_lines s) × (status ≡ 0)
 

@@ -1,4 +1,4 @@
--- To be believed: what the entries of a server's and of a client's log have in common as they print (own rule: the words).
+-- To be believed: what the printed entries of a server's log and of a client's log have in common (own rule: the words).
 use Rattle.std.specs.Prelude.{ℕ, List, [], ◌∷◌, ◌++◌, codes}
 use Rattle.std.specs.Fmt.{decimal}
 use Rattle.osc_coap.specs.Inner.{InnerParts}
@@ -19,12 +19,12 @@ fault_text fault place = fault_name fault ++ (codes " " ++ decimal place)
 abbrev pub option_text : Entry → List ℕ
 option_text entry = decimal entry.0 ++ (codes ":" ++ bytes_text entry.1)
 
--- the options behind the first, a comma before each (own rule)
+-- the options after the first, with a comma before each (own rule)
 abbrev pub more_options_text : List Entry → List ℕ
 more_options_text [] = []
 more_options_text (entry ∷ entries) = codes "," ++ (option_text entry ++ more_options_text entries)
 
--- options joined by commas, and a dash for none (own rule)
+-- options joined by commas, or a dash if there are none (own rule)
 abbrev pub options_text : List Entry → List ℕ
 options_text [] = codes "-"
 options_text (entry ∷ entries) = option_text entry ++ more_options_text entries
@@ -33,11 +33,11 @@ options_text (entry ∷ entries) = option_text entry ++ more_options_text entrie
 abbrev pub message_text : InnerParts → List ℕ
 message_text m = code_text m.code ++ (codes " " ++ (options_text m.options ++ (codes " " ++ bytes_text m.payload)))
 
--- the line of a refusal, by its text (own rule)
+-- the line of a refusal with this text (own rule)
 abbrev pub not_done_line : List ℕ → List ℕ
 not_done_line text = entry_line (codes "refused: " ++ text)
 
--- the line of a plain message that has a fault (own rule)
+-- the line for a plain message that has a fault (own rule)
 abbrev pub bad_plain_line : Fault → ℕ → List ℕ
 bad_plain_line fault place = entry_line (codes "bad-plain " ++ fault_text fault place)
 

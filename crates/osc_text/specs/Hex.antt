@@ -2,7 +2,7 @@
 use Rattle.std.specs.Prelude.{◌≡◌, ℕ, ◌+◌, ◌&&◌, nat_le, List, map, if◌then◌else◌}
 use Rattle.hex.specs.Hex.{IsBytes, encode_lower}
 
--- a letter from A to F as its small one, any other character itself (own rule: both cases are read)
+-- a letter from A to F in lower case, and any other character as it is (own rule: both cases are read)
 abbrev pub small : ℕ → ℕ
 small c = if nat_le 65 c && nat_le c 70 then c + 32 else c
 

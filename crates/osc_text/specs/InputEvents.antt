@@ -4,13 +4,13 @@ use Rattle.std.specs.Int.{to_be_bytes, w16}
 use Rattle.osc_text.specs.Hex.{SpellsBytes}
 use Rattle.osc_text.specs.Inputs.{SaysBelow, SaysBytes, parted}
 
--- what a line asks of a server: a datagram comes, the request of an event is answered, the context begins a new life (own rule)
+-- what a line asks of a server: to take a datagram, to answer the request of an event, or to begin a new life of the context (own rule)
 pub data InputEvent : Type 0 where
   Take : (now : ℕ) (echo : List ℕ) (mid : ℕ) (datagram : List ℕ) → InputEvent
   Reply : (of : ℕ) (own : Bool) (mid : ℕ) (plain : List ℕ) → InputEvent
   Restart : (next : ℕ) → InputEvent
 
--- the word says this message ID: its two bytes in hex, the high one first (own rule)
+-- the word says this Message ID: its two bytes in hex, the high one first (own rule)
 abbrev pub SaysMessageId : List ℕ → ℕ → Type 0
 SaysMessageId word mid = (mid < 2 ^ 16) × SpellsBytes word (to_be_bytes w16 mid)
 
@@ -18,12 +18,12 @@ SaysMessageId word mid = (mid < 2 ^ 16) × SpellsBytes word (to_be_bytes w16 mid
 abbrev pub SaysEcho : List ℕ → List ℕ → Type 0
 SaysEcho word echo = (length echo ≡ 8) × SpellsBytes word echo
 
--- the word for a reply with an own number, and for one without (own rule)
+-- the word for a reply with an own number, and for a reply without one (own rule)
 abbrev pub own_word : Bool → List ℕ
 own_word true = codes "own"
 own_word false = codes "shared"
 
--- the line spells this event (own rule: moments and the events that are answered are below 2 ^ 64, own numbers below 2 ^ 40)
+-- the line spells this event (own rule: moments and the indices of answered events are below 2 ^ 64, own numbers below 2 ^ 40)
 abbrev pub SpellsEvent : List ℕ → InputEvent → Type 0
 SpellsEvent line (Take now echo mid datagram) =
     (n e m d : List ℕ) × (line ≡ parted (codes "take" ∷ n ∷ e ∷ m ∷ d ∷ []))

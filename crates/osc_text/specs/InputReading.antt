@@ -1,4 +1,4 @@
--- For the proofs: how an input is read, one function a reader of the code.
+-- For the proofs: how an input is read, one function for each reader of the code.
 use Rattle.std.specs.Prelude.{◌≡◌, ℕ, ◌+◌, ◌==◌, ◌&&◌, nat_lt, List, [], ◌∷◌, ◌++◌, length, codes, bytes_eq, Option, Some, None, Result, Ok, Err, if◌then◌else◌}
 use Rattle.std.specs.Borrow.{Bor}
 use Rattle.std.specs.Str.{all_ascii_digits}
@@ -14,12 +14,12 @@ abbrev pub longer_front : ℕ → Option (List ℕ × List ℕ) → Option (List
 longer_front b None = None
 longer_front b (Some p) = Some (b ∷ p.0, p.1)
 
--- the bytes before the first mark, and those behind it, where it is there (how the code is seen)
+-- the bytes before the first mark and the bytes after it, if there is one (how the code is seen)
 unfoldable pub split_once : ℕ → List ℕ → Option (List ℕ × List ℕ)
 split_once mark [] = None
 split_once mark (b ∷ bytes) = if b == mark then Some ([], bytes) else longer_front b (split_once mark bytes)
 
--- the number of a word of digits, where it is below a bound (how the code is seen)
+-- the number that a word of digits says, if it is below a bound (how the code is seen)
 unfoldable pub number_read : ℕ → List ℕ → Option ℕ
 number_read bound word = if nat_lt 0 (length word) && (all_ascii_digits word && nat_lt (number_said word) bound) then Some (number_said word) else None
 
@@ -28,7 +28,7 @@ abbrev pub hex_decoded : Result (List ℕ) FromHexError → Option (List ℕ)
 hex_decoded (Ok bytes) = Some bytes
 hex_decoded (Err e) = None
 
--- the bytes of a word of hex that isn't empty, or of a dash (how the code is seen)
+-- the bytes of a word of hex that isn't empty, or no bytes for a dash (how the code is seen)
 unfoldable pub bytes_read : List ℕ → Option (List ℕ)
 bytes_read word =
     if length word == 0 then None
@@ -56,11 +56,11 @@ parts p = (p.0.now, p.1.now)
 abbrev pub SpellsNone : {E : Type 0} → (List ℕ → E → Type 0) → List ℕ → Type 0
 SpellsNone {E} spells line = (event : E) → spells line event → ⊥
 
--- the line spells an event of the code, by what is seen of it, and the rest of it is right (how the code is seen)
+-- the line spells what is seen of an event of the code, and the rest of the event is right (how the code is seen)
 abbrev pub SpellsSeen : {E V : Type 0} → (List ℕ → E → Type 0) → (V → E) → (V → Type 0) → List ℕ → V → Type 0
 SpellsSeen spells seen IsRight line event = spells line (seen event) × IsRight event
 
--- the first lines of the input read to these events, and the one behind them is bad (how the code is seen)
+-- the first lines of the input were read as these events, and the line after them is bad (how the code is seen)
 pub record StopsReading {V : Type 0} (reads : List ℕ → V → Type 0) (IsBad : List ℕ → Type 0) (input : List ℕ) (number : ℕ) : Type 0 where
   pub good : List (List ℕ)
   pub all : List V
@@ -71,7 +71,7 @@ pub record StopsReading {V : Type 0} (reads : List ℕ → V → Type 0) (IsBad 
   pub is_bad : IsBad bad
   pub counted : number ≡ length good + 1
 
--- why no events are read: a bad line, or want of memory (how the code is seen)
+-- why no events are read: a bad line, or a lack of memory (how the code is seen)
 abbrev pub Misreads : {V : Type 0} → (List ℕ → V → Type 0) → (List ℕ → Type 0) → List ℕ → Fault → Type 0
 Misreads reads IsBad input (Line number) = StopsReading reads IsBad input number
 Misreads reads IsBad input Memory = Unit {0}

@@ -1,12 +1,12 @@
--- To be believed: what is printed of an input, whatever its lines ask for (own rule). spells says which line spells which
--- event, step which line is printed of an event, by the states before and after it.
+-- To be believed: what is printed for an input, whatever its lines ask for (own rule). spells says which line spells which event, step says
+-- which line is printed for an event, by the states before and after it.
 use Rattle.std.specs.Prelude.{◌≡◌, ℕ, List, [], ◌∷◌, Result, Ok, Err}
 use Rattle.osc_text.specs.Contexts.{Told}
 use Rattle.osc_text.specs.Inputs.{SpellsInput}
 use Rattle.osc_text.specs.declared.fault.Fault.{Fault}
 use Rattle.osc_text.specs.declared.fault.Fault.TheVariants as faults
 
--- the lines of these events, one each, from this state on (own rule)
+-- the lines of these events, one line for each, from this state on (own rule)
 abbrev pub EventLines : {S E : Type 0} → (S → E → List ℕ → S → Type 0) → S → List E → List (List ℕ) → Type 0
 EventLines step s [] [] = Unit {0}
 EventLines step s [] (line ∷ lines) = ⊥
@@ -17,7 +17,7 @@ EventLines {S} step s (event ∷ events) (line ∷ lines) = (t : S) × step s ev
 abbrev pub InputText : {S E : Type 0} → (List ℕ → E → Type 0) → (S → E → List ℕ → S → Type 0) → S → List ℕ → Told
 InputText {S} {E} spells step s input lines status = (events : List E) × SpellsInput spells input events × EventLines step s events lines × (status ≡ 0)
 
--- where a line is bad: its number, or want of memory (own rule)
+-- what is returned if a line is bad: its number, or a lack of memory (own rule)
 abbrev pub RefusesLine : {T : Type 0} → ℕ → Result T Fault → Type 0
 RefusesLine number (Ok x) = ⊥
 RefusesLine number (Err (faults.Line n)) = n ≡ number

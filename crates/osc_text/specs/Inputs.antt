@@ -4,22 +4,22 @@ use Rattle.std.specs.Prelude.{◌≡◌, ◌≢◌, ◌⊎◌, ℕ, ◌+◌, ◌
 use Rattle.osc_text.specs.Hex.{SpellsBytes}
 use Rattle.osc_text.specs.Numbers.{IsDigitWord, number_said}
 
--- some words, parted by one space (own rule)
+-- some words, separated by one space (own rule)
 abbrev pub parted : List (List ℕ) → List ℕ
 parted [] = []
 parted (word ∷ []) = word
 parted (word ∷ next ∷ words) = word ++ (codes " " ++ parted (next ∷ words))
 
--- the word says this number, which is below a bound, in decimal digits (own rule)
+-- the word says this number in decimal digits, and the number is below a bound (own rule)
 abbrev pub SaysBelow : ℕ → List ℕ → ℕ → Type 0
 SaysBelow bound word n = IsDigitWord word × (n ≡ number_said word) × (n < bound)
 
--- the word says these bytes: in hex, and no bytes by a dash (own rule)
+-- the word says these bytes: in hex, or as a dash if there are none (own rule)
 abbrev pub SaysBytes : List ℕ → List ℕ → Type 0
 SaysBytes word [] = word ≡ codes "-"
 SaysBytes word (b ∷ bytes) = SpellsBytes word (b ∷ bytes)
 
--- the input is these lines: a newline ends each, and the last, where it isn't empty, may end with the input (own rule)
+-- the input is these lines: a newline ends each line, but the last line, if it isn't empty, may end with the input instead (own rule)
 abbrev pub AreLines : List (List ℕ) → List ℕ → Type 0
 AreLines [] input = input ≡ []
 AreLines (line ∷ lines) input = All (λ c. c ≢ 10) line
@@ -36,7 +36,7 @@ SpellEvents spells (line ∷ lines) (event ∷ events) = spells line event × Sp
 abbrev pub SpellsInput : {E : Type 0} → (List ℕ → E → Type 0) → List ℕ → List E → Type 0
 SpellsInput spells input events = (lines : List (List ℕ)) × AreLines lines input × SpellEvents spells lines events
 
--- the line of this number, counted from 1, is the first that spells no event (own rule)
+-- the line with this number, counted from 1, is the first that spells no event (own rule)
 pub record IsFirstBadLine {E : Type 0} (spells : List ℕ → E → Type 0) (input : List ℕ) (number : ℕ) : Type 0 where
   pub good : List (List ℕ)
   pub events : List E

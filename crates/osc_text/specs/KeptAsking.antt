@@ -1,5 +1,5 @@
--- To be believed: what `run` prints of a client whose numbers are kept, and its input (RFC 8613, 7.2.1, 8.1, 8.4 and B.1.1; own rule: the lines). k
--- says what its keeper tells, keeper is the keeper before, g what the context is derived from, c that context.
+-- To be believed: what `run` prints for a client whose numbers are kept, and its input (RFC 8613, 7.2.1, 8.1, 8.4 and B.1.1; own rule: the
+-- lines). k says what the client's keeper tells, keeper is the keeper before the call, g what the context is derived from, c that context.
 use Rattle.std.specs.Prelude.{◌≡◌, ◌≢◌, ℕ, [], ◌∷◌, List}
 use Rattle.osc_context.specs.ContextRefusal.{RefusesParams}
 use Rattle.osc_context.specs.SecurityContext.{SecurityContext}
@@ -25,7 +25,7 @@ use Rattle.osc_text.specs.KeptSeen.{IsRoomyAsked, kept_asked_seen}
 use Rattle.osc_text.specs.KeptText.{FrontText, LineOf}
 use Rattle.osc_text.specs.Lines.{refused_line}
 
--- an event and the line of its entry, which is a step of a run; n is for how many pending requests there is room (RFC 8613, 8.1, 8.4 and B.1.1)
+-- an event and the line of its entry, which is a step of a run; n is how many pending requests there is room for (RFC 8613, 8.1, 8.4 and B.1.1)
 abbrev pub KeptAskedLine : {K : Type 0} {k : keeper.Ghosts K} → ℕ → ClientState k → KeptAsked → List ℕ → ClientState k → Type 0
 KeptAskedLine n s event line t = LineOf (ClientStep n) kept_asked_seen IsRoomyAsked kept_asked_text s event line t
 
@@ -40,15 +40,15 @@ pub data ClientStartText {K : Type 0} (k : keeper.Ghosts K) (c : SecurityContext
       → ClientStartText k c life keeper told lines status
   asked : (s : ClientState k) → StartsClient k c life keeper s → told s lines status → ClientStartText k c life keeper told lines status
 
--- what `run` prints of a client: one line for each event of the input (RFC 8613, 7.2.1, 8.1, 8.4 and B.1.1)
+-- what `run` prints for a client: one line for each event of the input (RFC 8613, 7.2.1, 8.1, 8.4 and B.1.1)
 abbrev pub KeptAskText : {K : Type 0} (k : keeper.Ghosts K) → Params → ℕ → K → List ℕ → Told
 KeptAskText k g life keeper input = InContext g (ClientStartText k (client_context_of g) life keeper (λ s. InputText SpellsKeptAsked (KeptAskedLine places) s input))
 
--- what it prints a front of where memory is refused: the line of a refusal, or one for each of the first events of the input (own rule)
+-- the text whose front `run` prints if memory is refused: the line of a refusal, or one line for each of the first events of the input (own rule)
 abbrev pub KeptAskFront : {K : Type 0} (k : keeper.Ghosts K) → Params → ℕ → K → List ℕ → Told
 KeptAskFront k g life keeper input = InContext g (ClientStartText k (client_context_of g) life keeper (λ s. FrontText SpellsKeptAsked (KeptAskedLine places) s input))
 
--- the context is there, the client started, and the line of this number, counted from 1, is the first that spells no event (own rule)
+-- the context is derived, the client started, and the line with this number, counted from 1, is the first that spells no event (own rule)
 pub record HasBadKeptAskedLine {K : Type 0} (k : keeper.Ghosts K) (g : Params) (life : ℕ) (keeper : K) (input : List ℕ) (number : ℕ) : Type 0 where
   pub in_context : (e : ContextError) → ¬ RefusesParams g e
   pub state : ClientState k

@@ -1,10 +1,10 @@
--- To be believed: which lines ask a server whose numbers are kept for what (own rule): those that ask a server whose numbers are given, but a
--- restart says no number. Lines are lists of characters.
+-- To be believed: which lines ask a server whose numbers are kept for what (own rule): the same lines as for a server whose numbers are
+-- given, except that a restart says no number. Lines are lists of characters.
 use Rattle.std.specs.Prelude.{◌≡◌, ℕ, Bool, List, codes}
 use Rattle.osc_text.specs.InputEvents.{SpellsEvent}
 use Rattle.osc_text.specs.InputEvents as input
 
--- what a line asks of a server: a datagram comes, the request of an event is answered, the context begins a new life (own rule)
+-- what a line asks of a server: to take a datagram, to answer the request of an event, or to begin a new life of the context (own rule)
 pub data KeptEvent : Type 0 where
   Take : (now : ℕ) (echo : List ℕ) (mid : ℕ) (datagram : List ℕ) → KeptEvent
   Reply : (of : ℕ) (own : Bool) (mid : ℕ) (plain : List ℕ) → KeptEvent

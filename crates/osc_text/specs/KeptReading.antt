@@ -15,7 +15,7 @@ use Rattle.osc_text.specs.KeptEvents.{KeptEvent, Take, Reply, Restart, SpellsKep
 use Rattle.osc_text.specs.KeptSeen.{IsRoomy, IsRoomyAsked, kept_asked_seen, kept_seen}
 use Rattle.osc_text.specs.ServedReading.{event_read}
 
--- the kept event that an event of a server is; a restart with a number is none (how the code is seen)
+-- the kept event for an event of a server; a restart with a number has none (how the code is seen)
 abbrev pub kept_of : InputEvent → Option KeptEvent
 kept_of (input.Take now echo mid datagram) = Some (Take now echo mid datagram)
 kept_of (input.Reply of own mid plain) = Some (Reply of own mid plain)
@@ -29,7 +29,7 @@ kept_read line = if bytes_eq line (codes "restart") then Some Restart else optio
 abbrev pub SpellsKeptServed : List ℕ → KeptServerEvent → Type 0
 SpellsKeptServed = SpellsSeen SpellsKept kept_seen IsRoomy
 
--- the kept event that an event of a client is; a restart with a number is none (how the code is seen)
+-- the kept event for an event of a client; a restart with a number has none (how the code is seen)
 abbrev pub kept_asked_of : AskedEvent → Option KeptAsked
 kept_asked_of (asked.Request now plain) = Some (kept_asked.Request now plain)
 kept_asked_of (asked.Take now datagram) = Some (kept_asked.Take now datagram)

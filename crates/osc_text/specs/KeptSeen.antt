@@ -14,7 +14,7 @@ kept_seen (server.Datagram a) = Take a.now a.fresh.echo a.fresh.mid a.bytes.item
 kept_seen (server.Reply r) = Reply r.of r.own r.mid r.plain.items
 kept_seen server.Restart = Restart
 
--- there is room for the reply: that of its plain message and 128 bytes (own rule)
+-- there is room for the reply: the length of its plain message plus 128 bytes (own rule)
 abbrev pub IsRoomy : KeptServerEvent → Type 0
 IsRoomy (server.Reply r) = length r.out.items ≡ length r.plain.items + 128
 IsRoomy event = Unit {0}
@@ -26,7 +26,7 @@ kept_asked_seen (client.Datagram now bytes) = asked.Take now bytes.items
 kept_asked_seen (client.Forget token) = asked.Forget token.items
 kept_asked_seen client.Restart = asked.Restart
 
--- there is room for the request: that of its plain message and 128 bytes (own rule)
+-- there is room for the request: the length of its plain message plus 128 bytes (own rule)
 abbrev pub IsRoomyAsked : KeptClientEvent → Type 0
 IsRoomyAsked (client.Request now plain out) = length out.items ≡ length plain.items + 128
 IsRoomyAsked event = Unit {0}

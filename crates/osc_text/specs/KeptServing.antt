@@ -1,5 +1,5 @@
--- To be believed: what `run` prints of a server whose numbers are kept, and its input (RFC 8613, 7.2.1, 7.4, 8.2, 8.3 and B.1; own rule: the lines). k
--- says what its keeper tells, keeper is the keeper before, g what the context is derived from, c that context.
+-- To be believed: what `run` prints for a server whose numbers are kept, and its input (RFC 8613, 7.2.1, 7.4, 8.2, 8.3 and B.1; own rule: the
+-- lines). k says what the server's keeper tells, keeper is the keeper before the call, g what the context is derived from, c that context.
 use Rattle.std.specs.Prelude.{◌≡◌, ◌≢◌, ℕ, [], ◌∷◌, List}
 use Rattle.osc_context.specs.ContextRefusal.{RefusesParams}
 use Rattle.osc_context.specs.SecurityContext.{SecurityContext}
@@ -31,7 +31,7 @@ use Rattle.osc_text.specs.Lines.{refused_line}
 abbrev pub KeptLine : {K : Type 0} {k : keeper.Ghosts K} → ServerState k → KeptEvent → List ℕ → ServerState k → Type 0
 KeptLine s event line t = LineOf ServerStep kept_seen IsRoomy kept_text s event line t
 
--- a server that started at the number that was loaded, fresh exactly at 0; no ticket is there yet (RFC 8613, B.1.1 and B.1.2)
+-- a server that started at the number that was loaded, fresh if and only if that is 0; there is no ticket yet (RFC 8613, B.1.1 and B.1.2)
 abbrev pub Starts : {K : Type 0} (k : keeper.Ghosts K) → SecurityContext → WindowSize → K → ServerState k → Type 0
 Starts {K} k c size keeper s = (loaded : ℕ) × (mid : K) × (start : Start) × Loaded k.loads k.failures keeper loaded mid × IsStart start loaded
     × (own_in s.source ≡ started start loaded (nothing_drawn (k.floor keeper))) × (k.failures s.source.keeper ≡ k.failures keeper)
@@ -43,15 +43,15 @@ pub data StartText {K : Type 0} (k : keeper.Ghosts K) (c : SecurityContext) (siz
       → StartText k c size keeper told lines status
   served : (s : ServerState k) → Starts k c size keeper s → told s lines status → StartText k c size keeper told lines status
 
--- what `run` prints of a server: one line for each event of the input (RFC 8613, 7.2.1, 7.4, 8.2, 8.3 and B.1)
+-- what `run` prints for a server: one line for each event of the input (RFC 8613, 7.2.1, 7.4, 8.2, 8.3 and B.1)
 abbrev pub KeptServeText : {K : Type 0} (k : keeper.Ghosts K) → Params → WindowSize → K → List ℕ → Told
 KeptServeText k g size keeper input = InContext g (StartText k (server_context_of g) size keeper (λ s. InputText SpellsKept KeptLine s input))
 
--- what it prints a front of where memory is refused: the line of a refusal, or one for each of the first events of the input (own rule)
+-- the text whose front `run` prints if memory is refused: the line of a refusal, or one line for each of the first events of the input (own rule)
 abbrev pub KeptServeFront : {K : Type 0} (k : keeper.Ghosts K) → Params → WindowSize → K → List ℕ → Told
 KeptServeFront k g size keeper input = InContext g (StartText k (server_context_of g) size keeper (λ s. FrontText SpellsKept KeptLine s input))
 
--- the context is there, the server started, and the line of this number, counted from 1, is the first that spells no event (own rule)
+-- the context is derived, the server started, and the line with this number, counted from 1, is the first that spells no event (own rule)
 pub record HasBadKeptLine {K : Type 0} (k : keeper.Ghosts K) (g : Params) (size : WindowSize) (keeper : K) (input : List ℕ) (number : ℕ) : Type 0 where
   pub in_context : (e : ContextError) → ¬ RefusesParams g e
   pub state : ServerState k

@@ -1,5 +1,5 @@
--- To be believed: what is printed of an end whose numbers are kept, whatever its lines ask for (own rule). What a keeper answers is its own matter, so
--- a line is told by the step of the run that it stands for. old and new are the writer before and after, contents what it tells of its bytes.
+-- To be believed: what is printed for an end whose numbers are kept, whatever its lines ask for (own rule). What a keeper returns is its own matter, so
+-- a line is told by the run's step that it stands for. old and new are the writer before and after, contents is what a writer tells about its bytes.
 use Rattle.std.specs.Prelude.{◌≡◌, ◌⊎◌, ℕ, List, Option, Result, Ok, Err, take}
 use Rattle.std.specs.Io.KnownBytes.{Appends}
 use Rattle.osc_text.specs.Contexts.{Told}
@@ -10,7 +10,7 @@ use Rattle.osc_text.specs.Written.{AppendsFront, text_of}
 use Rattle.osc_text.specs.declared.fault.Fault.{Fault}
 use Rattle.osc_text.specs.declared.fault.Fault.TheVariants.{Line, Memory, Write}
 
--- the line of an event of the input: its event in the run has room, and the line is that of the run's entry (own rule)
+-- the line for an event of the input: its event in the run has room, and the line is the line of the run's entry (own rule)
 abbrev pub LineOf : {S V X E : Type 0} → (S → V → X → S → Type 0) → (V → E) → (V → Type 0) → (X → List ℕ) → S → E → List ℕ → S → Type 0
 LineOf {V = V} {X = X} Step seen IsRight text s event line t =
     (v : V) × (x : X) × (seen v ≡ event) × IsRight v × Step s v x t × (line ≡ entry_line (text x))
@@ -20,8 +20,8 @@ abbrev pub FrontText : {S E : Type 0} → (List ℕ → E → Type 0) → (S →
 FrontText {E = E} spells step s input lines status =
     (events : List E) × (n : ℕ) × SpellsInput spells input events × EventLines step s (take n events) lines × (status ≡ 0)
 
--- what a call wrote, by what it answers: all of the lines that are told; nothing where a line is bad; at want of memory nothing, or whole lines from
--- the front of some that begin so (own rule)
+-- what a call wrote, by what it returns: all of the lines that are told; nothing if a line is bad; if memory was refused, nothing, or whole
+-- lines from the front of some lines that begin the text (own rule)
 abbrev pub WroteBy : {X : Type 0} → (X → Option (List ℕ)) → (tells begins : Told) → (ℕ → Type 0) → X → X → Result ℕ Fault → Type 0
 WroteBy contents tells begins HasBad old new (Ok status) = (lines : List (List ℕ)) × tells lines status × Appends (contents old) (contents new) (text_of lines)
 WroteBy contents tells begins HasBad old new (Err (Line n)) = HasBad n × (new ≡ old)

@@ -1,4 +1,4 @@
--- For the proofs: the lines and the status of what came of an open or of a seal.
+-- For the proofs: the lines and the status for the result of opening or of sealing.
 use Rattle.std.specs.Prelude.{ℕ, List, [], ◌∷◌, take, Result, Ok, Err}
 use Rattle.osc_protect.specs.Text.{protect_error_text, unprotect_error_text}
 use Rattle.osc_protect.specs.Views.{shown, message_of, opened_number}
@@ -12,22 +12,22 @@ use Rattle.osc_text.specs.Opening.{Printed, opened_lines}
 abbrev pub seen : Opened → Printed
 seen o = record { kind = o.kind; message_id = o.message_id; token = o.token.items; code = o.code; number = opened_number o; uri_host = shown o.uri_host; uri_port = shown o.uri_port; options = (message_of o).options; payload = o.payload.now }
 
--- the lines of what came of an open (how the code is seen)
+-- the lines for the result of opening (how the code is seen)
 abbrev pub open_lines : Result Opened UnprotectError → List (List ℕ)
 open_lines (Ok o) = opened_lines (seen o)
 open_lines (Err e) = refused_line (unprotect_error_text e) ∷ []
 
--- the status of what came of an open (how the code is seen)
+-- the status for the result of opening (how the code is seen)
 abbrev pub open_status : Result Opened UnprotectError → ℕ
 open_status (Ok o) = 0
 open_status (Err e) = 2
 
--- the lines of what came of a seal into this buffer (how the code is seen)
+-- the lines for the result of sealing into this buffer (how the code is seen)
 abbrev pub seal_lines : List ℕ → Result ℕ ProtectError → List (List ℕ)
 seal_lines buffer (Ok len) = hex_line (take len buffer) ∷ []
 seal_lines buffer (Err e) = refused_line (protect_error_text e) ∷ []
 
--- the status of what came of a seal (how the code is seen)
+-- the status for the result of sealing (how the code is seen)
 abbrev pub seal_status : Result ℕ ProtectError → ℕ
 seal_status (Ok len) = 0
 seal_status (Err e) = 2

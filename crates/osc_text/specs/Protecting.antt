@@ -1,6 +1,6 @@
--- To be believed: what `protect` prints (RFC 8613, 8.1 and 8.3; own rule: the lines). f is a protection, of requests or
--- of responses, i a number that it knows, g what a security context is derived from, client and server are that
--- context, of which this end is the one or the other, d is a plain datagram and p its parts.
+-- To be believed: what `protect` prints (RFC 8613, 8.1 and 8.3; own rule: the lines). f is a protection, of requests or of responses, i one
+-- of its numbers, g what a security context is derived from, client and server are that context, with this end as its client or as its
+-- server, d is a plain datagram and p its parts.
 use Rattle.std.specs.Prelude.{◌≡◌, ℕ, List, [], ◌∷◌}
 use Rattle.std.specs.Option.{option_map}
 use Rattle.osc_coap.specs.Datagram.{Parts, IsDatagram}
@@ -21,25 +21,25 @@ use Rattle.osc_text.specs.declared.protection.Sealing.{Sealing}
 use Rattle.osc_text.specs.declared.protection.Sealing.TheVariants.{Request, Response}
 use Rattle.osc_text.specs.Lines.{hex_line, refused_line}
 
--- the room that each sealed message has: the most bytes of a datagram, so that none is too long for it (own rule)
+-- the room for each sealed message: the most bytes of a datagram, so that no message is too long for it (own rule)
 abbrev pub most_room : ℕ
 most_room = 65535
 
--- what `protect` prints of a message, and the status: what is sealed in hex, or with status 2 a refusal (RFC 8613, 8.1 and 8.3)
+-- what `protect` prints for a message, and the status: the sealed bytes in hex, or a refusal with status 2 (RFC 8613, 8.1 and 8.3)
 pub data SealedText {I : Type 0} (f : Protection I) (i : I) (p : Parts) (lines : List (List ℕ)) (status : ℕ) : Type 0 where
   sealed : (bytes : List ℕ) → IsSealed f i p bytes → lines ≡ hex_line bytes ∷ [] → status ≡ 0 → SealedText f i p lines status
   refused : (e : ProtectError) → RefusesToSeal f i p most_room e → lines ≡ refused_line (protect_error_text e) ∷ [] → status ≡ 2 → SealedText f i p lines status
 
--- the same by what is asked: this end seals a request as the client, and a response as the server (RFC 8613, 8.1 and 8.3)
+-- the same, by what is asked for: this end seals a request as the client, and a response as the server (RFC 8613, 8.1 and 8.3)
 abbrev pub SealingText : (client server : SecurityContext) → Sealing → Parts → Told
 SealingText client server (Request number) p = SealedText (requests client) (number_of number) p
 SealingText client server (Response request own) p = SealedText (responses server (request_number request)) (option_map number_of own) p
 
--- what is told of a plain datagram's parts; a datagram with a fault is refused for that, with its place (RFC 7252, 3)
+-- what is told of a plain datagram's parts; a datagram with a fault is refused for that fault, with its place (RFC 7252, 3)
 pub data PlainText (told : Parts → Told) (d : List ℕ) (lines : List (List ℕ)) (status : ℕ) : Type 0 where
   message : (p : Parts) → IsDatagram p d → told p lines status → PlainText told d lines status
   faulty : (e : FormatError) → HasFault d e.fault e.place → lines ≡ refused_line (error_text e) ∷ [] → status ≡ 2 → PlainText told d lines status
 
--- what `protect` prints of a plain datagram (RFC 8613, 8.1 and 8.3)
+-- what `protect` prints for a plain datagram (RFC 8613, 8.1 and 8.3)
 abbrev pub ProtectText : Params → Sealing → List ℕ → Told
 ProtectText g what d = InContext g (PlainText (SealingText (client_context_of g) (server_context_of g) what) d)

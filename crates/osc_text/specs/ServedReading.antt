@@ -1,4 +1,4 @@
--- For the proofs: how the events of a server are read, one function a reader of the code.
+-- For the proofs: how the events of a server are read, one function for each reader of the code.
 use Rattle.std.specs.Prelude.{◌≡◌, ℕ, ◌+◌, ◌^◌, Bool, true, false, List, length, codes, bytes_eq, Option, Some, None, if◌then◌else◌}
 use Rattle.std.specs.Borrow.{Bor}
 use Rattle.std.specs.Option.{option_map, option_and_then}
@@ -9,7 +9,7 @@ use Rattle.osc_endpoint.specs.declared.server_event.ServerEvent.TheVariants as e
 use Rattle.osc_text.specs.InputEvents.{InputEvent, Take, Reply, Restart, SpellsEvent}
 use Rattle.osc_text.specs.InputReading.{SpellsSeen, bytes_read, fixed_read, number_read, split_once}
 
--- the message ID of a word of hex (how the code is seen)
+-- the Message ID of a word of hex (how the code is seen)
 abbrev pub message_id_read : List ℕ → Option ℕ
 message_id_read word = option_map (from_be_bytes w16) (fixed_read 2 word)
 
@@ -17,21 +17,21 @@ message_id_read word = option_map (from_be_bytes w16) (fixed_read 2 word)
 unfoldable pub own_read : List ℕ → Option Bool
 own_read word = if bytes_eq word (codes "own") then Some true else if bytes_eq word (codes "shared") then Some false else None
 
--- four words that a space parts, of which the last may have more (how the code is seen)
+-- four words separated by one space; the last one may contain more spaces (how the code is seen)
 unfoldable pub four_read : List ℕ → Option (List ℕ × List ℕ × List ℕ × List ℕ)
 four_read fields = option_and_then (λ p. option_and_then (λ q. option_map (λ r. (p.0, q.0, r.0, r.1)) (split_once 32 q.1)) (split_once 32 p.1)) (split_once 32 fields)
 
--- a datagram that comes, by what its words say (how the code is seen)
+-- a datagram that arrives, from what its words say (how the code is seen)
 abbrev pub take_of : Option ℕ → Option (List ℕ) → Option ℕ → Option (List ℕ) → Option InputEvent
 take_of (Some now) (Some echo) (Some mid) (Some datagram) = Some (Take now echo mid datagram)
 take_of now echo mid datagram = None
 
--- a reply, by what its words say (how the code is seen)
+-- a reply, from what its words say (how the code is seen)
 abbrev pub reply_of : Option ℕ → Option Bool → Option ℕ → Option (List ℕ) → Option InputEvent
 reply_of (Some of) (Some own) (Some mid) (Some plain) = Some (Reply of own mid plain)
 reply_of of own mid plain = None
 
--- the fields of a datagram that comes (how the code is seen)
+-- the fields of a datagram that arrives (how the code is seen)
 unfoldable pub take_read : List ℕ → Option InputEvent
 take_read fields = option_and_then (λ w. take_of (number_read (2 ^ 64) w.0) (fixed_read 8 w.1) (message_id_read w.2) (bytes_read w.3)) (four_read fields)
 

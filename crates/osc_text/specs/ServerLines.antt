@@ -1,5 +1,5 @@
--- To be believed: how the entries of a server's log print, one a line (own rule: the words). context is the index of a context, number
--- that of a request.
+-- To be believed: how the entries of a server's log print, one per line (own rule: the words). context is the index of a context, number is
+-- the number of a request.
 use Rattle.std.specs.Prelude.{ℕ, List, [], ◌∷◌, ◌++◌, codes}
 use Rattle.std.specs.Fmt.{decimal}
 use Rattle.osc_coap.specs.Inner.{InnerParts}
@@ -7,7 +7,7 @@ use Rattle.osc_endpoint.specs.ServerHistory.{Answer, Malformed, NotRequest, Plai
 use Rattle.osc_text.specs.EntryLines.{entry_line, fault_text, message_text}
 use Rattle.osc_text.specs.Lines.{bytes_text}
 
--- a reply behind its entry, after one space, where there is one (own rule)
+-- a reply after its entry: one space and the bytes, or nothing if there is no reply (own rule)
 abbrev pub reply_text : List ℕ → List ℕ
 reply_text [] = []
 reply_text (b ∷ bytes) = codes " " ++ bytes_text (b ∷ bytes)
@@ -16,7 +16,7 @@ reply_text (b ∷ bytes) = codes " " ++ bytes_text (b ∷ bytes)
 abbrev pub delivery_text : (context number : ℕ) → InnerParts → List ℕ
 delivery_text context number m = codes "deliver " ++ (decimal context ++ (codes " " ++ (decimal number ++ (codes " " ++ message_text m))))
 
--- what a datagram was answered (own rule)
+-- the text for the answer to a datagram (own rule)
 abbrev pub answer_text : Answer → List ℕ
 answer_text (Malformed fault place) = codes "malformed " ++ fault_text fault place
 answer_text NotRequest = codes "not-request"
@@ -30,14 +30,14 @@ answer_text (Challenge context number echo issued) = codes "challenge " ++ bytes
 answer_text SequenceExhausted = codes "exhausted"
 answer_text (Deliver received ticket) = delivery_text ticket.context ticket.number received.message
 
--- the line of what a datagram was answered, and its reply (own rule)
+-- the line for the answer to a datagram, and for its reply (own rule)
 abbrev pub took_line : Answer → List ℕ → List ℕ
 took_line answer reply = entry_line (answer_text answer ++ reply_text reply)
 
--- the line of a reply that was sealed (own rule)
+-- the line for a sealed reply (own rule)
 abbrev pub replied_line : List ℕ → List ℕ
 replied_line bytes = entry_line (codes "replied " ++ bytes_text bytes)
 
--- the line of a reply to an event that has no ticket left (own rule)
+-- the line for a reply to an event that has no ticket left (own rule)
 abbrev pub no_ticket_line : List ℕ
 no_ticket_line = entry_line (codes "no-ticket")

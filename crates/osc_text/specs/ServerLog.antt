@@ -11,7 +11,7 @@ use Rattle.osc_text.specs.EntryLines.{entry_line, fault_text}
 use Rattle.osc_text.specs.Lines.{bytes_text}
 use Rattle.osc_text.specs.ServerLines.{delivery_text, reply_text}
 
--- what was made of a datagram, as it prints (how the code is seen)
+-- what the server made of a datagram, as it prints (how the code is seen)
 abbrev pub seen_text : Seen → List ℕ
 seen_text (seen.Malformed e) = codes "malformed " ++ fault_text e.fault e.place
 seen_text seen.NotRequest = codes "not-request"

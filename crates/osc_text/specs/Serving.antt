@@ -1,5 +1,5 @@
--- To be believed: what `run` prints of a server and its input (RFC 8613, 7.4, 8.2 and 8.3; own rule: the lines). g is what the context is
--- derived from, s that context, h and k are the histories before and after, ts and us the tickets before and after, one place an event.
+-- To be believed: what `run` prints for a server and its input (RFC 8613, 7.4, 8.2 and 8.3; own rule: the lines). g is what the context is derived
+-- from, s that context, h and k are the histories before and after, ts and us the tickets before and after, with one place for each event.
 use Rattle.std.specs.Prelude.{◌≡◌, ◌+◌, ◌++◌, ◌∷◌, [], ℕ, List, Bool, Option, Some, None, length, slice_set, if◌then◌else◌}
 use Rattle.osc_coap.specs.Datagram.{Parts, IsDatagram}
 use Rattle.osc_coap.specs.Fault.{HasFault}
@@ -29,11 +29,11 @@ use Rattle.osc_text.specs.Lines.{refused_line}
 use Rattle.osc_text.specs.ServerLines.{took_line, replied_line, no_ticket_line}
 use Rattle.osc_text.specs.declared.serving.Serving.{Serving}
 
--- the room that each reply has: that of its plain message and 128 bytes (own rule)
+-- the room for each reply: the length of its plain message plus 128 bytes (own rule)
 abbrev pub reply_room : List ℕ → ℕ
 reply_room plain = length plain + 128
 
--- a reply by the ticket that is left at a place, and the line of its entry; one that is sealed takes the ticket (RFC 8613, 8.3)
+-- a reply by the ticket that is left in a place, and the line of its entry; a sealed reply takes the ticket (RFC 8613, 8.3)
 pub data ReplyLine (h : History) (ts : List (Option TicketValues)) (of : ℕ) (own : Bool) (mid : ℕ) (plain line : List ℕ) (k : History)
     (us : List (Option TicketValues)) : Type 0 where
   no_ticket : ticket_at ts of ≡ None → line ≡ no_ticket_line → k ≡ h → us ≡ ts → ReplyLine h ts of own mid plain line k us
@@ -58,7 +58,7 @@ EventLine h ts (input.Reply of own mid plain) line k us =
     (left : List (Option TicketValues)) × ReplyLine h ts of own mid plain line k left × (us ≡ left ++ None ∷ [])
 EventLine h ts (input.Restart next) line k us = RestartLine h next line k × (us ≡ ts ++ None ∷ [])
 
--- the same, of the history and the tickets as one state (RFC 8613, 7.4, 8.2 and 8.3)
+-- the same, with the history and the tickets as one state (RFC 8613, 7.4, 8.2 and 8.3)
 abbrev pub ServerLine : History × List (Option TicketValues) → InputEvent → List ℕ → History × List (Option TicketValues) → Type 0
 ServerLine before event line after = EventLine before.0 before.1 event line after.0 after.1
 
@@ -72,11 +72,11 @@ pub data ServerText (s : SecurityContext) (start : Start) (size : WindowSize) (b
   served : (index : ℕ) → ServerAnswer Begin (Add s start size) (Added index)
       → InputText SpellsEvent ServerLine (Then Begin (Add s start size) (Added index), []) bytes lines status → ServerText s start size bytes lines status
 
--- what `run` prints of a server (RFC 8613, 7.4, 8.2 and 8.3)
+-- what `run` prints for a server (RFC 8613, 7.4, 8.2 and 8.3)
 abbrev pub ServeText : Params → Serving → List ℕ → Told
 ServeText g serving bytes = InContext g (ServerText (server_context_of g) (start_of serving) serving.window bytes)
 
--- the context is there and starts, and the line of this number, counted from 1, is the first that spells no event (own rule)
+-- the context is derived and starts, and the line with this number, counted from 1, is the first that spells no event (own rule)
 pub record HasBadLine (g : Params) (serving : Serving) (bytes : List ℕ) (number : ℕ) : Type 0 where
   pub in_context : (e : ContextError) → ¬ RefusesParams g e
   pub index : ℕ

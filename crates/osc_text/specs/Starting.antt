@@ -8,6 +8,6 @@ use Rattle.osc_endpoint.specs.declared.start.Start.{Start}
 use Rattle.osc_text.specs.InputEvents.{SpellsEvent}
 use Rattle.osc_text.specs.Inputs.{IsFirstBadLine}
 
--- the context starts, and the line of this number is the first bad one (how the code is seen)
+-- the context starts, and the line with this number is the first bad one (how the code is seen)
 abbrev pub StartsBadly : SecurityContext → Start → WindowSize → List ℕ → ℕ → Type 0
 StartsBadly s start size bytes n = (index : ℕ) × ServerAnswer Begin (Add s start size) (Added index) × IsFirstBadLine SpellsEvent bytes n

@@ -1,4 +1,4 @@
-//! How the entries of a client's log print, one a line.
+//! How the entries of a client's log print, one per line.
 
 ghost use Rattle.std.specs.Prelude.{◌≡◌, IfOk, string_bytes};
 ghost use Rattle.osc_context.specs.Views.{number_of};
@@ -13,7 +13,7 @@ use osc_endpoint::{ClientEntry, ClientOutcome};
 use osc_protect::Opened;
 use std::alloc::{AllocError, Global};
 
-/// A delivery: the request's number, the response's own number, or a dash for none, code, options and payload.
+/// Returns the text of a delivery: the request's number, the response's own number or a dash if it has none, code, options and payload.
 fn response_text(alloc: Global, opened: &Opened<'_>, number: Piv) -> Result<String, AllocError>
     ensures { IfOk result (λ text. string_bytes text
         ≡ response_text (number_of number) (opened_number opened.now) (message_of opened.now)) }
@@ -24,7 +24,7 @@ fn response_text(alloc: Global, opened: &Opened<'_>, number: Piv) -> Result<Stri
     format!(in alloc; "deliver {number} {own} {message}")
 }
 
-/// What was made of a datagram.
+/// Returns the text for what the client made of a datagram.
 fn outcome_text(alloc: Global, outcome: &ClientOutcome<'_>) -> Result<String, AllocError>
     ensures { IfOk result (λ text. string_bytes text ≡ outcome_text outcome.now) }
 {
@@ -43,7 +43,7 @@ fn outcome_text(alloc: Global, outcome: &ClientOutcome<'_>) -> Result<String, Al
     }
 }
 
-/// A request that was sealed: its number and its bytes.
+/// Returns the text of a sealed request: its number and its bytes.
 fn sent_text(alloc: Global, number: Piv, datagram: &[u8]) -> Result<String, AllocError>
     ensures { IfOk result (λ text. string_bytes text ≡ sent_text (number_of number) datagram.now) }
 {
@@ -52,7 +52,7 @@ fn sent_text(alloc: Global, number: Piv, datagram: &[u8]) -> Result<String, Allo
     format!(in alloc; "sent {number} {bytes}")
 }
 
-/// An entry, as it prints.
+/// Returns an entry as it prints.
 fn entry_text(alloc: Global, entry: &ClientEntry<'_>) -> Result<String, AllocError>
     ensures { IfOk result (λ text. string_bytes text ≡ asked_text entry.now) }
 {

@@ -1,4 +1,4 @@
-//! The events that the lines of an input ask of a client.
+//! Reads the lines of an input as events of a client.
 
 ghost use Rattle.std.specs.Prelude.{◌≡◌, ◌^◌, IfOk, IfSome, option_map};
 ghost use Rattle.osc_text.specs.AskedEvents.{Forget, Request, Restart, SpellsAsked, Take};
@@ -10,7 +10,7 @@ use crate::input_words::{MOST_ADDED, read_bytes, read_moment, read_next, split_o
 use osc_endpoint::ClientEvent;
 use std::alloc::{AllocError, Global};
 
-/// A moment and bytes: `NOW HEX`.
+/// Reads a timestamp and bytes: `NOW HEX`.
 #[tactic(auto, unfolding(crate::specs::AskedReading::timed_read))]
 fn read_timed(alloc: Global, fields: &[u8]) -> Result<Option<(u64, Vec<u8>)>, AllocError>
     ensures { IfOk result (λ timed. option_map (λ t. (t.0, t.1.items)) timed ≡ timed_read fields.now) }
@@ -27,7 +27,7 @@ fn read_timed(alloc: Global, fields: &[u8]) -> Result<Option<(u64, Vec<u8>)>, Al
     Ok(Some((now, bytes)))
 }
 
-/// The event of a request: `NOW PLAIN`.
+/// Reads the event of a request: `NOW PLAIN`.
 fn read_request(alloc: Global, fields: &[u8]) -> Result<Option<ClientEvent>, AllocError>
     ensures seen { IfOk result (λ event. option_map asked_seen event
         ≡ option_map (λ t. Request t.0 t.1) (timed_read fields.now)) }
@@ -40,7 +40,7 @@ fn read_request(alloc: Global, fields: &[u8]) -> Result<Option<ClientEvent>, All
     Ok(Some(ClientEvent::Request { now, plain, out }))
 }
 
-/// The event of a datagram that comes: `NOW DATAGRAM`.
+/// Reads the event of a datagram that arrives: `NOW DATAGRAM`.
 fn read_take(alloc: Global, fields: &[u8]) -> Result<Option<ClientEvent>, AllocError>
     ensures seen { IfOk result (λ event. option_map asked_seen event
         ≡ option_map (λ t. Take t.0 t.1) (timed_read fields.now)) }
@@ -52,7 +52,7 @@ fn read_take(alloc: Global, fields: &[u8]) -> Result<Option<ClientEvent>, AllocE
     Ok(Some(ClientEvent::Datagram { now, bytes }))
 }
 
-/// The event of a token that is waited for no more: `TOKEN`.
+/// Reads the event in which the client stops waiting for a token: `TOKEN`.
 fn read_forget(alloc: Global, fields: &[u8]) -> Result<Option<ClientEvent>, AllocError>
     ensures seen { IfOk result (λ event. option_map asked_seen event ≡ option_map Forget (bytes_read fields.now)) }
     ensures room { IfOk result (λ event. IfSome event HasRoom) }
@@ -63,7 +63,7 @@ fn read_forget(alloc: Global, fields: &[u8]) -> Result<Option<ClientEvent>, Allo
     Ok(Some(ClientEvent::Forget { token }))
 }
 
-/// The event of a restart: `NEXT`.
+/// Reads the event of a restart: `NEXT`.
 fn read_restart(fields: &[u8]) -> Option<ClientEvent>
     ensures seen { option_map asked_seen result ≡ option_map Restart (number_read (2 ^ 40) fields.now) }
     ensures room { IfSome result HasRoom }
@@ -74,7 +74,7 @@ fn read_restart(fields: &[u8]) -> Option<ClientEvent>
     }
 }
 
-/// The event of a verb and its fields.
+/// Reads the event of a verb and its fields.
 #[tactic(auto, unfolding(crate::specs::AskedReading::asked_verb_read))]
 fn read_fields(alloc: Global, verb: &[u8], fields: &[u8]) -> Result<Option<ClientEvent>, AllocError>
     ensures seen { IfOk result (λ event. option_map asked_seen event ≡ asked_verb_read verb.now fields.now) }
@@ -95,7 +95,7 @@ fn read_fields(alloc: Global, verb: &[u8], fields: &[u8]) -> Result<Option<Clien
     Ok(None)
 }
 
-/// The event of a line, where it spells one.
+/// Reads the event of a line, if the line spells one.
 #[tactic(auto, unfolding(crate::specs::AskedReading::asked_read))]
 pub(crate) fn read_event(alloc: Global, line: &[u8]) -> Result<Option<ClientEvent>, AllocError>
     ensures seen { IfOk result (λ event. option_map asked_seen event ≡ asked_read line.now) }

@@ -1,4 +1,4 @@
-//! What `run` prints of a client.
+//! What `run` prints for a client.
 
 ghost use Rattle.std.specs.Prelude.{◌≡◌, ◌⊎◌, ℕ, List, All, Err, IfOk, map};
 ghost use Rattle.osc_context.specs.Views.{number_of};
@@ -17,9 +17,9 @@ use std::io::Write;
 /// How a client begins.
 #[derive(Clone, Copy, Debug)]
 pub struct Asking {
-    /// The next own number.
+    /// The next own Sender Sequence Number.
     pub next: Piv,
-    /// For how long a request is pending, in milliseconds.
+    /// How long a request is pending, in milliseconds.
     pub life_ms: u64,
 }
 
@@ -32,11 +32,11 @@ ghost use Rattle.osc_text.specs.Printing.{Prints};
 ghost use Rattle.osc_text.specs.Written.{Writes};
 ghost use Rattle.osc_text.specs.declared.fault.Fault.TheVariants.{Line};
 
-/// Derives a context, runs a client of it over the events that an input spells, one a line, and writes the line of each event's
-/// entry, or the one line of a refusal of the context before a line of the input is looked at. All lines are read before the
-/// first event runs. This end is the sender of the context, and up to 16 of its requests are pending at once. Answers the
-/// status: 0 where the events ran, 2 where the context is refused. The first line that spells no event is a fault, and then
-/// nothing is written. Each line is made whole before it is written.
+/// Derives a context, and runs a client of it over the events that an input spells, one per line. Writes the line of each event's entry. If
+/// the context is refused, writes the one line of that refusal instead, before looking at a line of the input. Reads all lines before the
+/// first event runs. This end is the sender of the context, and up to 16 of its requests are pending at once. Returns the status: 0 if the
+/// events ran, 2 if the context is refused. The first line that spells no event is a fault, and then nothing is written. Builds each line
+/// completely before writing it.
 pub fn ask_text<W: Write>(
     alloc: Global,
     params: Params<'_>,
@@ -44,7 +44,7 @@ pub fn ask_text<W: Write>(
     input: &[u8],
     out: &mut W,
 ) -> Result<u8, Fault>
-    // Where a status is answered there is a text. The next two clauses say that this is what is written.
+    // If a status is returned, there is a text. The next two clauses say that this text is what is written.
     ensures told { IfOk result (λ s. (lines : List (List ℕ)) × AskText params.entry asking input.now lines s) }
     ensures written { (lines : List (List ℕ)) (status : ℕ) → AskText params.entry asking input.now lines status
         → Writes (W.contents out.old) (W.contents out.new) lines result }

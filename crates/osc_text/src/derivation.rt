@@ -11,10 +11,10 @@ use osc_context::{Context, Params, one_context_refusal};
 use std::alloc::Global;
 use std::io::Write;
 
-/// Derives a context, and writes its keys and its Common IV, one a line, or the one line of a refusal. Answers the status: 0
-/// where it is derived, 2 where it is refused. Each line is made whole before it is written.
+/// Derives a context, and writes its keys and its Common IV, one per line, or the one line of a refusal. Returns the status: 0 if the
+/// context is derived, 2 if it is refused. Builds each line completely before writing it.
 pub fn derive_text<W: Write>(alloc: Global, params: Params<'_>, out: &mut W) -> Result<u8, Fault>
-    // Each context has a text. The next two clauses say that this is what is written.
+    // Each context has a text. The next two clauses say that this text is what is written.
     ensures told { (lines : List (List ℕ)) × (status : ℕ) × DeriveText params.entry lines status }
     ensures written { (lines : List (List ℕ)) (status : ℕ) → DeriveText params.entry lines status
         → Writes (W.contents out.old) (W.contents out.new) lines result }
@@ -26,7 +26,7 @@ pub fn derive_text<W: Write>(alloc: Global, params: Params<'_>, out: &mut W) -> 
     write_derivation(alloc, params, out)
 }
 
-/// Writes what is derived, or its refusal.
+/// Writes what is derived, or the refusal.
 fn write_derivation<W: Write>(alloc: Global, params: Params<'_>, out: &mut W) -> Result<u8, Fault>
     ensures { (lines : List (List ℕ)) × (status : ℕ) × DeriveText params.entry lines status
         × Writes (W.contents out.old) (W.contents out.new) lines result × IfOk result (λ s. s ≡ status) }

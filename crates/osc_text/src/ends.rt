@@ -1,5 +1,5 @@
-//! What all that `run` prints has in common: a context is derived, an end begins under it and runs over the events that an input
-//! spells, and each entry of its log is a line.
+//! What everything that `run` prints has in common: a context is derived, an end begins under it and runs over the events that an input
+//! spells, and each entry of the end's log is one line.
 
 ghost use Rattle.std.specs.Prelude.{ℕ, List};
 ghost use Rattle.osc_context.specs.SecurityContext.{SecurityContext};
@@ -15,7 +15,7 @@ use std::io::Write;
 
 /// How an end begins under a context.
 pub(crate) trait Beginning: Drop {
-    // What is promised of a call over an input, by the context as a client's and as a server's.
+    // What is promised of a call over an input, given the context as a client's and as a server's.
     ghost promised: { Self → SecurityContext → SecurityContext → List ℕ → Promised };
 
     /// Writes what the end prints under a context, or the refusal of its start.
@@ -33,10 +33,11 @@ pub(crate) trait Beginning: Drop {
 pub(crate) trait End {
     type Event: LineEvent;
 
-    // These are the lines of the entries of these events, from this end on.
+    // These are the lines of the entries of these events, if the events run from this end on.
     ghost are_lines_of: { Self → List Self.Event → List (List ℕ) → Type 0 };
 
-    /// Runs over events, and writes the lines of their entries: of those before one for which no memory was left.
+    /// Runs over events, and writes the lines of their entries. If there is no memory left for an entry, writes the lines of the entries
+    /// before it.
     fn write_events<W: Write>(
         &mut self,
         alloc: Global,
@@ -46,7 +47,7 @@ pub(crate) trait End {
         ensures { RunsEvents (are_lines_of self.old) events.old (W.contents out.old) (W.contents out.new) result };
 }
 
-/// Derives a context and writes what an end prints that begins under it, or the refusal of the context.
+/// Derives a context, and writes what an end that begins under it prints, or the refusal of the context.
 pub(crate) fn write_run<B: Beginning, W: Write>(
     alloc: Global,
     params: Params<'_>,

@@ -1,4 +1,4 @@
-//! What the entries of a server's and of a client's log have in common as they print, one a line.
+//! What the printed entries of a server's log and of a client's log have in common. They print one per line.
 
 ghost use Rattle.std.specs.Prelude.{◌≡◌, ◌∷◌, ◌++◌, [], ℕ, List, IfOk, IsOk, map, string_bytes};
 ghost use Rattle.osc_coap.specs.Views.{options_left};
@@ -13,16 +13,16 @@ use osc_protect::Opened;
 use std::alloc::{AllocError, Global};
 use std::io::Write;
 
-/// An entry of a log, which prints as one line.
+/// A log entry, which prints as one line.
 pub(crate) trait LogEntry {
-    // Its line, without the newline.
+    // The entry's line, without the newline.
     ghost text_of: { Self → List ℕ };
 
     fn text(&self, alloc: Global) -> Result<String, AllocError>
         ensures { IfOk result (λ text. string_bytes text ≡ text_of self.now) };
 }
 
-/// A fault and its place.
+/// Returns the text of a fault and its place.
 pub(crate) fn fault_text(alloc: Global, error: FormatError) -> Result<String, AllocError>
     ensures { IfOk result (λ text. string_bytes text ≡ fault_text error.fault error.place) }
 {
@@ -30,7 +30,7 @@ pub(crate) fn fault_text(alloc: Global, error: FormatError) -> Result<String, Al
     format!(in alloc; "{fault} {place}")
 }
 
-/// An option: its number and its value.
+/// Returns the text of an option: its number and its value.
 fn option_text(alloc: Global, number: u16, value: &[u8]) -> Result<String, AllocError>
     ensures { IfOk result (λ text. string_bytes text ≡ option_text (number, value.now)) }
 {
@@ -38,7 +38,7 @@ fn option_text(alloc: Global, number: u16, value: &[u8]) -> Result<String, Alloc
     format!(in alloc; "{number}:{value}")
 }
 
-/// Puts the options behind the first one behind its text, a comma before each.
+/// Appends the options after the first one to the first one's text, with a comma before each.
 fn with_more_options(
     alloc: Global,
     mut text: String,
@@ -54,7 +54,7 @@ fn with_more_options(
     Ok(text)
 }
 
-/// Options joined by commas, and a dash for none.
+/// Returns the options joined by commas, or a dash if there are none.
 fn options_text(alloc: Global, mut options: Options<'_>) -> Result<String, AllocError>
     ensures { IfOk result (λ text. string_bytes text ≡ options_text (options_left options.entry)) }
 {
@@ -67,7 +67,7 @@ fn options_text(alloc: Global, mut options: Options<'_>) -> Result<String, Alloc
     }
 }
 
-/// What a delivery says: code, options and payload.
+/// Returns the text of what a delivery says: code, options and payload.
 pub(crate) fn message_text(alloc: Global, opened: &Opened<'_>) -> Result<String, AllocError>
     ensures { IfOk result (λ text. string_bytes text ≡ message_text (message_of opened.now)) }
 {
@@ -97,7 +97,7 @@ fn put_entries<L: LogEntry, W: Write>(alloc: Global, log: &[L], out: &mut W) -> 
     Ok(())
 }
 
-/// Writes the lines of a log, and answers status 0 where the run that made it came to its end.
+/// Writes the lines of a log, and returns status 0 if the run that made the log came to its end.
 pub(crate) fn write_log<L: LogEntry, W: Write>(
     alloc: Global,
     log: &[L],

@@ -13,11 +13,11 @@ use osc_context::value_or_refusal;
 use std::alloc::Global;
 use std::io::Write;
 
-/// Reads a datagram, and writes what it shows without a key, one part a line, with one line more for each OSCORE option, or
-/// the one line of a refusal. Answers the status: 0 where it is read, 2 where it is refused; a refused OSCORE option is a
-/// line, and no refusal. Each line is made whole before it is written.
+/// Reads a datagram, and writes what it shows without a key, one part per line, and one more line for each OSCORE option, or writes the one
+/// line of a refusal. Returns the status: 0 if the datagram is read, 2 if it is refused. A refused OSCORE option gives a line, and isn't a
+/// refusal of the datagram. Builds each line completely before writing it.
 pub fn explain_text<W: Write>(alloc: Global, datagram: &[u8], out: &mut W) -> Result<u8, Fault>
-    // Each datagram has a text. The next two clauses say that this is what is written.
+    // Each datagram has a text. The next two clauses say that this text is what is written.
     ensures told { (lines : List (List ℕ)) × (status : ℕ) × ExplainText datagram.now lines status }
     ensures written { (lines : List (List ℕ)) (status : ℕ) → ExplainText datagram.now lines status
         → Writes (W.contents out.old) (W.contents out.new) lines result }
@@ -53,7 +53,7 @@ fn put_explained<W: Write>(alloc: Global, message: &Message<'_>, out: &mut W) ->
     put_values(alloc, message.options(), out)
 }
 
-/// Writes what a message says, one part a line.
+/// Writes what a message says, one part per line.
 fn put_message<W: Write>(alloc: Global, message: &Message<'_>, out: &mut W) -> Result<(), Fault>
     ensures { Writes (W.contents out.old) (W.contents out.new) (message_lines (parts_of message.now)) result }
 {

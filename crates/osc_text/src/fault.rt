@@ -10,19 +10,22 @@ use thiserror::Error;
 /// What is wrong with a word of the call.
 #[derive(Clone, Copy, Debug, Drop, PartialEq, Eq, Error)]
 pub enum Wrong {
-    /// The word is not there.
+    /// The word is missing.
     #[error("missing")]
     Missing,
-    /// The character at this place, counted from 1, is no hex digit, and all before it are.
+    /// The character at this place, counted from 1, isn't a hex digit. All characters before it are.
     #[error("bad hex at character {0}")]
     BadHex(usize),
-    /// The word is hex digits, and their number is odd.
+    /// The word begins with 0x or 0X, which must be left out.
+    #[error("bad hex at character 2: leave out 0x")]
+    Prefixed,
+    /// The word is an odd number of hex digits.
     #[error("an odd number of hex digits")]
     OddHex,
-    /// The word is no number, or one from 2^40 up, which no message can have.
+    /// The word isn't a number, or it is a number of 2^40 or more, which no message can have.
     #[error("not a number below 2^40")]
     Number,
-    /// The word is no number, or one from 2^64 up.
+    /// The word isn't a number, or it is a number of 2^64 or more.
     #[error("not a number below 2^64")]
     Moment,
     /// The role has no such option.
@@ -39,19 +42,19 @@ pub enum Fault {
     /// What is wrong with the words of the call, or with a line of its input, on one line.
     #[error("{0}")]
     Usage(String),
-    /// The words of the call are no text, or could not be read.
+    /// The words of the call aren't text, or couldn't be read.
     #[error("cannot read the words: {}", .0.kind())]
     Words(io::Error),
     /// One word, named by its place in the call, is wrong.
     #[error("{word}: {wrong}")]
     Input { word: &'static str, wrong: Wrong },
-    /// The line of this number, counted from 1, spells no event.
+    /// The line with this number, counted from 1, doesn't spell an event.
     #[error("line {0}: not an event")]
     Line(usize),
     /// A read of standard input failed.
     #[error("cannot read: {}", .0.kind())]
     Read(io::Error),
-    /// A growth was refused.
+    /// An allocation was refused.
     #[error("out of memory")]
     Memory,
     /// A write to standard output failed.

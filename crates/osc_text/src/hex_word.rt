@@ -1,4 +1,4 @@
-//! Bytes from a word of hex.
+//! Reads bytes from a word of hex.
 
 ghost use Rattle.std.specs.Prelude.{◌≡◌, IfErr, IfOk};
 ghost use Rattle.osc_text.specs.Hex.{SpellsBytes};
@@ -11,16 +11,16 @@ use std::alloc::Global;
 /// Why a word gave no bytes.
 #[derive(Clone, Copy, Debug, PartialEq, Eq)]
 pub enum HexError {
-    /// The byte of the word at this place, counted from 0, is no hex digit, and all before it are.
+    /// The byte of the word at this place, counted from 0, isn't a hex digit. All bytes before it are.
     NotDigit { place: usize },
-    /// The word is hex digits, and their number is odd.
+    /// The word is an odd number of hex digits.
     OddLength,
-    /// A growth was refused.
+    /// An allocation was refused.
     Memory,
 }
 
-/// The bytes that a word spells, two digits each, the high one first, in both cases. The empty word spells no bytes; a
-/// lone `-` spells none.
+/// Reads the bytes that a word spells: two hex digits for each byte, the high one first, in either case. The empty word spells zero bytes.
+/// A lone `-` is refused.
 #[tactic(auto, using(crate::proofs::HexWords::spells_decodes))]
 pub fn read_hex(alloc: Global, word: &str) -> Result<Vec<u8>, HexError>
     ensures spelled { IfOk result (λ bytes. SpellsBytes word.now bytes.items) }
@@ -36,7 +36,7 @@ pub fn read_hex(alloc: Global, word: &str) -> Result<Vec<u8>, HexError>
     }
 }
 
-/// The place of the first byte of a word that is no hex digit.
+/// Returns the place of the first byte of a word that isn't a hex digit.
 fn first_no_digit(word: &str) -> Option<usize>
     ensures { result ≡ position is_no_digit word.now }
 {

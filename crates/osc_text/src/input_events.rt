@@ -1,4 +1,4 @@
-//! The events that the lines of an input ask of a server.
+//! Reads the lines of an input as events of a server.
 
 ghost use Rattle.std.specs.Prelude.{◌≡◌, ◌^◌, IfOk, IfSome, option_map};
 ghost use Rattle.osc_text.specs.InputEvents.{Restart, SpellsEvent};
@@ -13,7 +13,7 @@ use crate::input_words::{
 use osc_endpoint::{Answering, Arrival, Fresh, ServerEvent};
 use std::alloc::{AllocError, Global};
 
-/// The event of a datagram that comes: `NOW ECHO MID DATAGRAM`.
+/// Reads the event of a datagram that arrives: `NOW ECHO MID DATAGRAM`.
 #[tactic(auto, unfolding(crate::specs::ServedReading::take_read))]
 fn read_take(alloc: Global, fields: &[u8]) -> Result<Option<ServerEvent>, AllocError>
     ensures seen { IfOk result (λ event. option_map event_seen event ≡ take_read fields.now) }
@@ -40,7 +40,7 @@ fn read_take(alloc: Global, fields: &[u8]) -> Result<Option<ServerEvent>, AllocE
     })))
 }
 
-/// The event of a reply: `EVENT own|shared MID PLAIN`.
+/// Reads the event of a reply: `EVENT own|shared MID PLAIN`.
 #[tactic(auto, unfolding(crate::specs::ServedReading::reply_read))]
 fn read_reply(alloc: Global, fields: &[u8]) -> Result<Option<ServerEvent>, AllocError>
     ensures seen { IfOk result (λ event. option_map event_seen event ≡ reply_read fields.now) }
@@ -66,7 +66,7 @@ fn read_reply(alloc: Global, fields: &[u8]) -> Result<Option<ServerEvent>, Alloc
     })))
 }
 
-/// The event of a restart: `NEXT`.
+/// Reads the event of a restart: `NEXT`.
 fn read_restart(fields: &[u8]) -> Option<ServerEvent>
     ensures seen { option_map event_seen result ≡ option_map Restart (number_read (2 ^ 40) fields.now) }
     ensures room { IfSome result IsOfRun }
@@ -77,7 +77,7 @@ fn read_restart(fields: &[u8]) -> Option<ServerEvent>
     }
 }
 
-/// The event of a verb and its fields.
+/// Reads the event of a verb and its fields.
 #[tactic(auto, unfolding(crate::specs::ServedReading::verb_read))]
 fn read_fields(alloc: Global, verb: &[u8], fields: &[u8]) -> Result<Option<ServerEvent>, AllocError>
     ensures seen { IfOk result (λ event. option_map event_seen event ≡ verb_read verb.now fields.now) }
@@ -95,7 +95,7 @@ fn read_fields(alloc: Global, verb: &[u8], fields: &[u8]) -> Result<Option<Serve
     Ok(None)
 }
 
-/// The event of a line, where it spells one.
+/// Reads the event of a line, if the line spells one.
 #[tactic(auto, unfolding(crate::specs::ServedReading::event_read))]
 pub(crate) fn read_event(alloc: Global, line: &[u8]) -> Result<Option<ServerEvent>, AllocError>
     ensures seen { IfOk result (λ event. option_map event_seen event ≡ event_read line.now) }

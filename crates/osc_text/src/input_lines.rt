@@ -11,19 +11,19 @@ use std::alloc::{AllocError, Global};
 
 /// An event that a line of an input spells.
 pub(crate) trait LineEvent: Drop + Sized {
-    // The line spells the event, and the rest of the event is right.
+    // The line spells the event, and the other parts of the event are right.
     ghost spells: { List ℕ → Self → Type 0 };
 
     // The line spells no event.
     ghost is_bad: { List ℕ → Type 0 };
 
-    /// The event of a line, where it spells one.
+    /// Reads the event of a line, if the line spells one.
     fn from_line(alloc: Global, line: &[u8]) -> Result<Option<Self>, AllocError>
         ensures read { IfOk result (λ event. IfSome event (spells line.now)) }
         ensures refused { IfOk result (λ event. IfNone event (is_bad line.now)) };
 }
 
-/// The first line, without its newline, and what is behind it.
+/// Returns the first line, without its newline, and what comes after it.
 fn first_line(rest: &[u8]) -> (&[u8], &[u8])
     requires { rest.now ≢ [] }
     ensures lines { lines_of rest.now ≡ result.0.now ∷ lines_of result.1.now }
@@ -35,7 +35,7 @@ fn first_line(rest: &[u8]) -> (&[u8], &[u8])
     }
 }
 
-/// The line behind so many good ones is bad. The first line is line 1.
+/// Returns the fault that the line after `good` good ones is bad. The first line is line 1.
 fn line_behind(good: usize) -> Fault
     requires { good < 2 ^ 63 }
     ensures { result ≡ Line (good + 1) }
@@ -43,7 +43,7 @@ fn line_behind(good: usize) -> Fault
     Fault::Line(good + 1)
 }
 
-/// The events that an input spells, one a line, or the number of the first line that spells none.
+/// Reads the events that an input spells, one per line. If a line spells none, returns the number of the first such line as a fault.
 pub(crate) fn read_events<E: LineEvent>(alloc: Global, input: &[u8]) -> Result<Vec<E>, Fault>
     ensures read { IfOk result (λ events. SpellEvents E.spells (lines_of input.now) events.items) }
     ensures refused { IfErr result (λ fault. Misreads E.spells E.is_bad input.now fault) }

@@ -13,13 +13,13 @@ use osc_context::Piv;
 use std::alloc::{AllocError, Global};
 use std::str;
 
-/// How many bytes a protected message can be longer than the plain one.
+/// How many bytes longer a protected message can be than the plain one.
 pub(crate) const MOST_ADDED: usize = 128;
 
 /// Four words.
 pub(crate) type Four<'a> = (&'a [u8], &'a [u8], &'a [u8], &'a [u8]);
 
-/// The bytes before the first mark, and those behind it, where it is there.
+/// Returns the bytes before the first `mark` and the bytes after it, if there is one.
 pub(crate) fn split_once(bytes: &[u8], mark: u8) -> Option<(&[u8], &[u8])>
     ensures { option_map parts result ≡ split_once mark bytes.now }
 {
@@ -29,7 +29,7 @@ pub(crate) fn split_once(bytes: &[u8], mark: u8) -> Option<(&[u8], &[u8])>
     }
 }
 
-/// Four words that a space parts. The last has all that is behind the third space.
+/// Splits the fields into four words, separated by one space. The last word is everything after the third space.
 #[tactic(auto, unfolding(crate::specs::ServedReading::four_read))]
 pub(crate) fn four_words(fields: &[u8]) -> Option<Four<'_>>
     ensures { option_map four_parts result ≡ four_read fields.now }
@@ -40,7 +40,7 @@ pub(crate) fn four_words(fields: &[u8]) -> Option<Four<'_>>
     Some((first, second, third, fourth))
 }
 
-/// The number below 2^64 of a word of decimal digits. Zeros may stand first; there is no sign.
+/// Reads the number below 2^64 that a word of decimal digits says. Leading zeros are allowed, and a sign isn't.
 pub(crate) fn read_moment(word: &[u8]) -> Option<u64>
     ensures { result ≡ number_read (2 ^ 64) word.now }
 {
@@ -50,7 +50,7 @@ pub(crate) fn read_moment(word: &[u8]) -> Option<u64>
     }
 }
 
-/// The number below 2^40 of a word of decimal digits. Zeros may stand first; there is no sign.
+/// Reads the number below 2^40 that a word of decimal digits says. Leading zeros are allowed, and a sign isn't.
 pub(crate) fn read_next(word: &[u8]) -> Option<Piv>
     ensures { option_map number_of result ≡ number_read (2 ^ 40) word.now }
 {
@@ -60,7 +60,7 @@ pub(crate) fn read_next(word: &[u8]) -> Option<Piv>
     }
 }
 
-/// The n bytes of a word of hex.
+/// Reads the `N` bytes of a word of hex.
 pub(crate) fn read_fixed<const N: usize>(word: &[u8]) -> Option<[u8; N]>
     ensures { result ≡ fixed_read N word.now }
 {
@@ -71,7 +71,7 @@ pub(crate) fn read_fixed<const N: usize>(word: &[u8]) -> Option<[u8; N]>
     }
 }
 
-/// The message ID of a word of four hex digits.
+/// Reads the Message ID of a word of four hex digits.
 pub(crate) fn read_message_id(word: &[u8]) -> Option<u16>
     ensures { result ≡ message_id_read word.now }
 {
@@ -81,7 +81,7 @@ pub(crate) fn read_message_id(word: &[u8]) -> Option<u16>
     }
 }
 
-/// Whether a word asks for an own number.
+/// Returns whether a word asks for an own number.
 #[tactic(auto, unfolding(crate::specs::ServedReading::own_read))]
 pub(crate) fn read_own(word: &[u8]) -> Option<bool>
     ensures { result ≡ own_read word.now }
@@ -95,7 +95,7 @@ pub(crate) fn read_own(word: &[u8]) -> Option<bool>
     }
 }
 
-/// The bytes of a word of hex, which isn't empty, or none of a dash.
+/// Reads the bytes of a word of hex that isn't empty. A dash stands for no bytes.
 #[tactic(auto, unfolding(crate::specs::InputReading::bytes_read))]
 pub(crate) fn read_bytes(alloc: Global, word: &[u8]) -> Result<Option<Vec<u8>>, AllocError>
     ensures { IfOk result (λ read. option_map (λ bytes. bytes.items) read ≡ bytes_read word.now) }

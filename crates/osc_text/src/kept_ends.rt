@@ -1,4 +1,4 @@
-//! What `run` prints of a server and of a client whose numbers are kept.
+//! What `run` prints for a server and for a client whose numbers are kept.
 
 ghost use Rattle.std.specs.Mem.{FitsInMemory};
 ghost use Rattle.std.specs.Prelude.{◌≡◌, ◌⊎◌, ◌↔◌, [], All, IfOk, map, true};
@@ -33,15 +33,15 @@ use std::alloc::Global;
 use std::io::Write;
 use std::mem::{self, ManuallyDrop};
 
-/// How an end begins whose numbers are kept: by the keeper that loads its first, and by what else is said of it.
+/// How an end whose numbers are kept begins: the keeper that loads its first number, and what else is given for the end.
 #[derive(Drop)]
 struct Kept<K, T>(K, T);
 
-/// Derives a context, starts a server of it alone at the number that the keeper loads, runs it over the events that an input
-/// spells, one a line, and writes the line of each event's entry, or the one line of a refusal, of the context or of the start,
-/// before a line of the input is looked at. All lines are read before the first event runs. This end is the sender of the
-/// context. Answers the status: 0 where the events ran, 2 where the context or the start is refused. The first line that spells
-/// no event is a fault, and then nothing is written. Each line is made whole before it is written.
+/// Derives a context, starts a server of this context alone at the number that the keeper loads, and runs it over the events that an input
+/// spells, one per line. Writes the line of each event's entry. If the context or the start is refused, writes the one line of that refusal
+/// instead, before looking at a line of the input. Reads all lines before the first event runs. This end is the sender of the context.
+/// Returns the status: 0 if the events ran, 2 if the context or the start is refused. The first line that spells no event is a fault, and
+/// then nothing is written. Builds each line completely before writing it.
 pub fn serve_kept_text<K: Keeper + Drop, W: Write>(
     alloc: Global,
     params: Params<'_>,
@@ -95,12 +95,11 @@ impl<K: Keeper + Drop> End for KeptServer<K> {
     }
 }
 
-/// Derives a context, starts a client of it at the number that the keeper loads, runs it over the events that an input spells,
-/// one a line, and writes the line of each event's entry, or the one line of a refusal, of the context or of the start, before a
-/// line of the input is looked at. All lines are read before the first event runs. This end is the sender of the context; up to
-/// 16 of its requests are pending at once, each for so many milliseconds. Answers the status: 0 where the events ran, 2 where the
-/// context or the start is refused. The first line that spells no event is a fault, and then nothing is written. Each line is
-/// made whole before it is written.
+/// Derives a context, starts a client of it at the number that the keeper loads, and runs it over the events that an input spells, one per
+/// line. Writes the line of each event's entry. If the context or the start is refused, writes the one line of that refusal instead, before
+/// looking at a line of the input. Reads all lines before the first event runs. This end is the sender of the context. Up to 16 of its
+/// requests are pending at once, each for `life_ms` milliseconds. Returns the status: 0 if the events ran, 2 if the context or the start is
+/// refused. The first line that spells no event is a fault, and then nothing is written. Builds each line completely before writing it.
 pub fn ask_kept_text<K: Keeper + Drop, W: Write>(
     alloc: Global,
     params: Params<'_>,
@@ -117,7 +116,7 @@ pub fn ask_kept_text<K: Keeper + Drop, W: Write>(
     write_run(alloc, params, Kept(keeper, life_ms), input, out)
 }
 
-/// Whether a value of this type takes fewer than 2^63 bytes.
+/// Returns whether a value of this type takes fewer than 2^63 bytes.
 fn is_of_a_size<T>(value: &T) -> bool
     ensures { result ≡ true ↔ FitsInMemory T.row }
 {
@@ -135,7 +134,7 @@ impl<K: Keeper + Drop> Beginning for Kept<K, u64> {
         input: &[u8],
         out: &mut W,
     ) -> Result<u8, Fault> {
-        // No type is larger, and the branch is none in the program: it tells the proof that a client over this keeper fits.
+        // No type is larger, so this isn't a branch in the program. It tells the proof that a client over this keeper fits.
         let none: Option<ManuallyDrop<KeptClient<K, 16>>> = None;
         if !is_of_a_size(&none) {
             return Err(Fault::Memory);

@@ -1,4 +1,4 @@
-//! How the entries of the log of an end whose numbers are kept print, one a line.
+//! How the log entries of an end whose numbers are kept print, one per line.
 
 ghost use Rattle.std.specs.Prelude.{◌≡◌, IfOk, string_bytes};
 ghost use Rattle.osc_text.specs.KeptLog.{kept_asked_text, kept_text, restart_text};
@@ -7,7 +7,7 @@ use crate::entry_lines::LogEntry;
 use osc_kept::{KeptClientEntry, KeptError, KeptServerEntry};
 use std::alloc::{AllocError, Global};
 
-/// Whether an end was restarted.
+/// Returns the text that says whether an end was restarted.
 fn restart_text(alloc: Global, restarted: Result<(), KeptError>) -> Result<String, AllocError>
     ensures { IfOk result (λ text. string_bytes text ≡ restart_text restarted) }
 {

@@ -1,4 +1,4 @@
-//! The events that the lines of an input ask of an end whose numbers are kept.
+//! Reads the lines of an input as events of an end whose numbers are kept.
 
 ghost use Rattle.std.specs.Prelude.{◌≡◌, IfOk, IfSome, option_map};
 ghost use Rattle.osc_text.specs.AskedReading.{HasRoom, asked_seen};
@@ -18,7 +18,7 @@ use std::alloc::{AllocError, Global};
 /// The line of a restart.
 const RESTART: &[u8] = b"restart";
 
-/// The event of a kept server; a restart with a number is none of its events.
+/// Turns a server's event into an event of a kept server. Returns `None` for a restart with a number, which a kept server doesn't have.
 fn kept_event(event: ServerEvent) -> Option<KeptServerEvent>
     ensures seen { option_map kept_seen result ≡ kept_of (event_seen event) }
     ensures room { IsOfRun event → IfSome result IsRoomy }
@@ -30,7 +30,7 @@ fn kept_event(event: ServerEvent) -> Option<KeptServerEvent>
     }
 }
 
-/// The event of a line, where it spells one.
+/// Reads the event of a line, if the line spells one.
 #[tactic(auto, unfolding(crate::specs::KeptReading::kept_read))]
 fn read_kept(alloc: Global, line: &[u8]) -> Result<Option<KeptServerEvent>, AllocError>
     ensures seen { IfOk result (λ event. option_map kept_seen event ≡ kept_read line.now) }
@@ -55,7 +55,7 @@ impl LineEvent for KeptServerEvent {
     }
 }
 
-/// The event of a kept client; a restart with a number is none of its events.
+/// Turns a client's event into an event of a kept client. Returns `None` for a restart with a number, which a kept client doesn't have.
 fn kept_asked(event: ClientEvent) -> Option<KeptClientEvent>
     ensures seen { option_map kept_asked_seen result ≡ kept_asked_of (asked_seen event) }
     ensures room { HasRoom event → IfSome result IsRoomyAsked }
@@ -70,7 +70,7 @@ fn kept_asked(event: ClientEvent) -> Option<KeptClientEvent>
     }
 }
 
-/// The event of a line, where it spells one.
+/// Reads the event of a line, if the line spells one.
 #[tactic(auto, unfolding(crate::specs::KeptReading::kept_asked_read))]
 fn read_kept_asked(alloc: Global, line: &[u8]) -> Result<Option<KeptClientEvent>, AllocError>
     ensures seen { IfOk result (λ event. option_map kept_asked_seen event ≡ kept_asked_read line.now) }

@@ -1,5 +1,5 @@
-//! What each call of the command `oscore` prints, over any writer: a text of whole lines, and the status. The words of hex and
-//! of digits are read here too.
+//! What each call of the command `oscore` prints, over any writer: a text of whole lines, and the status. This crate also reads words of
+//! hex and of digits.
 //!
 //! ```
 //! let params = Params { secret, salt, id_context: None, sender, recipient };

@@ -1,4 +1,4 @@
-//! How values print: each line is made whole, and then written.
+//! How values print: each line is built completely, and then written.
 
 ghost use Rattle.std.specs.Prelude.{◌≡◌, ◌∷◌, [], IfOk, IfSome, string_bytes, map, option_map, codes};
 ghost use Rattle.osc_coap.specs.Views.{options_left};
@@ -17,7 +17,7 @@ use std::alloc::{AllocError, Global};
 use std::fmt::Display;
 use std::io::Write;
 
-/// The bytes in hex, or a dash for none.
+/// Returns the bytes in hex, or a dash if there are none.
 pub(crate) fn bytes_text(alloc: Global, bytes: &[u8]) -> Result<String, AllocError>
     ensures { IfOk result (λ text. string_bytes text ≡ bytes_text bytes.now) }
 {
@@ -27,7 +27,7 @@ pub(crate) fn bytes_text(alloc: Global, bytes: &[u8]) -> Result<String, AllocErr
     hex::encode(alloc, bytes)
 }
 
-/// The name of a kind.
+/// Returns the name of a Type.
 fn kind_text(kind: Kind) -> &'static str
     ensures { result.now ≡ kind_text kind }
 {
@@ -39,7 +39,7 @@ fn kind_text(kind: Kind) -> &'static str
     }
 }
 
-/// A code as class, dot and two digits of detail.
+/// Returns a code as class, dot and two digits of detail.
 pub(crate) fn code_text(alloc: Global, code: u8) -> Result<String, AllocError>
     ensures { IfOk result (λ text. string_bytes text ≡ code_text code) }
 {
@@ -49,7 +49,7 @@ pub(crate) fn code_text(alloc: Global, code: u8) -> Result<String, AllocError>
     format!(in alloc; "{class}.{tens}{ones}")
 }
 
-/// A number in decimal, or a dash for none.
+/// Returns a number in decimal, or a dash if there is none.
 pub(crate) fn number_text(alloc: Global, number: Option<Piv>) -> Result<String, AllocError>
     ensures { IfOk result (λ text. string_bytes text ≡ number_text (option_map number_of number)) }
 {
@@ -62,7 +62,7 @@ pub(crate) fn number_text(alloc: Global, number: Option<Piv>) -> Result<String, 
     }
 }
 
-/// Writes the line of a name and a text.
+/// Writes the line with a name and a text.
 pub(crate) fn put_text<W: Write>(
     alloc: Global,
     name: &str,
@@ -76,7 +76,7 @@ pub(crate) fn put_text<W: Write>(
     Ok(())
 }
 
-/// Writes the line of bytes in hex alone.
+/// Writes the line with bytes in hex only.
 pub(crate) fn put_hex<W: Write>(alloc: Global, bytes: &[u8], out: &mut W) -> Result<(), Fault>
     ensures { Writes (W.contents out.old) (W.contents out.new) (hex_line bytes.now ∷ []) result }
 {
@@ -86,7 +86,7 @@ pub(crate) fn put_hex<W: Write>(alloc: Global, bytes: &[u8], out: &mut W) -> Res
     Ok(())
 }
 
-/// Writes the line of a name and bytes in hex.
+/// Writes the line with a name and bytes in hex.
 pub(crate) fn put_bytes<W: Write>(
     alloc: Global,
     name: &str,
@@ -99,7 +99,7 @@ pub(crate) fn put_bytes<W: Write>(
     put_text(alloc, name, text.as_str(), out)
 }
 
-/// Writes the line of a name and bytes in hex, where there are some.
+/// Writes the line with a name and bytes in hex, if the part is there.
 pub(crate) fn put_part<W: Write>(
     alloc: Global,
     name: &str,
@@ -139,7 +139,7 @@ fn put_code<W: Write>(alloc: Global, code: u8, out: &mut W) -> Result<(), Fault>
     put_text(alloc, "code", text.as_str(), out)
 }
 
-/// Writes the lines of the head, the token and the code.
+/// Writes the lines with the head, the token and the code.
 pub(crate) fn put_head<W: Write>(
     alloc: Global,
     kind: Kind,
@@ -185,14 +185,14 @@ pub(crate) fn put_options<W: Write>(
     Ok(())
 }
 
-/// Writes a line for each option inside.
+/// Writes a line for each inner option.
 fn put_inner<W: Write>(alloc: Global, opened: &Opened<'_>, out: &mut W) -> Result<(), Fault>
     ensures { Writes (W.contents out.old) (W.contents out.new) (map option_line (message_of opened.now).options) result }
 {
     put_options(alloc, opened.inner(), out)
 }
 
-/// Writes what a datagram says that opened, one part a line.
+/// Writes what an opened datagram says, one part per line.
 pub(crate) fn put_opened<W: Write>(
     alloc: Global,
     opened: &Opened<'_>,
@@ -215,7 +215,7 @@ pub(crate) fn put_opened<W: Write>(
     put_bytes(alloc, "payload", opened.payload, out)
 }
 
-/// Writes the line of a refusal, by its name, and answers its status.
+/// Writes the line of a refusal, with its name, and returns its status.
 pub(crate) fn put_refused<D: Display + Drop, W: Write>(
     alloc: Global,
     refusal: D,

@@ -1,4 +1,4 @@
-//! A number from a word of decimal digits.
+//! Reads a number from a word of decimal digits.
 
 ghost use Rattle.std.specs.Prelude.{◌≡◌, ◌<◌, ◌^◌, get_or};
 ghost use Rattle.std.specs.Option.{SomeIff, option_map};
@@ -7,7 +7,7 @@ ghost use Rattle.osc_text.specs.Numbers.{IsDigitWord, number_said};
 
 use osc_context::Piv;
 
-/// The first of some bytes, or 0 where there is none.
+/// Returns the first of some bytes, or 0 if there are none.
 fn first_byte(bytes: &[u8]) -> u8
     ensures { result ≡ get_or bytes.now 0 0 }
 {
@@ -17,12 +17,12 @@ fn first_byte(bytes: &[u8]) -> u8
     bytes[0]
 }
 
-/// The number below 2^64 that a word of decimal digits says. Zeros may stand first; there is no sign.
+/// Reads the number below 2^64 that a word of decimal digits says. Leading zeros are allowed, and a sign isn't.
 #[must_use]
 pub fn read_decimal(word: &str) -> Option<u64>
     ensures { SomeIff result (IsDigitWord word.now × (number_said word.now < 2 ^ 64)) (number_said word.now) }
 {
-    // The number parser of std takes a plus in front.
+    // The number parser of std accepts a leading plus.
     if first_byte(word.as_bytes()) == b'+' {
         return None;
     }
@@ -32,8 +32,8 @@ pub fn read_decimal(word: &str) -> Option<u64>
     }
 }
 
-/// The number that a word of decimal digits says, where there is one or more, nothing else, and the number is below 2^40.
-/// Zeros may stand first; there is no sign.
+/// Reads the number that a word says, if the word is one or more decimal digits and nothing else, and the number is below 2^40. Leading
+/// zeros are allowed, and a sign isn't.
 #[must_use]
 pub fn read_number(word: &str) -> Option<Piv>
     ensures { SomeIff (option_map number_of result) (IsDigitWord word.now × (number_said word.now < 2 ^ 40)) (number_said word.now) }

@@ -16,9 +16,9 @@ use std::io::Write;
 /// What a datagram is opened as.
 #[derive(Clone, Copy, Debug)]
 pub enum Opening {
-    /// A request, by its server.
+    /// A request, opened by its server.
     Request,
-    /// A response to this request, by its client.
+    /// A response to this request, opened by its client.
     Response(RequestRef),
 }
 
@@ -26,10 +26,10 @@ ghost use Rattle.osc_text.specs.Opening.{OpenText, OpeningText};
 ghost use Rattle.osc_text.specs.Outcomes.{open_lines, open_status};
 ghost use Rattle.osc_text.specs.Written.{Writes};
 
-/// Derives a context, opens a request or a response in its datagram, and writes what it says, one part a line, or the one
-/// line of a refusal, of the context before that of the datagram. This end is the sender of the context. Answers the status:
-/// 0 where it opens, 2 where it is refused. Each line is made whole before it is written. The datagram is left as
-/// `open_request` and `open_response` leave it.
+/// Derives a context, and opens a request or a response in its datagram. Writes what it says, one part per line, or the one line of a
+/// refusal: the context's refusal comes before the datagram's. This end is the sender of the context. Returns the status: 0 if the datagram
+/// opens, 2 if it or the context is refused. Builds each line completely before writing it. Leaves the datagram as `open_request` and
+/// `open_response` leave it.
 pub fn open_text<W: Write>(
     alloc: Global,
     params: Params<'_>,
@@ -37,7 +37,7 @@ pub fn open_text<W: Write>(
     datagram: &mut [u8],
     out: &mut W,
 ) -> Result<u8, Fault>
-    // Each datagram has a text. The next two clauses say that this is what is written.
+    // Each datagram has a text. The next two clauses say that this text is what is written.
     ensures told { (lines : List (List ℕ)) × (status : ℕ) × OpenText params.entry what datagram.old lines status }
     ensures written { (lines : List (List ℕ)) (status : ℕ) → OpenText params.entry what datagram.old lines status
         → Writes (W.contents out.old) (W.contents out.new) lines result }
@@ -52,7 +52,7 @@ pub fn open_text<W: Write>(
     write_opening(alloc, params, what, datagram, out)
 }
 
-/// Writes what a datagram says, or its refusal, or that of the context.
+/// Writes what a datagram says, or the refusal of the datagram or of the context.
 fn write_opening<W: Write>(
     alloc: Global,
     params: Params<'_>,
@@ -89,7 +89,7 @@ fn write_datagram<W: Write>(
     }
 }
 
-/// Writes what came of an open: what was opened, or the refusal.
+/// Writes the result of opening: what was opened, or the refusal.
 fn write_outcome<W: Write>(
     alloc: Global,
     outcome: Result<Opened<'_>, UnprotectError>,

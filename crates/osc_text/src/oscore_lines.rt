@@ -19,7 +19,7 @@ use osc_context::{OptionError, OscoreOption, Piv};
 use std::alloc::{AllocError, Global};
 use std::io::Write;
 
-/// The bytes in hex, or a dash for no bytes, where there is such a part.
+/// Returns the bytes of a part in hex, a dash if it has no bytes, or `none` if there is no such part.
 fn optional_text(alloc: Global, part: Option<&[u8]>) -> Result<String, AllocError>
     ensures { IfOk result (λ text. string_bytes text ≡ optional_text (option_copied part.entry)) }
 {
@@ -29,7 +29,7 @@ fn optional_text(alloc: Global, part: Option<&[u8]>) -> Result<String, AllocErro
     }
 }
 
-/// The bytes of a Partial IV in hex, where there is one.
+/// Returns the bytes of a Partial IV in hex, or `none` if there is no Partial IV.
 fn piv_text(alloc: Global, piv: Option<Piv>) -> Result<String, AllocError>
     ensures { IfOk result (λ text. string_bytes text ≡ optional_text (option_map partial_iv_of (option_map number_of piv))) }
 {
@@ -39,7 +39,7 @@ fn piv_text(alloc: Global, piv: Option<Piv>) -> Result<String, AllocError>
     }
 }
 
-/// Writes the line of what an OSCORE option says.
+/// Writes the line with what an OSCORE option says.
 fn put_said<W: Write>(alloc: Global, said: OscoreOption<'_>, out: &mut W) -> Result<(), Fault>
     ensures { Writes (W.contents out.old) (W.contents out.new) (oscore_line (oscore_parts_of said.entry) ∷ []) result }
 {
@@ -50,7 +50,7 @@ fn put_said<W: Write>(alloc: Global, said: OscoreOption<'_>, out: &mut W) -> Res
     put_text(alloc, "oscore", text.as_str(), out)
 }
 
-/// Writes the line of an OSCORE option that is refused.
+/// Writes the line for a refused OSCORE option.
 fn put_value_fault<W: Write>(alloc: Global, refusal: OptionError, out: &mut W) -> Result<(), Fault>
     ensures { Writes (W.contents out.old) (W.contents out.new) (oscore_fault_line refusal ∷ []) result }
 {
@@ -58,7 +58,7 @@ fn put_value_fault<W: Write>(alloc: Global, refusal: OptionError, out: &mut W) -
     put_text(alloc, "oscore", text.as_str(), out)
 }
 
-/// Writes the line of an OSCORE option's value.
+/// Writes the line for the value of an OSCORE option.
 fn put_value<W: Write>(alloc: Global, value: &[u8], out: &mut W) -> Result<(), Fault>
     ensures { (line : List ℕ) → ValueLine value.now line
         → Writes (W.contents out.old) (W.contents out.new) (line ∷ []) result }
@@ -69,7 +69,7 @@ fn put_value<W: Write>(alloc: Global, value: &[u8], out: &mut W) -> Result<(), F
     }
 }
 
-/// Writes the line of an option that is an OSCORE option.
+/// Writes the line for an option, if it is an OSCORE option.
 fn put_if_oscore<W: Write>(
     alloc: Global,
     number: u16,

@@ -15,9 +15,9 @@ use std::io::Write;
 /// What a plain datagram is sealed as.
 #[derive(Clone, Copy, Debug)]
 pub enum Sealing {
-    /// The request of this number, by its client.
+    /// A request with this number, sealed by its client.
     Request(Piv),
-    /// A response to a request, under an own number of the server or none.
+    /// A response to a request, under an own number of the server or under none.
     Response {
         request: RequestRef,
         own: Option<Piv>,
@@ -28,10 +28,10 @@ ghost use Rattle.osc_text.specs.Protecting.{PlainText, ProtectText, SealingText}
 ghost use Rattle.osc_text.specs.Outcomes.{seal_lines, seal_status};
 ghost use Rattle.osc_text.specs.Written.{Writes};
 
-/// Derives a context, seals the request or the response that a plain datagram is, and writes what is sealed in hex, on one
-/// line, or the one line of a refusal, of the context before that of the datagram. This end is the sender of the context.
-/// Answers the status: 0 where it is sealed, 2 where it is refused. The line is made whole before it is written. The caller
-/// keeps each number fresh, and seals at most one response to a request without one.
+/// Derives a context, and seals a plain datagram as a request or as a response. Writes the sealed datagram in hex, on one line, or the one
+/// line of a refusal: the context's refusal comes before the datagram's. This end is the sender of the context. Returns the status: 0 if
+/// the datagram is sealed, 2 if it or the context is refused. Builds the line completely before writing it. The caller keeps each number
+/// fresh, and seals at most one response without an own number to a request.
 pub fn protect_text<W: Write>(
     alloc: Global,
     params: Params<'_>,
@@ -39,7 +39,7 @@ pub fn protect_text<W: Write>(
     plain: &[u8],
     out: &mut W,
 ) -> Result<u8, Fault>
-    // Each datagram has a text. The next two clauses say that this is what is written.
+    // Each datagram has a text. The next two clauses say that this text is what is written.
     ensures told { (lines : List (List ℕ)) × (status : ℕ) × ProtectText params.entry what plain.now lines status }
     ensures written { (lines : List (List ℕ)) (status : ℕ) → ProtectText params.entry what plain.now lines status
         → Writes (W.contents out.old) (W.contents out.new) lines result }
@@ -53,7 +53,7 @@ pub fn protect_text<W: Write>(
     write_protection(alloc, params, what, plain, out)
 }
 
-/// Writes what is sealed of a plain datagram, or its refusal, or that of the context.
+/// Writes what a plain datagram is sealed to, or the refusal of the datagram or of the context.
 fn write_protection<W: Write>(
     alloc: Global,
     params: Params<'_>,
@@ -70,7 +70,7 @@ fn write_protection<W: Write>(
     }
 }
 
-/// Writes what is sealed of a plain datagram under a context, or its refusal.
+/// Writes what a plain datagram is sealed to under a context, or its refusal.
 fn write_plain<W: Write>(
     alloc: Global,
     context: &Context,
@@ -88,7 +88,7 @@ fn write_plain<W: Write>(
     }
 }
 
-/// Writes what is sealed of a message under a context, or its refusal. There is room for each datagram.
+/// Writes what a message is sealed to under a context, or its refusal. There is room for any datagram.
 fn write_message<W: Write>(
     alloc: Global,
     context: &Context,
@@ -113,7 +113,7 @@ fn write_message<W: Write>(
     }
 }
 
-/// Writes what came of a seal: what was sealed, at the front of the buffer, or the refusal.
+/// Writes the result of sealing: the sealed bytes, which are at the front of the buffer, or the refusal.
 fn write_outcome<W: Write>(
     alloc: Global,
     outcome: Result<usize, ProtectError>,

@@ -1,4 +1,4 @@
-//! How the entries of a server's log print, one a line.
+//! How the entries of a server's log print, one per line.
 
 ghost use Rattle.std.specs.Prelude.{◌≡◌, ◌++◌, IfOk, string_bytes};
 ghost use Rattle.osc_context.specs.Views.{number_of};
@@ -13,7 +13,7 @@ use osc_endpoint::{Seen, ServerEntry};
 use osc_protect::Opened;
 use std::alloc::{AllocError, Global};
 
-/// A reply behind its entry, after one space, where there is one.
+/// Returns the text of a reply after its entry: one space and the bytes, or nothing if there is no reply.
 fn reply_text(alloc: Global, reply: &[u8]) -> Result<String, AllocError>
     ensures { IfOk result (λ text. string_bytes text ≡ reply_text reply.now) }
 {
@@ -24,7 +24,7 @@ fn reply_text(alloc: Global, reply: &[u8]) -> Result<String, AllocError>
     format!(in alloc; " {text}")
 }
 
-/// A delivery: context, number, code, options and payload.
+/// Returns the text of a delivery: context, number, code, options and payload.
 fn delivery_text(
     alloc: Global,
     opened: &Opened<'_>,
@@ -38,7 +38,7 @@ fn delivery_text(
     format!(in alloc; "deliver {context} {number} {message}")
 }
 
-/// What was made of a datagram.
+/// Returns the text for what the server made of a datagram.
 fn seen_text(alloc: Global, seen: &Seen<'_>) -> Result<String, AllocError>
     ensures { IfOk result (λ text. string_bytes text ≡ seen_text seen.now) }
 {
@@ -68,7 +68,7 @@ fn seen_text(alloc: Global, seen: &Seen<'_>) -> Result<String, AllocError>
     }
 }
 
-/// What was made of a datagram, and the reply.
+/// Returns the text for what the server made of a datagram, and for the reply.
 fn took_text(alloc: Global, seen: &Seen<'_>, reply: &[u8]) -> Result<String, AllocError>
     ensures { IfOk result (λ text. string_bytes text ≡ seen_text seen.now ++ reply_text reply.now) }
 {
@@ -77,7 +77,7 @@ fn took_text(alloc: Global, seen: &Seen<'_>, reply: &[u8]) -> Result<String, All
     format!(in alloc; "{seen}{reply}")
 }
 
-/// An entry, as it prints.
+/// Returns an entry as it prints.
 fn entry_text(alloc: Global, entry: &ServerEntry<'_>) -> Result<String, AllocError>
     ensures { IfOk result (λ text. string_bytes text ≡ entry_text entry.now) }
 {

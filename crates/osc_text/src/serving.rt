@@ -1,4 +1,4 @@
-//! What `run` prints of a server.
+//! What `run` prints for a server.
 
 ghost use Rattle.std.specs.Prelude.{◌≡◌, ◌⊎◌, ℕ, [], List, All, Err, IfOk, map};
 ghost use Rattle.osc_endpoint.specs.Agrees.{Agrees};
@@ -18,7 +18,7 @@ use std::io::Write;
 /// How a server begins.
 #[derive(Clone, Copy, Debug)]
 pub struct Serving {
-    /// The next own number.
+    /// The next own Sender Sequence Number.
     pub next: Piv,
     /// Whether the context may have received requests before.
     pub is_restarted: bool,
@@ -35,7 +35,7 @@ ghost use Rattle.osc_text.specs.Written.{Writes};
 ghost use Rattle.osc_text.specs.declared.fault.Fault.TheVariants.{Line};
 
 impl Serving {
-    /// How its context begins.
+    /// Returns how the server's context begins.
     fn start(self) -> Start
         ensures { result ≡ start_of self }
     {
@@ -47,11 +47,11 @@ impl Serving {
     }
 }
 
-/// Derives a context, runs a server of it alone over the events that an input spells, one a line, and writes the line of each
-/// event's entry, or the one line of a refusal, of the context or of its start, before a line of the input is looked at. All
-/// lines are read before the first event runs. This end is the sender of the context. Answers the status: 0 where the events
-/// ran, 2 where it is refused. The first line that spells no event is a fault, and then nothing is written. Each line is made
-/// whole before it is written.
+/// Derives a context, and runs a server of this context alone over the events that an input spells, one per line. Writes the line of each
+/// event's entry. If the context or its start is refused, writes the one line of that refusal instead, before looking at a line of the
+/// input. Reads all lines before the first event runs. This end is the sender of the context. Returns the status: 0 if the events ran, 2 if
+/// the context or its start is refused. The first line that spells no event is a fault, and then nothing is written. Builds each line
+/// completely before writing it.
 pub fn serve_text<W: Write>(
     alloc: Global,
     params: Params<'_>,
@@ -59,7 +59,7 @@ pub fn serve_text<W: Write>(
     input: &[u8],
     out: &mut W,
 ) -> Result<u8, Fault>
-    // Where a status is answered there is a text. The next two clauses say that this is what is written.
+    // If a status is returned, there is a text. The next two clauses say that this text is what is written.
     ensures told { IfOk result (λ s. (lines : List (List ℕ)) × ServeText params.entry serving input.now lines s) }
     ensures written { (lines : List (List ℕ)) (status : ℕ) → ServeText params.entry serving input.now lines status
         → Writes (W.contents out.old) (W.contents out.new) lines result }

@@ -1,22 +1,22 @@
--- To be believed: laws of windows over any number of marks (RFC 8613, 7.4). marks are their numbers, newest first.
+-- To be believed: laws about windows after any number of marks (RFC 8613, 7.4). marks are their numbers, newest first.
 use Rattle.std.specs.Prelude.{◌≡◌, ℕ, List, [], ◌∷◌, ◌++◌, IsTrue}
 use Rattle.osc_window.specs.declared.window_size.WindowSize.{WindowSize}
 use Rattle.osc_window.specs.declared.window.Window.{Window}
 use Rattle.osc_window.specs.Views.{takes}
 use Rattle.osc_window.specs.Taken.{IsFresh, IsFromFloor, Spends, AgreesWith}
 
--- the first window becomes the last by these marks, each of a number that was taken (RFC 8613, 7.4)
+-- these marks turn the first window into the last; each marks a number that the window before it takes (RFC 8613, 7.4)
 abbrev pub BecomesBy : Window → Window → List ℕ → Type 0
 BecomesBy first last [] = last ≡ first
 BecomesBy first last (n ∷ earlier) =
     (before : Window) × BecomesBy first before earlier × IsTrue (takes before n) × Spends before last n
 
--- a window that was fresh takes exactly the new numbers over floor 0 and all marks (RFC 8613, 7.4)
+-- a window that began fresh takes exactly the numbers that are new over floor 0 and all marks (RFC 8613, 7.4)
 abbrev pub FreshTakesNew : Type 0
 FreshTakesNew = (first last : Window) (size : WindowSize) (marks : List ℕ)
     → IsFresh first size → BecomesBy first last marks → AgreesWith last size 0 marks
 
--- one from a floor takes exactly the new numbers over that floor and all marks, the floor among them (RFC 8613, 7.4)
+-- a window that began at a floor takes exactly the numbers that are new over it and all marks, the floor among them (RFC 8613, 7.4)
 abbrev pub FloorTakesNew : Type 0
 FloorTakesNew = (first last : Window) (floor : ℕ) (size : WindowSize) (marks : List ℕ)
     → IsFromFloor first floor size → BecomesBy first last marks → AgreesWith last size floor (marks ++ floor ∷ [])

@@ -1,4 +1,4 @@
--- How the code is seen: a window and a gate. Into size_of and takes no proof of another crate looks.
+-- How the code is seen: a window and a gate. No proof of another crate looks into size_of and takes.
 use Rattle.std.specs.Prelude.{ℕ, List, Bool, true, false, Option, None}
 use Rattle.std.specs.Option.{option_map}
 use Rattle.osc_context.specs.Views.{number_of}
@@ -32,12 +32,12 @@ abbrev pub is_open : Gate → Bool
 is_open (Restarted challenge) = false
 is_open (Open window) = true
 
--- the challenge of a closed gate, value and moment of issue, if it has one (how the code is seen)
+-- the challenge of a closed gate (its value and its moment of issue), if it has one (how the code is seen)
 abbrev pub challenge_of : Gate → Option (List ℕ × ℕ)
 challenge_of (Restarted challenge) = challenge
 challenge_of (Open window) = None
 
--- a gate is open, and the fact holds of its window (how the code is seen)
+-- the gate is open, and the fact holds of its window (how the code is seen)
 abbrev pub IsOpenAnd : Gate → (Window → Type 0) → Type 0
 IsOpenAnd (Restarted challenge) P = ⊥
 IsOpenAnd (Open window) P = P window

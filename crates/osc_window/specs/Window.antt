@@ -1,5 +1,5 @@
--- To be believed: the replay window (RFC 8613, 7.4). w is its number of places, floor the least number that can be new,
--- spent the list of the numbers that were marked, however many, and n the number of a request.
+-- To be believed: the replay window (RFC 8613, 7.4). w is its number of places, floor is the least number that can be new,
+-- spent is the list of the numbers that were marked, however many, and n is the number of a request.
 use Rattle.std.specs.Prelude.{◌≢◌, ℕ, ◌+◌, ◌<◌, ◌≤◌, List}
 use Rattle.std.specs.List.{All}
 

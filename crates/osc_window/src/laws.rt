@@ -1,8 +1,8 @@
-//! Laws over the definitions alone, each the contract of a function that does nothing.
+//! Laws about the definitions alone. Each is the contract of a function that does nothing.
 
 ghost use Rattle.osc_window.specs.Laws.{FreshTakesNew, FloorTakesNew};
 
-/// After any marks, each of a number that was new, a window takes exactly the new numbers (RFC 8613, 7.4).
+/// States that after any marks, each of a number that was new, a window takes exactly the new numbers (RFC 8613, 7.4).
 pub fn takes_new_numbers()
     ensures fresh { FreshTakesNew }
     ensures from_floor { FloorTakesNew }

@@ -14,19 +14,19 @@ ghost use Rattle.osc_window.specs.Taken.{IsFresh, IsFromFloor, Spends, AgreesWit
 use crate::window_size::WindowSize;
 use osc_context::Piv;
 
-/// Which numbers of one context are new in one life (RFC 8613, 7.4). `==` compares what is kept, which can differ
-/// between windows that take the same numbers.
+/// Which numbers of one context are new in one life (RFC 8613, 7.4). `==` compares what two windows keep, which can
+/// differ even if they take the same numbers.
 #[derive(Clone, Copy, Debug, PartialEq, Eq)]
 pub struct Window {
     // The highest marked number, if one is marked.
     highest: Option<Piv>,
-    // The numbers from there down that are refused: the lowest bit stands for the highest number.
+    // Which numbers from there down are refused. The lowest bit stands for the highest number.
     spent_mask: u64,
     size: WindowSize,
 }
 
-/// What a window keeps, as plain values, for whoever keeps it elsewhere. The lowest bit of the mask stands for the highest number;
-/// a bit that is set refuses its number.
+/// What a window keeps, as plain values, for code that keeps it elsewhere. The lowest bit of the mask stands for the
+/// highest number. A bit that is set refuses its number.
 #[derive(Clone, Copy, Debug, PartialEq, Eq)]
 pub struct WindowParts {
     pub highest: Option<Piv>,
@@ -35,7 +35,7 @@ pub struct WindowParts {
 }
 
 impl Window {
-    /// What the window keeps.
+    /// Returns what the window keeps.
     #[must_use]
     pub fn parts(&self) -> WindowParts
         ensures { result ≡ parts_of self.now }
@@ -47,7 +47,7 @@ impl Window {
         }
     }
 
-    /// The window that keeps this.
+    /// Makes the window that keeps these values.
     #[must_use]
     pub fn from_parts(parts: WindowParts) -> Window
         ensures made { parts_of result ≡ parts }
@@ -60,7 +60,7 @@ impl Window {
         }
     }
 
-    /// The window of a context that has never restarted: no number is spent (RFC 8613, 3.2.2).
+    /// Makes the window of a context that has never restarted: no number is spent (RFC 8613, 3.2.2).
     #[tactic(auto, unfolding(crate::specs::Views::takes, crate::specs::Views::size_of))]
     #[must_use]
     pub fn fresh(size: WindowSize) -> Window
@@ -74,8 +74,8 @@ impl Window {
         }
     }
 
-    /// The window of a restarted context, once a request with this number has shown that it is fresh: the number is
-    /// spent, and all below it are too old (RFC 8613, B.1.2).
+    /// Makes the window of a restarted context after a request with this number has shown that it is fresh. The number
+    /// is spent, and all numbers below it are too old (RFC 8613, B.1.2).
     #[tactic(auto, unfolding(crate::specs::Views::takes, crate::specs::Views::size_of))]
     #[must_use]
     pub fn from_floor(floor: Piv, size: WindowSize) -> Window
@@ -89,7 +89,7 @@ impl Window {
         }
     }
 
-    /// Answers the size that the window was made with.
+    /// Returns the size that the window was made with.
     #[tactic(auto, unfolding(crate::specs::Views::size_of))]
     #[must_use]
     pub fn size(&self) -> WindowSize
@@ -98,7 +98,8 @@ impl Window {
         self.size
     }
 
-    /// Answers whether the number is new: neither spent nor too old (RFC 8613, 7.4). A number that isn't is a replay.
+    /// Returns whether the number is new: neither spent nor too old (RFC 8613, 7.4). A number that isn't new is a
+    /// replay.
     #[tactic(auto, unfolding(crate::specs::Views::takes), using(crate::proofs::Masks::taken_above, crate::proofs::Masks::taken_below))]
     #[must_use]
     pub fn is_new(&self, number: Piv) -> bool
@@ -114,7 +115,7 @@ impl Window {
         }
     }
 
-    /// Spends a number. Call it once the request has opened, never before its tag is checked (RFC 8613, 7.4).
+    /// Spends a number. Call it after the request has opened, never before its tag is checked (RFC 8613, 7.4).
     pub fn mark(&mut self, number: Piv)
         requires { IsTrue (takes self.old (number_of number)) }
         ensures spends { Spends self.old self.new (number_of number) }
@@ -128,18 +129,18 @@ impl Window {
         };
         let (from, to) = (highest.number(), number.number());
         if from < to {
-            // Beyond the highest: it becomes the highest, and the mask moves up by the jump.
+            // The number is above the highest: it becomes the highest, and the mask moves up by the jump.
             self.highest = Some(number);
             self.spent_mask = moved_up(self.spent_mask, to - from, self.size.places());
         } else {
-            // Inside: its bit is set, and nothing moves.
-            // Too old: never, since no such number is new.
+            // The number is in the window: its bit is set, and nothing moves.
+            // It is never too old, because no such number is new.
             self.spent_mask = with_bit(self.spent_mask, from - to);
         }
     }
 }
 
-/// Whether the number that lies this far below the highest one is in the window and not marked.
+/// Returns whether the number that is this far below the highest one is in the window and not marked.
 fn is_unspent(spent_mask: u64, below: u64, places: u64) -> bool
     requires { places ≤ 64 }
     ensures { result ≡ unspent_at spent_mask below places }
@@ -147,8 +148,8 @@ fn is_unspent(spent_mask: u64, below: u64, places: u64) -> bool
     below < places && spent_mask >> below & 1 == 0
 }
 
-/// The mask once the highest number has grown by this jump and is marked itself. A jump of the window's size or more
-/// leaves no older bit.
+/// Returns the mask after the highest number has grown by this jump and is itself marked. A jump of the window's size
+/// or more leaves no older bit.
 #[tactic(auto, using(crate::proofs::Masks::unspent_near, crate::proofs::Masks::unspent_far))]
 fn moved_up(spent_mask: u64, jump: u64, places: u64) -> u64
     requires jump { 0 < jump }
@@ -163,7 +164,7 @@ fn moved_up(spent_mask: u64, jump: u64, places: u64) -> u64
     }
 }
 
-/// The mask once the number that lies this far below the highest one is marked.
+/// Returns the mask after the number that is this far below the highest one is marked.
 #[tactic(auto, using(crate::proofs::Masks::unspent_set))]
 fn with_bit(spent_mask: u64, below: u64) -> u64
     requires { below < 64 }

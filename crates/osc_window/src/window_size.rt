@@ -6,14 +6,14 @@ ghost use Rattle.osc_window.specs.Views.{places_of};
 /// The size of a replay window: 32 places, which is the standard's default (RFC 8613, 3.2.2), or 64 (own rule).
 #[derive(Clone, Copy, Debug, PartialEq, Eq)]
 pub enum WindowSize {
-    /// A number can be new from 31 below the highest one on.
+    /// The lowest number that can be new is 31 below the highest one.
     Places32,
-    /// A number can be new from 63 below the highest one on.
+    /// The lowest number that can be new is 63 below the highest one.
     Places64,
 }
 
 impl WindowSize {
-    /// Answers the number of places: a number this far below the highest marked one, or farther, is too old
+    /// Returns the number of places. A number this far below the highest marked one, or farther, is too old
     /// (RFC 8613, 7.4).
     #[must_use]
     pub fn places(self) -> u64
@@ -33,7 +33,7 @@ impl Default for WindowSize {
 
     ghost is_default = { λ size. size ≡ Places32 };
 
-    /// The standard's default, 32 places (RFC 8613, 3.2.2).
+    /// Returns the standard's default, 32 places (RFC 8613, 3.2.2).
     fn default() -> WindowSize {
         WindowSize::Places32
     }

@@ -6,7 +6,7 @@
 #![tactic(auto)]
 
 use osc_command::{command, report};
-use osc_file::FileKeeper;
+use osc_file::{FileKeeper, TellingKeeper};
 use osc_text::Fault;
 use std::alloc::Global;
 use std::env;
@@ -18,14 +18,14 @@ fn main(rt: HostRuntime) -> ExitCode {
     let (mut out, mut err) = (rt.stdout(), rt.stderr());
     let status = match program_words(&rt) {
         Ok(words) => command(alloc, &words, &mut rt.stdin(), &mut out, &mut err, |name| {
-            FileKeeper::new(&rt, name)
+            TellingKeeper::new(FileKeeper::new(&rt, name), "oscore: --numbers", rt.stderr())
         }),
         Err(fault) => report(&fault, &mut err),
     };
     ExitCode::from(status)
 }
 
-/// The words that this program was called with, its own name first.
+/// Returns the words that this program was called with, its own name first.
 fn program_words<R: Env + Alloc<A = Global>>(rt: &R) -> Result<Vec<String>, Fault> {
     match env::args(rt) {
         Ok(words) => Ok(words.collect(rt.alloc())?),

@@ -1,5 +1,5 @@
-//! Two trials of the layers that no row can make: runs whose memory is refused, and what calls cost. README.md tells what each does, and
-//! how to run it.
+//! Two trials of the layers that no row can make: runs whose memory is refused, and what calls cost. README.md says what each does, and how
+//! to run it.
 #![tactic(auto)]
 
 mod example;
@@ -12,13 +12,13 @@ use std::{env, io};
 const USAGE: &str = "usage: trials [scarce | speed WHAT]
 WHAT is all, schedule, block, ccm, message, parse, server, client, large or sizes.";
 
-/// Prints how the program is called, and answers its status.
+/// Prints how the program is called, and returns its status.
 fn usage(rt: &impl Eprint) -> io::Result<u8> {
     eprintln!(rt; "{USAGE}")?;
     Ok(2)
 }
 
-/// Makes the trial that the program's words name, and answers the status. Without a word, as the gate runs it, that is `scarce`.
+/// Makes the trial that the program's words name, and returns the status. Without a word, as the gate runs it, the trial is `scarce`.
 fn run(rt: &HostRuntime) -> io::Result<u8> {
     let mut words = env::args(rt)?;
     let _name = words.next();

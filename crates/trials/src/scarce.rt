@@ -1,6 +1,7 @@
-//! A run of a server and one of a client over fixed inputs, small enough to have each of their growths refused in turn. Then the
-//! status is 1, standard error has one line, and standard output whole lines from the front of what the runs print, which is
-//! `stdout`. Before the runs come as many growths as standard input has bytes, so that one number can refuse each of theirs.
+//! A run of a server and one of a client over fixed inputs, small enough that each of their growths of memory can be refused in turn. If
+//! one is refused, the status is 1, standard error has one line, and standard output has whole lines from the front of what the runs print,
+//! which is `stdout`. Before the runs, memory grows once for each byte of standard input, so that one number can refuse each growth of the
+//! runs.
 
 mod runs;
 
@@ -12,21 +13,21 @@ use std::alloc::Global;
 use std::io;
 use std::io::{Read, Write};
 
-/// The request of RFC 8613, C.4, the same come again, and the response of C.7 to the first.
+/// The request of RFC 8613, C.4, the same request again, and the response of C.7 to the first.
 const REQUESTS: &[u8] =
     b"take 1000 0102030405060708 0001 44025d1f00003974396c6f63616c686f7374620914ff612f1092f1776f1c1668b3825e
 take 1001 0102030405060708 0001 44025d1f00003974396c6f63616c686f7374620914ff612f1092f1776f1c1668b3825e
 reply 0 shared 0001 64455d1f00003974ff48656c6c6f20576f726c6421
 ";
 
-/// The plain request of RFC 8613, C.4, its response under the last number, the same come again, and its token.
+/// The plain request of RFC 8613, C.4, its response under the last number, the same response again, and its token.
 const RESPONSES: &[u8] = b"request 0 44015d1f00003974396c6f63616c686f737483747631
 take 1 64445d1f0000397490ff40a006fe1a53a6b1ded204996ac88a1095ba803aa4c7
 take 2 64445d1f0000397490ff40a006fe1a53a6b1ded204996ac88a1095ba803aa4c7
 forget 00003974
 ";
 
-/// Grows once for each byte of standard input, at most 99.
+/// Grows memory once for each byte of standard input, at most 99 times.
 fn grow(rt: &HostRuntime) -> Result<(), Fault> {
     let mut bytes = [0; 99];
     let count = rt.stdin().read(&mut bytes).map_err(Fault::Read)?;
@@ -36,7 +37,7 @@ fn grow(rt: &HostRuntime) -> Result<(), Fault> {
     Ok(())
 }
 
-/// Prints the runs of the server and the client that the command prints.
+/// Prints the runs of the server and of the client, as the command prints them.
 fn print<W: Write>(alloc: Global, out: &mut W) -> Result<u8, Fault> {
     let serving = Serving {
         next: Piv::MAX,
@@ -51,7 +52,7 @@ fn print<W: Write>(alloc: Global, out: &mut W) -> Result<u8, Fault> {
     ask_text(alloc, params(&[], SERVER), asking, RESPONSES, out)
 }
 
-/// Prints those runs, and then two that go on where a growth of theirs is refused, and answers the status.
+/// Prints those runs, and then two that continue after a growth of theirs is refused. Returns the status.
 fn run_all(rt: &HostRuntime) -> Result<u8, Fault> {
     grow(rt)?;
     let _status = print(rt.alloc(), &mut rt.stdout())?;
@@ -60,7 +61,7 @@ fn run_all(rt: &HostRuntime) -> Result<u8, Fault> {
     Ok(if all_left { 0 } else { 2 })
 }
 
-/// Makes the runs, and answers the status; a fault goes to standard error.
+/// Makes the runs, and returns the status. A fault goes to standard error.
 pub(crate) fn run(rt: &HostRuntime) -> io::Result<u8> {
     match run_all(rt) {
         Ok(status) => Ok(status),

@@ -1,4 +1,4 @@
-//! What calls of the layers cost: nanoseconds a call, the least of some runs. README.md tells how to run it.
+//! What calls of the layers cost: nanoseconds per call, the least of some runs. README.md says how to run it.
 
 mod asking;
 mod ciphers;
@@ -19,7 +19,7 @@ fn sizes(rt: &impl Print) -> io::Result<()> {
     println!(rt; "size-of-client-16 {}", mem::size_of::<Client<16>>())
 }
 
-/// Measures what the word names, and answers the status.
+/// Measures what the word names, and returns the status.
 pub(crate) fn run<R: Clock + Print + Eprint + Alloc<A = Global>>(
     rt: &R,
     word: &str,

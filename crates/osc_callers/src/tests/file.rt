@@ -1,4 +1,4 @@
-//! What no clause says: what a keeper does where another program changes its file or has its name, and what a step that is refused leaves.
+//! What no clause says: what a keeper does if another program changes its file or has its name, and what a refused step leaves.
 
 mod refusing;
 
@@ -10,7 +10,7 @@ use std::fs;
 use std::process::Abort;
 use std::rt::Files;
 
-/// Saves a number that isn't below the floor.
+/// Saves a number, if it isn't below the floor.
 fn save<R: Files + Alloc>(keeper: &mut FileKeeper<'_, R>, next: u64) -> Result<(), KeeperError>
 where
     R::File: TryLock,
@@ -22,7 +22,7 @@ where
     }
 }
 
-/// Makes the file hold this text, or removes it.
+/// Makes the file hold this text, or removes the file if the text is empty.
 fn put(rt: &(impl Files + Alloc + Abort), name: &str, text: &str) {
     if text.is_empty() {
         let _ = fs::remove_file(rt, name);
@@ -31,7 +31,7 @@ fn put(rt: &(impl Files + Alloc + Abort), name: &str, text: &str) {
     }
 }
 
-/// Whether the file holds this text, or is missing where the text is empty.
+/// Returns whether the file holds this text, or is missing if the text is empty.
 fn holds(rt: &(impl Files + Alloc), name: &str, text: &str) -> bool {
     match fs::read_to_string(rt, name) {
         Ok(found) => found.as_str() == text,
@@ -39,7 +39,8 @@ fn holds(rt: &(impl Files + Alloc), name: &str, text: &str) -> bool {
     }
 }
 
-/// While the file is another, each call of its keeper fails and leaves it; when it is as before, it can be saved.
+/// Checks that each call of the keeper fails and leaves the file while the file is a different one, and that the keeper can save when the
+/// file is as before.
 fn insists<R: Files + Alloc + Abort>(
     rt: &R,
     keeper: &mut FileKeeper<'_, R>,
@@ -58,7 +59,7 @@ where
     assert_eq!(rt; save(keeper, 192), Ok(()), "{changed:?}");
 }
 
-// A file that another program changes, makes or removes. An empty text is no file.
+// A file that another program changes, makes or removes. An empty text means that there is no file.
 #[test]
 fn a_file_that_changes(rt: HostRuntime) {
     let rows = [
@@ -82,7 +83,7 @@ fn a_file_that_changes(rt: HostRuntime) {
     end(&rt, "changes");
 }
 
-// Own rule: a name is one keeper's. Where its lock is taken away, the one that saves second finds what it didn't read.
+// Own rule: a name belongs to one keeper. If its lock is taken away, the keeper that saves second finds what it didn't read.
 #[test]
 fn two_keepers(rt: HostRuntime) {
     begin(&rt, "two");
@@ -103,8 +104,9 @@ fn two_keepers(rt: HostRuntime) {
     end(&rt, "two");
 }
 
-// Each step of a load and of a save refused in turn, for a name in a folder and one in the working folder: what the load answers; the
-// save fails, and the next run loads the old number up to the rename, and then the new one.
+// Each step of a load and of a save is refused in turn, for a name in a folder and for one in the working folder. A row says what the load
+// returns. The save fails, and the next run loads the old number if the step is the rename or an earlier one, and the new number if it is a
+// later one.
 #[test]
 fn refused_steps(rt: HostRuntime) {
     let rows = [

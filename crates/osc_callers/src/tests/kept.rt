@@ -1,4 +1,4 @@
-//! Two ends over keepers that go wrong: no number is used twice, and each request is delivered once at most.
+//! Two ends over keepers that go wrong: no number is used twice, and each request is delivered at most once.
 
 pub mod exchange;
 pub mod memory;
@@ -11,7 +11,7 @@ use std::process::Abort;
 /// How many requests the application makes.
 const ROUNDS: u64 = 140;
 
-/// Each number is above the one before.
+/// Returns whether each number is above the one before.
 fn ascend(numbers: &[u64]) -> bool {
     numbers
         .iter()
@@ -19,7 +19,8 @@ fn ascend(numbers: &[u64]) -> bool {
         .all(|(before, next)| before < next)
 }
 
-/// Both ends, with a restart and a stop of each; one call of each keeper goes wrong. Answers how often the keepers were called.
+/// Runs both ends, with a restart and a stop of each. One call of each keeper goes wrong, if `wrong` names one. Returns how often the
+/// keepers were called.
 fn run(rt: &(impl Abort + Alloc<A = Global>), wrong: Option<(u64, Wrong)>) -> (u64, u64) {
     let (of_server, of_client) = (Watch::new(), Watch::new());
     let mut seen = Seen::new(rt.alloc(), &of_server, &of_client);
@@ -42,7 +43,7 @@ fn run(rt: &(impl Abort + Alloc<A = Global>), wrong: Option<(u64, Wrong)>) -> (u
     assert!(rt; ascend(&seen.sent), "requests: {wrong:?}");
     assert!(rt; ascend(&seen.own), "own numbers: {wrong:?}");
     assert!(rt; ascend(&seen.delivered), "deliveries: {wrong:?}");
-    // A call that goes wrong costs the rounds in which each keeper had it, at most.
+    // A call that goes wrong costs at most the rounds in which each keeper had it.
     assert!(rt; ROUNDS <= seen.delivered.len() as u64 + 2, "{wrong:?}");
     (of_server.calls.get(), of_client.calls.get())
 }
@@ -50,7 +51,7 @@ fn run(rt: &(impl Abort + Alloc<A = Global>), wrong: Option<(u64, Wrong)>) -> (u
 // Each load and each save of both keepers fails, and is stopped, in turn.
 #[test]
 fn keepers_that_go_wrong(rt: HostRuntime) {
-    // Three lives: a load at the begin of each, and a save for each 64 numbers, twice in the first.
+    // Three lives: a load at the beginning of each, and a save for each 64 numbers, of which there are two in the first life.
     assert_eq!(rt; run(&rt, None), (7, 7));
     for call in 0..7 {
         for wrong in [Wrong::Fails, Wrong::Stops] {

@@ -14,7 +14,7 @@ use steps::{
     answer, ask, challenge, contexts, deliver, hear, plain, restart, start_client, start_server,
 };
 
-// The fresh Echo value of each datagram that comes to the server.
+// The fresh Echo value of each datagram that arrives at the server.
 const ECHO: [u8; 8] = [1, 2, 3, 4, 5, 6, 7, 8];
 
 // CON, 0.01, token 1, Uri-Path tv1.
@@ -23,13 +23,13 @@ const FIRST: &[u8] = b"\x41\x01\x00\x00\x01\xb3tv1";
 // The same with token 2.
 const SECOND: &[u8] = b"\x41\x01\x00\x00\x02\xb3tv1";
 
-// The same with the Echo value (option 252) behind the path.
+// The same with the Echo value (option 252) after the path.
 const AGAIN: &[u8] = b"\x41\x01\x00\x00\x02\xb3tv1\xd8\xe4\x01\x02\x03\x04\x05\x06\x07\x08";
 
 // ACK, 2.05, Hello World!
 const REPLY: &[u8] = b"\x60\x45\x00\x00\xffHello World!";
 
-/// Both ends go through the list; None from the first call on that isn't answered as it says.
+/// Takes both ends through the list. Returns `None` at the first call that isn't answered as the list says.
 fn go_through() -> Option<()>
     ensures { IsSome result → PremisesAreMet 8 }
 {
@@ -55,7 +55,7 @@ fn go_through() -> Option<()>
     Some(())
 }
 
-/// Whether both ends answer each call of the list as it says.
+/// Returns whether both ends answer each call of the list as the list says.
 fn meets_premises() -> bool
     ensures { IsTrue result → PremisesAreMet 8 }
 {

@@ -11,7 +11,7 @@ use osc_coap::option_numbers::OSCORE;
 use osc_coap::{Options, options_are_spelled, parse, parse_inner};
 use std::test::Fail;
 
-/// The first OSCORE option of those that it was handed, whoever read them: bytes spell them.
+/// Returns the first OSCORE option of the options that were passed in, whoever read them. Bytes spell these options.
 fn first_oscore(options: Options<'_>) -> Option<&[u8]>
     ensures spelled { (text : List ℕ) × AreBytes text
         × Spells (number_before options.entry) (options_left options.entry) text }
@@ -21,7 +21,7 @@ fn first_oscore(options: Options<'_>) -> Option<&[u8]>
     options.first(OSCORE)
 }
 
-// The protected request of RFC 8613, C.4; and an OSCORE option behind another in a plaintext (RFC 7252, 3.1).
+// The protected request of RFC 8613, C.4, and an OSCORE option after another option in a plaintext (RFC 7252, 3.1).
 #[test]
 fn first_oscore_option(rt: HostRuntime) -> Result<(), Fail> {
     let message = parse(b"\x44\x02\x5d\x1f\x00\x00\x39\x74\x39localhost\x62\x09\x14\xff\x61")?;

@@ -1,6 +1,6 @@
-//! A client and a server over keepers in memory, two requests and their replies, and all that can happen to them: datagrams
-//! that are lost, swapped or repeated, an end that begins a new life, and a stop in a save. Whatever happens, no request is
-//! delivered twice, no response is delivered that isn't the one to its request, and no nonce is used twice.
+//! A client and a server over keepers in memory, two requests and their replies, and everything that can happen to them: datagrams that are
+//! lost, swapped or repeated, an end that begins a new life, and a stop in a save. Whatever happens, no request is delivered twice, each
+//! delivered response is the one to its request, and no nonce is used twice.
 
 mod claims;
 mod client_side;
@@ -23,7 +23,7 @@ use std::alloc::Global;
 use std::process::Abort;
 use world::World;
 
-/// A run of a row by a plan, and the claims of it. Answers what was delivered; None where something of the plan didn't come about.
+/// Runs a row by a plan, and checks the claims of the run. Returns what was delivered, or `None` if a part of the plan didn't come about.
 fn run(rt: &(impl Abort + Alloc<A = Global>), row: &Row, plan: Plan) -> Option<Totals> {
     let (of_client, of_server) = (Watch::new(), Watch::new());
     let mut ends = Ends::start(rt, &plan, &of_client, &of_server);
@@ -48,7 +48,7 @@ fn run(rt: &(impl Abort + Alloc<A = Global>), row: &Row, plan: Plan) -> Option<T
     came_about(&plan, &world, &of_client, &of_server).then(|| Totals::of(&world.log))
 }
 
-/// Whether all of a plan came about.
+/// Returns whether all of a plan came about.
 fn came_about(plan: &Plan, world: &World, of_client: &Watch, of_server: &Watch) -> bool {
     let has_fate = plan.fate.map_or(true, |(index, _)| index < world.sent);
     let has_new_life = plan
@@ -62,7 +62,7 @@ fn came_about(plan: &Plan, world: &World, of_client: &Watch, of_server: &Watch) 
     has_fate && has_new_life && has_wrong
 }
 
-/// A plan in both orders.
+/// Runs a plan in both orders.
 fn run_orders(rt: &(impl Abort + Alloc<A = Global>), row: &Row, plan: Plan, totals: &mut Totals) {
     for order in [Order::AsSealed, Order::Reverse] {
         if let Some(run) = run(rt, row, Plan { order, ..plan }) {
@@ -71,7 +71,7 @@ fn run_orders(rt: &(impl Abort + Alloc<A = Global>), row: &Row, plan: Plan, tota
     }
 }
 
-/// A plan with no fate, and with each.
+/// Runs a plan with no fate, and with each fate.
 fn run_fates(rt: &(impl Abort + Alloc<A = Global>), row: &Row, plan: Plan, totals: &mut Totals) {
     for place in 0..=row.fates() {
         let fate = fate_at(place);
@@ -79,7 +79,7 @@ fn run_fates(rt: &(impl Abort + Alloc<A = Global>), row: &Row, plan: Plan, total
     }
 }
 
-/// A plan with no new life, and with each of the row's end.
+/// Runs a plan with no new life, and with each new life of the row's end.
 fn run_new_lives(
     rt: &(impl Abort + Alloc<A = Global>),
     row: &Row,
@@ -92,7 +92,7 @@ fn run_new_lives(
     }
 }
 
-/// All runs of a row.
+/// Makes all runs of a row.
 fn run_row(rt: &(impl Abort + Alloc<A = Global>), row: &Row) -> Totals {
     let mut totals = Totals::default();
     for place in 0..=row.wrong_calls() {

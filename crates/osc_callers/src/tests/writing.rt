@@ -14,7 +14,7 @@ use osc_coap::{
 use std::process::Abort;
 use std::test::Fail;
 
-/// A GET with one path segment and a payload.
+/// Writes a GET with one path segment and a payload.
 fn write_get(
     buf: &mut [u8],
     message_id: u16,
@@ -35,7 +35,7 @@ fn write_get(
     Ok(writer.finish())
 }
 
-/// A GET with one path segment, in a buffer whose length was compared: the writer never refuses.
+/// Writes a GET with one path segment, into a buffer whose length was checked. So the writer never refuses.
 fn write_short_get(
     buf: &mut [u8],
     message_id: u16,
@@ -66,7 +66,7 @@ fn copy_all(writer: &mut Writer<'_>, options: Options<'_>) -> Result<(), WriteEr
     Ok(())
 }
 
-/// A message as it was read, written anew.
+/// Writes a message anew, as it was read.
 fn write_message(message: &Message<'_>, out: &mut [u8]) -> Result<usize, WriteError>
     ensures written { IfOk result (λ n. IsDatagram (parts_of message.now) (take n out.new)) }
 {
@@ -88,7 +88,7 @@ fn write_message(message: &Message<'_>, out: &mut [u8]) -> Result<usize, WriteEr
     Ok(writer.finish())
 }
 
-/// Reads a datagram and writes it anew: the same bytes.
+/// Reads a datagram and writes it anew, which gives the same bytes.
 fn write_again(datagram: &[u8], out: &mut [u8]) -> Option<usize>
     ensures { IfSome result (λ n. take n out.new ≡ datagram.now) }
 {
@@ -97,7 +97,7 @@ fn write_again(datagram: &[u8], out: &mut [u8]) -> Option<usize>
     write_message(&message, out).ok()
 }
 
-/// A token of these bytes, at most 8.
+/// Makes a token of these bytes, at most 8.
 fn token_of(rt: &impl Abort, bytes: &[u8]) -> Token {
     let mut token = Token::new();
     let copied = token.try_extend_from_slice(bytes);
@@ -105,7 +105,7 @@ fn token_of(rt: &impl Abort, bytes: &[u8]) -> Token {
     token
 }
 
-// The protected request and response of RFC 8613, C.4 and C.7: read and written again, the same bytes.
+// The protected request and response of RFC 8613, C.4 and C.7. Reading and writing them again gives the same bytes.
 #[test]
 fn datagrams_of_the_standard(rt: HostRuntime) {
     let rows = [
@@ -120,8 +120,8 @@ fn datagrams_of_the_standard(rt: HostRuntime) {
     }
 }
 
-// Message ID and token of RFC 8613, C.4, its path as C.4's plaintext has it (b3 74 76 31), and a payload
-// behind its marker (RFC 7252, 3), worked by hand.
+// The Message ID and the token of RFC 8613, C.4, its path as C.4's plaintext has it (b3 74 76 31), and a payload after its marker
+// (RFC 7252, 3), worked by hand.
 #[test]
 fn a_get_with_a_payload(rt: HostRuntime) -> Result<(), Fail> {
     let token = token_of(&rt, b"\x00\x00\x39\x74");
@@ -135,8 +135,7 @@ fn a_get_with_a_payload(rt: HostRuntime) -> Result<(), Fail> {
     Ok(())
 }
 
-// The same without a payload (RFC 8613, C.4; RFC 7252, 3), in a buffer of just its length and in one of a
-// byte less.
+// The same without a payload (RFC 8613, C.4; RFC 7252, 3), in a buffer of exactly its length and in one that is one byte shorter.
 #[test]
 fn a_get_in_a_buffer_of_its_length(rt: HostRuntime) {
     let token = token_of(&rt, b"\x00\x00\x39\x74");

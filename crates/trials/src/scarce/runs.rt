@@ -1,4 +1,4 @@
-//! Runs of a server and of a client that go on behind a growth that is refused: what is left of the events runs into a new log.
+//! Runs of a server and of a client that continue after a growth of memory is refused: what is left of the events runs into a new log.
 
 use crate::example::{CLIENT_OF_C2, ID_CONTEXT, SERVER, params};
 use osc_context::{Context, Params, Piv};
@@ -29,7 +29,7 @@ const C7: &str = "64445d1f0000397490ffdbaad1e9a7e7b2a813d3c31524378303cdafae1191
 /// The token of C.4.
 const TOKEN: &str = "00003974";
 
-/// The bytes that a text spells.
+/// Returns the bytes that a text spells.
 fn bytes(alloc: Global, text: &str) -> Result<Vec<u8>, Fault> {
     match hex::decode(alloc, text) {
         Ok(bytes) => Ok(bytes),
@@ -41,12 +41,12 @@ fn bytes(alloc: Global, text: &str) -> Result<Vec<u8>, Fault> {
     }
 }
 
-/// Room for a sealed message.
+/// Returns room for a sealed message.
 fn room(alloc: Global) -> Result<Vec<u8>, Fault> {
     Ok([0; 64].to_vec(alloc)?)
 }
 
-/// A datagram that comes to the server.
+/// Returns the event of a datagram that arrives at the server.
 fn arrival(alloc: Global, text: &str) -> Result<ServerEvent, Fault> {
     Ok(ServerEvent::Datagram(Arrival {
         now: 0,
@@ -59,7 +59,7 @@ fn arrival(alloc: Global, text: &str) -> Result<ServerEvent, Fault> {
     }))
 }
 
-/// A reply of the server to the request of an event.
+/// Returns the event of a reply by the server to the request of an event.
 fn answering(alloc: Global, of: usize) -> Result<ServerEvent, Fault> {
     Ok(ServerEvent::Reply(Answering {
         of,
@@ -70,7 +70,7 @@ fn answering(alloc: Global, of: usize) -> Result<ServerEvent, Fault> {
     }))
 }
 
-/// A request of the client.
+/// Returns the event of a request by the client.
 fn asking(alloc: Global) -> Result<ClientEvent, Fault> {
     Ok(ClientEvent::Request {
         now: 0,
@@ -79,7 +79,7 @@ fn asking(alloc: Global) -> Result<ClientEvent, Fault> {
     })
 }
 
-/// The response of C.7 comes to the client.
+/// Returns the event in which the response of C.7 arrives at the client.
 fn response(alloc: Global) -> Result<ClientEvent, Fault> {
     Ok(ClientEvent::Datagram {
         now: 0,
@@ -87,14 +87,14 @@ fn response(alloc: Global) -> Result<ClientEvent, Fault> {
     })
 }
 
-/// The client forgets the token.
+/// Returns the event in which the client forgets the token.
 fn forgetting(alloc: Global) -> Result<ClientEvent, Fault> {
     Ok(ClientEvent::Forget {
         token: bytes(alloc, TOKEN)?,
     })
 }
 
-/// Prints the entries of a log, one a line.
+/// Prints the entries of a log, one per line.
 fn print_log<E: Debug>(rt: &impl Print, log: &[E]) -> Result<(), Fault> {
     for entry in log {
         println!(rt; "{entry:?}")?;
@@ -102,8 +102,8 @@ fn print_log<E: Debug>(rt: &impl Print, log: &[E]) -> Result<(), Fault> {
     Ok(())
 }
 
-/// Counts what the replies answer from the first event that is left, and tells whether each of these is left. A reply to one that
-/// isn't names itself, and so has no ticket.
+/// Counts anew which events the replies answer, from the first event that is left. Returns whether each of these events is left. A reply to
+/// an event that isn't left names itself, and so has no ticket.
 fn count_anew(events: &mut [ServerEvent], done: usize) -> bool {
     let mut all_left = true;
     for (index, event) in events.iter_mut().enumerate() {
@@ -115,7 +115,7 @@ fn count_anew(events: &mut [ServerEvent], done: usize) -> bool {
     all_left
 }
 
-/// The server of C.1 to C.3.
+/// Makes the server of C.1 to C.3.
 fn server_of() -> Option<Server> {
     let contexts = [
         params(SERVER, &[]),
@@ -137,7 +137,7 @@ fn server_of() -> Option<Server> {
     Some(server)
 }
 
-/// What happens to the server: three requests, replies to them, a restart, and two datagrams more.
+/// Returns what happens to the server: three requests, one of them twice, replies to the three, a restart, and two more datagrams.
 fn server_events(alloc: Global) -> Result<[ServerEvent; 10], Fault> {
     Ok([
         arrival(alloc, C4)?,
@@ -156,7 +156,7 @@ fn server_events(alloc: Global) -> Result<[ServerEvent; 10], Fault> {
     ])
 }
 
-/// Runs the server, and tells whether each reply had a ticket of its own log.
+/// Runs the server, and returns whether each reply had a ticket of its own log.
 pub(crate) fn serve<R: Print + Alloc<A = Global>>(rt: &R) -> Result<bool, Fault> {
     let (alloc, Some(server)) = (rt.alloc(), server_of()) else {
         return Ok(false);
@@ -175,7 +175,7 @@ pub(crate) fn serve<R: Print + Alloc<A = Global>>(rt: &R) -> Result<bool, Fault>
     Ok(all_left)
 }
 
-/// What happens to the client: requests, the response to the first, a token that is forgotten, and a restart.
+/// Returns what happens to the client: requests, the response to the first, a token that is forgotten, and a restart.
 fn client_events(alloc: Global, next: Piv) -> Result<[ClientEvent; 10], Fault> {
     Ok([
         asking(alloc)?,

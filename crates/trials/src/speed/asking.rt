@@ -1,5 +1,5 @@
-//! The figures of a client of osc_endpoint: requests of one token, under ascending numbers, that are answered or forgotten, while
-//! others wait. What `take` costs is the difference between two of them.
+//! The figures of a client of osc_endpoint: requests with one token, under ascending numbers, that are answered or forgotten while others
+//! wait. The difference between two of the figures is what `take` costs.
 
 use crate::example::SERVER;
 use crate::speed::messages::{PLAIN, context_of};
@@ -12,10 +12,10 @@ use std::alloc::Global;
 use std::io;
 use std::rt::Clock;
 
-/// The first number of the requests: its Partial IV has two bytes.
+/// The first number of the requests. Its Partial IV has two bytes.
 const FIRST: u64 = 256;
 
-/// How many requests there are. Behind the last, the client begins anew.
+/// How many requests there are. After the last one, the client begins anew.
 const REQUESTS: u64 = 4_096;
 
 /// How long a request is pending, in milliseconds.
@@ -27,7 +27,7 @@ pub(crate) const PLAIN_RESPONSE: [u8; 21] = [
     0x6f, 0x72, 0x6c, 0x64, 0x21,
 ];
 
-/// Its token, that of the request.
+/// The response's token, which is the request's.
 const TOKEN: [u8; 4] = [0x00, 0x00, 0x39, 0x74];
 
 /// A response to a request, as it is sent.
@@ -40,7 +40,7 @@ enum End {
     Forgotten,
 }
 
-/// The responses to the requests, as the server seals them.
+/// Returns the responses to the requests, as the server seals them.
 fn responses_of(alloc: Global) -> io::Result<Vec<Response>> {
     let (Ok(server), Ok(plain)) = (context_of(SERVER, &[]), parse(&PLAIN_RESPONSE)) else {
         return Err(io::Error::other("the server was refused"));
@@ -64,7 +64,7 @@ fn responses_of(alloc: Global) -> io::Result<Vec<Response>> {
     Ok(responses)
 }
 
-/// Begins anew, with as many other requests that wait.
+/// Begins anew, with `others` other requests that wait.
 fn begin(client: &mut Client<16>, others: u8, out: &mut [u8]) -> Option<()> {
     client.restart(Piv::new(FIRST - u64::from(others))?);
     for other in 0..others {
@@ -75,7 +75,7 @@ fn begin(client: &mut Client<16>, others: u8, out: &mut [u8]) -> Option<()> {
     Some(())
 }
 
-/// Requests that end, while others wait.
+/// Measures requests that end while others wait.
 fn exchange<R: Clock + Print>(
     watch: &mut Stopwatch<'_, R>,
     name: &str,
@@ -111,7 +111,7 @@ fn exchange<R: Clock + Print>(
     })
 }
 
-/// The response to the first request, opened by itself.
+/// Measures opening the response to the first request by itself.
 fn opening<R: Clock + Print>(
     watch: &mut Stopwatch<'_, R>,
     responses: &[Response],
@@ -128,7 +128,7 @@ fn opening<R: Clock + Print>(
     })
 }
 
-/// An opened response, and requests that are forgotten or answered, one alone and while 15 others wait.
+/// Measures an opened response, and requests that are forgotten or answered, one alone, and one while 15 others wait.
 pub(crate) fn asking<R: Clock + Print>(
     watch: &mut Stopwatch<'_, R>,
     alloc: Global,

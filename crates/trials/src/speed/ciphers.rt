@@ -1,5 +1,5 @@
-//! The figures of osc_aes and osc_ccm. A key or a nonce that is new each time is made of the last answer, so that nothing
-//! of a call can be done once for all.
+//! The figures of osc_aes and osc_ccm. A key or a nonce that is new each time is made from the last result, so that nothing of a call can
+//! be done once for all.
 
 use crate::speed::stopwatch::Stopwatch;
 use osc_aes::{BlockCipher, PlaneAes, TableAes};
@@ -24,7 +24,7 @@ const AAD: [u8; 20] = [
 /// The longest plaintext that is measured.
 const LONGEST: usize = 1_024;
 
-/// A key's schedule, by tables and in planes.
+/// Measures making a key's schedule, by tables and in planes.
 pub(crate) fn schedule<R: Clock + Print>(watch: &mut Stopwatch<'_, R>) -> io::Result<()> {
     let mut key = KEY;
     let mut cipher = TableAes::new(&key);
@@ -39,14 +39,14 @@ pub(crate) fn schedule<R: Clock + Print>(watch: &mut Stopwatch<'_, R>) -> io::Re
         planes = PlaneAes::new(&key);
         Some(key[0])
     })?;
-    // The last schedules have to be there.
+    // The last schedules have to be made.
     cipher.encrypt(&mut key);
     planes.encrypt(&mut key);
     watch.keep(key[0]);
     Ok(())
 }
 
-/// A block, and two at once, by tables and in planes.
+/// Measures a block, and two at once, by tables and in planes.
 pub(crate) fn block<R: Clock + Print>(watch: &mut Stopwatch<'_, R>) -> io::Result<()> {
     let cipher = TableAes::new(&KEY);
     one_block(watch, "block", &cipher)?;
@@ -56,7 +56,7 @@ pub(crate) fn block<R: Clock + Print>(watch: &mut Stopwatch<'_, R>) -> io::Resul
     two_blocks(watch, "two-blocks-planes", &planes)
 }
 
-/// A block by some cipher.
+/// Measures a block by some cipher.
 fn one_block<C: BlockCipher, R: Clock + Print>(
     watch: &mut Stopwatch<'_, R>,
     name: &str,
@@ -69,7 +69,7 @@ fn one_block<C: BlockCipher, R: Clock + Print>(
     })
 }
 
-/// Two blocks at once by some cipher.
+/// Measures two blocks at once by some cipher.
 fn two_blocks<C: BlockCipher, R: Clock + Print>(
     watch: &mut Stopwatch<'_, R>,
     name: &str,
@@ -83,7 +83,7 @@ fn two_blocks<C: BlockCipher, R: Clock + Print>(
     })
 }
 
-/// Seals and opens by tables, and in planes with a key that was there.
+/// Measures sealing and opening, by tables, and in planes with a kept key.
 pub(crate) fn ccm<R: Clock + Print>(watch: &mut Stopwatch<'_, R>) -> io::Result<()> {
     ccm_tables(watch)?;
     let planes = PlaneAes::new(&KEY);
@@ -93,7 +93,7 @@ pub(crate) fn ccm<R: Clock + Print>(watch: &mut Stopwatch<'_, R>) -> io::Result<
     open_kept_key(watch, "open-1024-planes", 1_024, &planes)
 }
 
-/// Seals and opens of four lengths, with 20 bytes of additional data.
+/// Measures sealing and opening for four lengths, with 20 bytes of additional data.
 fn ccm_tables<R: Clock + Print>(watch: &mut Stopwatch<'_, R>) -> io::Result<()> {
     let cipher = TableAes::new(&KEY);
     seal_new_key(watch, "seal-5-new-key", 5)?;
@@ -114,7 +114,7 @@ fn ccm_tables<R: Clock + Print>(watch: &mut Stopwatch<'_, R>) -> io::Result<()> 
     open_kept_key(watch, "open-1024-kept-key", 1_024, &cipher)
 }
 
-/// What is sealed or opened, and with what, beside the cipher.
+/// What is sealed or opened, and with what, apart from the cipher.
 #[derive(Drop)]
 struct Call {
     nonce: [u8; 13],
@@ -124,7 +124,7 @@ struct Call {
 }
 
 impl Call {
-    /// A plaintext of `len` zeros.
+    /// Makes a call with a plaintext of `len` zeros.
     fn new(len: usize) -> Call {
         Call {
             nonce: NONCE,
@@ -134,14 +134,14 @@ impl Call {
         }
     }
 
-    /// Seals what stands in the buffer, and answers its first byte.
+    /// Seals what is in the buffer, and returns the buffer's first byte.
     fn seal<C: BlockCipher>(&mut self, cipher: &C) -> Option<u8> {
         let len = self.len.min(LONGEST);
         seal(cipher, &self.nonce, &self.aad, &mut self.buf, len).ok()?;
         Some(self.buf[0])
     }
 
-    /// Copies sealed bytes into the buffer, opens them, and answers the plaintext's first byte.
+    /// Copies sealed bytes into the buffer, opens them, and returns the plaintext's first byte.
     fn open<C: BlockCipher>(&mut self, cipher: &C, sealed: &[u8; LONGEST + TAG_LEN]) -> Option<u8> {
         let end = self.len.min(LONGEST) + TAG_LEN;
         let buf = &mut self.buf[..];
@@ -151,7 +151,7 @@ impl Call {
     }
 }
 
-/// A seal with a schedule of its own.
+/// Measures sealing with a schedule that each call makes.
 fn seal_new_key<R: Clock + Print>(
     watch: &mut Stopwatch<'_, R>,
     name: &str,
@@ -166,7 +166,7 @@ fn seal_new_key<R: Clock + Print>(
     })
 }
 
-/// A seal with a schedule that was there.
+/// Measures sealing with a kept schedule.
 fn seal_kept_key<C: BlockCipher, R: Clock + Print>(
     watch: &mut Stopwatch<'_, R>,
     name: &str,
@@ -180,7 +180,7 @@ fn seal_kept_key<C: BlockCipher, R: Clock + Print>(
     })
 }
 
-/// An open with a schedule of its own, and the copy of the bytes that it opens.
+/// Measures opening with a schedule that each call makes, and the copy of the bytes that it opens.
 fn open_new_key<R: Clock + Print>(
     watch: &mut Stopwatch<'_, R>,
     name: &str,
@@ -190,7 +190,7 @@ fn open_new_key<R: Clock + Print>(
     let mut key = KEY;
     let _byte = call.seal(&TableAes::new(&key));
     let sealed = call.buf;
-    // The plaintext's first byte is zero, so key and nonce stay; but no compiler knows that.
+    // The plaintext's first byte is zero, so the key and the nonce don't change. But no compiler knows that.
     let mut zero = 0;
     watch.figure(name, || {
         key[0] ^= zero;
@@ -200,7 +200,7 @@ fn open_new_key<R: Clock + Print>(
     })
 }
 
-/// An open with a schedule that was there, and the copy of the bytes that it opens.
+/// Measures opening with a kept schedule, and the copy of the bytes that it opens.
 fn open_kept_key<C: BlockCipher, R: Clock + Print>(
     watch: &mut Stopwatch<'_, R>,
     name: &str,

@@ -1,5 +1,5 @@
-//! The figures of the longest datagrams: one of 65,535 bytes, nearly all of them empty options, and one of half that; and one
-//! with the longest token and the longest kid.
+//! The figures of the longest datagrams: one of 65,535 bytes, nearly all of them empty options, and one of half that. Also those of a
+//! datagram with the longest token and the longest kid.
 
 use crate::example::SERVER;
 use crate::speed::messages::context_of;
@@ -13,20 +13,20 @@ use std::rt::Clock;
 
 const NUMBER: u64 = 20;
 
-/// How many bytes a datagram has at most (RFC 768).
+/// The most bytes that a datagram has (RFC 768).
 const MOST_BYTES: usize = 65_535;
 
-/// How many empty options make a sealed request of 65,535 bytes, and how many one of 32,767, where token and kid are empty.
+/// How many empty options make a sealed request of 65,535 bytes, and how many make one of 32,767, if token and kid are empty.
 const MOST_OPTIONS: usize = 65_518;
 
 const HALF_OPTIONS: usize = 32_750;
 
-/// A longest kid and a longest token.
+/// A kid and a token of the greatest length.
 const KID: [u8; 7] = [2, 3, 4, 5, 6, 7, 8];
 
 const TOKEN: [u8; 8] = [1, 2, 3, 4, 5, 6, 7, 8];
 
-/// A GET request with this token, and as many empty Uri-Path options.
+/// Returns a GET request with this token and `options` empty Uri-Path options.
 fn plain_of(alloc: Global, token: &[u8], options: usize) -> Result<Vec<u8>, AllocError> {
     let mut plain = Vec::new(alloc);
     plain.extend_from_slice(&[0x40 | token.len().min(8) as u8, 0x01, 0x00, 0x01])?;
@@ -37,7 +37,7 @@ fn plain_of(alloc: Global, token: &[u8], options: usize) -> Result<Vec<u8>, Allo
     Ok(plain)
 }
 
-/// Copies bytes of one length.
+/// Copies bytes between slices of the same length.
 fn copy(to: &mut [u8], from: &[u8]) -> Option<()> {
     if to.len() != from.len() {
         return None;
@@ -46,7 +46,7 @@ fn copy(to: &mut [u8], from: &[u8]) -> Option<()> {
     Some(())
 }
 
-/// A request that is sealed, and the same that is opened.
+/// Measures sealing a request, and opening the same request.
 fn request<R: Clock + Print>(
     watch: &mut Stopwatch<'_, R>,
     alloc: Global,
@@ -75,7 +75,7 @@ fn request<R: Clock + Print>(
     })
 }
 
-/// Requests of most options, of half as many, and of the longest token and kid.
+/// Measures requests with the most options, with half as many, and with the longest token and kid.
 pub(crate) fn large<R: Clock + Print>(
     watch: &mut Stopwatch<'_, R>,
     alloc: Global,

@@ -24,7 +24,7 @@ pub(crate) const SEALED: [u8; 35] = [
     0xb3, 0x82, 0x5e,
 ];
 
-/// The context of one end.
+/// Derives the context of one end.
 pub(crate) fn context_of<'a>(
     sender: &'a [u8],
     recipient: &'a [u8],
@@ -32,7 +32,7 @@ pub(crate) fn context_of<'a>(
     Context::derive(params(sender, recipient))
 }
 
-/// The contexts of the client and the server.
+/// Derives the contexts of the client and the server.
 fn ends() -> io::Result<(Context, Context)> {
     let Ok(client) = context_of(&[], SERVER) else {
         return Err(io::Error::other("the client's context was refused"));
@@ -43,7 +43,7 @@ fn ends() -> io::Result<(Context, Context)> {
     Ok((client, server))
 }
 
-/// A request that is sealed, and the same that is opened; then both in constant time.
+/// Measures sealing a request and opening the same request, and then both in constant time.
 pub(crate) fn message<R: Clock + Print>(watch: &mut Stopwatch<'_, R>) -> io::Result<()> {
     let Ok(plain) = parse(&PLAIN) else {
         return Err(io::Error::other("the plain request was refused"));
@@ -60,7 +60,7 @@ pub(crate) fn message<R: Clock + Print>(watch: &mut Stopwatch<'_, R>) -> io::Res
     by_keyed_context(watch, names, &client, &server, &plain)
 }
 
-/// The calls over a context, with a schedule each time.
+/// Measures the calls over a context, with a schedule each time.
 fn by_context<R: Clock + Print>(
     watch: &mut Stopwatch<'_, R>,
     client: &Context,
@@ -81,7 +81,7 @@ fn by_context<R: Clock + Print>(
     })
 }
 
-/// The calls over a context that keeps its schedules, under the names of both.
+/// Measures the calls over a context that keeps its schedules. `names` are the names of the two figures.
 fn by_keyed_context<R: Clock + Print>(
     watch: &mut Stopwatch<'_, R>,
     names: [&str; 2],
@@ -103,7 +103,7 @@ fn by_keyed_context<R: Clock + Print>(
     })
 }
 
-/// A datagram that is read. The first byte of its message ID is another one each time.
+/// Measures reading a datagram. The first byte of its Message ID is a different one each time.
 pub(crate) fn parsing<R: Clock + Print>(watch: &mut Stopwatch<'_, R>) -> io::Result<()> {
     let mut datagram = SEALED;
     watch.figure("parse", || {

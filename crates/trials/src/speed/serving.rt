@@ -1,5 +1,5 @@
-//! The figures of osc_endpoint: a server that takes the example request of RFC 8613 (C.4), under ascending numbers, once more,
-//! or with a bad tag, and runs over events.
+//! The figures of osc_endpoint: a server that takes the example request of RFC 8613 (C.4), under ascending numbers, a second time, or with
+//! a bad tag, and that runs over events.
 
 use crate::example::SERVER;
 use crate::speed::asking::PLAIN_RESPONSE;
@@ -14,7 +14,7 @@ use std::alloc::Global;
 use std::io;
 use std::rt::Clock;
 
-/// The first number of the requests: its Partial IV has two bytes.
+/// The first number of the requests. Its Partial IV has two bytes.
 const FIRST: u64 = 256;
 
 /// How many requests there are. When all are taken, a new server takes them.
@@ -23,13 +23,13 @@ const REQUESTS: u64 = 4_096;
 /// A request with such a number.
 type Request = [u8; 36];
 
-/// What is drawn anew for each datagram.
+/// What is drawn afresh for each datagram.
 const FRESH: Fresh = Fresh {
     echo: [1, 2, 3, 4, 5, 6, 7, 8],
     mid: 1,
 };
 
-/// The requests, as the client seals them.
+/// Returns the requests, as the client seals them.
 fn requests_of(alloc: Global) -> io::Result<Vec<Request>> {
     let (Ok(client), Ok(plain)) = (context_of(&[], SERVER), parse(&PLAIN)) else {
         return Err(io::Error::other("the client was refused"));
@@ -56,8 +56,8 @@ fn add(server: &mut Server, own: &[u8], client: &[u8]) -> Option<usize> {
     server.add(context, start, WindowSize::default()).ok()
 }
 
-/// Makes a server anew in its place, with as many contexts of others before the client's. Answered by value it would have a room of
-/// 4,496 bytes in each call that is measured, which is cleared each time, though none but the first needs it.
+/// Makes a new server in the old one's place, with `others` contexts of others before the client's. If it returned the server by value,
+/// each measured call would have room of 4,496 bytes for it, which is cleared each time, though only the first call needs it.
 fn renew(server: &mut Server, others: u8) -> Option<()> {
     *server = Server::new();
     for other in 0..others {
@@ -67,14 +67,14 @@ fn renew(server: &mut Server, others: u8) -> Option<()> {
     Some(())
 }
 
-/// What becomes of a request that is delivered.
+/// What becomes of a delivered request.
 #[derive(Clone, Copy, PartialEq, Eq)]
 enum End {
     Kept,
     Answered,
 }
 
-/// Requests that are delivered, and answered or not, at a server with as many other contexts.
+/// Measures requests that are delivered, and answered or not, at a server with `others` other contexts.
 fn delivery<R: Clock + Print>(
     watch: &mut Stopwatch<'_, R>,
     name: &str,
@@ -107,7 +107,7 @@ fn delivery<R: Clock + Print>(
     })
 }
 
-/// The same requests, opened over a context that keeps its keys, which asks no window.
+/// Measures opening the same requests over a context that keeps its keys, which checks no window.
 fn opening<R: Clock + Print>(watch: &mut Stopwatch<'_, R>, requests: &[Request]) -> io::Result<()> {
     let Ok(context) = context_of(SERVER, &[]) else {
         return Err(io::Error::other("the context was refused"));
@@ -127,7 +127,7 @@ fn opening<R: Clock + Print>(watch: &mut Stopwatch<'_, R>, requests: &[Request])
     })
 }
 
-/// A datagram that is answered by an error.
+/// Measures a datagram that is answered with an error.
 fn refusal<R: Clock + Print>(
     watch: &mut Stopwatch<'_, R>,
     name: &str,
@@ -142,7 +142,7 @@ fn refusal<R: Clock + Print>(
     })
 }
 
-/// A turned tag, and then the example request, delivered and come again.
+/// Measures a changed tag, and then the example request when it comes again after its delivery.
 fn refusals<R: Clock + Print>(watch: &mut Stopwatch<'_, R>) -> io::Result<()> {
     let mut server = Server::new();
     if renew(&mut server, 0).is_none() {
@@ -156,7 +156,7 @@ fn refusals<R: Clock + Print>(watch: &mut Stopwatch<'_, R>) -> io::Result<()> {
     refusal(watch, "take-replay", &mut server, SEALED)
 }
 
-/// A run over as many copies of the example request: one delivery, and replays.
+/// Measures a run over `count` copies of the example request: one delivery, and replays.
 fn run<R: Clock + Print>(
     watch: &mut Stopwatch<'_, R>,
     alloc: Global,
@@ -186,7 +186,7 @@ fn run<R: Clock + Print>(
     })
 }
 
-/// Deliveries at a server of one context and of eight, and with their replies, a replay, a bad tag, and three runs.
+/// Measures deliveries at a server of one context and at one of eight, the same with their replies, a replay, a bad tag, and three runs.
 pub(crate) fn serving<R: Clock + Print>(
     watch: &mut Stopwatch<'_, R>,
     alloc: Global,

@@ -1,4 +1,4 @@
-//! Measuring a call: some runs of as many calls as fill them, of which the shortest counts.
+//! Measures a call in some runs, each of as many calls as fill it. The shortest run counts.
 
 use std::io;
 use std::rt::Clock;
@@ -7,13 +7,13 @@ use std::time::Instant;
 /// How many runs are made.
 const RUNS: u32 = 7;
 
-/// How long a run is to take, in nanoseconds.
+/// How long a run should take, in nanoseconds.
 const RUN_NANOS: u64 = 50_000_000;
 
 /// How many calls are made to learn how many fill a run.
 const FIRST_CALLS: u64 = 1_000;
 
-/// Measures calls, and adds up a byte of each answer, so that no call can be left out.
+/// Measures calls, and adds up a byte of each result, so that no call can be left out.
 #[derive(Drop)]
 pub(crate) struct Stopwatch<'r, R> {
     rt: &'r R,
@@ -25,7 +25,7 @@ impl<'r, R: Clock + Print> Stopwatch<'r, R> {
         Stopwatch { rt, sum: 0 }
     }
 
-    /// Measures a call that answers a byte, or None where it is refused, and prints its name and its nanoseconds.
+    /// Measures a call that returns a byte, or `None` if it is refused. Prints its name and its nanoseconds.
     pub(crate) fn figure<F: FnMut() -> Option<u8>>(
         &mut self,
         name: &str,
@@ -43,7 +43,7 @@ impl<'r, R: Clock + Print> Stopwatch<'r, R> {
         println!(self.rt; "{name} {}.{}", tenths / 10, tenths % 10)
     }
 
-    /// The nanoseconds of so many calls.
+    /// Returns the nanoseconds that `calls` calls take.
     fn run<F: FnMut() -> Option<u8>>(&mut self, calls: u64, call: &mut F) -> io::Result<u64>
         requires { (state : F) → F.pre state }
     {

@@ -8,7 +8,7 @@ use std::rt::Files;
 
 #[derive(Clone, Copy, Debug, PartialEq, Eq)]
 pub enum Step {
-    /// Whether a name is a link's.
+    /// The look whether a name is a link's.
     Look,
     Lock,
     Open,
@@ -21,7 +21,7 @@ pub enum Step {
     SyncFolder,
 }
 
-/// The folder is the one that holds the file; another one is none of these steps.
+/// The folder is the one that holds the file. Another folder is none of these steps.
 #[derive(Drop)]
 pub struct Refusing<'a> {
     pub rt: &'a HostRuntime,
@@ -70,7 +70,7 @@ impl Files for Refusing<'_> {
         } else {
             (Step::Open, Step::SyncFile)
         };
-        // A lock is opened to be written too, but not as a new file.
+        // A lock is also opened for writing, but not as a new file.
         unless(self.refused == open && !how.asks_create())?;
         Ok(RefusingFile {
             file: how.open(self.rt, path)?,

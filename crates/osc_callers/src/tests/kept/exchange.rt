@@ -17,15 +17,15 @@ const SECRET: [u8; 16] = [1, 2, 3, 4, 5, 6, 7, 8, 9, 10, 11, 12, 13, 14, 15, 16]
 
 const SALT: [u8; 8] = [0x9e, 0x7c, 0xa9, 0x22, 0x23, 0x78, 0x63, 0x40];
 
-// RFC 8613, C.4: CON, 0.01, message ID 5d1f, token 00003974, Uri-Host localhost, Uri-Path tv1.
+// RFC 8613, C.4: CON, 0.01, Message ID 5d1f, token 00003974, Uri-Host localhost, Uri-Path tv1.
 const REQUEST: &[u8] = b"\x44\x01\x5d\x1f\x00\x00\x39\x74\x39localhost\x83tv1";
 
 const TOKEN: [u8; 4] = [0, 0, 0x39, 0x74];
 
-// What stands before the value of an Echo option (252) of eight bytes, behind Uri-Path (11).
+// What stands before the value of an Echo option (252) of eight bytes, after Uri-Path (11).
 const ECHO_HEAD: &[u8] = b"\xd8\xe4";
 
-// RFC 8613, C.7: ACK, 2.05, the same message ID and token, Hello World!
+// RFC 8613, C.7: ACK, 2.05, the same Message ID and token, Hello World!
 const RESPONSE: &[u8] = b"\x64\x45\x5d\x1f\x00\x00\x39\x74\xffHello World!";
 
 pub type Client<'a> = KeptClient<Memory<'a>, 2>;
@@ -46,7 +46,7 @@ pub struct Seen<'a> {
 }
 
 impl<'a> Seen<'a> {
-    /// Nothing was seen yet.
+    /// Begins with nothing seen.
     pub fn new(alloc: Global, server: &'a Watch, client: &'a Watch) -> Seen<'a> {
         Seen {
             server,
@@ -69,7 +69,7 @@ fn context<'x>(rt: &impl Abort, sender: &'x [u8], recipient: &'x [u8]) -> Contex
     Context::derive(params).expect(rt, "a context")
 }
 
-/// Starts a server, and once more where the keeper goes wrong.
+/// Starts a server. If the keeper goes wrong, starts it once more.
 pub fn start_server<'a>(rt: &impl Abort, keeper: Memory<'a>) -> Server<'a> {
     keeper.start();
     match Server::start(context(rt, &[1], &[]), keeper, WindowSize::default()) {
@@ -83,7 +83,7 @@ pub fn start_server<'a>(rt: &impl Abort, keeper: Memory<'a>) -> Server<'a> {
     }
 }
 
-/// Starts a client, and once more where the keeper goes wrong.
+/// Starts a client. If the keeper goes wrong, starts it once more.
 pub fn start_client<'a>(rt: &impl Abort, keeper: Memory<'a>) -> Client<'a> {
     keeper.start();
     match Client::start(context(rt, &[], &[1]), keeper, 60_000) {
@@ -97,7 +97,7 @@ pub fn start_client<'a>(rt: &impl Abort, keeper: Memory<'a>) -> Client<'a> {
     }
 }
 
-/// The text of C.4, with an Echo value where there is one.
+/// Returns the text of C.4, with an Echo value if there is one.
 fn plain(rt: &(impl Abort + Alloc<A = Global>), echo: Option<[u8; 8]>) -> Vec<u8> {
     let mut text = Vec::new(rt.alloc());
     text.extend_from_slice(REQUEST).expect(rt, "memory");
@@ -108,7 +108,7 @@ fn plain(rt: &(impl Abort + Alloc<A = Global>), echo: Option<[u8; 8]>) -> Vec<u8
     text
 }
 
-/// Sends a request, and answers its length; None where the keeper failed.
+/// Sends a request, and returns its length, or `None` if the keeper failed.
 fn send(
     rt: &(impl Abort + Alloc<A = Global>),
     now: u64,
@@ -126,7 +126,7 @@ fn send(
     }
 }
 
-/// The client takes a response, and its own number is noted.
+/// Has the client take a response, and notes the response's own number, if it has one.
 fn take_response(
     rt: &impl Abort,
     now: u64,
@@ -142,8 +142,8 @@ fn take_response(
     }
 }
 
-/// The server replies with an own number, a second time where the keeper failed, and the client takes the reply; a server that
-/// was stopped sends none.
+/// Has the server reply with an own number, a second time if the keeper failed. The client takes the reply. A server that was stopped sends
+/// none.
 fn reply(
     rt: &impl Abort,
     now: u64,
@@ -171,7 +171,7 @@ fn reply(
     }
 }
 
-/// A request is sent, and answered unless a keeper fails. Answers the Echo value of a challenge.
+/// Sends a request, which is answered unless a keeper fails. Returns the Echo value of a challenge.
 pub fn exchange(
     rt: &(impl Abort + Alloc<A = Global>),
     now: u64,

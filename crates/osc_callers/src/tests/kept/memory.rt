@@ -8,9 +8,9 @@ use std::cell::Cell;
 /// How a call of a keeper goes wrong.
 #[derive(Clone, Copy, Debug, PartialEq, Eq)]
 pub enum Wrong {
-    /// It fails, and what was kept stays.
+    /// The call fails, and what was kept stays.
     Fails,
-    /// The program is stopped within it; a save has kept its number by then.
+    /// The program is stopped within the call. A save has kept its number by then.
     Stops,
 }
 
@@ -18,12 +18,12 @@ pub enum Wrong {
 #[derive(Drop)]
 pub struct Watch {
     pub calls: Cell<u64>,
-    /// The program was stopped in a call, and isn't started again yet.
+    /// The program was stopped in a call, and hasn't been started again yet.
     pub is_stopped: Cell<bool>,
 }
 
 impl Watch {
-    /// Of a keeper that wasn't called yet.
+    /// Makes the watch of a keeper that wasn't called yet.
     pub fn new() -> Watch {
         Watch {
             calls: Cell::new(0),
@@ -35,7 +35,7 @@ impl Watch {
 #[derive(Drop)]
 pub struct Memory<'a> {
     kept: u64,
-    // The last number whose save was answered with Ok.
+    // The last number whose save returned `Ok`.
     saved: u64,
     /// The call that goes wrong, counted from 0, and how.
     wrong: Option<(u64, Wrong)>,
@@ -45,7 +45,7 @@ pub struct Memory<'a> {
 }
 
 impl<'a> Memory<'a> {
-    /// A keeper that keeps 0.
+    /// Makes a keeper that keeps 0.
     pub fn new(watch: &'a Watch, wrong: Option<(u64, Wrong)>) -> Memory<'a> {
         Memory {
             kept: 0,
@@ -56,12 +56,12 @@ impl<'a> Memory<'a> {
         }
     }
 
-    /// The program is started again.
+    /// Notes that the program is started again.
     pub fn start(&self) {
         self.watch.is_stopped.set(false);
     }
 
-    /// Counts a call, and answers how it goes wrong, if it does.
+    /// Counts a call, and returns how it goes wrong, if it does.
     fn next_call(&self) -> Option<Wrong> {
         let call = self.watch.calls.get();
         self.watch.calls.set(call.wrapping_add(1));

@@ -1,4 +1,4 @@
-//! The calls of both ends, after whatever histories: each answers None where its end doesn't answer as the list says.
+//! The calls of both ends, after any histories. Each returns `None` if its end doesn't answer as the list says.
 
 ghost use Rattle.std.specs.Prelude.{◌≡◌, ◌≤◌, IfSome, IsSome, length, take};
 ghost use Rattle.osc_coap.specs.Views.{parts_of};
@@ -57,7 +57,7 @@ pub fn plain(text: &[u8]) -> Option<Message<'_>>
     }
 }
 
-/// Starts a client at 0, whose requests are pending for a minute.
+/// Starts a client at 0. Its requests are pending for a minute.
 pub fn start_client(context: Context) -> Option<Client<8>>
     ensures { IfSome result (λ client. ClientAgrees client (asking.New (as_client context) 0 60000)) }
 {
@@ -78,7 +78,7 @@ pub fn start_server(context: Context) -> Option<Server>
     }
 }
 
-/// The client seals a request. Answers how many bytes at the front of `out` it takes.
+/// Has the client seal a request. Returns how many bytes it takes at the front of `out`.
 pub fn ask(client: &mut Client<8>, plain: &Message<'_>, out: &mut [u8]) -> Option<usize>
     ensures answered { IfSome result (λ len. Asks client.old (parts_of plain.now) (length out.old) (take len out.new) client.new) }
     ensures within { IfSome result (λ len. len ≤ length out.new) }
@@ -89,7 +89,7 @@ pub fn ask(client: &mut Client<8>, plain: &Message<'_>, out: &mut [u8]) -> Optio
     }
 }
 
-/// A datagram comes to the client, which delivers it as a response to the request of this number.
+/// Passes a datagram to the client, which delivers it as a response to the request with this number.
 pub fn hear(client: &mut Client<8>, number: u64, datagram: &mut [u8]) -> Option<()>
     ensures { IsSome result → Hears client.old number datagram.old client.new }
 {
@@ -99,7 +99,7 @@ pub fn hear(client: &mut Client<8>, number: u64, datagram: &mut [u8]) -> Option<
     }
 }
 
-/// A datagram comes to the server, which delivers it as the request of this number, and sends nothing.
+/// Passes a datagram to the server, which delivers it as the request with this number, and sends nothing.
 pub fn deliver(
     server: &mut Server,
     number: u64,
@@ -115,8 +115,8 @@ pub fn deliver(
     }
 }
 
-/// A datagram comes to the server, which challenges it with the fresh Echo value. Answers how many bytes at the front of `out`
-/// the challenge takes.
+/// Passes a datagram to the server, which challenges it with the fresh Echo value. Returns how many bytes the challenge takes at the front
+/// of `out`.
 pub fn challenge(
     server: &mut Server,
     echo: [u8; 8],
@@ -141,7 +141,7 @@ pub fn challenge(
     None
 }
 
-/// The server replies to the request of a ticket without an own number. Answers how many bytes at the front of `out` it takes.
+/// Has the server reply to the request of a ticket, without an own number. Returns how many bytes the reply takes at the front of `out`.
 pub fn answer(
     server: &mut Server,
     ticket: Ticket,

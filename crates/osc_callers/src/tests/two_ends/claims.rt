@@ -1,4 +1,4 @@
-//! What must hold of each run, judged by the log alone.
+//! What must hold for each run. Only the log is checked.
 
 use super::log::{Entry, Request, Response};
 
@@ -13,7 +13,7 @@ pub enum Claim {
     Nonces,
 }
 
-/// The first claim that a log breaks, where it breaks one.
+/// Returns the first claim that a log breaks, if it breaks one.
 pub fn first_broken(log: &[Entry]) -> Option<Claim> {
     for place in 0..log.len() {
         let broken = broken_by(log[place], &log[..place]);
@@ -24,7 +24,7 @@ pub fn first_broken(log: &[Entry]) -> Option<Claim> {
     None
 }
 
-/// The claim that an entry breaks behind those before it, where it breaks one.
+/// Returns the claim that an entry breaks after the entries before it, if it breaks one.
 fn broken_by(entry: Entry, before: &[Entry]) -> Option<Claim> {
     let (claim, holds) = match entry {
         Entry::RequestSealed(request) => (Claim::Nonces, !is_number_used(request.number, before)),
@@ -35,7 +35,7 @@ fn broken_by(entry: Entry, before: &[Entry]) -> Option<Claim> {
     if holds { None } else { Some(claim) }
 }
 
-/// Whether the client sealed a request with this number.
+/// Returns whether the client sealed a request with this number.
 fn is_number_used(number: u64, before: &[Entry]) -> bool {
     before.iter().any(|entry| match entry {
         Entry::RequestSealed(request) => request.number == number,
@@ -43,7 +43,7 @@ fn is_number_used(number: u64, before: &[Entry]) -> bool {
     })
 }
 
-/// Whether a request was sealed, and none with its number was delivered.
+/// Returns whether a request was sealed, and none with its number was delivered.
 fn may_deliver(request: Request, before: &[Entry]) -> bool {
     let is_delivered = before.iter().any(|entry| match entry {
         Entry::RequestDelivered(other) => other.number == request.number,
@@ -52,8 +52,8 @@ fn may_deliver(request: Request, before: &[Entry]) -> bool {
     !is_delivered && before.contains(&Entry::RequestSealed(request))
 }
 
-/// Whether the server sealed a response with the same own number, or one without to the same request: that one is under the
-/// nonce of the request.
+/// Returns whether the server sealed a response with the same own number or, for a response without one, another without one to the same
+/// request: that one is under the nonce of the request.
 fn is_nonce_used(response: Response, before: &[Entry]) -> bool {
     before.iter().any(|entry| match entry {
         Entry::ResponseSealed(other) => {
@@ -64,7 +64,7 @@ fn is_nonce_used(response: Response, before: &[Entry]) -> bool {
     })
 }
 
-/// Whether a response was sealed, for the request that the client waits for.
+/// Returns whether a response was sealed, for the request that the client waits for.
 fn may_answer(response: Response, before: &[Entry]) -> bool {
     let Some(asked) = last_asked(response.token, before) else {
         return false;
@@ -78,7 +78,7 @@ fn may_answer(response: Response, before: &[Entry]) -> bool {
         && before.contains(&Entry::ResponseSealed(response))
 }
 
-/// The last request that the client sealed under a token.
+/// Returns the last request that the client sealed under a token.
 fn last_asked(token: u8, before: &[Entry]) -> Option<Request> {
     let mut last = None;
     for entry in before {

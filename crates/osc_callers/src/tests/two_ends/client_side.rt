@@ -12,7 +12,7 @@ use osc_endpoint::{ClientOutcome, RequestError};
 use osc_protect::Opened;
 use std::process::Abort;
 
-/// The client seals a request, and sends it. Answers the client where its keeper failed.
+/// Has the client seal a request, and sends it. If the client's keeper failed, returns the client as the error.
 pub fn ask(
     rt: &impl Abort,
     world: &mut World,
@@ -39,7 +39,7 @@ pub fn ask(
     Ok(())
 }
 
-/// A datagram comes to the client. What it doesn't deliver changes nothing.
+/// Takes a datagram that arrives at the client. A datagram that the client doesn't deliver changes nothing.
 pub fn take_response(
     rt: &impl Abort,
     world: &mut World,
@@ -57,7 +57,7 @@ pub fn take_response(
     }
 }
 
-/// The client delivered a response; a challenge has its request sealed again with the Echo value.
+/// Notes a response that the client delivered. After a challenge, its request is to be sealed again with the Echo value.
 fn deliver(rt: &impl Abort, world: &mut World, front: Front, request: u64, opened: &Opened<'_>) {
     let payload = Payload::read(opened.payload);
     world.note(
@@ -75,7 +75,7 @@ fn deliver(rt: &impl Abort, world: &mut World, front: Front, request: u64, opene
     }
 }
 
-/// The Echo value of a challenge.
+/// Returns the Echo value of a challenge.
 fn echo_of(opened: &Opened<'_>) -> Option<[u8; 8]> {
     match opened.inner().first(ECHO)? {
         [a, b, c, d, e, f, g, h] => Some([*a, *b, *c, *d, *e, *f, *g, *h]),

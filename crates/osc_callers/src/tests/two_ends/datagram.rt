@@ -1,15 +1,15 @@
-//! A reading of sealed datagrams of its own: only the head, the token of one byte, and the OSCORE option, which stands first
+//! The tests' own reading of sealed datagrams. It reads only the head, the token of one byte, and the OSCORE option, which stands first
 //! among their outer options (RFC 7252, 3; RFC 8613, 6.1).
 
-/// What is read in front of a datagram's payload.
+/// What is read of a datagram before its payload.
 #[derive(Clone, Copy, Debug)]
 pub struct Front {
     pub token: u8,
-    /// The number that the Partial IV spells, where there is one.
+    /// The number that the Partial IV spells, if there is one.
     pub number: Option<u64>,
 }
 
-/// Reads the front of a datagram; None where it isn't of this form.
+/// Reads the front of a datagram. Returns `None` if it isn't of this form.
 pub fn read(datagram: &[u8]) -> Option<Front> {
     let [first, _, _, _, token, option, behind @ ..] = datagram else {
         return None;
@@ -25,7 +25,7 @@ pub fn read(datagram: &[u8]) -> Option<Front> {
     })
 }
 
-/// The number that the Partial IV in the value of an OSCORE option spells, high byte first.
+/// Returns the number that the Partial IV in the value of an OSCORE option spells, high byte first.
 fn partial_iv(value: &[u8]) -> Option<u64> {
     let (flags, behind) = value.split_first()?;
     let len = usize::from(*flags & 0x07);

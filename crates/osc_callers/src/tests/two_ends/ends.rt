@@ -1,4 +1,4 @@
-//! A client and a server over keepers in memory, of mirrored contexts.
+//! A client and a server of mirrored contexts, over keepers in memory.
 
 use super::client_side::{ask, take_response};
 use super::plan::{Beginning, End, NewLife, Plan};
@@ -17,7 +17,7 @@ pub struct Ends<'a> {
 }
 
 impl<'a> Ends<'a> {
-    /// Both are started for the first time.
+    /// Starts both ends for the first time.
     pub fn start(
         rt: &impl Abort,
         plan: &Plan,
@@ -32,7 +32,7 @@ impl<'a> Ends<'a> {
         }
     }
 
-    /// The process of an end is stopped, and the next one starts the end over its keeper.
+    /// Stops the process of an end. The next one starts the end over its keeper.
     pub fn start_anew(self, rt: &impl Abort, world: &mut World, end: End) -> Ends<'a> {
         let Ends { client, server } = self;
         match end {
@@ -50,7 +50,7 @@ impl<'a> Ends<'a> {
         }
     }
 
-    /// An end begins a new life; where its keeper fails then, its process is stopped.
+    /// Begins a new life of an end. If its keeper fails then, its process is stopped.
     pub fn begin(mut self, rt: &impl Abort, world: &mut World, new_life: NewLife) -> Ends<'a> {
         let NewLife { end, by, .. } = new_life;
         if by == Beginning::Start {
@@ -67,7 +67,7 @@ impl<'a> Ends<'a> {
         }
     }
 
-    /// Does what is to happen in an event. Answers the end whose keeper failed, where one did.
+    /// Does what is to happen in an event. If the keeper of an end failed, returns that end as the error.
     pub fn act(&mut self, rt: &impl Abort, world: &mut World, job: Job) -> Result<(), End> {
         match job {
             Job::Ask(token, echo) => ask(rt, world, &mut self.client, token, echo),

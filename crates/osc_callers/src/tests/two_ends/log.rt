@@ -1,6 +1,6 @@
-//! What is noted of a run, in order.
+//! What is noted about a run, in order.
 
-/// What a request says, and the reply to it: the request's token, and the event in which it was sealed.
+/// What a request and the reply to it say: the request's token, and the event in which the request was sealed.
 #[derive(Clone, Copy, Debug, PartialEq, Eq)]
 pub struct Payload {
     pub token: u8,
@@ -8,7 +8,7 @@ pub struct Payload {
 }
 
 impl Payload {
-    /// The payload that stands in some bytes.
+    /// Reads the payload in some bytes.
     pub fn read(bytes: &[u8]) -> Option<Payload> {
         match bytes {
             [token, event] => Some(Payload {
@@ -20,14 +20,14 @@ impl Payload {
     }
 }
 
-/// A request, by its number.
+/// A request, with its number.
 #[derive(Clone, Copy, Debug, PartialEq, Eq)]
 pub struct Request {
     pub number: u64,
     pub payload: Payload,
 }
 
-/// A response: its token, the number of its request, and its own number, where it has one. A challenge has no payload.
+/// A response: its token, the number of its request, and its own number, if it has one. A challenge has no payload.
 #[derive(Clone, Copy, Debug, PartialEq, Eq)]
 pub struct Response {
     pub token: u8,
@@ -59,7 +59,7 @@ pub struct Totals {
 }
 
 impl Totals {
-    /// What was delivered in one run.
+    /// Returns what was delivered in one run.
     pub fn of(log: &[Entry]) -> Totals {
         let mut totals = Totals {
             runs: 1,
@@ -86,7 +86,7 @@ impl Totals {
         *counted = counted.saturating_add(1);
     }
 
-    /// Adds those of another run.
+    /// Adds the totals of another run.
     pub fn add(&mut self, run: Totals) {
         self.runs = self.runs.saturating_add(run.runs);
         self.requests = self.requests.saturating_add(run.requests);

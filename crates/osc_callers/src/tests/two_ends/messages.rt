@@ -3,13 +3,13 @@
 use super::log::Payload;
 use std::alloc::{AllocError, Global};
 
-// What stands before the value of an Echo option (252) of eight bytes, where no option is in front of it.
+// What stands before the value of an Echo option (252) of eight bytes, if no option is in front of it.
 const ECHO_HEAD: [u8; 2] = [0xd8, 0xef];
 
 // What stands before a payload.
 const MARKER: u8 = 0xff;
 
-/// A request: CON, 0.02, with a token of one byte, and an Echo value where there is one.
+/// Returns a request: CON, 0.02, with a token of one byte, and with an Echo value if there is one.
 pub fn request_text(
     alloc: Global,
     payload: Payload,
@@ -26,7 +26,7 @@ pub fn request_text(
     Ok(text)
 }
 
-/// A reply, 2.04, that says what its request said. Kind, message ID and token are those that the server gives it.
+/// Returns a reply, 2.04, that says what its request said. The server gives it its Type, Message ID and token.
 pub fn reply_text(payload: Payload) -> [u8; 7] {
     let Payload { token, event } = payload;
     [0x60, 0x44, 0, 0, MARKER, token, event]

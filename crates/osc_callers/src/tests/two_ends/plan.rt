@@ -10,7 +10,7 @@ pub enum End {
     Server,
 }
 
-/// In which order what was sealed is delivered.
+/// The order in which sealed datagrams are delivered.
 #[derive(Clone, Copy, Debug, PartialEq, Eq)]
 pub enum Order {
     AsSealed,
@@ -21,9 +21,9 @@ pub enum Order {
 #[derive(Clone, Copy, Debug, PartialEq, Eq)]
 pub enum Fate {
     Lost,
-    /// It is delivered twice, once after the other.
+    /// It is delivered twice, one delivery right after the other.
     Twice,
-    /// It is delivered, and once more when nothing else is left to happen.
+    /// It is delivered, and again when nothing else is left to happen.
     TwiceAtTheEnd,
 }
 
@@ -32,11 +32,11 @@ pub enum Fate {
 pub enum Beginning {
     /// By a restart: the application keeps the tickets that it holds.
     Restart,
-    /// Its process ends, and the next one starts it over its keeper: the tickets are gone.
+    /// Its process ends, and the next one starts it over its keeper. The tickets are gone.
     Start,
 }
 
-/// An end begins a new life after so many events.
+/// A new life that an end begins after a number of events.
 #[derive(Clone, Copy, Debug)]
 pub struct NewLife {
     pub end: End,
@@ -48,15 +48,15 @@ pub struct NewLife {
 #[derive(Clone, Copy, Debug)]
 pub struct Plan {
     pub order: Order,
-    /// What becomes of a datagram, by its index among those that are sent.
+    /// What becomes of a datagram, which is given by its index among those that are sent.
     pub fate: Option<(u64, Fate)>,
     pub new_life: Option<NewLife>,
-    /// The call of an end's keeper that goes wrong, by its index.
+    /// The call of an end's keeper that goes wrong, which is given by its index.
     pub wrong: Option<(End, u64, Wrong)>,
 }
 
 impl Plan {
-    /// What becomes of the datagram of an index.
+    /// Returns what becomes of the datagram with this index.
     pub fn fate_of(&self, datagram: u64) -> Option<Fate> {
         match self.fate {
             Some((index, fate)) if index == datagram => Some(fate),
@@ -64,12 +64,12 @@ impl Plan {
         }
     }
 
-    /// The new life that an end begins after so many events.
+    /// Returns the new life that an end begins after this many events.
     pub fn new_life_after(&self, events: u8) -> Option<NewLife> {
         self.new_life.filter(|new_life| new_life.after == events)
     }
 
-    /// The call of the keeper of an end that goes wrong.
+    /// Returns the call of an end's keeper that goes wrong.
     pub fn wrong_of(&self, end: End) -> Option<(u64, Wrong)> {
         match self.wrong {
             Some((other, call, wrong)) if other == end => Some((call, wrong)),
@@ -78,7 +78,7 @@ impl Plan {
     }
 }
 
-/// At 0 none, and then each fate of each datagram.
+/// Returns `None` at 0, and then each fate of each datagram.
 pub fn fate_at(place: u64) -> Option<(u64, Fate)> {
     let index = place.checked_sub(1)?;
     let fate = match index % 3 {
@@ -89,7 +89,7 @@ pub fn fate_at(place: u64) -> Option<(u64, Fate)> {
     Some((index / 3, fate))
 }
 
-/// At 0 none, and then each new life of an end, after no event and after each.
+/// Returns `None` at 0, and then each new life of an end, after no event and after each.
 pub fn new_life_at(end: End, place: u8) -> Option<NewLife> {
     let index = place.checked_sub(1)?;
     let by = match index % 2 {
@@ -100,7 +100,7 @@ pub fn new_life_at(end: End, place: u8) -> Option<NewLife> {
     Some(NewLife { end, by, after })
 }
 
-/// At 0 none, and then each way in which each call of an end's keeper goes wrong.
+/// Returns `None` at 0, and then each way in which each call of an end's keeper goes wrong.
 pub fn wrong_at(end: End, place: u64) -> Option<(End, u64, Wrong)> {
     let index = place.checked_sub(1)?;
     let wrong = match index % 2 {

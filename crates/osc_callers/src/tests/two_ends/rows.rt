@@ -1,5 +1,5 @@
-//! Which runs there are, and what is delivered in them. A comment says how totals follow from the rules; those with no comment
-//! were counted by a model of the same rules apart from this program, with numbers, windows and gates alone.
+//! Which runs there are, and what is delivered in them. A comment says how totals follow from the rules. Totals with no comment were
+//! counted by a model of the same rules apart from this program, with nothing but numbers, windows and gates.
 
 use super::log::Totals;
 use super::plan::End;
@@ -7,8 +7,8 @@ use super::plan::End;
 /// How many calls of a keeper may go wrong: a load and a save in each of two lives.
 const CALLS: u64 = 4;
 
-/// Runs in both orders, with each fate of a datagram, each new life of an end, and each wrong call of its keeper, as
-/// far as the row has them, each with each and none too. The totals are of the runs in which the whole plan comes about.
+/// Runs in both orders, with each fate of a datagram, each new life of an end, and each wrong call of its keeper, as far as the row has
+/// them. Each is combined with each, and left out too. The totals are of the runs in which the whole plan comes about.
 #[derive(Clone, Copy)]
 pub struct Row {
     pub name: &'static str,
@@ -16,15 +16,15 @@ pub struct Row {
     pub has_fates: bool,
     pub has_new_lives: bool,
     pub has_wrong_calls: bool,
-    /// No run has more events.
+    /// No run has more events than this.
     pub events: u8,
-    /// No run has more datagrams.
+    /// No run has more datagrams than this.
     pub datagrams: u64,
     pub totals: Totals,
 }
 
 impl Row {
-    /// How many fates there are, three of each datagram.
+    /// Returns how many fates there are: three for each datagram.
     pub fn fates(&self) -> u64 {
         if self.has_fates {
             self.datagrams.saturating_mul(3)
@@ -33,7 +33,7 @@ impl Row {
         }
     }
 
-    /// How many new lives there are, two after no event and after each.
+    /// Returns how many new lives there are: two after no event, and two after each event.
     pub fn new_lives(&self) -> u8 {
         if self.has_new_lives {
             self.events.saturating_add(1).saturating_mul(2)
@@ -42,7 +42,7 @@ impl Row {
         }
     }
 
-    /// How many wrong calls there are, in two ways each.
+    /// Returns how many wrong calls there are: each call in two ways.
     pub fn wrong_calls(&self) -> u64 {
         if self.has_wrong_calls { 2 * CALLS } else { 0 }
     }
@@ -66,8 +66,8 @@ pub const OF_CLIENT: [Row; 4] = [
             challenges: 0,
         },
     },
-    // Four datagrams. A request that is lost costs its delivery and that of its reply, a reply its own; one that comes again costs
-    // nothing.
+    // Four datagrams. A lost request costs its own delivery and its reply's. A lost reply costs its own delivery. A datagram that comes
+    // again costs nothing.
     Row {
         name: "fates",
         end: End::Client,
@@ -83,8 +83,8 @@ pub const OF_CLIENT: [Row; 4] = [
             challenges: 0,
         },
     },
-    // After each of eight events or none, in two ways. A reply is delivered unless the new life stands between its request and it.
-    // Where it stands between the requests, the second has the number 64: delivered first, it makes the other too old.
+    // After each of eight events or after none, in two ways. A reply is delivered unless the new life stands between its request and it. If
+    // the new life stands between the requests, the second has the number 64: if it is delivered first, it makes the other too old.
     Row {
         name: "new lives",
         end: End::Client,
@@ -119,8 +119,8 @@ pub const OF_CLIENT: [Row; 4] = [
 
 /// The server begins new lives.
 pub const OF_SERVER: [Row; 2] = [
-    // A request that comes after the new life is challenged, and delivered when it comes with the Echo value; where both are, in
-    // reverse, the first to come makes the other too old. No request that was delivered before is answered.
+    // A request that comes after the new life is challenged, and is delivered when it comes with the Echo value. If that happens to both,
+    // in reverse order the first to come makes the other too old. No request that was delivered before is answered.
     Row {
         name: "new lives",
         end: End::Server,
@@ -155,7 +155,7 @@ pub const OF_SERVER: [Row; 2] = [
 
 /// The keeper of an end goes wrong, and the end may begin a new life too.
 pub const OF_KEEPERS: [Row; 4] = [
-    // The load costs nothing, the save the request for which it was made.
+    // A wrong load costs nothing. A wrong save costs the request that it was made for.
     Row {
         name: "wrong calls of the client",
         end: End::Client,
@@ -186,7 +186,7 @@ pub const OF_KEEPERS: [Row; 4] = [
             challenges: 0,
         },
     },
-    // They cost nothing. Where the first save kept its number, the server starts as after a restart.
+    // Wrong calls cost nothing. If the first save kept its number, the server starts as it does after a restart.
     Row {
         name: "wrong calls of the server",
         end: End::Server,

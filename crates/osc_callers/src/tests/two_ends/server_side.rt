@@ -1,4 +1,4 @@
-//! What the server does in an event. Each call answers the server where its keeper failed.
+//! What the server does in an event. If the server's keeper failed, each call returns the server as its error.
 
 use super::datagram::read;
 use super::log::{Entry, Payload, Request, Response};
@@ -10,7 +10,7 @@ use osc_coap::parse;
 use osc_endpoint::{Fresh, Outcome, ReplyError, Taken, Ticket};
 use std::process::Abort;
 
-/// A datagram comes to the server: it delivers or challenges the request, or refuses its number.
+/// Takes a datagram that arrives at the server. The server delivers or challenges the request, or refuses its number.
 pub fn take_request(
     rt: &impl Abort,
     world: &mut World,
@@ -40,7 +40,7 @@ pub fn take_request(
     Ok(())
 }
 
-/// The application answers a request, the one with token 1 under an own number. A ticket of an earlier life is refused.
+/// Has the application answer a request. It answers the request with token 1 under an own number. A ticket of an earlier life is refused.
 pub fn answer(
     rt: &impl Abort,
     world: &mut World,
@@ -61,7 +61,7 @@ pub fn answer(
     Ok(())
 }
 
-/// The server sealed a response to the request of a number, and sends it.
+/// Notes a response that the server sealed to the request with this number, and sends it.
 fn send_sealed(
     rt: &impl Abort,
     world: &mut World,

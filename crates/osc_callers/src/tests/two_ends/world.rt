@@ -10,9 +10,9 @@ use std::process::Abort;
 /// What is to happen in an event.
 #[derive(Drop)]
 pub enum Job {
-    /// The application has the client seal a request under a token, with the Echo value of a challenge where there was one.
+    /// The application has the client seal a request under a token, with the Echo value of a challenge if there was one.
     Ask(u8, Option<[u8; 8]>),
-    /// A datagram comes to an end.
+    /// A datagram arrives at an end.
     Arrive(End, Vec<u8>),
     /// The application answers a request that was delivered.
     Answer(Request, Ticket),
@@ -23,12 +23,12 @@ pub enum Job {
 pub struct World {
     pub alloc: Global,
     plan: Plan,
-    /// How many events there were, with the present one.
+    /// How many events there were, including the present one.
     pub events: u8,
     /// How many datagrams were sent.
     pub sent: u64,
     present: Vec<Job>,
-    /// What comes of the present jobs.
+    /// What follows from the present jobs.
     next: Vec<Job>,
     /// What comes when nothing else is left.
     last: Vec<Job>,
@@ -36,7 +36,7 @@ pub struct World {
 }
 
 impl World {
-    /// Two requests are to be sealed.
+    /// Begins with two requests that are to be sealed.
     pub fn new(rt: &impl Abort, alloc: Global, plan: Plan) -> World {
         let mut world = World {
             alloc,
@@ -53,13 +53,13 @@ impl World {
         world
     }
 
-    /// Something is to happen when the present jobs are done.
+    /// Adds a job for when the present jobs are done.
     pub fn will(&mut self, rt: &impl Abort, job: Job) {
         self.next.push(job).expect(rt, "memory");
     }
 
-    /// Takes the job of the next event, in the order of the plan: all that came of one round of jobs is the next round. None
-    /// where nothing is left.
+    /// Takes the job of the next event, in the order of the plan. Everything that follows from one round of jobs is the next round. Returns
+    /// `None` if nothing is left.
     pub fn take_job(&mut self) -> Option<Job> {
         if self.present.is_empty() {
             mem::swap(&mut self.present, &mut self.next);
@@ -77,13 +77,13 @@ impl World {
         Some(self.present.remove(0))
     }
 
-    /// The application of the server is gone, and with it its tickets.
+    /// Drops the tickets of the server, which are gone with its application.
     pub fn drop_tickets(&mut self) {
         self.present.retain(|job| !matches!(job, Job::Answer(..)));
         self.next.retain(|job| !matches!(job, Job::Answer(..)));
     }
 
-    /// A datagram is sent to an end: it comes in the next round, but for what the plan says of it.
+    /// Sends a datagram to an end. It arrives in the next round, unless the plan says something else about it.
     pub fn send(&mut self, rt: &impl Abort, end: End, datagram: &[u8]) {
         let fate = self.plan.fate_of(self.sent);
         self.sent = self.sent.saturating_add(1);
@@ -102,7 +102,7 @@ impl World {
         }
     }
 
-    /// A datagram that comes to an end.
+    /// Returns the job in which a datagram arrives at an end.
     fn arrival(&self, rt: &impl Abort, end: End, datagram: &[u8]) -> Job {
         Job::Arrive(end, datagram.to_vec(self.alloc).expect(rt, "memory"))
     }

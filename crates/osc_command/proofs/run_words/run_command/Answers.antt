@@ -8,4 +8,4 @@ returns c =
     let with_flag = adds_local _ _ _ c.in_ok-arg-3.ensures with_sequence c.restarted_flag.ensures in
     let with_numbers = adds_local _ _ _ c.in_ok-arg-4.ensures with_flag c.in_ok-numbers_option.ensures in
     let with_window = adds_local _ _ _ c.in_ok-arg-5.ensures with_numbers c.choice_option.ensures in
-    may_add_local _ _ c.arg-6.result c.arg-6.ensures with_window c.number_option.ensures
+    may_add_local _ _ c.arg-6.result c.arg-6.ensures with_window c.value_option.ensures

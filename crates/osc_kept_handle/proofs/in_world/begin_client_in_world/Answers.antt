@@ -8,4 +8,6 @@ returns c = record {
   begins = IfSome_then c.begin.result c.begin.ensures.begins (λ k begun w lawful least.
       let on = c.kept_ends_in_world.ensures.client_starts 8 _ w (number_of c.args.loaded) c.args.life_ms 0 _ lawful ((omega arith, c.args.loaded.in_range), refl) least in
       (on.0, (_, _, on.2, begun 0 (omega arith)), on.1));
+  accepts = c.begin.ensures.accepts;
+  accepted = c.begin.ensures.accepted;
 }

@@ -24,4 +24,6 @@ returns c = record {
     subst (λ (n : ℕ). IsStart begun.0 n × ((floor : ℕ) → floor ≤ n → ServesWith k (after (Load n) (nothing_drawn floor)) (Then Begin (Add (server_in c.args.context.now) begun.0 c.args.size) (Added 0))))
         none (begun.1, begun.2),
   ));
+  accepts = c.begin.ensures.accepts;
+  accepted = c.begin.ensures.accepted;
 }

@@ -7,4 +7,7 @@ returns c = record {
       let x = c.saved.ensures.saved done runs.0 runs.1 runs.3 in
       client_saves c.both_ends.ensures s w c.saved.new.self c.args.number runs.0 runs.1 lawful runs.2 x.0 x.1 x.2;
   unchanged = c.saved.ensures.unchanged;
+  refused = c.saved.ensures.refused;
+  accepts = c.saved.ensures.accepts;
+  accepted = c.saved.ensures.accepted;
 }

@@ -9,4 +9,10 @@ returns c = record {
       (x.answer, x.decides, server_after c.kept_ends_in_world.ensures.server n s w c.args.server.now c.decide.new.self runs.0 _ _ runs.1 lawful runs.2 runs.4 c.decide.ensures.limit_stays tt x.step x.step.numbers (forges, unseen)))
       c.decide.ensures.answered;
   unchanged = c.decide.ensures.unchanged;
+  refused = c.decide.ensures.refused;
+  refuses = c.decide.ensures.refuses;
+  bad = c.decide.ensures.bad;
+  accepted = c.decide.ensures.accepted;
+  within = c.decide.ensures.within;
+  behind = c.decide.ensures.behind;
 }

@@ -7,4 +7,7 @@ returns c = record {
   answered = IfSome_then c.forget.result c.forget.ensures.answered (λ was answered s w lawful runs.
       let step = answered runs.0 runs.1 runs.3 in
       client_after c.kept_ends_in_world.ensures.client s w c.forget.new.self runs.0 _ _ runs.1 lawful runs.2 step step.numbers tt);
+  accepts = c.forget.ensures.accepts;
+  accepted = c.forget.ensures.accepted;
+  unchanged = c.forget.ensures.unchanged;
 }

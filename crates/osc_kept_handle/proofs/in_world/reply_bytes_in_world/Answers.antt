@@ -15,4 +15,11 @@ returns c = record {
       (reply_takes c.answered_once.ensures.once n s w runs.0 (ticket_in c.args.ticket.now) c.args.own c.args.mid (parts_of c.args.plain.now) (length c.args.out.now) entry runs.1 c.reply.new.self
       lawful.answers runs.2.history_is (gives runs.0 runs.2.history_is) step));
   unchanged = c.reply.ensures.unchanged;
+  refused = c.reply.ensures.refused;
+  refuses = c.reply.ensures.refuses;
+  spent = c.reply.ensures.spent;
+  bad = c.reply.ensures.bad;
+  accepted = c.reply.ensures.accepted;
+  within = c.reply.ensures.within;
+  behind = c.reply.ensures.behind;
 }

@@ -10,4 +10,10 @@ returns c = record {
       client_after c.kept_ends_in_world.ensures.client s w c.request.new.self runs.0 _ _ runs.1 lawful runs.2 step step.numbers tt);
   same = c.request.ensures.same;
   unchanged = c.request.ensures.unchanged;
+  refused = c.request.ensures.refused;
+  refuses = c.request.ensures.refuses;
+  bad = c.request.ensures.bad;
+  accepted = c.request.ensures.accepted;
+  within = c.request.ensures.within;
+  behind = c.request.ensures.behind;
 }

@@ -11,4 +11,7 @@ returns c = record {
       let x = c.saved.ensures.saved done _ _ (unsaved.1 0 (omega arith)) in
       starts_saved c.kept_ends_in_world.ensures.server_starts n s w start size c.saved.new.self unsaved.0 x.2 lawful saved least;
   unchanged = c.saved.ensures.unchanged;
+  refused = c.saved.ensures.refused;
+  accepts = c.saved.ensures.accepts;
+  accepted = c.saved.ensures.accepted;
 }

@@ -9,4 +9,10 @@ returns c = record {
       (x.answer, x.shows, server_after c.kept_ends_in_world.ensures.server n s w c.args.server.now c.take.new.self runs.0 _ _ runs.1 lawful runs.2 runs.4 c.take.ensures.limit_stays tt x.step x.step.numbers (forges, unseen)))
       c.take.ensures.answered;
   unchanged = c.take.ensures.unchanged;
+  refused = c.take.ensures.refused;
+  refuses = c.take.ensures.refuses;
+  bad = c.take.ensures.bad;
+  accepted = c.take.ensures.accepted;
+  within = c.take.ensures.within;
+  behind = c.take.ensures.behind;
 }

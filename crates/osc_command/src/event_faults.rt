@@ -1,0 +1,220 @@
+//! What is wrong with a line of input that isn't an event, in one line.
+
+use osc_text::{read_decimal, read_number};
+use std::alloc::{AllocError, Global};
+use std::str;
+
+/// A field of an event.
+#[derive(Clone, Copy)]
+pub(crate) enum Field {
+    Now,
+    Echo,
+    Mid,
+    Datagram,
+    Event,
+    Own,
+    Plain,
+    Token,
+    Next,
+}
+
+/// An event's first word, the fields that follow it, and their names.
+#[derive(Clone, Copy)]
+pub(crate) struct Form {
+    word: &'static str,
+    fields: &'static [Field],
+    names: &'static str,
+}
+
+/// The events of an end, and the words that begin their lines.
+#[derive(Clone, Copy)]
+pub(crate) struct Forms {
+    forms: &'static [Form],
+    words: &'static str,
+}
+
+const TAKE: Form = Form {
+    word: "take",
+    fields: &[Field::Now, Field::Echo, Field::Mid, Field::Datagram],
+    names: "followed by NOW ECHO MID DATAGRAM",
+};
+
+const REPLY: Form = Form {
+    word: "reply",
+    fields: &[Field::Event, Field::Own, Field::Mid, Field::Plain],
+    names: "followed by EVENT own|shared MID PLAIN",
+};
+
+const REQUEST: Form = Form {
+    word: "request",
+    fields: &[Field::Now, Field::Plain],
+    names: "followed by NOW PLAIN",
+};
+
+const TAKE_RESPONSE: Form = Form {
+    word: "take",
+    fields: &[Field::Now, Field::Datagram],
+    names: "followed by NOW DATAGRAM",
+};
+
+const FORGET: Form = Form {
+    word: "forget",
+    fields: &[Field::Token],
+    names: "followed by TOKEN",
+};
+
+const RESTART: Form = Form {
+    word: "restart",
+    fields: &[Field::Next],
+    names: "followed by NEXT",
+};
+
+const RESTART_ALONE: Form = Form {
+    word: "restart",
+    fields: &[],
+    names: "followed by nothing with --numbers",
+};
+
+const SERVER_WORDS: &str = "take, reply and restart";
+
+const CLIENT_WORDS: &str = "request, take, forget and restart";
+
+/// The events of a server.
+pub(crate) const SERVER: Forms = Forms {
+    forms: &[TAKE, REPLY, RESTART],
+    words: SERVER_WORDS,
+};
+
+/// The events of a server whose numbers are kept in a file.
+pub(crate) const KEPT_SERVER: Forms = Forms {
+    forms: &[TAKE, REPLY, RESTART_ALONE],
+    words: SERVER_WORDS,
+};
+
+/// The events of a client.
+pub(crate) const CLIENT: Forms = Forms {
+    forms: &[REQUEST, TAKE_RESPONSE, FORGET, RESTART],
+    words: CLIENT_WORDS,
+};
+
+/// The events of a client whose numbers are kept in a file.
+pub(crate) const KEPT_CLIENT: Forms = Forms {
+    forms: &[REQUEST, TAKE_RESPONSE, FORGET, RESTART_ALONE],
+    words: CLIENT_WORDS,
+};
+
+/// Returns whether a word is hex digits.
+fn is_hex(word: &str) -> bool {
+    word.bytes().all(|byte| byte.is_ascii_hexdigit())
+}
+
+/// Returns whether a word is whole bytes in hex, or the dash that stands for no bytes.
+fn is_bytes(word: &str) -> bool {
+    word == "-" || (word.len().is_multiple_of(2) && is_hex(word))
+}
+
+impl Field {
+    /// Returns whether a word can be this field.
+    fn takes(self, word: &str) -> bool {
+        match self {
+            Field::Now | Field::Event => read_decimal(word).is_some(),
+            Field::Next => read_number(word).is_some(),
+            Field::Echo => word.len() == 16 && is_hex(word),
+            Field::Mid => word.len() == 4 && is_hex(word),
+            Field::Own => word == "own" || word == "shared",
+            Field::Datagram | Field::Plain | Field::Token => is_bytes(word),
+        }
+    }
+
+    /// Returns what this field must be.
+    fn rule(self) -> &'static str {
+        match self {
+            Field::Now => "NOW must be a number below 2^64",
+            Field::Echo => "ECHO must be 16 hex digits",
+            Field::Mid => "MID must be 4 hex digits",
+            Field::Datagram => "DATAGRAM must be bytes in hex, or - for none",
+            Field::Event => "EVENT must be a number below 2^64",
+            Field::Own => "own or shared must come after EVENT",
+            Field::Plain => "PLAIN must be bytes in hex, or - for none",
+            Field::Token => "TOKEN must be bytes in hex, or - for none",
+            Field::Next => "NEXT must be a number below 2^40",
+        }
+    }
+}
+
+/// Returns what the line has that no line may have, in whatever field.
+fn spelling_fault(line: &str) -> Option<&'static str> {
+    if line.starts_with('\u{feff}') {
+        Some("it begins with a byte order mark")
+    } else if line.ends_with('\r') {
+        Some("it ends in a carriage return")
+    } else if line.contains('\t') {
+        Some("it has a tab")
+    } else if line.is_empty() {
+        Some("it is empty")
+    } else if line.split(' ').any(|word| word.is_empty()) {
+        Some("one space stands between two fields, and no other")
+    } else {
+        None
+    }
+}
+
+/// Returns what the first wrong field of an event must be.
+fn field_fault(form: Form, line: &str) -> Option<&'static str> {
+    let mut words = line.split(' ').skip(1);
+    for field in form.fields {
+        match words.next() {
+            Some(word) if field.takes(word) => {}
+            _ => return Some(field.rule()),
+        }
+    }
+    None
+}
+
+/// Returns whether a line begins with the word of a form.
+fn begins(form: &Form, line: &str) -> bool {
+    line.split(' ').next() == Some(form.word)
+}
+
+/// Returns what is wrong with the line of this number, counted from 1.
+fn line_fault(
+    alloc: Global,
+    number: usize,
+    forms: Forms,
+    line: &str,
+) -> Result<String, AllocError> {
+    if let Some(fault) = spelling_fault(line) {
+        return format!(in alloc; "line {number}: {fault}");
+    }
+    let Some(form) = forms.forms.iter().find(|form| begins(form, line)) else {
+        return not_an_event(alloc, number, forms);
+    };
+    if line.split(' ').count() != form.fields.len() + 1 {
+        return format!(in alloc; "line {number}: {} is {}", form.word, form.names);
+    }
+    match field_fault(*form, line) {
+        Some(rule) => format!(in alloc; "line {number}: {rule}"),
+        None => not_an_event(alloc, number, forms),
+    }
+}
+
+/// Returns the fault that names the words which begin an event, for when nothing better can be said.
+fn not_an_event(alloc: Global, number: usize, forms: Forms) -> Result<String, AllocError> {
+    format!(in alloc; "line {number}: not an event: {} are", forms.words)
+}
+
+/// Returns what is wrong with the line of an input that has this number, counted from 1. The text is one line.
+pub(crate) fn event_fault(
+    alloc: Global,
+    number: usize,
+    forms: Forms,
+    input: &[u8],
+) -> Result<String, AllocError> {
+    let Ok(text) = str::from_utf8(input) else {
+        return not_an_event(alloc, number, forms);
+    };
+    match text.split('\n').nth(number.saturating_sub(1)) {
+        Some(line) => line_fault(alloc, number, forms, line),
+        None => not_an_event(alloc, number, forms),
+    }
+}
