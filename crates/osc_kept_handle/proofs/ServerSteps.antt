@@ -1,6 +1,6 @@
 -- A kept server in bytes after each call: k are the bytes before, t those after, h is the history, old are the numbers before.
-use Rattle.std.proofs.Common.{◌≡◌, ℕ, ◌<◌, ◌≤◌, ◌^◌, inl, inr, ◌⊎◌, ◌∙◌, sym, ap, subst, refl, arith, Bool, true, false, not, Option, Some, IfSome, Result, Ok, List, [], ◌∷◌, length, suc, slice_index_or}
-use Rattle.std.specs.Prelude.{slice_get, unwrap_or}
+use Rattle.std.proofs.Common.{◌≡◌, ℕ, ◌<◌, ◌≤◌, ◌^◌, inl, inr, ◌⊎◌, ◌∙◌, sym, ap, subst, refl, arith, Bool, true, false, not, Option, Some, List}
+use Rattle.std.specs.Prelude.{unwrap_or}
 use Rattle.std.specs.Option.{option_map}
 use Rattle.osc_coap.specs.Datagram.{Parts}
 use Rattle.osc_window.specs.declared.window_size.WindowSize.{WindowSize}
@@ -9,7 +9,6 @@ use Rattle.osc_endpoint.specs.Life.{Life, born, is_open_life, next_own}
 use Rattle.osc_endpoint.specs.ServerAnswer.{ServerAnswer}
 use Rattle.osc_endpoint.specs.ServerHistory.{History, Begin, Then, Add, Added, Answer, TicketValues, Datagram, Reply, Took, Replied, NotReplied, Malformed, NotRequest, Plain, Undecodable, NoContext, Replay, BadTag, BadInner, Challenge, SequenceExhausted, Deliver, added, life}
 use Rattle.osc_endpoint.specs.declared.server_error.ReplyError.{ReplyError}
-use Rattle.osc_endpoint.specs.declared.slot.Slot.{Slot}
 use Rattle.osc_endpoint.specs.declared.start.Start.{Start}
 use Rattle.osc_endpoint.specs.declared.start.Start.TheVariants as starts
 use Rattle.osc_handle.proofs.Tables.{life_there}
@@ -23,7 +22,7 @@ use Rattle.osc_context.specs.Reserving.{next_limit}
 use Rattle.osc_context.specs.SecurityContext.{SecurityContext}
 use Rattle.osc_kept.specs.Numbering.{Own, Goes, Load, Reserve, Use, after, nothing_drawn, upcoming}
 use Rattle.osc_kept_handle.proofs.NumberSteps.{can_reserve, comes_next, drawn_by, loaded, reserved_more, upcoming_within, used}
-use Rattle.osc_kept_handle.specs.KeptServerBytes.{IsKeptServer, ServesWith, StepsServer}
+use Rattle.osc_kept_handle.specs.KeptServerBytes.{ServesWith, StepsServer}
 use Rattle.osc_kept_handle.specs.Reserved.{AreReserved, WantsSave}
 use Rattle.osc_kept_handle.specs.declared.kept_server_handle.KeptServerHandle.{KeptServerHandle}
 
