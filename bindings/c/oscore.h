@@ -196,8 +196,8 @@ typedef struct oscore_server {
     oscore_unanswered unanswered[8];
 } oscore_server;
 
-/* A server of one context, which has the index 0, in the room of one: what a server does, its calls do that has this context alone. What
-   is said of copies of a server holds of it too. It holds keys: `oscore_wipe(&server, sizeof server)` when it isn't needed. */
+/* A server of one context, which has the index 0, in the room of one. Its calls do what those of a server with this context alone do.
+   What is said of copies of a server holds of it too. It holds keys: `oscore_wipe(&server, sizeof server)` when it isn't needed. */
 typedef struct oscore_server1 {
     uint64_t clock; /* the latest moment that a call was given */
     oscore_server_context context;
@@ -330,9 +330,10 @@ OSCORE_MUST_USE oscore_status oscore_server_restart(oscore_server *server, size_
    OSCORE_INNER on, the datagram's payload isn't what came.
    The clock is the latest `now`: an earlier one counts as that. So a moment from far ahead stays, also over `oscore_server_restart`,
    and until the time has come there the clock stands: a challenge, which is good for 30 seconds, then doesn't end.
-   A request that comes again because its reply was lost is refused as a replay, though it was obeyed: whoever speaks over UDP keeps
-   each reply by sender and message ID for 247 seconds, and sends it again before it calls this (RFC 7252, 4.5 and 4.8.2). An empty
-   message, as an acknowledgment, a reset or a ping, is OSCORE_NOT_THAT_KIND. */
+   A delivered request that comes again because its reply was lost is refused as a replay, though it was obeyed. So whoever speaks over
+   UDP keeps the reply to each delivered request, by sender and message ID, for 247 seconds. If the request comes again, a CON gets that
+   reply again, a NON gets nothing, and this isn't called (RFC 7252, 4.5 and 4.8.2). Any other request that comes again is handed in
+   again. An empty message, as an acknowledgment, a reset or a ping, is OSCORE_NOT_THAT_KIND. */
 OSCORE_MUST_USE oscore_status oscore_server_take(oscore_server *server, uint64_t now, const uint8_t echo[8], uint16_t mid,
                                                  uint8_t *datagram, size_t datagram_len, oscore_option *options,
                                                  size_t options_room, oscore_opened *opened, oscore_ticket *ticket, uint8_t out[64],
@@ -388,8 +389,9 @@ OSCORE_MUST_USE oscore_status oscore_client_request(oscore_client *client, uint6
 /* Answers a datagram, where it lies. 0: a response to a pending request, which is pending no more, and `request` is its number; that,
    `opened` and `options` are written at 0 alone. OSCORE_BAD_HANDLE leaves the client as it was, the others move its clock.
    Each other refusal says that this datagram isn't the response, and nothing of the one that may still come: the request stays
-   pending, and the caller keeps waiting, until 0, the end of `life_ms`, `oscore_client_forget` or `oscore_client_restart`. Anybody can
-   send what is refused, an error without protection too.
+   pending, and the caller keeps waiting, until 0, the end of `life_ms`, `oscore_client_forget` or `oscore_client_restart`. Anyone
+   may have sent what is refused, and anyone can send an error without protection; OSCORE_INNER alone says that it was sealed with the
+   server's Sender Key.
    A server that asks for an Echo value answers 0 with the code 129, 4.01, and the option 252: the request wasn't obeyed, and is asked
    anew with that option's value (RFC 9175, 2.3). Empty messages are OSCORE_NOT_THAT_KIND here: by their message ID they tell the caller
    that a request arrived (ACK), so that it isn't sent again, or that it isn't answered (RST), so that it can be forgotten.
