@@ -50,8 +50,8 @@ OSCORE_ASSERT(sizeof(void *) == 8, "this library has pointers of 8 bytes: compil
    are judged elsewhere: OSCORE_SAME_SENDER right after OSCORE_SAME_LOOKUP; OSCORE_SAVE_FIRST right before OSCORE_NO_SUCH_CONTEXT, except
    that `oscore_kept_server_take` judges it right after OSCORE_BAD_HANDLE; OSCORE_OPTION_ORDER and OSCORE_VALUE_TOO_LONG before
    OSCORE_NO_ROOM. A call that refuses writes `detail`: the place of a datagram's fault in bytes from 0, the number of an option, the
-   index of one that was handed in, the number to save, or 0. It leaves `out`, `out_len`, `options`, `opened`, `head`, `index`, `ticket`, `request`,
-   the server and the client as they were; where a call does more, it says so. */
+   index of one that was handed in, the number to save, or 0. It leaves `out`, `out_len`, `options`, `opened`, `head`, `index`, `ticket`,
+   `request`, the server and the client as they were; where a call does more, it says so. */
 typedef enum oscore_status {
     OSCORE_DONE = 0,
     OSCORE_BAD_HANDLE = 1,         /* no call wrote such a handle: as a length that is too large, or two identifiers that are one */
@@ -103,13 +103,13 @@ typedef enum oscore_status {
 /* What calls return has the bytes of a uint32_t. */
 OSCORE_ASSERT(sizeof(oscore_status) == 4, "a status has 4 bytes: compile without -fshort-enums");
 
-/* So many bytes of `out` are enough to seal a plain datagram of so many bytes, whatever its options are, and the context, and the number:
-   by a context, a server or a client that calls wrote, no call then answers OSCORE_NO_ROOM, which is proved (docs/PROVED.md). 59 are:
-   48 of the OSCORE option (RFC 8613, 6.1: its option byte, one more byte for its length, the flags, 5 of a Partial IV, a length and 32
-   of a kid context, 7 of a kid); 10 of the marker, the code inside and the tag; and 1, since an inner option may come after Uri-Port in
-   the plain datagram, and after nothing inside, so that its delta is up to 7 more, and that can take an extended byte more (RFC 7252,
-   3.1). A response has no kid, so its option has at most 7 bytes, and the server puts the request's token of up to 8 bytes into it.
-   Some messages take all 59. The sealed message has at most 65,535 bytes. */
+/* So many bytes of `out` are enough to seal a plain datagram of so many bytes, whatever its options are, and the context, and the
+   number: by a context, a server or a client that calls wrote, no call then answers OSCORE_NO_ROOM. That is proved (docs/PROVED.md), but
+   of the calls of kept ends, which seal by the same code. 59 are: 48 of the OSCORE option (RFC 8613, 6.1: its option byte, one more byte
+   for its length, the flags, 5 of a Partial IV, a length and 32 of a kid context, 7 of a kid); 10 of the marker, the code inside and the
+   tag; and 1, since an inner option may come after Uri-Port in the plain datagram, and after nothing inside, so that its delta is up to
+   7 more, and that can take an extended byte more (RFC 7252, 3.1). A response has no kid, so its option has at most 7 bytes, and the
+   server puts the request's token of up to 8 bytes into it. Some messages take all 59. The sealed message has at most 65,535 bytes. */
 #define OSCORE_ROOM(plain_len) ((plain_len) + 59)
 
 /* A context as one of its two ends holds it (RFC 8613, 3.1): plain bytes, to be made by `oscore_derive` and copied as you like.
