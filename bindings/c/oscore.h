@@ -121,6 +121,7 @@ typedef struct oscore_context {
     uint8_t id_context[32], id_context_len; /* of length 0: none */
     uint8_t sender_key[16], recipient_key[16], common_iv[13];
     uint8_t constant_time; /* by any value but 0 its keys are used in constant time */
+    uint8_t blocks; /* any value but 0 lets block-wise options pass inside the protection */
 } oscore_context;
 
 /* An option of a message: of one that was opened its value lies in the datagram; of one that is to be written, anywhere but in `out`. */
@@ -259,11 +260,13 @@ void oscore_status_name(uint32_t status, char name[24]);
 /* Derives a context from a Master Secret (1 to 64 bytes), a Master Salt (0 to 64), an ID Context (1 to 32) where `has_id_context`
    says that there is one, the identifier of this end and that of the other (0 to 7 bytes each). Its keys are used with AES by tables,
    whose times may tell of a key to whoever shares the machine; with `constant_time` by a cipher whose source has no look-up and no branch
-   that depends on a key or a message, which is slower. What is sent is the same, and the other end may choose otherwise. */
+   that depends on a key or a message, which is slower. What is sent is the same, and the other end may choose otherwise.
+   With `blocks` the options Block1 and Block2 (27 and 23) pass inside the protection, both ways (RFC 8613, 4.1.3.4.1). Without it no
+   message with such an option is sealed, and none opens. Both ends must choose the same. */
 OSCORE_MUST_USE oscore_status oscore_derive(oscore_context *out, const uint8_t *secret, size_t secret_len, const uint8_t *salt,
                                             size_t salt_len, bool has_id_context, const uint8_t *id_context, size_t id_context_len,
                                             const uint8_t *sender, size_t sender_len, const uint8_t *recipient,
-                                            size_t recipient_len, bool constant_time);
+                                            size_t recipient_len, bool constant_time, bool blocks);
 
 /* Writes a plain message, as it is to be sealed: its kind (0 CON, 1 NON, 2 ACK, 3 RST), its code (1 GET .. ; 69 is 2.05), message ID and
    token, its options in ascending order of their numbers, and its payload, which is behind a marker where it isn't empty. The first

@@ -36,7 +36,7 @@ class Calls:
     def __init__(self, program: str, words: Words, number: int = 0):
         self.library, self.number = Library(program), number
         ends = f"{words.secret} {words.salt} {words.id_context} {words.client} {words.server}"
-        self.library.ask([f"derive {CLIENT + cipher} {cipher} {ends}" for cipher in range(len(CIPHERS))])
+        self.library.ask([f"derive {CLIENT + cipher} {cipher} 0 {ends}" for cipher in range(len(CIPHERS))])
 
     def answer_to(self, line: str):
         return answer_of(self.library.ask([line])[0])

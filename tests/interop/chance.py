@@ -3,15 +3,16 @@
 from __future__ import annotations
 
 import random
+from dataclasses import replace
 from typing import Iterator, List, NamedTuple, Optional, Tuple
 
 import oscore_reading
 from coap_reading import ACK, CON, NON, Message
-from oscore_reading import REFUSED, Context
+from oscore_reading import BLOCKS, Context
 
 MESSAGES_OF_A_CONTEXT = 8
 OPTIONS = (1, 3, 4, 5, 7, 8, 11, 12, 14, 15, 17, 20, 28, 60, 252, 258)
-"""The options of RFC 8613, 4.1, with Echo (RFC 9175), but for those that are refused."""
+"""The options of RFC 8613, 4.1, with Echo (RFC 9175), but for those that are refused by each context or by some."""
 MOST_NUMBER = 2**40 - 1
 
 
@@ -43,8 +44,9 @@ def make_pair(chance: random.Random) -> Pair:
     sender = recipient = bytes_up_to(chance, 7)
     while recipient == sender:
         recipient = bytes_up_to(chance, 7)
-    client = oscore_reading.derive(secret, salt, id_context, sender, recipient)
-    return Pair(secret, salt, client, oscore_reading.derive(secret, salt, id_context, recipient, sender))
+    blocks = chance.random() < 0.5
+    ends = [oscore_reading.derive(secret, salt, id_context, *names) for names in ((sender, recipient), (recipient, sender))]
+    return Pair(secret, salt, *(replace(end, blocks=blocks) for end in ends))
 
 
 def make_number(chance: random.Random) -> int:
@@ -58,21 +60,21 @@ def make_length(chance: random.Random) -> int:
     return chance.choice((chance.randint(0, 12), chance.randint(0, 12), chance.randint(0, 20), chance.choice((13, 268, 269, 300))))
 
 
-def make_options(chance: random.Random) -> List[Tuple[int, bytes]]:
-    options = []
+def make_options(chance: random.Random, context: Context) -> List[Tuple[int, bytes]]:
+    options, known = [], OPTIONS + (BLOCKS if context.blocks else ())
     for _ in range(chance.randint(0, 6)):
-        number = chance.choice(OPTIONS) if chance.random() < 0.8 else chance.getrandbits(chance.randint(1, 16))
-        if number not in REFUSED:
+        number = chance.choice(known) if chance.random() < 0.8 else chance.getrandbits(chance.randint(1, 16))
+        if number not in context.refused():
             options += [(number, chance.randbytes(make_length(chance))) for _ in range(chance.choice((1, 1, 2, 3)))]
     return sorted(options, key=lambda option: option[0])
 
 
-def make_trial(chance: random.Random) -> Trial:
+def make_trial(chance: random.Random, context: Context) -> Trial:
     is_request = chance.random() < 0.5
     code = chance.choice((*range(1, 8), chance.randint(1, 31))) if is_request else chance.choice((2, 4, 5)) << 5 | chance.randint(0, 31)
     kind = chance.choice((CON, NON) if is_request else (CON, NON, ACK))
     payload = b"" if chance.random() < 0.2 else chance.randbytes(chance.choice((chance.randint(1, 64), chance.randint(1, 1200))))
-    message = Message(kind, code, chance.getrandbits(16), bytes_up_to(chance, 8), tuple(make_options(chance)), payload)
+    message = Message(kind, code, chance.getrandbits(16), bytes_up_to(chance, 8), tuple(make_options(chance, context)), payload)
     own = None if is_request or chance.random() < 0.5 else make_number(chance)
     return Trial(is_request, make_number(chance), own, message)
 
@@ -82,5 +84,5 @@ def trials(seed: int, count: int) -> Iterator[Tuple[Pair, List[Trial]]]:
     chance = random.Random(seed)
     while count > 0:
         pair = make_pair(chance)
-        yield pair, [make_trial(chance) for _ in range(min(count, MESSAGES_OF_A_CONTEXT))]
+        yield pair, [make_trial(chance, pair.client) for _ in range(min(count, MESSAGES_OF_A_CONTEXT))]
         count -= MESSAGES_OF_A_CONTEXT

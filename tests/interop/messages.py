@@ -140,28 +140,28 @@ class Comparison:
             compare(f"{where}: a bit turned, opened {name}", ("Tag", 0, spoilt.hex()),
                     (refused.status, refused.detail, refused.datagram.hex()))
 
-    def compare_refusal(self, where: str, trial: Trial) -> None:
+    def compare_refusal(self, where: str, pair: Pair, trial: Trial) -> None:
         """The same message with an option that can't be sealed: both say which."""
-        number = self.spoiling.choice(oscore_reading.REFUSED)
+        number = self.spoiling.choice(pair.client.refused())
         plain = coap_reading.write(trial.message._replace(options=trial.message.options + ((number, b"x"),)))
         wanted = outcome(lambda: self.peer.sealed(trial, plain))
         for name, answer in zip(CIPHERS, self.asked([seal_line(trial, cipher, plain) for cipher in range(len(CIPHERS))])):
             self.differences.compare(f"{where}: option {number} {name}", wanted, (answer.status, answer.detail))
         self.refusals += 1
 
-    def compare_trial(self, trial: Trial) -> None:
+    def compare_trial(self, pair: Pair, trial: Trial) -> None:
         kind = "request" if trial.is_request else f"response (own number {shown_number(trial.own)}) to request"
         where = f"context {self.contexts}, message {self.requests + self.responses}, {kind} {trial.number}"
         self.compare_message(where, trial)
         if self.peer.refuses_options and self.spoiling.random() < 0.05:
-            self.compare_refusal(where, trial)
+            self.compare_refusal(where, pair, trial)
         self.requests, self.responses = self.requests + trial.is_request, self.responses + (not trial.is_request)
 
     def run(self, messages: int) -> int:
         for pair, found in chance.trials(self.seed, messages):
             self.compare_keys(pair)
             for trial in found:
-                self.compare_trial(self.peer.suited(trial))
+                self.compare_trial(pair, self.peer.suited(trial))
             self.contexts += 1
         self.library.end()
         refused = f"; {self.refusals} with an option that is refused" if self.peer.refuses_options else ""

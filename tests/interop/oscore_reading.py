@@ -1,6 +1,7 @@
 """OSCORE (RFC 8613) as this harness reads it, over AES-CCM and HKDF of Python's `cryptography`: one AEAD algorithm,
 AES-CCM-16-64-128, and HKDF with SHA-256. It is written from the RFC and from docs/DECISIONS.md, and shares nothing with the library
-that it judges. What that library leaves out (Observe, block-wise transfer, options for proxies) is refused here too."""
+that it judges. What that library leaves out (Observe, options for proxies, and block-wise transfer unless a context allows it) is refused
+here too."""
 
 from __future__ import annotations
 
@@ -19,7 +20,9 @@ URI_HOST, OBSERVE, URI_PORT, OSCORE, BLOCK2, BLOCK1, PROXY_URI, PROXY_SCHEME = 3
 OUTSIDE = (URI_HOST, URI_PORT)
 """Options of class U (RFC 8613, 4.1); those for proxies are refused. All others go inside, and inside alone: class E, and by an own
 rule what may stand on both sides."""
-REFUSED = (OBSERVE, OSCORE, BLOCK2, BLOCK1, PROXY_URI, PROXY_SCHEME)
+BLOCKS = (BLOCK2, BLOCK1)
+REFUSED = (OBSERVE, OSCORE, *BLOCKS, PROXY_URI, PROXY_SCHEME)
+"""Options that a context refuses unless it allows blocks; then it refuses these but for the two of BLOCKS."""
 POST, CHANGED = 0x02, 0x44
 """The codes outside, without Observe: 0.02 of a request and 2.04 of a response (RFC 8613, 4.2)."""
 AES_CCM_16_64_128 = 10
@@ -37,7 +40,7 @@ class Refused(Exception):
 
 @dataclass(frozen=True)
 class Context:
-    """A context as one of its ends holds it (RFC 8613, 3.1). An ID Context that isn't there is None."""
+    """A context as one of its ends holds it (RFC 8613, 3.1). An ID Context that isn't there is None. Own rule: `blocks`."""
 
     sender: bytes
     recipient: bytes
@@ -45,6 +48,10 @@ class Context:
     sender_key: bytes
     recipient_key: bytes
     common_iv: bytes
+    blocks: bool = False
+
+    def refused(self) -> Tuple[int, ...]:
+        return tuple(number for number in REFUSED if not (self.blocks and number in BLOCKS))
 
 
 @dataclass(frozen=True)
@@ -147,15 +154,15 @@ def read_option(value: bytes) -> Tuple[bytes, Optional[bytes], Optional[bytes]]:
     return partial_iv, kid_context, kid
 
 
-def seal(key: bytes, nonce: bytes, additional_data: bytes, value: bytes, code: int, message: Message) -> bytes:
+def seal(context: Context, nonce: bytes, additional_data: bytes, value: bytes, code: int, message: Message) -> bytes:
     """Parts a message into what goes inside and what stays outside (RFC 8613, 4.1 and 5.3), and protects the first."""
     for number in sorted(number for number, _ in message.options):
-        if number in REFUSED:
+        if number in context.refused():
             raise Refused("Unsupported", number)
     inner = [option for option in message.options if option[0] not in OUTSIDE]
     outer = [option for option in message.options if option[0] in OUTSIDE]
     plaintext = bytes([message.code]) + coap_reading.write_rest(inner, message.payload)
-    ciphertext = AESCCM(key, TAG_LEN).encrypt(nonce, plaintext, additional_data)
+    ciphertext = AESCCM(context.sender_key, TAG_LEN).encrypt(nonce, plaintext, additional_data)
     outer.append((OSCORE, value))
     return coap_reading.write(Message(message.kind, code, message.message_id, message.token, tuple(outer), ciphertext))
 
@@ -166,7 +173,7 @@ def seal_request(context: Context, number: int, message: Message) -> bytes:
     nonce = nonce_of(context.common_iv, context.sender, partial_iv)
     additional_data = additional_data_of(context.sender, partial_iv)
     value = write_option(partial_iv, context.id_context, context.sender)
-    return seal(context.sender_key, nonce, additional_data, value, POST, message)
+    return seal(context, nonce, additional_data, value, POST, message)
 
 
 def seal_response(context: Context, request: int, own: Optional[int], message: Message) -> bytes:
@@ -179,7 +186,7 @@ def seal_response(context: Context, request: int, own: Optional[int], message: M
         nonce = nonce_of(context.common_iv, context.sender, own_piv)
         value = write_option(own_piv, None, None)
     additional_data = additional_data_of(context.recipient, request_piv)
-    return seal(context.sender_key, nonce, additional_data, value, CHANGED, message)
+    return seal(context, nonce, additional_data, value, CHANGED, message)
 
 
 def first(options: Options, number: int) -> Optional[bytes]:
@@ -196,13 +203,13 @@ def oscore_value(message: Message) -> bytes:
     return values[0]
 
 
-def open_payload(key: bytes, nonce: bytes, additional_data: bytes, number: Optional[int], message: Message) -> Opened:
+def open_payload(context: Context, nonce: bytes, additional_data: bytes, number: Optional[int], message: Message) -> Opened:
     try:
-        plaintext = AESCCM(key, TAG_LEN).decrypt(nonce, message.payload, additional_data)
+        plaintext = AESCCM(context.recipient_key, TAG_LEN).decrypt(nonce, message.payload, additional_data)
     except InvalidTag:
         raise Refused("Tag") from None
     options, payload = coap_reading.read_rest(plaintext[1:])
-    if any(option in REFUSED or option in OUTSIDE for option, _ in options):
+    if any(option in context.refused() or option in OUTSIDE for option, _ in options):
         raise Refused("Inner")
     hosts = first(message.options, URI_HOST), first(message.options, URI_PORT)
     return Opened(message.kind, plaintext[0], message.message_id, message.token, number, *hosts, options, payload)
@@ -218,7 +225,7 @@ def open_request(context: Context, datagram: bytes) -> Opened:
         raise Refused("WrongContext")
     nonce = nonce_of(context.common_iv, kid, partial_iv)
     additional_data = additional_data_of(kid, partial_iv)
-    return open_payload(context.recipient_key, nonce, additional_data, int.from_bytes(partial_iv, "big"), message)
+    return open_payload(context, nonce, additional_data, int.from_bytes(partial_iv, "big"), message)
 
 
 def open_response(context: Context, request: int, datagram: bytes) -> Opened:
@@ -232,4 +239,4 @@ def open_response(context: Context, request: int, datagram: bytes) -> Opened:
     if partial_iv:
         nonce, own = nonce_of(context.common_iv, context.recipient, partial_iv), int.from_bytes(partial_iv, "big")
     additional_data = additional_data_of(context.sender, request_piv)
-    return open_payload(context.recipient_key, nonce, additional_data, own, message)
+    return open_payload(context, nonce, additional_data, own, message)

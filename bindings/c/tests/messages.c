@@ -75,7 +75,7 @@ static uint32_t derive_into(oscore_context *context, const uint8_t *sender, size
     if (DERIVED[i].id_context) id_context = bytes_at(ID_CONTEXT, DERIVED[i].id_context, 0, &id_context_len);
     return oscore_derive(context, secret, secret_len, salt, salt_len, id_context, id_context, id_context_len,
                          guarded_copy(SENDER, sender, sender_len), sender_len, guarded_copy(RECIPIENT, recipient, recipient_len), recipient_len,
-                         constant_time);
+                         constant_time, false);
 }
 
 static void derives(bool constant_time) {
@@ -135,6 +135,26 @@ static void exchanges_responses(void) {
     }
 }
 
+/* C.4 with Block2 0/0/64, number 23 and value 02 (RFC 7959, 2.2), sealed and opened where both ends allow blocks, and refused where the
+   handle's byte is 0. The bytes are those of tests/interop/oscore_reading.py, as in the corpus. */
+static void allows_blocks(void) {
+    uint8_t wanted[64];
+    size_t plain_len, len = hex("44025d1f00003974396c6f63616c686f7374620914ff612f1092f141690a7350c4cfe47765", wanted);
+    uint8_t *plain = bytes_at(PLAIN, "44015d1f00003974396c6f63616c686f737483747631c102", 0, &plain_len), *out = guarded_room(OUT, len);
+    CHECK(clients[C1]->blocks == 0 && servers[C1]->blocks == 0);
+    CHECK(oscore_seal_request(clients[C1], 20, plain, plain_len, out, len, out_len, detail) == OSCORE_UNSUPPORTED && *detail == 23);
+    memcpy(out, wanted, len);
+    CHECK(oscore_open_request(servers[C1], out, len, options, 4, opened, detail) == OSCORE_INNER);
+    clients[C1]->blocks = 1, servers[C1]->blocks = (uint8_t)(1 + rand() % 255);
+    CHECK(!oscore_seal_request(clients[C1], 20, plain, plain_len, out, len, out_len, detail) && *out_len == len && !memcmp(out, wanted, len));
+    CHECK(!oscore_open_request(servers[C1], out, len, options, 4, opened, detail) && opened->option_count == 2);
+    CHECK(options[1].number == 23 && options[1].value_len == 1 && options[1].value[0] == 2);
+    CHECK(!oscore_derive(clients[C1], guarded_copy(SECRET, wanted, 16), 16, NULL, 0, false, NULL, 0, NULL, 0,
+                         guarded_copy(RECIPIENT, wanted, 1), 1, false, true));
+    CHECK(clients[C1]->blocks == 1);
+    derives(false);
+}
+
 /* Three options where the array has room for two: Uri-Path a, b and c. */
 static void counts_options(void) {
     size_t len;
@@ -168,7 +188,7 @@ static uint32_t derive(size_t secret, size_t salt, size_t id, size_t id_context)
     oscore_context *context = guarded(HANDLE, sizeof *context), none = OSCORE_ZERO;
     uint32_t status = oscore_derive(context, guarded_copy(SECRET, bytes, secret), secret, guarded_copy(SALT, bytes, salt), salt, true,
                                     guarded_copy(ID_CONTEXT, bytes, id_context), id_context, guarded_copy(SENDER, bytes, id), id,
-                                    guarded_copy(RECIPIENT, bytes, 1), 1, true);
+                                    guarded_copy(RECIPIENT, bytes, 1), 1, true, false);
     CHECK(!memcmp(context, &none, sizeof none));
     return status;
 }
@@ -380,6 +400,7 @@ int main(int count, char **words) {
             exchanges_requests();
             exchanges_responses();
         }
+        allows_blocks();
         counts_options();
         shows_what_is_not_there();
         refuses_arguments();
@@ -391,7 +412,7 @@ int main(int count, char **words) {
         ciphers_agree();
         has_room();
     }
-    printf("messages: C.1 to C.8, each status; behind a guard page and before one %d spoilt datagrams, %d spoilt handles, %d messages by both "
+    printf("messages: C.1 to C.8, a block, each status; behind a guard page and before one %d spoilt datagrams, %d spoilt handles, %d messages by both "
            "ciphers, %d in the room that the header says\n", rounds, rounds, rounds / 2, rounds);
     return 0;
 }

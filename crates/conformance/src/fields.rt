@@ -2,7 +2,7 @@
 
 use crate::bytes::bytes_of;
 use osc_coap::{Message, parse};
-use osc_context::{Context, Kid, Params, Piv};
+use osc_context::{Context, Features, Kid, NO_FEATURES, Params, Piv};
 use std::alloc::Global;
 use std::cell::Cell;
 
@@ -193,6 +193,11 @@ impl<'t> Fields<'t> {
     /// Returns what a context is derived from: secret, salt, ID Context, sender and recipient.
     pub(crate) fn params(&self) -> Params<'_> {
         self.count(5);
+        self.params_at_front()
+    }
+
+    /// Returns what a context is derived from, by the first five fields.
+    fn params_at_front(&self) -> Params<'_> {
         Params {
             secret: self.bytes(0),
             salt: self.bytes(1),
@@ -202,13 +207,36 @@ impl<'t> Fields<'t> {
         }
     }
 
+    /// Returns the context of the first five fields, with the features that the sixth one names.
+    fn derived(&self) -> Option<Context> {
+        let features = self.features(5);
+        let context = Context::derive(self.params_at_front()).ok()?;
+        let context = context.with_features(features);
+        if context.features() == features {
+            Some(context)
+        } else {
+            None
+        }
+    }
+
+    /// Returns the features that a last field names: `blocks`, or none without such a field.
+    pub(crate) fn features(&self, place: usize) -> Features {
+        let len = self.fields.len();
+        if len == place {
+            return NO_FEATURES;
+        }
+        if len <= place || len - place != 1 || self.word(place) != "blocks" {
+            self.refuse();
+        }
+        Features { blocks: true }
+    }
+
     /// Returns the context that the first field names.
     pub(crate) fn context(&self, contexts: &[NamedContext<'_>]) -> Option<Context> {
         let name = self.word(0);
         for named in contexts {
             if named.name == name {
-                let fields = Fields::read(self.alloc, named.fields);
-                return Context::derive(fields.params()).ok();
+                return Fields::read(self.alloc, named.fields).derived();
             }
         }
         None

@@ -4,6 +4,7 @@
 #![tactic(auto)]
 
 mod answer;
+mod blocks;
 mod bytes;
 mod ciphers;
 mod client;

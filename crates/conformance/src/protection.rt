@@ -90,16 +90,16 @@ fn told(outcome: Result<(), ProtectError>, answer: &mut Answer) {
 }
 
 pub(crate) fn checked_request(fields: &Fields<'_>, answer: &mut Answer) {
-    fields.count(1);
+    let features = fields.features(1);
     if let Some(plain) = fields.message(0) {
-        told(check_request(&plain), answer);
+        told(check_request(&plain, features), answer);
     }
 }
 
 pub(crate) fn checked_response(fields: &Fields<'_>, answer: &mut Answer) {
-    fields.count(1);
+    let features = fields.features(1);
     if let Some(plain) = fields.message(0) {
-        told(check_response(&plain), answer);
+        told(check_response(&plain, features), answer);
     }
 }
 

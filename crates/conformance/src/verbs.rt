@@ -2,7 +2,7 @@
 
 use crate::answer::Answer;
 use crate::fields::{Fields, NamedContext};
-use crate::{ciphers, context, numbers, protection, reading, window, writing};
+use crate::{blocks, ciphers, context, numbers, protection, reading, window, writing};
 use osc_protect::KeyedContext;
 
 /// Makes a call of osc_aes, osc_ccm or osc_hkdf, or of a layer above.
@@ -87,6 +87,17 @@ fn of_windows(verb: &str, fields: &Fields<'_>, contexts: &[NamedContext<'_>], an
         "window" => window::window(fields, answer),
         "gate" => window::gate(fields, answer),
         "challenge" => window::challenge(fields, answer),
+        _ => of_blocks(verb, fields, contexts, answer),
+    }
+}
+
+/// Makes a call of osc_blocks, or of a layer above.
+fn of_blocks(verb: &str, fields: &Fields<'_>, contexts: &[NamedContext<'_>], answer: &mut Answer) {
+    match verb {
+        "read-block" => blocks::read(fields, answer),
+        "write-block" => blocks::write(fields, answer),
+        "cut-block" => blocks::cut(fields, answer),
+        "join-blocks" => blocks::body(fields, answer),
         _ => of_protection(verb, fields, contexts, answer),
     }
 }

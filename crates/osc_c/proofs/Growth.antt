@@ -1,6 +1,6 @@
--- How much longer what is sealed is than its plain message. entries are options, d is the number before the first of them, o that before the
--- first outside, i that before the first inside, p the plain message, value that of the OSCORE option.
-use Rattle.std.proofs.Common.{◌≡◌, ℕ, ◌+◌, ◌-◌, ◌<◌, ◌≤◌, ◌||◌, ◌⊎◌, ◌∙◌, Bool, true, false, List, [], ◌∷◌, length, refl, ap, inl, inr, arith}
+-- How much longer what is sealed is than its plain message. entries are options, x the features of the context, d is the number before the
+-- first of them, o that before the first outside, i that before the first inside, p the plain message, value that of the OSCORE option.
+use Rattle.std.proofs.Common.{◌≡◌, ℕ, ◌+◌, ◌-◌, ◌<◌, ◌≤◌, ◌==◌, ◌||◌, ◌⊎◌, ◌∙◌, Bool, true, false, List, [], ◌∷◌, length, refl, ap, inl, inr, arith}
 use Rattle.osc_coap.specs.Class.{class, inner_options, is_inner, is_outer, outer_options}
 use Rattle.osc_coap.specs.Datagram.{Parts, IsDatagram}
 use Rattle.osc_coap.specs.Laws.{DatagramHasItsLength, OptionsAscend}
@@ -10,7 +10,8 @@ use Rattle.osc_coap.specs.Search.{has_number}
 use Rattle.osc_coap.specs.declared.class.Class.{Class}
 use Rattle.osc_coap.specs.declared.message.Kind.{Kind}
 use Rattle.osc_coap.specs.declared.class.Class.TheVariants.{E, U, Both}
-use Rattle.osc_protect.specs.OptionSets.{is_unsupported}
+use Rattle.osc_context.specs.declared.features.Features.{Features}
+use Rattle.osc_protect.specs.OptionSets.{is_left_out, is_proxy, is_unsupported}
 use Rattle.osc_protect.specs.Sealed.{sealed_length}
 use Rattle.osc_c.proofs.OptionLists.{spelled_append}
 
@@ -28,8 +29,12 @@ compared m n = grind (arith)
 -- ---- the two sides
 
 -- an option outside that can be sealed is Uri-Host or Uri-Port
-low : (n : ℕ) → is_outer (class n) ≡ true → is_unsupported n ≡ false → n ≤ 7
-low n u s = grind (arith)
+low : (x : Features) (n : ℕ) → is_outer (class n) ≡ true → is_unsupported x n ≡ false → n ≤ 7
+low x n u s =
+    let last = neither (is_left_out x n || is_proxy n) (n == oscore) s in
+    let proxy = (neither (is_left_out x n) (is_proxy n) last.0).1 in
+    let other = last.1 in
+    grind (arith, u, proxy, other)
 
 outside_alone : (c : Class) → is_outer c ≡ true → is_inner c ≡ false
 outside_alone E h = absurd (cc)
@@ -48,15 +53,15 @@ one_inside : (e : Entry) (entries : List Entry) → is_outer (class e.0) ≡ fal
 one_inside e entries isnt = let is = inside_alone (class e.0) isnt in (rw isnt refl, rw is refl)
 
 -- behind Uri-Port all options that can be sealed are inside
-all_inside : (d : ℕ) (entries : List Entry) → 7 < d → Ascends d entries → has_number is_unsupported entries ≡ false → (outer_options entries ≡ []) × (inner_options entries ≡ entries)
-all_inside d [] behind up none = (refl, refl)
-all_inside d (e ∷ entries) behind up none =
-    let both = neither (is_unsupported e.0) (has_number is_unsupported entries) none in
+all_inside : (x : Features) (d : ℕ) (entries : List Entry) → 7 < d → Ascends d entries → has_number (is_unsupported x) entries ≡ false → (outer_options entries ≡ []) × (inner_options entries ≡ entries)
+all_inside x d [] behind up none = (refl, refl)
+all_inside x d (e ∷ entries) behind up none =
+    let both = neither (is_unsupported x e.0) (has_number (is_unsupported x) entries) none in
     let first = up.0 in
     elim (chosen (is_outer (class e.0))) [
-      | inl is ↦ let small = low e.0 is both.0 in absurd (omega (arith, small, first, behind))
+      | inl is ↦ let small = low x e.0 is both.0 in absurd (omega (arith, small, first, behind))
       | inr isnt ↦
-          let rest = all_inside e.0 entries (omega (arith, first, behind)) up.2 both.1 in
+          let rest = all_inside x e.0 entries (omega (arith, first, behind)) up.2 both.1 in
           let here = one_inside e entries isnt in
           (here.0 ∙ rest.0, here.1 ∙ ap (λ (z : List Entry). e ∷ z) rest.1)
     ]
@@ -72,17 +77,17 @@ one_extended : (n m : ℕ) → n ≤ m + 7 → extended_length n ≤ extended_le
 one_extended n m le = grind (arith)
 
 -- the two sides take one byte more at most than the whole
-sides_grow : (d o i : ℕ) (entries : List Entry) → d ≤ 7 → o ≤ d → i ≤ d → Ascends d entries → has_number is_unsupported entries ≡ false
+sides_grow : (x : Features) (d o i : ℕ) (entries : List Entry) → d ≤ 7 → o ≤ d → i ≤ d → Ascends d entries → has_number (is_unsupported x) entries ≡ false
     → spelling_length o (outer_options entries) + spelling_length i (inner_options entries) ≤ spelling_length d entries + 1
-sides_grow d o i [] low_d le_o le_i up none = omega arith
-sides_grow d o i (e ∷ entries) low_d le_o le_i up none =
-    let both = neither (is_unsupported e.0) (has_number is_unsupported entries) none in
+sides_grow x d o i [] low_d le_o le_i up none = omega arith
+sides_grow x d o i (e ∷ entries) low_d le_o le_i up none =
+    let both = neither (is_unsupported x e.0) (has_number (is_unsupported x) entries) none in
     let first = up.0 in
     elim (chosen (is_outer (class e.0))) [
       | inl is ↦
-          let small = low e.0 is both.0 in
+          let small = low x e.0 is both.0 in
           let here = one_outside e entries is in
-          let rest = sides_grow e.0 e.0 i entries small (omega arith) (omega (arith, first, le_i)) up.2 both.1 in
+          let rest = sides_grow x e.0 e.0 i entries small (omega arith) (omega (arith, first, le_i)) up.2 both.1 in
           let whole = none_extended (e.0 - d) (omega (arith, small)) in
           let part = none_extended (e.0 - o) (omega (arith, small)) in
           omega (arith, ap (spelling_length o) here.0, ap (spelling_length i) here.1, rest, whole, part)
@@ -90,12 +95,12 @@ sides_grow d o i (e ∷ entries) low_d le_o le_i up none =
           let here = one_inside e entries isnt in
           elim (compared e.0 7) [
             | inl small ↦
-                let rest = sides_grow e.0 o e.0 entries small (omega (arith, first, le_o)) (omega arith) up.2 both.1 in
+                let rest = sides_grow x e.0 o e.0 entries small (omega (arith, first, le_o)) (omega arith) up.2 both.1 in
                 let whole = none_extended (e.0 - d) (omega (arith, small)) in
                 let part = none_extended (e.0 - i) (omega (arith, small)) in
                 omega (arith, ap (spelling_length o) here.0, ap (spelling_length i) here.1, rest, whole, part)
             | inr large ↦
-                let rest = all_inside e.0 entries large up.2 both.1 in
+                let rest = all_inside x e.0 entries large up.2 both.1 in
                 let more = one_extended (e.0 - i) (e.0 - d) (omega (arith, first, low_d, le_i)) in
                 omega (arith, ap (spelling_length o) (here.0 ∙ rest.0), ap (spelling_length i) here.1, ap (spelling_length e.0) rest.1, more)
           ]
@@ -113,11 +118,11 @@ option_size last len short =
 
 -- how much longer what is sealed with a short value is than the plain message, also under another head: 13 bytes, the value, and what
 -- the token grows by
-pub sealed_growth : DatagramHasItsLength → OptionsAscend → (p : Parts) (bytes value : List ℕ) → IsDatagram p bytes → has_number is_unsupported p.options ≡ false → length value ≤ 46
+pub sealed_growth : DatagramHasItsLength → OptionsAscend → (x : Features) (p : Parts) (bytes value : List ℕ) → IsDatagram p bytes → has_number (is_unsupported x) p.options ≡ false → length value ≤ 46
     → (kind : Kind) (message_id : ℕ) (token : List ℕ) → sealed_length (record p { kind = kind; message_id = message_id; token = token }) value + length p.token ≤ length bytes + (length token + (13 + length value))
-sealed_growth long ascend p bytes value h none short kind message_id token =
+sealed_growth long ascend x p bytes value h none short kind message_id token =
     let all = long p bytes h in
-    let sides = sides_grow 0 0 0 p.options (omega arith) (omega arith) (omega arith) (ascend p bytes h) none in
+    let sides = sides_grow x 0 0 0 p.options (omega arith) (omega arith) (omega arith) (ascend p bytes h) none in
     let outside = spelled_append 0 (outer_options p.options) ((oscore, value) ∷ []) in
     let option = option_size (last_number 0 (outer_options p.options)) (length value) short in
     omega (arith, all, sides, outside, option)

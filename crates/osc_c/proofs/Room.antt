@@ -63,7 +63,7 @@ request_room : DatagramHasItsLength → OptionsAscend → ValueMostLen → (c : 
 request_room long ascend most c n p plain room whole of enough refuses =
     let value = refuses.1.0 in
     let short = request_value most c n whole value refuses.1.1 in
-    let size = sealed_growth long ascend p plain value of refuses.0.1 short p.kind p.message_id p.token in
+    let size = sealed_growth long ascend (client_in c).features p plain value of refuses.0.1 short p.kind p.message_id p.token in
     let less = refuses.1.2.1 in
     omega (arith, size, short, less, enough)
 
@@ -73,7 +73,7 @@ response_room : DatagramHasItsLength → OptionsAscend → ValueMostLen → (s :
 response_room long ascend most s asked own p kind message_id token plain room of few enough refuses =
     let value = refuses.1.0 in
     let short = response_value most s asked own value refuses.1.1 in
-    let size = sealed_growth long ascend p plain value of refuses.0.1 (omega (arith, short)) kind message_id token in
+    let size = sealed_growth long ascend s.features p plain value of refuses.0.1 (omega (arith, short)) kind message_id token in
     let less = refuses.1.2.1 in
     omega (arith, size, short, less, few, enough)
 

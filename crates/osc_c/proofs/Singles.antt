@@ -1,5 +1,5 @@
 -- The bytes of one context, and the table that has this context alone. s are a server's bytes before a call, new those after.
-use Rattle.std.proofs.Common.{◌≡◌, ◌∷◌, [], ℕ, List, Bool, Option, Some, None, suc, zero, arith, refl, subst, ap, unwrap_or}
+use Rattle.std.proofs.Common.{◌≡◌, ◌∷◌, [], ℕ, List, Bool, Option, Some, suc, zero, arith, refl, subst, ap, unwrap_or}
 use Rattle.std.specs.Prelude.{slice_get}
 use Rattle.std.proofs.lemmas.Option.{none-some}
 use Rattle.osc_handle.specs.SingleServerBytes.{table_of}

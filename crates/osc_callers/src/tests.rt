@@ -1,6 +1,7 @@
 //! Callers that prove a fact from the public contracts alone, and the values that they are run on. Also tests of what no contract and no
 //! row can say.
 
+mod blocks;
 mod file;
 mod folder;
 mod kept;

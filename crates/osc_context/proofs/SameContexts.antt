@@ -2,12 +2,13 @@
 use Rattle.std.proofs.Common.{◌≡◌, List, ℕ, refl, Option}
 use Rattle.osc_hkdf.specs.Hkdf.{expand_of, extract_of}
 use Rattle.std.specs.Prelude.{[], codes}
+use Rattle.osc_context.specs.Features.{no_features}
 use Rattle.osc_context.specs.SecurityContext.{SecurityContext}
 use Rattle.osc_context.specs.Derivation.{context_of, info_of, key_of, common_iv_of}
 
 -- a context of these parts
 abbrev made : List ℕ → List ℕ → List ℕ → List ℕ → List ℕ → Option (List ℕ) → SecurityContext
-made c ck s sk iv i = record { client = c; client_key = ck; server = s; server_key = sk; common_iv = iv; id_context = i }
+made c ck s sk iv i = record { client = c; client_key = ck; server = s; server_key = sk; common_iv = iv; id_context = i; features = no_features }
 
 -- identifiers, keys and Common IV that are those of a derivation make its context
 pub context_is : (secret salt client server c s ck sk iv prk : List ℕ) (id_context i : Option (List ℕ))

@@ -4,6 +4,7 @@ use Rattle.std.specs.Prelude.{ℕ, List, [], ◌∷◌, Option, Some, None, code
 use Rattle.osc_hkdf.specs.Hkdf.{expand_of, extract_of}
 use Rattle.osc_context.specs.Algorithm.{algorithm, key_length, nonce_length}
 use Rattle.osc_context.specs.Cbor.{cbor_bytes, cbor_text, cbor_number, cbor_nil, cbor_array}
+use Rattle.osc_context.specs.Features.{no_features}
 use Rattle.osc_context.specs.SecurityContext.{SecurityContext}
 
 -- the ID Context as a byte string, or nil if there is none (RFC 8613, 3.2.1)
@@ -37,4 +38,5 @@ context_of secret salt id_context client server = record {
   server_key = key_of secret salt id_context server;
   common_iv = common_iv_of secret salt id_context;
   id_context = id_context;
+  features = no_features;
 }

@@ -4,6 +4,7 @@ pub mod PartialIv
 pub mod Algorithm
 pub mod Nonce
 pub mod AdditionalData
+pub mod Features
 pub mod SecurityContext
 pub mod Derivation
 pub mod ContextRefusal

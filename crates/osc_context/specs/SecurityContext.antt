@@ -1,5 +1,6 @@
 -- To be believed: a security context, as its two ends share it (RFC 8613, 3.1).
 use Rattle.std.specs.Prelude.{◌≡◌, ◌≢◌, ℕ, ◌≤◌, List, Option, length}
+use Rattle.osc_context.specs.declared.features.Features.{Features}
 use Rattle.osc_context.specs.Algorithm.{key_length, nonce_length}
 
 -- the identifier and key of the client, which makes requests, and of the server; the Common IV; the ID Context, if there is one (RFC 8613, 3.1)
@@ -10,6 +11,7 @@ pub record SecurityContext : Type 0 where
   pub server_key : List ℕ
   pub common_iv : List ℕ
   pub id_context : Option (List ℕ)
+  pub features : Features
 
 -- the identifiers fit in a nonce and differ, and the keys and the Common IV have the algorithm's lengths (RFC 8613, 3.3)
 pub record IsUsable (c : SecurityContext) : Type 0 where

@@ -34,11 +34,11 @@ IsRead (Err e) p = ⊥
 
 -- the context of an end that makes requests: it is the client (RFC 8613, 3.1)
 abbrev pub as_client : Context → SecurityContext
-as_client c = record { client = c.sender_id; client_key = c.sender_key; server = c.recipient_id; server_key = c.recipient_key; common_iv = c.common_iv; id_context = c.id_context }
+as_client c = record { client = c.sender_id; client_key = c.sender_key; server = c.recipient_id; server_key = c.recipient_key; common_iv = c.common_iv; id_context = c.id_context; features = c.features }
 
 -- the context of an end that answers requests: the other end is the client (RFC 8613, 3.1)
 abbrev pub as_server : Context → SecurityContext
-as_server c = record { client = c.recipient_id; client_key = c.recipient_key; server = c.sender_id; server_key = c.sender_key; common_iv = c.common_iv; id_context = c.id_context }
+as_server c = record { client = c.recipient_id; client_key = c.recipient_key; server = c.sender_id; server_key = c.sender_key; common_iv = c.common_iv; id_context = c.id_context; features = c.features }
 
 -- the context's keys are used in constant time (own rule)
 abbrev pub is_constant_time : Context → Bool

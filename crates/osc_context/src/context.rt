@@ -3,12 +3,14 @@
 ghost use Rattle.std.specs.Prelude.{◌≡◌, ◌≢◌, IfSome, IsSome, IsNone, IfOk, IfErr, IsOk, IsErrOf, true, false};
 ghost use Rattle.std.specs.Option.{option_copied, option_map};
 ghost use Rattle.osc_context.specs.ContextRefusal.{IsFirstParamsRefusal, RefusesParams};
+ghost use Rattle.osc_context.specs.Features.{no_features};
 ghost use Rattle.osc_context.specs.PrivateWords.{PassesBelow};
 ghost use Rattle.osc_context.specs.SecurityContext.{AnswersTo, IsUsable};
 ghost use Rattle.osc_context.specs.declared.context_error.ContextError.{ContextError};
 
 use crate::context_error::ContextError;
 use crate::derivation::{derive_common_iv, derive_key};
+use crate::features::{Features, NO_FEATURES};
 use crate::identifier::{IdContext, Kid};
 use crate::parameters::Params;
 use osc_hkdf::extract;
@@ -31,6 +33,7 @@ pub struct Context {
     recipient_key: [u8; 16],
     common_iv: [u8; 13],
     constant_time: bool,
+    features: Features,
     pub ghost usable: { IsUsable (record {
       client = sender_id;
       client_key = sender_key;
@@ -38,6 +41,7 @@ pub struct Context {
       server_key = recipient_key;
       common_iv = common_iv;
       id_context = id_context;
+      features = features;
     }) },
 }
 
@@ -77,6 +81,7 @@ impl Context {
             recipient_id: recipient,
             id_context,
             constant_time: false,
+            features: NO_FEATURES,
         })
     }
 
@@ -99,6 +104,7 @@ impl Context {
           server_key = recipient_key;
           common_iv = common_iv;
           id_context = id_context;
+          features = no_features;
         }) }
         ensures server { IfSome result (λ c. as_server c ≡ record {
           client = recipient;
@@ -107,6 +113,7 @@ impl Context {
           server_key = sender_key;
           common_iv = common_iv;
           id_context = id_context;
+          features = no_features;
         }) }
         ensures by_tables { IfSome result (λ c. is_constant_time c ≡ false) }
         ensures accepts { sender ≢ recipient → IsSome result }
@@ -123,12 +130,14 @@ impl Context {
             recipient_key,
             common_iv,
             constant_time: false,
+            features: NO_FEATURES,
         })
     }
 
     /// Returns the same context, but its keys are used by a cipher with no look-up and no branch that depends on a key.
     /// That cipher is slower than the one with tables, and its times tell nothing about the key. A context uses tables
     /// unless you call this. What is sent is the same.
+    #[inline(always)]
     #[must_use]
     pub fn constant_time(mut self) -> Context
         ensures client { as_client result ≡ as_client self }
@@ -145,6 +154,46 @@ impl Context {
         ensures { result ≡ is_constant_time self.now }
     {
         self.constant_time
+    }
+
+    /// Returns the same context, but it takes part in these features and in no others. Both ends must have the same ones:
+    /// an end without `blocks` refuses what has a Block option inside. A context has none unless you call this.
+    #[inline(always)]
+    #[must_use]
+    pub fn with_features(self, features: Features) -> Context
+        ensures client { as_client result ≡ record (as_client self) { features = features } }
+        ensures server { as_server result ≡ record (as_server self) { features = features } }
+        ensures chosen { is_constant_time result ≡ is_constant_time self }
+    {
+        let Context {
+            sender_id,
+            recipient_id,
+            id_context,
+            sender_key,
+            recipient_key,
+            common_iv,
+            constant_time,
+            ..
+        } = self;
+        Context {
+            sender_id,
+            recipient_id,
+            id_context,
+            sender_key,
+            recipient_key,
+            common_iv,
+            constant_time,
+            features,
+        }
+    }
+
+    /// Returns the features that the context takes part in.
+    #[must_use]
+    pub fn features(&self) -> Features
+        ensures client { result ≡ (as_client self.now).features }
+        ensures server { result ≡ (as_server self.now).features }
+    {
+        self.features
     }
 
     /// Returns the identifier of this end.

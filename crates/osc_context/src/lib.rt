@@ -29,6 +29,7 @@ mod context;
 mod context_error;
 mod count;
 mod derivation;
+mod features;
 mod identifier;
 mod keeper;
 mod laws;
@@ -44,6 +45,7 @@ pub use additional_data::aad;
 pub use context::Context;
 pub use context_error::ContextError;
 pub use count::Count;
+pub use features::{Features, NO_FEATURES};
 pub use identifier::{IdContext, Kid};
 pub use keeper::{Keeper, KeeperError};
 pub use laws::{

@@ -9,7 +9,7 @@ use Rattle.osc_endpoint.specs.declared.server.Server.{Server}
 use Rattle.osc_endpoint.specs.declared.slot.Slot.{Slot}
 use Rattle.osc_endpoint.specs.declared.start.Start.{Start}
 use Rattle.osc_endpoint.specs.declared.start.Start.TheVariants.{Fresh, Restarted}
-use Rattle.osc_endpoint.specs.Agrees.{Agrees, HoldsLife, SlotAgrees, PlaceAgrees, TableAgrees, OneEach}
+use Rattle.osc_endpoint.specs.Agrees.{Agrees, HoldsLife, SlotAgrees, PlaceAgrees, TableAgrees}
 use Rattle.osc_endpoint.specs.Life.{Life, born}
 use Rattle.osc_endpoint.specs.ServerAnswer.{HaveSameLookup, IsTaken}
 use Rattle.osc_endpoint.specs.ServerHistory.{History, Then, Add, Added, life}

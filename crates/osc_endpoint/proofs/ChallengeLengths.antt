@@ -1,5 +1,5 @@
 -- That a sealed challenge has room in 64 bytes.
-use Rattle.std.proofs.Common.{◌≡◌, ℕ, ◌≤◌, refl, ap, arith, true, Some, List, length, Result, Err, subst}
+use Rattle.std.proofs.Common.{◌≡◌, ℕ, ◌≤◌, refl, ap, arith, Bool, true, false, Some, List, length, Result, Err, subst}
 use Rattle.std.specs.Prelude.{IsOk}
 use Rattle.std.proofs.lemmas.Bool.Decides.{nat_tests}
 use Rattle.osc_coap.specs.declared.message.Kind.{Kind}
@@ -8,6 +8,8 @@ use Rattle.osc_coap.specs.OptionSpelling.{extended_length}
 use Rattle.osc_context.specs.OscoreValue.{IsOscoreValue}
 use Rattle.osc_context.specs.SecurityContext.{SecurityContext}
 use Rattle.osc_coap.specs.Code.{is_response}
+use Rattle.osc_coap.specs.Search.{has_number}
+use Rattle.osc_protect.specs.OptionSets.{is_unsupported}
 use Rattle.osc_protect.specs.Protection.{responses}
 use Rattle.osc_protect.specs.Sealed.{sealed_length}
 use Rattle.osc_protect.specs.SealRefusals.{FitsToSeal}
@@ -34,12 +36,18 @@ sealed_is_short kind id mid token echo value t e v =
     let y : extended_length (length echo) ≡ 0 = ap extended_length e in
     omega (arith, x, y)
 
+-- it has no option that can't be sealed, whether the context allows blocks or not
+supported : (blocks : Bool) (kind : Kind) (id mid : ℕ) (token echo : List ℕ)
+    → has_number (is_unsupported (record { blocks = blocks })) (as_reply kind id token mid (challenge_message echo)).options ≡ false
+supported true kind id mid token echo = refl
+supported false kind id mid token echo = refl
+
 pub challenge_fits : (s : SecurityContext) (n own : ℕ) (kind : Kind) (id mid : ℕ) (token echo : List ℕ) (room : ℕ)
     → length token ≤ 8 → length echo ≡ 8 → room ≡ 64
     → ((value : List ℕ) → IsOscoreValue (value_of_response (Some own)) value → length value ≤ 6)
     → FitsToSeal (responses s n) (Some own) (as_reply kind id token mid (challenge_message echo)) room
 challenge_fits s n own kind id mid token echo room t e r short = (
-  (is_answer kind, refl),
+  (is_answer kind, supported s.features.blocks kind id mid token echo),
   λ value reads.
       let h = sealed_is_short kind id mid token echo value t e (short value reads) in
       (omega (arith, h), omega (arith, h, r)),

@@ -97,5 +97,5 @@ opened_by old clock k piv xs d new r x left has number request decrypts =
       contains_filter _ (map asked_of old.pending.items) r (subst (λ ys. Contains ys r) left has),
       option_map number_of x.number,
       x.len,
-      in_history (λ f. DecryptsResponse f d x new) s s k (number_of piv) r.number refl request number decrypts,
+      (in_history (λ f. DecryptsResponse f d x new) s s k (number_of piv) r.number refl request number decrypts).1,
     )

@@ -18,12 +18,12 @@ use Rattle.osc_endpoint.proofs.LifeReplies.{unsupported_among}
 record IsRefused (n : ℕ) (h : History) (moment : ℕ) (p : Parts) (room : ℕ) (entry : Entry) : Type 0 where
   pub refusal : ProtectError
   pub refuses : RefusesToSeal (requests (context h)) (next h) p room refusal
-  pub can : IsPlainRequest p → CanAsk n h moment p
+  pub can : IsPlainRequest (context h).features p → CanAsk n h moment p
   pub entry_is : entry ≡ NotSent (lifted refusal)
 
 -- it is for one of these
 abbrev IsHindered : ℕ → History → ℕ → Parts → Entry → Type 0
-IsHindered n h moment p (NotSent TokenInUse) = IsPlainRequest p × IsAmong p.token (pending_at h moment)
+IsHindered n h moment p (NotSent TokenInUse) = IsPlainRequest (context h).features p × IsAmong p.token (pending_at h moment)
 IsHindered n h moment p (NotSent PendingFull) = IsNewRequest h moment p × (n ≤ length (pending_at h moment))
 IsHindered n h moment p (NotSent SequenceExhausted) = IsNewRequest h moment p × (length (pending_at h moment) < n) × (2 ^ 40 ≤ next h)
 IsHindered n h moment p entry = ⊥
@@ -44,7 +44,7 @@ module _ (laws : ClientAnswerLaws) (n : ℕ) (h : History) (moment : ℕ) (p : P
       inl (record {
         refusal = seals.Unsupported k;
         refuses = row;
-        can = λ plain. absurd (both_ways _ plain.1 (unsupported_among k p.options row.1.unsupported row.1.among));
+        can = λ plain. absurd (both_ways _ plain.1 (unsupported_among (context h).features k p.options row.1.unsupported row.1.among));
         entry_is = refl;
       })
   sort_of (NotSent TokenInUse) row = inr (inl row)
@@ -55,7 +55,7 @@ module _ (laws : ClientAnswerLaws) (n : ℕ) (h : History) (moment : ℕ) (p : P
   sort_of (Sent bytes) row = inr (inr (record { bytes = bytes; can = row.0; seals = row.1; fits = row.2; entry_is = refl }))
   sort_of x row = absurd row
 
-  plain_of : (x : Entry) → IsHindered n h moment p x → IsPlainRequest p
+  plain_of : (x : Entry) → IsHindered n h moment p x → IsPlainRequest (context h).features p
   plain_of (NotSent TokenInUse) row = row.0
   plain_of (NotSent PendingFull) row = row.0.0
   plain_of (NotSent SequenceExhausted) row = row.0.0

@@ -39,7 +39,7 @@ refused_now n h now room p NoRoom r = r
 refused_now n h now room p KeeperFailed r = r
 
 pub plain_refused : (n : ℕ) (h : History) (moment room : ℕ) (p : Parts) (e : ProtectError)
-    → RefusesPlainRequest p e → RequestAnswer n h moment p room (NotSent (lifted e))
+    → RefusesPlainRequest (context h).features p e → RequestAnswer n h moment p room (NotSent (lifted e))
 plain_refused n h moment room p protects.NotThatKind r = r
 plain_refused n h moment room p (protects.Unsupported k) r = r
 plain_refused n h moment room p protects.TooLong r = absurd r

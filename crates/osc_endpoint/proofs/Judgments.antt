@@ -68,7 +68,7 @@ protected s n d new x laws named decrypts accepts =
 -- what decryption leaves
 pub opened_in : (slots : List (Option Slot)) (i : ℕ) (s : Slot) (d new : List ℕ) (x : DecryptedRequest) → slice_get slots i ≡ Some (Some s)
     → DecryptsRequest (requests (as_server (context_of s.context))) d x new → IsOpenedIn slots d new
-opened_in slots i s d new x at decrypts = (i, s, at, number_of x.number, x.len, decrypts)
+opened_in slots i s d new x at decrypts = (i, s, at, number_of x.number, x.len, decrypts.1)
 
 -- ---- the rows
 

@@ -5,6 +5,7 @@ use Rattle.std.proofs.lemmas.Bool.{both_ways, eqb-true, or_cases, or_left, or_ri
 use Rattle.osc_coap.specs.Datagram.{Parts}
 use Rattle.osc_coap.specs.OptionSpelling.{Entry as Spelled}
 use Rattle.osc_coap.specs.Search.{has_number}
+use Rattle.osc_context.specs.declared.features.Features.{Features}
 use Rattle.osc_protect.specs.OptionSets.{is_unsupported}
 use Rattle.osc_protect.specs.Protection.{responses}
 use Rattle.osc_protect.specs.SealRefusals.{IsPlainResponse, RefusesToSeal}
@@ -19,23 +20,23 @@ use Rattle.osc_endpoint.specs.ServerAnswer.{HasAsked, LifeReply, own_number}
 use Rattle.osc_endpoint.specs.ServerHistory.{Entry, NotReplied, Replied}
 
 -- where a number that can't be sealed is among the options, one is
-pub unsupported_among : (n : ℕ) (entries : List Spelled) → is_unsupported n ≡ true → has_number (λ k. k == n) entries ≡ true → has_number is_unsupported entries ≡ true
-unsupported_among n [] unsupported among = among
-unsupported_among n (entry ∷ entries) unsupported among = elim (or_cases (entry.0 == n) (has_number (λ k. k == n) entries) among) [
-  | inl here ↦ or_left (is_unsupported entry.0) (has_number is_unsupported entries) (ap is_unsupported (eqb-true entry.0 n here) ∙ unsupported)
-  | inr there ↦ or_right (is_unsupported entry.0) (has_number is_unsupported entries) (unsupported_among n entries unsupported there)
+pub unsupported_among : (x : Features) (n : ℕ) (entries : List Spelled) → is_unsupported x n ≡ true → has_number (λ k. k == n) entries ≡ true → has_number (is_unsupported x) entries ≡ true
+unsupported_among x n [] unsupported among = among
+unsupported_among x n (entry ∷ entries) unsupported among = elim (or_cases (entry.0 == n) (has_number (λ k. k == n) entries) among) [
+  | inl here ↦ or_left (is_unsupported x entry.0) (has_number (is_unsupported x) entries) (ap (is_unsupported x) (eqb-true entry.0 n here) ∙ unsupported)
+  | inr there ↦ or_right (is_unsupported x entry.0) (has_number (is_unsupported x) entries) (unsupported_among x n entries unsupported there)
 ]
 
 -- the reply isn't sealed, and not for want of an own number
 record IsRefused (of : Life) (n : ℕ) (own : Bool) (p : Parts) (room : ℕ) (entry : Entry) : Type 0 where
   pub refusal : ProtectError
   pub refuses : RefusesToSeal (responses of.context n) (own_number own of) p room refusal
-  pub asked : IsPlainResponse p → HasAsked own of
+  pub asked : IsPlainResponse of.context.features p → HasAsked own of
   pub entry_is : entry ≡ NotReplied (lifted refusal)
 
 -- no own number is left
 record IsExhausted (of : Life) (own : Bool) (p : Parts) (entry : Entry) : Type 0 where
-  pub plain : IsPlainResponse p
+  pub plain : IsPlainResponse of.context.features p
   pub wanted : own ≡ true
   pub none : HasOwn of → ⊥
   pub entry_is : entry ≡ NotReplied NoOwnLeft
@@ -57,7 +58,7 @@ module _ (laws : AnswerLaws) (of : Life) (n : ℕ) (own : Bool) (p : Parts) (roo
       inl (record {
         refusal = seals.Unsupported k;
         refuses = row;
-        asked = λ plain. absurd (both_ways _ plain.1 (unsupported_among k p.options row.1.unsupported row.1.among));
+        asked = λ plain. absurd (both_ways _ plain.1 (unsupported_among of.context.features k p.options row.1.unsupported row.1.among));
         entry_is = refl;
       })
   sort_of (NotReplied NoOwnLeft) row = inr (inl (record { plain = row.0; wanted = row.1; none = row.2; entry_is = refl }))

@@ -53,7 +53,7 @@ ResponseAnswer h clock d answer = PendingAnswer h clock d answer
 
 -- a request that can be sealed, and whose token isn't pending (RFC 7252, 5.3.1)
 abbrev pub IsNewRequest : History → ℕ → Parts → Type 0
-IsNewRequest h clock p = IsPlainRequest p × (IsAmong p.token (pending_at h clock) → ⊥)
+IsNewRequest h clock p = IsPlainRequest (context h).features p × (IsAmong p.token (pending_at h clock) → ⊥)
 
 -- such a request, with room for it among n pending ones, and a number left for it (RFC 8613, 7.2.1; own rule: the room)
 abbrev pub CanAsk : ℕ → History → ℕ → Parts → Type 0
@@ -61,9 +61,9 @@ CanAsk n h clock p = IsNewRequest h clock p × (length (pending_at h clock) < n)
 
 -- the answer to Request, row by row (RFC 8613, 8.1; own rule: the order)
 abbrev pub RequestAnswer : ℕ → History → ℕ → Parts → ℕ → Entry → Type 0
-RequestAnswer n h clock p room (NotSent NotThatKind) = RefusesPlainRequest p seals.NotThatKind
-RequestAnswer n h clock p room (NotSent (Unsupported k)) = RefusesPlainRequest p (seals.Unsupported k)
-RequestAnswer n h clock p room (NotSent TokenInUse) = IsPlainRequest p × IsAmong p.token (pending_at h clock)
+RequestAnswer n h clock p room (NotSent NotThatKind) = RefusesPlainRequest (context h).features p seals.NotThatKind
+RequestAnswer n h clock p room (NotSent (Unsupported k)) = RefusesPlainRequest (context h).features p (seals.Unsupported k)
+RequestAnswer n h clock p room (NotSent TokenInUse) = IsPlainRequest (context h).features p × IsAmong p.token (pending_at h clock)
 RequestAnswer n h clock p room (NotSent PendingFull) = IsNewRequest h clock p × (n ≤ length (pending_at h clock))
 RequestAnswer n h clock p room (NotSent SequenceExhausted) = IsNewRequest h clock p × (length (pending_at h clock) < n) × (2 ^ 40 ≤ next h)
 RequestAnswer n h clock p room (NotSent TooLong) = CanAsk n h clock p × RefusesToSeal (requests (context h)) (next h) p room seals.TooLong

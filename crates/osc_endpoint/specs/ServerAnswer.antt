@@ -140,9 +140,9 @@ HasAsked own of = own ≡ true → HasOwn of
 
 -- the answer of the ticket's life to Reply, row by row; p is the message with the reply's head (RFC 8613, 8.3)
 abbrev pub LifeReply : Life → ℕ → Bool → Parts → ℕ → Entry → Type 0
-LifeReply of n own p room (NotReplied NotThatKind) = RefusesPlainResponse p seals.NotThatKind
-LifeReply of n own p room (NotReplied (Unsupported k)) = RefusesPlainResponse p (seals.Unsupported k)
-LifeReply of n own p room (NotReplied NoOwnLeft) = IsPlainResponse p × (own ≡ true) × (HasOwn of → ⊥)
+LifeReply of n own p room (NotReplied NotThatKind) = RefusesPlainResponse of.context.features p seals.NotThatKind
+LifeReply of n own p room (NotReplied (Unsupported k)) = RefusesPlainResponse of.context.features p (seals.Unsupported k)
+LifeReply of n own p room (NotReplied NoOwnLeft) = IsPlainResponse of.context.features p × (own ≡ true) × (HasOwn of → ⊥)
 LifeReply of n own p room (NotReplied TooLong) = HasAsked own of × RefusesToSeal (responses of.context n) (own_number own of) p room seals.TooLong
 LifeReply of n own p room (NotReplied NoRoom) = HasAsked own of × RefusesToSeal (responses of.context n) (own_number own of) p room seals.NoRoom
 LifeReply of n own p room (Replied bytes) = HasAsked own of × SealsResponse of.context n (own_number own of) p bytes × (length bytes ≤ room)

@@ -2,6 +2,7 @@
 #![tactic(auto)]
 
 pub mod aes;
+pub mod blocks;
 pub mod ccm;
 pub mod coap;
 pub mod command;

@@ -1,6 +1,7 @@
 //! A keeper that says why it fails.
 
 ghost use Rattle.std.specs.Prelude.{◌≡◌};
+ghost use Rattle.osc_file.specs.Views.{words_of};
 
 use crate::file_keeper::FileKeeper;
 use crate::lock::TryLock;
@@ -28,7 +29,8 @@ where
     #[must_use]
     pub fn new(keeper: FileKeeper<'a, R>, words: &'a str, err: W) -> TellingKeeper<'a, R, W>
         ensures { (⟦<TellingKeeper<'a, R, W> as Keeper>⟧.floor result ≡ ⟦<FileKeeper<'a, R> as Keeper>⟧.floor keeper.entry)
-            × (⟦<TellingKeeper<'a, R, W> as Keeper>⟧.failures result ≡ ⟦<FileKeeper<'a, R> as Keeper>⟧.failures keeper.entry) }
+            × (⟦<TellingKeeper<'a, R, W> as Keeper>⟧.failures result ≡ ⟦<FileKeeper<'a, R> as Keeper>⟧.failures keeper.entry)
+            × (words_of result ≡ words.now) }
     {
         TellingKeeper { keeper, words, err }
     }

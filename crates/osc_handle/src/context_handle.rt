@@ -7,7 +7,7 @@ ghost use Rattle.osc_protect.specs.Views.{shown};
 ghost use Rattle.osc_endpoint.specs.Senders.{HaveSameSender};
 ghost use Rattle.osc_handle.specs.ContextBytes.{client_in, server_in, id_context_in, is_constant_time_in, IsContext};
 
-use osc_context::{Context, IdContext, Kid};
+use osc_context::{Context, Features, IdContext, Kid};
 
 /// A context in the caller's memory. If the ID Context has no bytes, there is none.
 #[repr(C)]
@@ -24,6 +24,8 @@ pub struct ContextHandle {
     pub common_iv: [u8; 13],
     /// Whether its keys are used in constant time: any value but 0 asks for that.
     pub constant_time: u8,
+    /// Whether block-wise transfer passes inside the protection: any value but 0 allows it.
+    pub blocks: u8,
 }
 
 impl ContextHandle {
@@ -51,6 +53,7 @@ impl ContextHandle {
             recipient_key: *context.recipient_key(),
             common_iv: *context.common_iv(),
             constant_time: u8::from(context.is_constant_time()),
+            blocks: u8::from(context.features().blocks),
         }
     }
 
@@ -67,6 +70,7 @@ impl ContextHandle {
             recipient_key: [0; 16],
             common_iv: [0; 13],
             constant_time: 0,
+            blocks: 0,
         }
     }
 
@@ -89,7 +93,10 @@ impl ContextHandle {
             self.recipient_key,
             self.common_iv,
         )?;
-        Some(as_asked(context, self.constant_time != 0))
+        let features = Features {
+            blocks: self.blocks != 0,
+        };
+        Some(as_asked(context, self.constant_time != 0, features))
     }
 }
 
@@ -180,12 +187,14 @@ fn id_context(bytes: &[u8; 32], len: u8) -> Option<Option<IdContext>>
     IdContext::new(bytes.get(..usize::from(len))?).map(Some)
 }
 
-/// Returns the context, with its keys used in constant time if that is asked for.
-fn as_asked(context: Context, constant_time: bool) -> Context
-    ensures client { as_client result ≡ as_client context }
-    ensures server { as_server result ≡ as_server context }
+/// Returns the context with these features, and with its keys used in constant time if that is asked for.
+#[inline(always)]
+fn as_asked(context: Context, constant_time: bool, features: Features) -> Context
+    ensures client { as_client result ≡ record (as_client context) { features = features } }
+    ensures server { as_server result ≡ record (as_server context) { features = features } }
     ensures chosen { is_constant_time result ≡ (constant_time || is_constant_time context) }
 {
+    let context = context.with_features(features);
     if constant_time {
         context.constant_time()
     } else {

@@ -151,6 +151,7 @@ impl SlotHandle {
     }
 
     /// Returns the context in its life, with this gate.
+    #[inline(always)]
     pub(crate) fn slot_with(&self, gate: Gate) -> Slot
         requires bytes { IsSlotBytes self.now }
         requires gate { IsGateIn self.now gate }
@@ -158,7 +159,10 @@ impl SlotHandle {
         ensures gate { result.gate ≡ gate }
         ensures chosen { is_constant_time (context_of result.context) ≡ is_constant_time_in self.now.context }
     {
-        let (Some(context), Some(size)) = (self.context.context(), size_with(self.places)) else {
+        let Some(size) = size_with(self.places) else {
+            unreachable!();
+        };
+        let Some(context) = self.context.context() else {
             unreachable!();
         };
         Slot {
@@ -262,7 +266,10 @@ impl SlotHandle {
         ensures same { OnErr result (self.new ≡ self.old) }
         ensures no_keeper_failed { IfErr result (λ e. e ≢ KeeperFailed) }
     {
-        let mut slot = self.slot();
+        let Some(gate) = self.gate() else {
+            unreachable!();
+        };
+        let mut slot = self.slot_with(gate);
         match slot.reply_to(number, asker, own, mid, plain, out) {
             Ok(len) => {
                 self.keep(&slot);

@@ -132,7 +132,7 @@ module _ {I : Type 0} (laws : LayerLaws) (f : Protection I) (sound : IsSound f) 
   After h e =
       ((e ≡ WrongContext) × ((i : I) → Names f h i → ⊥))
       ⊎ ((e ≡ Tag) × (i : I) × Names f h i × ((m : List ℕ) → h.payload ≡ f.cipher i m → ⊥))
-      ⊎ ((e ≡ Inner) × (i : I) × Names f h i × (m : List ℕ) × (h.payload ≡ f.cipher i m) × IsBadInner f.usage m)
+      ⊎ ((e ≡ Inner) × (i : I) × Names f h i × (m : List ℕ) × (h.payload ≡ f.cipher i m) × IsBadInner f.usage f.features m)
 
   abbrev Parted : List ℕ → UnprotectError → Type 0
   Parted d e = ((g : HeadError) × HasNoHead f.usage d g × (e ≡ lifted g)) ⊎ ((h : Head) × HasHead f.usage d h × After h e)
@@ -191,12 +191,12 @@ module _ {I : Type 0} (laws : LayerLaws) (f : Protection I) (sound : IsSound f) 
         },
       )
 
-  bad_never : (m : InnerParts) (bytes : List ℕ) → IsInner m bytes → is_code_of f.usage m.code ≡ true → has_number is_barred m.options ≡ false → IsBadInner f.usage bytes → ⊥
+  bad_never : (m : InnerParts) (bytes : List ℕ) → IsInner m bytes → is_code_of f.usage m.code ≡ true → has_number (is_barred f.features) m.options ≡ false → IsBadInner f.usage f.features bytes → ⊥
   bad_never m bytes h code allowed (inl x) = laws.inner_never_both m bytes x.0 x.1 h x.2
   bad_never m bytes h code allowed (inr x) =
       let e : x.0 ≡ m = laws.inner_one x.0 m bytes x.1 h in
       let codes : is_code_of f.usage x.0.code ≡ is_code_of f.usage m.code = ap (λ (z : InnerParts). is_code_of f.usage z.code) e in
-      let barred : has_number is_barred x.0.options ≡ has_number is_barred m.options = ap (λ (z : InnerParts). has_number is_barred z.options) e in
+      let barred : has_number (is_barred f.features) x.0.options ≡ has_number (is_barred f.features) m.options = ap (λ (z : InnerParts). has_number (is_barred f.features) z.options) e in
       elim x.2 [
         | inl wrong ↦ cc
         | inr wrong ↦ cc
@@ -208,7 +208,7 @@ module _ {I : Type 0} (laws : LayerLaws) (f : Protection I) (sound : IsSound f) 
   after_never i m d e x (inr (inr y)) =
       let again : f.cipher i (y.3) ≡ f.cipher i x.plaintext = ap (λ (j : I). f.cipher j (y.3)) (sound.one_number i (y.1) y.2) ∙ sym y.4 ∙ x.sealed in
       let same : y.3 ≡ x.plaintext = sound.one_plaintext i (y.3) x.plaintext again in
-      bad_never m x.plaintext x.spells x.code x.allowed (subst (IsBadInner f.usage) same y.5)
+      bad_never m x.plaintext x.spells x.code x.allowed (subst (IsBadInner f.usage f.features) same y.5)
 
   parted_never : (d : List ℕ) (i : I) (m : InnerParts) (e : UnprotectError) → Protects f i m d → Parted d e → ⊥
   parted_never d i m e x (inl y) = (heads_law laws f.usage).never_both d (head_of_protection i m d x) y.0 (protection_head i m d x) y.1

@@ -1,70 +1,71 @@
 -- What is sealed is a protection.
-use Rattle.std.proofs.Common.{◌≡◌, ℕ, ◌==◌, ◌||◌, Bool, true, false, List, [], ◌∷◌, ◌++◌, refl, arith, inl, inr}
+use Rattle.std.proofs.Common.{◌≡◌, ℕ, ◌||◌, Bool, true, false, List, [], ◌∷◌, ◌++◌, refl, inl, inr}
 use Rattle.osc_coap.specs.Class.{class, is_inner, is_outer, inner_options, outer_options}
 use Rattle.osc_coap.specs.OptionSpelling.{Entry}
+use Rattle.osc_coap.specs.declared.class.Class.{Class}
+use Rattle.osc_coap.specs.declared.class.Class.TheVariants as classes
 use Rattle.osc_coap.specs.declared.message.Kind.{Kind}
 use Rattle.osc_coap.specs.declared.message.Kind.TheVariants.{Con, Non, Ack, Rst}
 use Rattle.osc_coap.specs.Datagram.{Parts}
 use Rattle.osc_coap.specs.Inner.{InnerParts}
 use Rattle.osc_coap.specs.Search.{values_at, has_number}
 use Rattle.osc_coap.specs.OptionNumbers.{oscore}
-use Rattle.osc_protect.specs.OptionSets.{is_proxy, is_barred, is_unsupported}
+use Rattle.osc_context.specs.declared.features.Features.{Features}
+use Rattle.osc_protect.specs.OptionSets.{is_proxy, is_barred, is_left_out, is_unsupported}
 use Rattle.osc_protect.specs.Usage.{is_code_of, is_used, outer_code_of}
 use Rattle.osc_protect.specs.Protection.{Protection, Protects, requests, responses}
 use Rattle.osc_protect.specs.Sealed.{inside, outside, IsSealed}
 use Rattle.osc_protect.specs.Laws.{OneMessage, OneRequest, OneResponse, ProtectsAlone, SealedOpens}
 use Rattle.osc_protect.specs.declared.usage.Usage.{Usage}
 use Rattle.osc_protect.specs.declared.usage.Usage.TheVariants.{Request, Response}
-use Rattle.osc_protect.proofs.Splits.{chosen, neither}
+use Rattle.osc_protect.proofs.Splits.{chosen, neither, supported}
 
 both_false : (a b : Bool) → a ≡ false → b ≡ false → (a || b) ≡ false
 both_false true b h k = h
 both_false false b h k = k
 
--- an option that can be sealed isn't the OSCORE option
-not_oscore : (n : ℕ) → is_unsupported n ≡ false → (n == oscore) ≡ false
-not_oscore n h = grind (arith, h)
-
--- and is for no proxy
-not_proxy : (n : ℕ) → is_unsupported n ≡ false → is_proxy n ≡ false
-not_proxy n h = grind (arith, h)
+-- an option that stands inside doesn't stand outside
+not_outer : (k : Class) → is_inner k ≡ true → is_outer k ≡ false
+not_outer classes.U h = absurd (cc)
+not_outer classes.E h = refl
+not_outer classes.Both h = refl
 
 -- an option inside that can be sealed may stand there
-may_stand : (n : ℕ) → is_inner (class n) ≡ true → is_unsupported n ≡ false → is_barred n ≡ false
-may_stand n i h = grind (arith, i, h)
+may_stand : (x : Features) (n : ℕ) → is_inner (class n) ≡ true → is_unsupported x n ≡ false → is_barred x n ≡ false
+may_stand x n i h = both_false (is_left_out x n) _ (supported x n h).0 (not_outer (class n) i)
 
 -- outside stands one OSCORE option
-outer_values : (entries : List Entry) (value : List ℕ) → has_number is_unsupported entries ≡ false → values_at oscore (outer_options entries ++ (oscore, value) ∷ []) ≡ value ∷ []
-outer_values [] value h = refl
-outer_values (entry ∷ entries) value h =
-    let both = neither (is_unsupported entry.0) (has_number is_unsupported entries) h in
-    let other = not_oscore entry.0 both.0 in
-    let rest = outer_values entries value both.1 in
+outer_values : (x : Features) (entries : List Entry) (value : List ℕ) → has_number (is_unsupported x) entries ≡ false → values_at oscore (outer_options entries ++ (oscore, value) ∷ []) ≡ value ∷ []
+outer_values x [] value h = refl
+outer_values x (entry ∷ entries) value h =
+    let both = neither (is_unsupported x entry.0) (has_number (is_unsupported x) entries) h in
+    let other = (supported x entry.0 both.0).2 in
+    let rest = outer_values x entries value both.1 in
     elim (chosen (is_outer (class entry.0))) [
       | inl is ↦ rw (is, other) rest
       | inr isnt ↦ rw isnt rest
     ]
 
 -- and none for proxies
-outer_direct : (entries : List Entry) (value : List ℕ) → has_number is_unsupported entries ≡ false → has_number is_proxy (outer_options entries ++ (oscore, value) ∷ []) ≡ false
-outer_direct [] value h = refl
-outer_direct (entry ∷ entries) value h =
-    let both = neither (is_unsupported entry.0) (has_number is_unsupported entries) h in
-    let none = not_proxy entry.0 both.0 in
-    let rest = outer_direct entries value both.1 in
+outer_direct : (x : Features) (entries : List Entry) (value : List ℕ) → has_number (is_unsupported x) entries ≡ false → has_number is_proxy (outer_options entries ++ (oscore, value) ∷ []) ≡ false
+outer_direct x [] value h = refl
+outer_direct x (entry ∷ entries) value h =
+    let both = neither (is_unsupported x entry.0) (has_number (is_unsupported x) entries) h in
+    let none = (supported x entry.0 both.0).1 in
+    let rest = outer_direct x entries value both.1 in
     elim (chosen (is_outer (class entry.0))) [
       | inl is ↦ rw is (both_false (is_proxy entry.0) _ none rest)
       | inr isnt ↦ rw isnt rest
     ]
 
 -- inside stand allowed options alone
-inner_allowed : (entries : List Entry) → has_number is_unsupported entries ≡ false → has_number is_barred (inner_options entries) ≡ false
-inner_allowed [] h = refl
-inner_allowed (entry ∷ entries) h =
-    let both = neither (is_unsupported entry.0) (has_number is_unsupported entries) h in
-    let rest = inner_allowed entries both.1 in
+inner_allowed : (x : Features) (entries : List Entry) → has_number (is_unsupported x) entries ≡ false → has_number (is_barred x) (inner_options entries) ≡ false
+inner_allowed x [] h = refl
+inner_allowed x (entry ∷ entries) h =
+    let both = neither (is_unsupported x entry.0) (has_number (is_unsupported x) entries) h in
+    let rest = inner_allowed x entries both.1 in
     elim (chosen (is_inner (class entry.0))) [
-      | inl is ↦ rw is (both_false (is_barred entry.0) _ (may_stand entry.0 is both.0) rest)
+      | inl is ↦ rw is (both_false (is_barred x entry.0) _ (may_stand x entry.0 is both.0) rest)
       | inr isnt ↦ rw isnt rest
     ]
 
@@ -86,11 +87,11 @@ seals_protect f i p d x = record {
   datagram = x.holds.2;
   used = (used_outside f.usage p.kind p.code x.used).0;
   value = x.value;
-  single = outer_values p.options x.value x.supported;
+  single = outer_values f.features p.options x.value x.supported;
   reads = x.reads;
-  direct = outer_direct p.options x.value x.supported;
+  direct = outer_direct f.features p.options x.value x.supported;
   code = (used_outside f.usage p.kind p.code x.used).1;
-  allowed = inner_allowed p.options x.supported;
+  allowed = inner_allowed f.features p.options x.supported;
   plaintext = x.holds.0;
   spells = x.holds.1;
   sealed = refl;

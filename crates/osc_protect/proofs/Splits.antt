@@ -1,5 +1,5 @@
 -- The options of one side, and that a writer takes them.
-use Rattle.std.proofs.Common.{◌≡◌, ◌≢◌, ℕ, ◌+◌, ◌≤◌, ◌||◌, ◌⊎◌, Bool, true, false, List, [], ◌∷◌, ◌++◌, filter, refl, sym, ap, subst, arith, inl, inr, append_assoc, Result, Err, IsOk}
+use Rattle.std.proofs.Common.{◌≡◌, ◌≢◌, ℕ, ◌+◌, ◌≤◌, ◌==◌, ◌||◌, ◌⊎◌, Bool, true, false, List, [], ◌∷◌, ◌++◌, filter, refl, sym, ap, subst, arith, inl, inr, append_assoc, Result, Err, IsOk}
 use Rattle.osc_coap.specs.Class.{class, is_outer, outer_options}
 use Rattle.osc_coap.specs.Datagram.{Parts, datagram_length}
 use Rattle.osc_coap.specs.Inner.{inner_length}
@@ -7,7 +7,8 @@ use Rattle.osc_coap.specs.OptionSpelling.{Entry, Ascends, last_number, spelling_
 use Rattle.osc_coap.specs.Writing.{Draft, Datagram, Plaintext, TakesOption, bare, bare_inner, options_of, length_of, with_option, with_options}
 use Rattle.osc_coap.specs.Search.{has_number}
 use Rattle.osc_coap.specs.OptionNumbers.{oscore}
-use Rattle.osc_protect.specs.OptionSets.{is_unsupported}
+use Rattle.osc_context.specs.declared.features.Features.{Features}
+use Rattle.osc_protect.specs.OptionSets.{is_left_out, is_proxy, is_unsupported}
 use Rattle.osc_protect.specs.Sealed.{inside, outside}
 use Rattle.osc_protect.specs.Split.{TakesAll, options_on, stands_on}
 use Rattle.osc_protect.specs.declared.split.Side.TheVariants.{Outside, Inside}
@@ -23,18 +24,30 @@ pub neither : (a b : Bool) → (a || b) ≡ false → (a ≡ false) × (b ≡ fa
 neither true b h = absurd (cc)
 neither false b h = (refl, h)
 
+-- one or none
+pub or_none : (b : Bool) → (b || false) ≡ b
+or_none true = refl
+or_none false = refl
+
+-- an option that can be sealed isn't left out, is for no proxy, and isn't the OSCORE option
+pub supported : (x : Features) (n : ℕ) → is_unsupported x n ≡ false → (is_left_out x n ≡ false) × (is_proxy n ≡ false) × ((n == oscore) ≡ false)
+supported x n h =
+    let last = neither (is_left_out x n || is_proxy n) (n == oscore) h in
+    let first = neither (is_left_out x n) (is_proxy n) last.0 in
+    (first.0, first.1, last.1)
+
 -- an option outside that can be sealed comes before the OSCORE option
-below : (n : ℕ) → is_outer (class n) ≡ true → is_unsupported n ≡ false → n ≤ oscore
-below n u s = grind (arith)
+below : (x : Features) (n : ℕ) → is_outer (class n) ≡ true → is_unsupported x n ≡ false → n ≤ oscore
+below x n u s = let p = (supported x n s).1 in grind (arith, u, p)
 
 -- so do all of them
-pub all_below : (d : ℕ) (entries : List Entry) → d ≤ oscore → has_number is_unsupported entries ≡ false → last_number d (outer_options entries) ≤ oscore
-all_below d [] le h = le
-all_below d (entry ∷ entries) le h =
-    let both = neither (is_unsupported entry.0) (has_number is_unsupported entries) h in
+pub all_below : (x : Features) (d : ℕ) (entries : List Entry) → d ≤ oscore → has_number (is_unsupported x) entries ≡ false → last_number d (outer_options entries) ≤ oscore
+all_below x d [] le h = le
+all_below x d (entry ∷ entries) le h =
+    let both = neither (is_unsupported x entry.0) (has_number (is_unsupported x) entries) h in
     elim (chosen (is_outer (class entry.0))) [
-      | inl is ↦ rw is (all_below entry.0 entries (below entry.0 is both.0) both.1)
-      | inr isnt ↦ rw isnt (all_below d entries le both.1)
+      | inl is ↦ rw is (all_below x entry.0 entries (below x entry.0 is both.0) both.1)
+      | inr isnt ↦ rw isnt (all_below x d entries le both.1)
     ]
 
 -- ---- order
@@ -141,12 +154,12 @@ outside_takes p code value os room e some up in_room in_all =
     })
 
 -- the OSCORE option has its room behind them
-pub oscore_takes : (p : Parts) (code : ℕ) (value : List ℕ) (os : List Entry) (room : ℕ) → os ≡ p.options → code ≢ 0 → has_number is_unsupported p.options ≡ false
+pub oscore_takes : (x : Features) (p : Parts) (code : ℕ) (value : List ℕ) (os : List Entry) (room : ℕ) → os ≡ p.options → code ≢ 0 → has_number (is_unsupported x) p.options ≡ false
     → datagram_length (outside p code value []) ≤ room → datagram_length (outside p code value []) ≤ 65535
     → TakesOption room (with_options (Datagram (bare p.kind code p.message_id p.token)) (options_on Outside os)) oscore value
-oscore_takes p code value os room e some none in_room in_all =
+oscore_takes x p code value os room e some none in_room in_all =
     subst (λ (es : List Entry). TakesOption room (with_options (Datagram (bare p.kind code p.message_id p.token)) (options_on Outside es)) 9 value) (sym e)
-    (some, refl, all_below 0 p.options (omega arith) none, (in_room, in_all))
+    (some, refl, all_below x 0 p.options (omega arith) none, (in_room, in_all))
 
 -- the options inside have their room behind the code
 pub inside_takes : (p : Parts) (os : List Entry) (room : ℕ) → os ≡ p.options → Ascends 0 p.options → inner_length (inside p) ≤ room → inner_length (inside p) ≤ 65535

@@ -42,7 +42,7 @@ module _ {I : Type 0} (one : DatagramIsOneMessage) (f : Protection I) (old new :
       record { kind = j.kind; message_id = j.message_id; token = j.token; uri_host = j.uri_host; uri_port = j.uri_port }
 
   -- what was read of the plaintext is what the old datagram protected
-  protects_inner : (q : Parts) (m : InnerParts) → IsDatagram q new → IsInner m (take len q.payload) → is_code_of f.usage m.code ≡ true → has_number is_barred m.options ≡ false → Protects f i m old
+  protects_inner : (q : Parts) (m : InnerParts) → IsDatagram q new → IsInner m (take len q.payload) → is_code_of f.usage m.code ≡ true → has_number (is_barred f.features) m.options ≡ false → Protects f i m old
   protects_inner q m h spells code allowed = record {
     outer = it.outer;
     datagram = it.datagram;
@@ -59,10 +59,10 @@ module _ {I : Type 0} (one : DatagramIsOneMessage) (f : Protection I) (old new :
   }
 
   -- so is a plaintext whose own payload has a known length
-  pub holds_protected : (k n : ℕ) → k ≡ len → (h : HasPlaintext f.usage new k n) → Protects f i h.inner old
+  pub holds_protected : (k n : ℕ) → k ≡ len → (h : HasPlaintext f.usage f.features new k n) → Protects f i h.inner old
   holds_protected k n e h = protects_inner h.outer h.inner h.datagram (subst (λ (j : ℕ). IsInner h.inner (take j h.outer.payload)) e h.spells) h.code h.allowed
 
-  pub reads_open : (number : Option Piv) → option_map number_of number ≡ (f.parts i).piv → (o : Opened) → ReadsInner f.usage new number len o → Opens f old o
+  pub reads_open : (number : Option Piv) → option_map number_of number ≡ (f.parts i).piv → (o : Opened) → ReadsInner f.usage f.features new number len o → Opens f old o
   reads_open number is o r = record {
     number = i;
     number_is = ap (option_map number_of) r.piv ∙ is;
@@ -72,9 +72,9 @@ module _ {I : Type 0} (one : DatagramIsOneMessage) (f : Protection I) (old new :
     shows = same_outer r.outer o r.datagram r.shows;
   }
 
-  pub refuses_open : RefusesInner f.usage new len → RefusesPlaintext f old
+  pub refuses_open : RefusesInner f.usage f.features new len → RefusesPlaintext f old
   refuses_open h =
-      let bad : IsBadInner f.usage it.plaintext = subst (IsBadInner f.usage) (front (h.0) h.1) h.2 in
+      let bad : IsBadInner f.usage f.features it.plaintext = subst (IsBadInner f.usage f.features) (front (h.0) h.1) h.2 in
       (it.head, (it.outer, it.datagram, it.shows), i, it.names, it.plaintext, it.seals, bad)
 
 -- a fact of each outcome, made of another

@@ -6,6 +6,7 @@ use Rattle.osc_coap.specs.OptionSpelling.{Entry, Ascends}
 use Rattle.osc_coap.specs.Datagram.{Parts}
 use Rattle.osc_coap.specs.Search.{has_number}
 use Rattle.osc_protect.specs.Found.{first_number}
+use Rattle.osc_context.specs.declared.features.Features.{Features}
 use Rattle.osc_protect.specs.OptionSets.{is_unsupported}
 use Rattle.osc_protect.specs.SealRefusals.{IsLowestUnsupported, RefusesPlain, CanBeSealed}
 use Rattle.osc_protect.specs.declared.usage.Usage.{Usage}
@@ -70,11 +71,11 @@ lowest_first p d (entry ∷ entries) n up h m pm hm = elim (chosen (p entry.0)) 
 ]
 
 -- so it is the lowest that can't be sealed
-pub lowest_unsupported : (entries : List Entry) (n : ℕ) → Ascends 0 entries → first_number is_unsupported entries ≡ Some n → IsLowestUnsupported entries n
-lowest_unsupported entries n up h = record {
-  unsupported = (found_first is_unsupported entries n h).0;
-  among = (found_first is_unsupported entries n h).1;
-  lowest = lowest_first is_unsupported 0 entries n up h;
+pub lowest_unsupported : (x : Features) (entries : List Entry) (n : ℕ) → Ascends 0 entries → first_number (is_unsupported x) entries ≡ Some n → IsLowestUnsupported x entries n
+lowest_unsupported x entries n up h = record {
+  unsupported = (found_first (is_unsupported x) entries n h).0;
+  among = (found_first (is_unsupported x) entries n h).1;
+  lowest = lowest_first (is_unsupported x) 0 entries n up h;
 }
 
 -- a number that is there, and is such a one, shows that one is there
@@ -90,16 +91,16 @@ has_one p n (entry ∷ entries) pn h = elim (either (entry.0 == n) (has_number (
 
 -- ---- refusals
 
-module _ (u : Usage) where
+module _ (u : Usage) (x : Features) where
   -- what can be sealed is not refused
-  pub never_refused : (p : Parts) (e : ProtectError) → CanBeSealed u p → RefusesPlain u p e → ⊥
+  pub never_refused : (p : Parts) (e : ProtectError) → CanBeSealed u x p → RefusesPlain u x p e → ⊥
   never_refused p NotThatKind can r = let bad : true ≡ false = sym can.0 ∙ r in cc
-  never_refused p (Unsupported n) can r = let bad : false ≡ true = sym can.1 ∙ has_one is_unsupported n p.options r.1.unsupported r.1.among in cc
+  never_refused p (Unsupported n) can r = let bad : false ≡ true = sym can.1 ∙ has_one (is_unsupported x) n p.options r.1.unsupported r.1.among in cc
   never_refused p TooLong can r = r
   never_refused p NoRoom can r = r
 
   -- there is one refusal
-  pub one_refusal : (p : Parts) (e f : ProtectError) → RefusesPlain u p e → RefusesPlain u p f → e ≡ f
+  pub one_refusal : (p : Parts) (e f : ProtectError) → RefusesPlain u x p e → RefusesPlain u x p f → e ≡ f
   one_refusal p NotThatKind NotThatKind h k = refl
   one_refusal p NotThatKind (Unsupported m) h k = absurd (let bad : true ≡ false = sym k.0 ∙ h in cc)
   one_refusal p NotThatKind TooLong h k = absurd k
@@ -115,12 +116,12 @@ module _ (u : Usage) where
   one_refusal p NoRoom f h k = absurd h
 
   -- what can be sealed passes
-  pub accepts_all : {T : Type 0} (p : Parts) (r : Result T ProtectError) → IfErr r (λ e. RefusesPlain u p e) → CanBeSealed u p → IsOk r
-  accepts_all p (Ok x) refused can = refl
+  pub accepts_all : {T : Type 0} (p : Parts) (r : Result T ProtectError) → IfErr r (λ e. RefusesPlain u x p e) → CanBeSealed u x p → IsOk r
+  accepts_all p (Ok _) refused can = refl
   accepts_all p (Err e) refused can = absurd (never_refused p e can refused)
 
   -- what is refused is answered so
-  pub refuses_all : {T : Type 0} (p : Parts) (r : Result T ProtectError) → (IsOk r → CanBeSealed u p) → IfErr r (λ e. RefusesPlain u p e)
-      → (e : ProtectError) → RefusesPlain u p e → IsErrOf r e
-  refuses_all p (Ok x) accepted refused e h = absurd (never_refused p e (accepted refl) h)
+  pub refuses_all : {T : Type 0} (p : Parts) (r : Result T ProtectError) → (IsOk r → CanBeSealed u x p) → IfErr r (λ e. RefusesPlain u x p e)
+      → (e : ProtectError) → RefusesPlain u x p e → IsErrOf r e
+  refuses_all p (Ok _) accepted refused e h = absurd (never_refused p e (accepted refl) h)
   refuses_all p (Err f) accepted refused e h = ap Err (one_refusal p f e refused h)

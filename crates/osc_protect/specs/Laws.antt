@@ -1,10 +1,14 @@
 -- To be believed: what holds for all datagrams of requests and of responses (RFC 8613, 8): contracts of laws.rt. f and g are protections of
 -- one usage, i, j and k are their numbers, u is a usage, s and t are security contexts, d is a datagram, h a head, o and q are opened
 -- messages.
-use Rattle.std.specs.Prelude.{◌≡◌, ◌<◌, ◌≤◌, ◌⊎◌, ◌^◌, ℕ, List, length, Option, IfSome}
+use Rattle.std.specs.Prelude.{◌≡◌, ◌<◌, ◌≤◌, ◌⊎◌, ◌^◌, ◌==◌, ◌||◌, ℕ, true, List, length, Option, IfSome}
 use Rattle.osc_coap.specs.Datagram.{Parts}
 use Rattle.osc_coap.specs.Inner.{InnerParts}
+use Rattle.osc_coap.specs.Class.{class, is_outer}
+use Rattle.osc_coap.specs.OptionNumbers.{block1, block2, observe, oscore}
+use Rattle.osc_context.specs.Features.{no_features}
 use Rattle.osc_context.specs.SecurityContext.{SecurityContext}
+use Rattle.osc_protect.specs.OptionSets.{is_barred, is_left_out, is_proxy, is_unsupported}
 use Rattle.osc_protect.specs.Head.{Head, HasHead, HasNoHead, ShowsHead, ShowsNoHead}
 use Rattle.osc_protect.specs.Sealed.{IsSealed, SealsRequest, SealsResponse, inside}
 use Rattle.osc_protect.specs.Protection.{Protection, Protects, requests, responses}
@@ -127,3 +131,10 @@ pub record OneForm {I : Type 0} (f : Protection I) : Type 0 where
 pub record OneSealed : Type 0 where
   pub request : (s : SecurityContext) → OneForm (requests s)
   pub response : (s : SecurityContext) (n : ℕ) → OneForm (responses s n)
+
+-- a context without features leaves out Observe, Block2 and Block1, and one with blocks leaves out Observe alone (own rule)
+pub record LeavesOut : Type 0 where
+  pub left_out : (n : ℕ) → is_left_out no_features n ≡ ((n == observe) || (n == block2) || (n == block1))
+  pub unsupported : (n : ℕ) → is_unsupported no_features n ≡ (((n == observe) || (n == block2) || (n == block1)) || is_proxy n || (n == oscore))
+  pub barred : (n : ℕ) → is_barred no_features n ≡ (((n == observe) || (n == block2) || (n == block1)) || is_outer (class n))
+  pub with_blocks : (n : ℕ) → is_left_out (record { blocks = true }) n ≡ (n == observe)

@@ -1,21 +1,22 @@
 -- To be believed: which options a protected message doesn't have at all, or doesn't have inside (RFC 8613, 4.1). n is the number of an
--- option.
-use Rattle.std.specs.Prelude.{ℕ, ◌==◌, ◌||◌, Bool}
+-- option, x the features of the context.
+use Rattle.std.specs.Prelude.{ℕ, ◌==◌, ◌||◌, ◌&&◌, Bool, not}
 use Rattle.osc_coap.specs.Class.{class, is_outer}
 use Rattle.osc_coap.specs.OptionNumbers.{block1, block2, observe, oscore, proxy_scheme, proxy_uri}
+use Rattle.osc_context.specs.declared.features.Features.{Features}
 
--- own rule: Observe and block-wise transfer are left out (RFC 8613, 4.1.3.4 and 4.1.3.5)
-abbrev pub is_left_out : ℕ → Bool
-is_left_out n = (n == observe) || (n == block2) || (n == block1)
+-- own rule: Observe is left out, and block-wise transfer is, unless the context takes part in it (RFC 8613, 4.1.3.4 and 4.1.3.5)
+abbrev pub is_left_out : Features → ℕ → Bool
+is_left_out x n = (n == observe) || (not x.blocks && (n == block2)) || (not x.blocks && (n == block1))
 
 -- the option is for proxies: Proxy-Uri or Proxy-Scheme (RFC 7252, 5.10.2)
 abbrev pub is_proxy : ℕ → Bool
 is_proxy n = (n == proxy_uri) || (n == proxy_scheme)
 
 -- own rule: a message with such an option isn't sealed; sealing itself makes the OSCORE option (RFC 8613, 4.1)
-abbrev pub is_unsupported : ℕ → Bool
-is_unsupported n = is_left_out n || is_proxy n || (n == oscore)
+abbrev pub is_unsupported : Features → ℕ → Bool
+is_unsupported x n = is_left_out x n || is_proxy n || (n == oscore)
 
 -- own rule: the option may not stand inside a protected message, because it is left out or is of class U (RFC 8613, 4.1)
-abbrev pub is_barred : ℕ → Bool
-is_barred n = is_left_out n || is_outer (class n)
+abbrev pub is_barred : Features → ℕ → Bool
+is_barred x n = is_left_out x n || is_outer (class n)

@@ -11,6 +11,7 @@ use Rattle.osc_context.specs.OscoreValue.{OscoreParts, IsOscoreValue}
 use Rattle.osc_ccm.specs.Ccm.{ccm}
 use Rattle.osc_coap.specs.Search.{values_at, has_number}
 use Rattle.osc_coap.specs.OptionNumbers.{oscore}
+use Rattle.osc_context.specs.declared.features.Features.{Features}
 use Rattle.osc_protect.specs.OptionSets.{is_proxy, is_barred}
 use Rattle.osc_protect.specs.Usage.{is_code_of, is_used, value_of_request, value_of_response}
 use Rattle.osc_protect.specs.declared.usage.Usage.{Usage}
@@ -29,19 +30,20 @@ response_nonce common_iv client server n (Some own) = nonce_of common_iv server 
 unfoldable pub response_cipher : SecurityContext → ℕ → Option ℕ → List ℕ → List ℕ
 response_cipher s n own plaintext = ccm s.server_key (response_nonce s.common_iv s.client s.server n own) (additional_data_of s.client n) plaintext
 
--- how messages are protected: their usage, and for each number the cipher and what the OSCORE option says (RFC 8613, 5 and 6)
+-- how messages are protected: their usage, the features, and for each number the cipher and what the OSCORE option says (RFC 8613, 5 and 6)
 pub record Protection (I : Type 0) : Type 0 where
   pub usage : Usage
+  pub features : Features
   pub parts : I → OscoreParts
   pub cipher : I → List ℕ → List ℕ
 
 -- the protection of requests, each under its number (RFC 8613, 8.1)
 abbrev pub requests : SecurityContext → Protection ℕ
-requests s = record { usage = Request; parts = λ n. value_of_request n s.id_context s.client; cipher = request_cipher s }
+requests s = record { usage = Request; features = s.features; parts = λ n. value_of_request n s.id_context s.client; cipher = request_cipher s }
 
 -- the protection of responses to request n, each under its own number or none (RFC 8613, 8.3)
 abbrev pub responses : SecurityContext → ℕ → Protection (Option ℕ)
-responses s n = record { usage = Response; parts = value_of_response; cipher = response_cipher s n }
+responses s n = record { usage = Response; features = s.features; parts = value_of_response; cipher = response_cipher s n }
 
 -- the datagram protects the message with this protection, under the number i (RFC 8613, 8.1 and 8.3)
 pub record Protects {I : Type 0} (f : Protection I) (i : I) (message : InnerParts) (d : List ℕ) : Type 0 where
@@ -53,7 +55,7 @@ pub record Protects {I : Type 0} (f : Protection I) (i : I) (message : InnerPart
   pub reads : IsOscoreValue (f.parts i) value
   pub direct : has_number is_proxy outer.options ≡ false
   pub code : is_code_of f.usage message.code ≡ true
-  pub allowed : has_number is_barred message.options ≡ false
+  pub allowed : has_number (is_barred f.features) message.options ≡ false
   pub plaintext : List ℕ
   pub spells : IsInner message plaintext
   pub sealed : outer.payload ≡ f.cipher i plaintext

@@ -1,11 +1,12 @@
 -- To be believed: why a datagram doesn't open (RFC 8613, 8.2 and 8.4), row by
 -- row in the order in which the rows are checked. f is a protection, of requests
--- or of responses, i one of its numbers, d a datagram, h a head, e a refusal.
+-- or of responses, i one of its numbers, d a datagram, h a head, e a refusal, x the features of a context.
 use Rattle.std.specs.Prelude.{◌≡◌, ◌≢◌, ◌⊎◌, ℕ, List, true, false}
 use Rattle.osc_coap.specs.declared.format_error.Fault.{Fault}
 use Rattle.osc_coap.specs.Inner.{InnerParts, IsInner}
 use Rattle.osc_coap.specs.Fault.{HasInnerFault}
 use Rattle.osc_coap.specs.Search.{has_number}
+use Rattle.osc_context.specs.declared.features.Features.{Features}
 use Rattle.osc_protect.specs.OptionSets.{is_barred}
 use Rattle.osc_protect.specs.Usage.{is_code_of}
 use Rattle.osc_protect.specs.Head.{Head, HasHead, HasNoHead}
@@ -20,10 +21,10 @@ abbrev pub Names : {I : Type 0} → Protection I → Head → I → Type 0
 Names f h i = h.parts ≡ f.parts i
 
 -- the plaintext isn't a message, or its code isn't one of the usage, or it has a barred option (RFC 8613, 8.2 and 8.4)
-abbrev pub IsBadInner : Usage → List ℕ → Type 0
-IsBadInner u plaintext =
+abbrev pub IsBadInner : Usage → Features → List ℕ → Type 0
+IsBadInner u x plaintext =
     ((fault : Fault) × (place : ℕ) × HasInnerFault plaintext fault place)
-    ⊎ ((m : InnerParts) × IsInner m plaintext × ((is_code_of u m.code ≡ false) ⊎ (has_number is_barred m.options ≡ true)))
+    ⊎ ((m : InnerParts) × IsInner m plaintext × ((is_code_of u m.code ≡ false) ⊎ (has_number (is_barred x) m.options ≡ true)))
 
 -- there is no number under which this protection says what the head says: in a request, the kid or the kid context differs (RFC 8613, 8.2)
 abbrev pub RefusesContext : {I : Type 0} → Protection I → List ℕ → Type 0
@@ -35,7 +36,7 @@ RefusesTag {I} f d = (h : Head) × HasHead f.usage d h × (i : I) × Names f h i
 
 -- the head names the context, and its payload protects a bad plaintext (RFC 8613, 8.2 and 8.4)
 abbrev pub RefusesPlaintext : {I : Type 0} → Protection I → List ℕ → Type 0
-RefusesPlaintext {I} f d = (h : Head) × HasHead f.usage d h × (i : I) × Names f h i × (plaintext : List ℕ) × (h.payload ≡ f.cipher i plaintext) × IsBadInner f.usage plaintext
+RefusesPlaintext {I} f d = (h : Head) × HasHead f.usage d h × (i : I) × Names f h i × (plaintext : List ℕ) × (h.payload ≡ f.cipher i plaintext) × IsBadInner f.usage f.features plaintext
 
 -- the condition of each refusal to open, which excludes the earlier ones (RFC 8613, 8.2 and 8.4)
 abbrev pub RefusesToOpen : {I : Type 0} → Protection I → List ℕ → UnprotectError → Type 0

@@ -33,7 +33,7 @@ HoldsSealed p code value cipher d = (plaintext : List ℕ) × IsInner (inside p)
 -- the datagram is the plain message, sealed under the number i (RFC 8613, 8.1 and 8.3)
 pub record IsSealed {I : Type 0} (f : Protection I) (i : I) (p : Parts) (d : List ℕ) : Type 0 where
   pub used : is_used f.usage p.kind p.code ≡ true
-  pub supported : has_number is_unsupported p.options ≡ false
+  pub supported : has_number (is_unsupported f.features) p.options ≡ false
   pub value : List ℕ
   pub reads : IsOscoreValue (f.parts i) value
   pub holds : HoldsSealed p (outer_code_of f.usage) value (f.cipher i) d

@@ -28,11 +28,11 @@ IsSealedResponse f d x = HasSealed f d (option_map number_of x.number) x.len
 
 -- the value says what the old datagram was decrypted to (how the code is seen)
 abbrev pub DecryptsRequest : Protection ℕ → List ℕ → DecryptedRequest → List ℕ → Type 0
-DecryptsRequest f old x new = Decrypts f old (number_of x.number) x.len new
+DecryptsRequest f old x new = (x.features ≡ f.features) × Decrypts f old (number_of x.number) x.len new
 
 -- the value says what the old datagram was decrypted to, as a response (how the code is seen)
 abbrev pub DecryptsResponse : Protection (Option ℕ) → List ℕ → DecryptedResponse → List ℕ → Type 0
-DecryptsResponse f old x new = Decrypts f old (option_map number_of x.number) x.len new
+DecryptsResponse f old x new = (x.features ≡ f.features) × Decrypts f old (option_map number_of x.number) x.len new
 
 -- the datagram's payload is as long as the value's plaintext and a tag (how the code is seen)
 abbrev pub FitsRequest : List ℕ → DecryptedRequest → Type 0
@@ -69,8 +69,8 @@ RefusesResponseAfter new x = (s : SecurityContext) (n : ℕ) (old : List ℕ) �
 
 -- the value was read from the datagram, which holds the good plaintext of the decrypted request (how the code is seen)
 abbrev pub CanLendRequest : List ℕ → DecryptedRequest → ReadRequest → Type 0
-CanLendRequest d x r = (r.number ≡ x.number) × (r.len ≡ x.len) × HasPlaintext Request d r.len r.payload_len
+CanLendRequest d x r = (r.number ≡ x.number) × (r.len ≡ x.len) × HasPlaintext Request x.features d r.len r.payload_len
 
 -- the same for a response (how the code is seen)
 abbrev pub CanLendResponse : List ℕ → DecryptedResponse → ReadResponse → Type 0
-CanLendResponse d x r = (r.number ≡ x.number) × (r.len ≡ x.len) × HasPlaintext Response d r.len r.payload_len
+CanLendResponse d x r = (r.number ≡ x.number) × (r.len ≡ x.len) × HasPlaintext Response x.features d r.len r.payload_len

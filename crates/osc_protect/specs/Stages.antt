@@ -1,5 +1,5 @@
 -- To be believed: what the stages of opening pass on, and what they leave (RFC 8613, 8.2 and 8.4). f is a protection, of requests or of
--- responses, u a usage, i one of the protection's numbers, len and n are numbers of bytes, d, old and new are datagrams.
+-- responses, u a usage, x features, i one of the protection's numbers, len and n are numbers of bytes, d, old and new are datagrams.
 use Rattle.std.specs.Prelude.{◌≡◌, ◌+◌, ◌++◌, ℕ, List, length, take, drop, true, false}
 use Rattle.osc_ccm.specs.Ccm.{tag_length}
 use Rattle.osc_coap.specs.Datagram.{Parts, IsDatagram}
@@ -8,6 +8,7 @@ use Rattle.osc_coap.specs.Search.{has_number}
 use Rattle.osc_protect.specs.Head.{Head, HasHead, ShowsHead}
 use Rattle.osc_protect.specs.Protection.{Protection}
 use Rattle.osc_protect.specs.Refusals.{Names}
+use Rattle.osc_context.specs.declared.features.Features.{Features}
 use Rattle.osc_protect.specs.OptionSets.{is_barred}
 use Rattle.osc_protect.specs.Usage.{is_code_of}
 use Rattle.osc_protect.specs.declared.usage.Usage.{Usage}
@@ -45,7 +46,7 @@ abbrev pub HasPayloadOf : List ℕ → ℕ → Type 0
 HasPayloadOf d len = (p : Parts) × IsDatagram p d × (len + tag_length ≡ length p.payload)
 
 -- a good plaintext of len bytes lies at the front of the payload, and its own payload has n bytes (RFC 8613, 8.2 and 8.4)
-pub record HasPlaintext (u : Usage) (d : List ℕ) (len n : ℕ) : Type 0 where
+pub record HasPlaintext (u : Usage) (x : Features) (d : List ℕ) (len n : ℕ) : Type 0 where
   pub outer : Parts
   pub datagram : IsDatagram outer d
   pub room : len + tag_length ≡ length outer.payload
@@ -53,4 +54,4 @@ pub record HasPlaintext (u : Usage) (d : List ℕ) (len n : ℕ) : Type 0 where
   pub spells : IsInner inner (take len outer.payload)
   pub long : n ≡ length inner.payload
   pub code : is_code_of u inner.code ≡ true
-  pub allowed : has_number is_barred inner.options ≡ false
+  pub allowed : has_number (is_barred x) inner.options ≡ false

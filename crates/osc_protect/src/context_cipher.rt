@@ -14,6 +14,7 @@ pub(crate) enum ContextCipher {
 
 impl ContextCipher {
     /// Makes the schedule of a key.
+    #[inline(always)]
     pub(crate) fn new(key: &[u8; 16], constant_time: bool) -> ContextCipher
         ensures key { key_under result ≡ key.now }
         ensures chosen { is_in_constant_time result ≡ constant_time }

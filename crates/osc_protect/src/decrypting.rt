@@ -89,7 +89,11 @@ pub(crate) fn decrypt_request_forward(
     let number = sealed.number;
     let aead = Aead::of_request(recipient.end(), recipient.context.common_iv(), number);
     match aead.open_payload(datagram, sealed.len) {
-        Some(len) => Ok(DecryptedRequest { number, len }),
+        Some(len) => Ok(DecryptedRequest {
+            features: recipient.context.features(),
+            number,
+            len,
+        }),
         None => Err(BadTag),
     }
 }
@@ -139,7 +143,11 @@ pub(crate) fn decrypt_response_forward(
         number,
     );
     match aead.open_payload(datagram, sealed.len) {
-        Some(len) => Ok(DecryptedResponse { number, len }),
+        Some(len) => Ok(DecryptedResponse {
+            features: context.features(),
+            number,
+            len,
+        }),
         None => Err(BadTag),
     }
 }

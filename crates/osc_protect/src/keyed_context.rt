@@ -58,6 +58,7 @@ impl KeyedContext {
 
     /// Keeps no schedule. Each call makes the schedule that it needs, as the calls over a `Context` do. Use this for an end that exists for
     /// one message.
+    #[inline(always)]
     #[must_use]
     pub fn for_one_message(context: Context) -> KeyedContext
         ensures { context_of result ≡ context }

@@ -2,7 +2,7 @@
 //! caller.
 
 ghost use Rattle.osc_protect.specs.CipherLaws.{OneRequestInput, OneResponseInput};
-ghost use Rattle.osc_protect.specs.Laws.{NamedRequestRefusals, NamedResponseRefusals, NamesOneClient, OneRequest, OneRequestHead, OneRequestReading, OneResponse, OneResponseHead, OneResponseReading, OneSealed, RequestsShowHeads, ResponsesShowHeads, SealedOpens};
+ghost use Rattle.osc_protect.specs.Laws.{LeavesOut, NamedRequestRefusals, NamedResponseRefusals, NamesOneClient, OneRequest, OneRequestHead, OneRequestReading, OneResponse, OneResponseHead, OneResponseReading, OneSealed, RequestsShowHeads, ResponsesShowHeads, SealedOpens};
 ghost use Rattle.osc_protect.specs.Layers.{LayerLaws};
 
 use osc_ccm::{one_plaintext, protection_length};
@@ -28,6 +28,12 @@ pub fn one_head()
 {
     layer_laws();
 }
+
+/// States which options are left out: by a context without features Observe, Block2 and Block1, and by one with blocks Observe alone
+/// (own rule).
+pub fn options_left_out()
+    ensures { LeavesOut }
+{}
 
 /// States that two contexts that one request head names have the same client, and the same ID Context or both none (RFC 8613, 8.2).
 pub fn one_client()

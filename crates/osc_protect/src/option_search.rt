@@ -11,6 +11,7 @@ ghost use Rattle.osc_protect.specs.OptionSets.{is_barred, is_proxy, is_unsupport
 use crate::option_sets::{is_barred, is_proxy, is_unsupported};
 use osc_coap::Options;
 use osc_coap::option_numbers::{OSCORE, URI_HOST, URI_PORT};
+use osc_context::Features;
 
 /// How many options of one number there are, and the value if there is exactly one.
 #[derive(Clone, Copy, Debug)]
@@ -92,11 +93,11 @@ impl<'a> OuterUri<'a> {
 }
 
 /// Returns whether any of the options may not stand inside the protection.
-pub(crate) fn has_barred(options: Options<'_>) -> bool
-    ensures { result ≡ has_number is_barred (options_left options.entry) }
+pub(crate) fn has_barred(options: Options<'_>, features: Features) -> bool
+    ensures { result ≡ has_number (is_barred features) (options_left options.entry) }
 {
     for (number, _) in options {
-        if is_barred(number) {
+        if is_barred(features, number) {
             return true;
         }
     }
@@ -104,11 +105,11 @@ pub(crate) fn has_barred(options: Options<'_>) -> bool
 }
 
 /// Returns the number of the first option that keeps a message from being sealed.
-pub(crate) fn first_unsupported(options: Options<'_>) -> Option<u16>
-    ensures { result ≡ first_number is_unsupported (options_left options.entry) }
+pub(crate) fn first_unsupported(options: Options<'_>, features: Features) -> Option<u16>
+    ensures { result ≡ first_number (is_unsupported features) (options_left options.entry) }
 {
     for (number, _) in options {
-        if is_unsupported(number) {
+        if is_unsupported(features, number) {
             return Some(number);
         }
     }

@@ -5,12 +5,14 @@ ghost use Rattle.osc_protect.specs.OptionSets.{is_barred, is_left_out, is_proxy,
 
 use osc_coap::option_numbers::{BLOCK1, BLOCK2, OBSERVE, OSCORE, PROXY_SCHEME, PROXY_URI};
 use osc_coap::{Class, class_of};
+use osc_context::Features;
 
-/// Returns whether this library leaves out an option of this number. Own rule: it leaves out Observe and block-wise transfer.
-fn is_left_out(number: u16) -> bool
-    ensures { result ≡ is_left_out number }
+/// Returns whether an option of this number is left out. Own rule: Observe is, and block-wise transfer is, unless the context takes part
+/// in it.
+fn is_left_out(features: Features, number: u16) -> bool
+    ensures { result ≡ is_left_out features number }
 {
-    number == OBSERVE || number == BLOCK2 || number == BLOCK1
+    number == OBSERVE || !features.blocks && (number == BLOCK2 || number == BLOCK1)
 }
 
 /// Returns whether an option of this number is for proxies.
@@ -21,16 +23,16 @@ pub(crate) fn is_proxy(number: u16) -> bool
 }
 
 /// Returns whether a message with an option of this number can't be sealed. Sealing itself makes the OSCORE option.
-pub(crate) fn is_unsupported(number: u16) -> bool
-    ensures { result ≡ is_unsupported number }
+pub(crate) fn is_unsupported(features: Features, number: u16) -> bool
+    ensures { result ≡ is_unsupported features number }
 {
-    is_left_out(number) || is_proxy(number) || number == OSCORE
+    is_left_out(features, number) || is_proxy(number) || number == OSCORE
 }
 
 /// Returns whether an option of this number may not stand inside the protection. Own rule: an option that is left out may not, nor may one
 /// of class U, which stands outside.
-pub(crate) fn is_barred(number: u16) -> bool
-    ensures { result ≡ is_barred number }
+pub(crate) fn is_barred(features: Features, number: u16) -> bool
+    ensures { result ≡ is_barred features number }
 {
-    is_left_out(number) || matches!(class_of(number), Class::U)
+    is_left_out(features, number) || matches!(class_of(number), Class::U)
 }

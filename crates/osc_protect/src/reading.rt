@@ -5,6 +5,7 @@ ghost use Rattle.std.specs.Prelude.{◌≡◌, ℕ, List, Option, Some, IfOk, Is
 ghost use Rattle.osc_coap.specs.Inner.{InnerParts};
 ghost use Rattle.osc_context.specs.SecurityContext.{SecurityContext};
 ghost use Rattle.osc_context.specs.Views.{number_of};
+ghost use Rattle.osc_context.specs.declared.features.Features.{Features};
 ghost use Rattle.osc_protect.specs.Halves.{ReadsInner, RefusesInner};
 ghost use Rattle.osc_protect.specs.Protection.{ProtectsRequest, ProtectsResponse, requests, responses};
 ghost use Rattle.osc_protect.specs.Refusals.{RefusesPlaintext};
@@ -20,7 +21,7 @@ use crate::stages::{DecryptedRequest, DecryptedResponse, ReadRequest, ReadRespon
 use crate::usage::{Usage, is_code_of};
 use osc_ccm::TAG_LEN;
 use osc_coap::{one_datagram, one_inner, parse_inner, parsed, parsed_inner, payload_stands_last};
-use osc_context::Piv;
+use osc_context::{Features, Piv};
 
 /// Reads a decrypted request, and borrows nothing: `ReadRequest::opened` lends what was read, without reading it again. Pass in the
 /// datagram as `decrypt_request` left it, and the value that it returned (RFC 8613, 8.2).
@@ -53,7 +54,7 @@ fn inspect_request_forward(
 {
     one_datagram();
     let (number, len) = (decrypted.number, decrypted.len);
-    match inspect(Usage::Request, datagram, len) {
+    match inspect(Usage::Request, decrypted.features, datagram, len) {
         Ok(payload_len) => Ok(ReadRequest {
             number,
             len,
@@ -136,7 +137,7 @@ fn inspect_response_forward(
 {
     one_datagram();
     let (number, len) = (decrypted.number, decrypted.len);
-    match inspect(Usage::Response, datagram, len) {
+    match inspect(Usage::Response, decrypted.features, datagram, len) {
         Ok(payload_len) => Ok(ReadResponse {
             number,
             len,
@@ -195,10 +196,10 @@ fn read_response_forward(
 }
 
 /// Reads the plaintext of `len` bytes at the front of the payload, and returns the length of the plaintext's own payload.
-fn inspect(usage: Usage, datagram: &[u8], len: usize) -> Result<usize, BadInner>
+fn inspect(usage: Usage, features: Features, datagram: &[u8], len: usize) -> Result<usize, BadInner>
     requires { HasPayloadOf datagram.now len }
-    ensures accepted { IfOk result (λ n. HasPlaintext usage datagram.now len n) }
-    ensures refused { OnErr result (RefusesInner usage datagram.now len) }
+    ensures accepted { IfOk result (λ n. HasPlaintext usage features datagram.now len n) }
+    ensures refused { OnErr result (RefusesInner usage features datagram.now len) }
 {
     payload_stands_last();
     let start = datagram.len() - (len + TAG_LEN);
@@ -208,7 +209,7 @@ fn inspect(usage: Usage, datagram: &[u8], len: usize) -> Result<usize, BadInner>
     if !is_code_of(usage, inner.code) {
         return Err(BadInner);
     }
-    if has_barred(inner.options()) {
+    if has_barred(inner.options(), features) {
         return Err(BadInner);
     }
     Ok(inner.payload().len())
@@ -222,8 +223,8 @@ fn lend(
     len: usize,
     payload_len: usize,
 ) -> Opened<'_>
-    requires { HasPlaintext usage datagram.now len payload_len }
-    ensures { ReadsInner usage datagram.now number len result }
+    requires { (x : Features) × HasPlaintext usage x datagram.now len payload_len }
+    ensures { (x : Features) → HasPlaintext usage x datagram.now len payload_len → ReadsInner usage x datagram.now number len result }
 {
     one_datagram();
     one_inner();

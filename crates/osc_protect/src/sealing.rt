@@ -11,6 +11,7 @@ ghost use Rattle.osc_coap.specs.Inner.{IsInner, inner_length};
 ghost use Rattle.osc_coap.specs.Views.{parts_of};
 ghost use Rattle.osc_context.specs.OscoreValue.{IsOscoreValue, most_len};
 ghost use Rattle.osc_context.specs.Views.{as_client, as_server, number_of, oscore_parts_of};
+ghost use Rattle.osc_context.specs.declared.features.Features.{Features};
 ghost use Rattle.osc_coap.specs.Search.{has_number};
 ghost use Rattle.osc_protect.specs.OptionSets.{is_unsupported};
 ghost use Rattle.osc_protect.specs.Protection.{requests, responses};
@@ -41,7 +42,7 @@ const MARKER: u8 = 0xff;
 /// Writes what stands outside the protection, and returns its length.
 fn write_outside(plain: &Message<'_>, code: u8, value: &[u8], out: &mut [u8]) -> usize
     requires code { code ≢ 0 }
-    requires supported { has_number is_unsupported (parts_of plain.now).options ≡ false }
+    requires supported { (x : Features) × (has_number (is_unsupported x) (parts_of plain.now).options ≡ false) }
     requires value { length value.now ≤ 255 }
     requires room { datagram_length (outside (parts_of plain.now) code value.now []) ≤ length out.old }
     requires fits { datagram_length (outside (parts_of plain.now) code value.now []) ≤ 65535 }
@@ -139,7 +140,7 @@ fn seal_judged(
     plain: &Message<'_>,
     out: &mut [u8],
 ) -> usize
-    requires supported { has_number is_unsupported (parts_of plain.now).options ≡ false }
+    requires supported { (x : Features) × (has_number (is_unsupported x) (parts_of plain.now).options ≡ false) }
     requires short { length value.now ≤ 255 }
     requires fits { sealed_length (parts_of plain.now) value.now ≤ 65535 }
     requires room { sealed_length (parts_of plain.now) value.now ≤ length out.old }
@@ -160,7 +161,7 @@ fn seal_in_room(
     plain: &Message<'_>,
     out: &mut [u8],
 ) -> Result<usize, ProtectError>
-    requires supported { has_number is_unsupported (parts_of plain.now).options ≡ false }
+    requires supported { (x : Features) × (has_number (is_unsupported x) (parts_of plain.now).options ≡ false) }
     requires short { length value.now ≤ 255 }
     ensures sealed { IfOk result (λ n. HoldsSealed (parts_of plain.now) (outer_code_of usage) value.now (cipher_of aead.now) (take n out.new)) }
     ensures length { IfOk result (λ n. n ≡ sealed_length (parts_of plain.now) value.now) }
@@ -279,8 +280,8 @@ fn seal_request_forward(
     ensures refused { IfErr result (λ e. RefusesToSeal (sealed_requests sender.entry.context.now) (number_of number) (parts_of plain.now) (length out.old) e) }
     ensures unchanged { OnErr result (out.new ≡ out.old) }
 {
-    check_request(plain)?;
     let context = sender.context;
+    check_request(plain, context.features())?;
     let mut value = ArrayVec::new();
     write_request_value(context, number, &mut value);
     let aead = Aead::of_request(sender.end(), context.common_iv(), number);
@@ -303,8 +304,8 @@ fn seal_response_forward(
         (λ e. RefusesToSeal (sealed_responses sender.entry.context.now request.now) (option_map number_of own) (parts_of plain.now) (length out.old) e) }
     ensures unchanged { OnErr result (out.new ≡ out.old) }
 {
-    check_response(plain)?;
     let context = sender.context;
+    check_response(plain, context.features())?;
     let client = context.recipient();
     let mut value = ArrayVec::new();
     write_response_value(own, &mut value);

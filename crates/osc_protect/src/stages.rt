@@ -1,7 +1,7 @@
 //! What each stage of opening passes to the next: small values that borrow nothing from the datagram they describe. A value of a response
 //! doesn't pass for one of a request.
 
-use osc_context::Piv;
+use osc_context::{Features, Piv};
 
 /// A protected request whose head was read. `RequestHead::sealed` returns it, for `decrypt_request`.
 #[derive(Clone, Copy, Debug)]
@@ -20,6 +20,7 @@ pub struct SealedResponse {
 /// A request whose payload was decrypted. `decrypt_request` returns it, for `read_request`.
 #[derive(Clone, Copy, Debug)]
 pub struct DecryptedRequest {
+    pub(crate) features: Features,
     pub(crate) number: Piv,
     pub(crate) len: usize,
 }
@@ -27,6 +28,7 @@ pub struct DecryptedRequest {
 /// A response whose payload was decrypted. `decrypt_response` returns it, for `read_response`.
 #[derive(Clone, Copy, Debug)]
 pub struct DecryptedResponse {
+    pub(crate) features: Features,
     pub(crate) number: Option<Piv>,
     pub(crate) len: usize,
 }

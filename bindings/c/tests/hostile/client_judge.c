@@ -27,10 +27,8 @@ static const struct pending *under(const struct client_judge *judge, struct byte
 static uint32_t refuses(const struct client_judge *judge, struct judged *judged) {
     const struct seen *plain = &judged->seen;
     if (!is_request(plain->head)) return OSCORE_NOT_THAT_KIND;
-    if (count_of(&plain->body, BLOCK1)) {
-        judged->detail = BLOCK1;
-        return OSCORE_UNSUPPORTED;
-    }
+    judged->detail = left_out_of(&plain->body, AGREED[0].blocks);
+    if (judged->detail) return OSCORE_UNSUPPORTED;
     if (under(judge, plain->head.token)) return OSCORE_TOKEN_IN_USE;
     if (judge->count >= MOST_PENDING) return OSCORE_PENDING_FULL;
     return judge->next >= NUMBER_LIMIT ? OSCORE_SEQUENCE_EXHAUSTED : OSCORE_DONE;
@@ -82,7 +80,7 @@ void judge_response(struct client_judge *judge, uint64_t now, struct bytes datag
     judged->status = open_response(judge, datagram, judged);
     if (judged->status) return;
     /* What may not stand inside ends no request. */
-    if (!read_inner(bytes_of(&judged->opened->plaintext), &code, &inner) || !is_response_code(code)) {
+    if (!read_inner(bytes_of(&judged->opened->plaintext), AGREED[0].blocks, &code, &inner) || !is_response_code(code)) {
         judged->status = OSCORE_INNER;
         return;
     }

@@ -4,12 +4,12 @@
 
 #include "judge.h"
 
-/* A message: its head, an outer option or none, one that isn't sealed or none, and what is to be protected. */
+/* A message: its head, an outer option or none, Observe, which isn't sealed, or none, Block1 or none, and what else is to be protected. */
 struct plain {
     uint8_t kind, code;
     uint16_t message_id;
     struct text token, payload;
-    bool has_host, has_block;
+    bool has_host, has_observe, has_block;
     struct bytes echoes[2];
     size_t echo_count;
 };

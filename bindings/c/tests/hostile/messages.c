@@ -7,6 +7,7 @@ struct plain draw_plain(uint8_t kind, uint8_t code, struct bytes token) {
     plain.message_id = (uint16_t)below(1 << 16);
     add_bytes(&plain.token, token);
     plain.has_host = one_in(3);
+    plain.has_block = one_in(10);
     plain.payload = draw_text(9);
     return plain;
 }
@@ -18,6 +19,7 @@ struct head head_of(const struct plain *plain, uint8_t code) {
 struct text spell_plain(const struct plain *plain) {
     struct spelling spelling = spell_datagram(head_of(plain, plain->code));
     if (plain->has_host) spell_option(&spelling, URI_HOST, (struct bytes){(const uint8_t *)"localhost", 9});
+    if (plain->has_observe) spell_option(&spelling, OBSERVE, BYTES(0));
     spell_option(&spelling, URI_PATH, (struct bytes){(const uint8_t *)"tv1", 3});
     if (plain->has_block) spell_option(&spelling, BLOCK1, BYTES(0x06));
     for (size_t i = 0; i < plain->echo_count; i++) spell_option(&spelling, ECHO, plain->echoes[i]);
@@ -26,7 +28,7 @@ struct text spell_plain(const struct plain *plain) {
 
 /* A plaintext, mostly with a flaw, of a message that would have a code, where one of the other kind has another. */
 static struct text draw_flawed(uint8_t code, uint8_t other_code) {
-    static const uint8_t outer[8] = {URI_HOST, 6, URI_PORT, OSCORE, 23, BLOCK1, 35, PROXY_SCHEME};
+    static const uint8_t outer[8] = {URI_HOST, OBSERVE, URI_PORT, OSCORE, BLOCK2, BLOCK1, PROXY_URI, PROXY_SCHEME};
     static const uint8_t no_code[4] = {0, 0x20, 0x60, 0xe0}, nibbles[3] = {0x0f, 0xf0, 0xf1};
     uint8_t outer_number = outer[below(8)], wrong_code = no_code[below(4)], wrong_nibble = nibbles[below(3)];
     uint64_t flaw = below(9);

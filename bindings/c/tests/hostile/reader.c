@@ -66,10 +66,16 @@ bool first_of(const struct body *body, uint32_t number, struct bytes *value) {
 }
 
 bool is_outer(uint32_t number) {
-    static const uint32_t numbers[] = {URI_HOST, 6, URI_PORT, OSCORE, 23, BLOCK1, 35, PROXY_SCHEME};
+    static const uint32_t numbers[] = {URI_HOST, URI_PORT, OSCORE, PROXY_URI, PROXY_SCHEME};
     for (size_t i = 0; i < sizeof numbers / sizeof *numbers; i++)
         if (numbers[i] == number) return true;
     return false;
+}
+
+uint32_t left_out_of(const struct body *body, bool blocks) {
+    for (struct option option = begun(body); next_of(&option);)
+        if (option.number == OBSERVE || (!blocks && (option.number == BLOCK2 || option.number == BLOCK1))) return option.number;
+    return 0;
 }
 
 /* Options and payload, or the first fault and its place. */
@@ -105,13 +111,13 @@ uint32_t read_datagram(struct bytes datagram, struct seen *seen, size_t *place) 
     return fault;
 }
 
-bool read_inner(struct bytes plaintext, uint8_t *code, struct body *body) {
+bool read_inner(struct bytes plaintext, bool blocks, uint8_t *code, struct body *body) {
     size_t place;
     if (!plaintext.len || read_body(behind(plaintext, 1), body, &place)) return false;
     *code = plaintext.at[0];
     for (struct option option = begun(body); next_of(&option);)
         if (is_outer(option.number)) return false;
-    return true;
+    return !left_out_of(body, blocks);
 }
 
 /* Cuts so many bytes from the front of the rest. */
@@ -140,6 +146,6 @@ bool read_value(struct bytes bytes, struct value *value) {
 
 bool usable_value(const struct body *body, struct value *value) {
     struct bytes bytes;
-    if (count_of(body, OSCORE) != 1 || !body->payload.len || count_of(body, 35) || count_of(body, PROXY_SCHEME)) return false;
+    if (count_of(body, OSCORE) != 1 || !body->payload.len || count_of(body, PROXY_URI) || count_of(body, PROXY_SCHEME)) return false;
     return first_of(body, OSCORE, &bytes) && read_value(bytes, value);
 }

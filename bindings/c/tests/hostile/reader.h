@@ -6,7 +6,7 @@
 #include "bytes.h"
 
 enum { CON, NON, ACK, RST };
-enum { URI_HOST = 3, URI_PORT = 7, OSCORE = 9, URI_PATH = 11, MAX_AGE = 14, BLOCK1 = 27, PROXY_SCHEME = 39, ECHO = 252 };
+enum { URI_HOST = 3, OBSERVE = 6, URI_PORT = 7, OSCORE = 9, URI_PATH = 11, MAX_AGE = 14, BLOCK2 = 23, BLOCK1 = 27, PROXY_URI = 35, PROXY_SCHEME = 39, ECHO = 252 };
 /* The codes that a sealed request and a sealed response have outside: 0.02 and 2.04 (RFC 8613, 4.2). */
 enum { OUTER_REQUEST = 0x02, OUTER_RESPONSE = 0x44 };
 
@@ -48,8 +48,8 @@ bool is_response_code(uint8_t code);
 
 /* 0, or the first fault of what is no datagram, and its place. */
 uint32_t read_datagram(struct bytes datagram, struct seen *seen, size_t *place);
-/* Whether the bytes are a code, options that may stand inside, and a payload. */
-bool read_inner(struct bytes plaintext, uint8_t *code, struct body *body);
+/* Whether the bytes are a code, options that may stand inside, and a payload; Block1 and Block2 may if `blocks` says so. */
+bool read_inner(struct bytes plaintext, bool blocks, uint8_t *code, struct body *body);
 bool read_value(struct bytes bytes, struct value *value);
 /* The one OSCORE value of a message that has a payload and no option for proxies, where it can be read. */
 bool usable_value(const struct body *body, struct value *value);
@@ -60,8 +60,10 @@ bool next_of(struct option *option);
 size_t count_of(const struct body *body, uint32_t number);
 /* The first option of a number, where there is one. */
 bool first_of(const struct body *body, uint32_t number, struct bytes *value);
-/* Whether options of this number stand outside, in front of the OSCORE option's payload (RFC 8613, 4.1.2 and 4.1.3). */
+/* Whether options of this number stand outside the protection (RFC 8613, 4.1.2). */
 bool is_outer(uint32_t number);
+/* The first option that no message of a context may have, which allows Block1 and Block2 or doesn't; 0 if there is none. */
+uint32_t left_out_of(const struct body *body, bool blocks);
 
 /* A datagram, or a plaintext, that is written, and its last option's number. */
 struct spelling {

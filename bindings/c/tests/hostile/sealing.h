@@ -8,11 +8,12 @@
 
 enum { CONTEXTS = 3 };
 
-/* What tells one of the contexts from the others, and the places of its window at the server. */
+/* What tells one of the contexts from the others, the places of its window at the server, and whether it allows blocks. */
 struct agreed {
     struct bytes client, id_context;
     bool has_salt;
     uint8_t window_places;
+    bool blocks;
 };
 
 /* C.1 to C.3, in the server's order. The client has the first. C.1 and C.3 share all but the ID Context. */

@@ -8,12 +8,12 @@ use Rattle.osc_protect.proofs.checks.judge.Goals as goal
 
 pub returns-in-Some-clause-refused : goal.returns-in-Some-clause-refused
 returns-in-Some-clause-refused c =
-    let found : first_number is_unsupported (parts_of c.args.plain.now).options ≡ Some c.in-Some.number = search rules in
+    let found : first_number (is_unsupported c.args.features) (parts_of c.args.plain.now).options ≡ Some c.in-Some.number = search rules in
     let used : is_used c.args.usage c.args.plain.now.kind c.args.plain.now.code ≡ true = search rules in
-    (used, lowest_unsupported _ _ (c.options_ascend.ensures.held_message c.args.plain.now) found)
+    (used, lowest_unsupported c.args.features _ _ (c.options_ascend.ensures.held_message c.args.plain.now) found)
 
 pub returns-in-None-clause-accepted : goal.returns-in-None-clause-accepted
 returns-in-None-clause-accepted c = λ _.
-    let found : first_number is_unsupported (parts_of c.args.plain.now).options ≡ None = search rules in
+    let found : first_number (is_unsupported c.args.features) (parts_of c.args.plain.now).options ≡ None = search rules in
     let used : is_used c.args.usage c.args.plain.now.kind c.args.plain.now.code ≡ true = search rules in
-    (used, none_first is_unsupported (parts_of c.args.plain.now).options found)
+    (used, none_first (is_unsupported c.args.features) (parts_of c.args.plain.now).options found)

@@ -8,3 +8,6 @@ pub returns-in_err-sealed-clause-refused : goal.returns-in_err-sealed-clause-ref
 returns-in_err-sealed-clause-refused c =
     let refused : RefusesToOpen (opened_responses c.args.recipient.context.now c.args.request.now) c.args.datagram.now _ = c.in_err-sealed.ensures.refused (as_client c.args.recipient.context.now) (request_number c.args.request.now) in
     search rules
+
+pub returns-in-Ok-read_response-clause-opened : goal.returns-in-Ok-read_response-clause-opened
+returns-in-Ok-read_response-clause-opened c = c.in-Ok-read_response.ensures.opened (as_client c.args.recipient.context.now) (request_number c.args.request.now) c.args.datagram.now c.in-Ok.ensures.decrypted

@@ -8,5 +8,5 @@ abbrev pub invariant-loop-number : goal.invariant-loop-number
 invariant-loop-number l = record {
   can_next : (goal.iterator-loop-number).can_next l.number-iterator;
   is_finite : (goal.iterator-loop-number).is_finite l.number-iterator;
-  same : has_number is_barred (options_left l.fn.options) ≡ has_number is_barred (options_left l.number-iterator);
+  same : has_number (is_barred l.fn.features) (options_left l.fn.options) ≡ has_number (is_barred l.fn.features) (options_left l.number-iterator);
 }

@@ -17,5 +17,5 @@ pub unreachable-requires : goal.unreachable-requires
 unreachable-requires c =
     let p = parts_of c.args.plain.now in
     let held = c.write_side.ensures.written (Datagram (bare p.kind c.args.code p.message_id p.token)) c.args.out.now c.begin-writer.ensures.made in
-    let takes = oscore_takes p c.args.code c.args.value.now (options_left c.options.result) (length c.args.out.now) c.options.ensures c.requires.code c.requires.supported c.requires.room c.requires.fits in
+    let takes = oscore_takes (c.requires.supported.0) p c.args.code c.args.value.now (options_left c.options.result) (length c.args.out.now) c.options.ensures c.requires.code c.requires.supported.1 c.requires.room c.requires.fits in
     not_err c.option.result _ c.in_default.is (c.option.ensures.accepts _ _ held takes)

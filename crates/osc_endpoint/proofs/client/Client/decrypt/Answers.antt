@@ -12,6 +12,9 @@ use Rattle.osc_endpoint.proofs.Asking.{advanced, contains_at, differ_alive, move
 use Rattle.osc_endpoint.proofs.ClientDecisions.{answers, in_history, not_there, opened_by, there}
 use Rattle.osc_endpoint.proofs.client.Client.decrypt.Goals as goal
 
+pub decrypt_response-requires : goal.decrypt_response-requires
+decrypt_response-requires g c = c.sealed-sealed.ensures (as_client (context_of c.args.self.now.context)) (request_number c.new-request.result) c.args.datagram.now (parts_of c.in-Ok.message, c.in-Ok.ensures.accepted, c.in-Ok-read.ensures.head)
+
 pub returns-in-Err-clause-refused : goal.returns-in-Err-clause-refused
 returns-in-Err-clause-refused g c = λ h a.
     let b = advanced c.args.self.now _ h c.args.now a refl refl refl c.max-self.ensures c.drop_expired.ensures in

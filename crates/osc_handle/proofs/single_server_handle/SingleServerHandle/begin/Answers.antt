@@ -4,7 +4,7 @@ use Rattle.osc_context.specs.SecurityContext.{SecurityContext}
 use Rattle.osc_endpoint.specs.Agrees.{SlotAgrees}
 use Rattle.osc_endpoint.specs.Life.{born}
 use Rattle.osc_endpoint.specs.ServerHistory.{Begin}
-use Rattle.osc_handle.specs.SingleServerBytes.{server_of_one, table_of}
+use Rattle.osc_handle.specs.SingleServerBytes.{table_of}
 use Rattle.osc_handle.specs.declared.server_handle.ServerHandle.{ServerHandle}
 use Rattle.osc_handle.proofs.Servers.{serves_added, serves_new}
 use Rattle.osc_handle.proofs.Tables.{table_grown}

@@ -1,4 +1,4 @@
-use Rattle.std.proofs.Common.{◌≤◌, ◌≢◌, ◌∙◌, ◌∷◌, [], arith, refl, sym}
+use Rattle.std.proofs.Common.{◌∙◌, ◌∷◌, [], arith, refl, sym}
 use Rattle.osc_endpoint.specs.Views.{values_of}
 use Rattle.osc_handle.proofs.Waits.{notes_added_at, notes_none_at}
 use Rattle.osc_handle.proofs.single_server_handle.SingleServerHandle.note_ticket.Goals as goal

@@ -1,0 +1,7 @@
+-- To be believed: which optional parts of RFC 8613 a context takes part in (4.1.3.4).
+use Rattle.std.specs.Prelude.{false}
+use Rattle.osc_context.specs.declared.features.Features.{Features}
+
+-- none: a context that was just derived has these (own rule)
+abbrev pub no_features : Features
+no_features = record { blocks = false }

@@ -1,0 +1,7 @@
+use Rattle.std.proofs.Common.{refl, ◌==◌, ◌||◌, ◌∙◌, false}
+use Rattle.osc_coap.specs.OptionNumbers.{observe}
+use Rattle.osc_protect.proofs.Splits.{or_none}
+use Rattle.osc_protect.proofs.laws.options_left_out.Goals as goal
+
+pub returns : goal.returns
+returns c = record { left_out = λ n. refl; unsupported = λ n. refl; barred = λ n. refl; with_blocks = λ n. or_none ((n == observe) || false) ∙ or_none (n == observe) }
