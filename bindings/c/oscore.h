@@ -87,7 +87,7 @@ typedef enum oscore_status {
     OSCORE_TAG = 31,               /* the payload protects nothing under this context and this number */
     OSCORE_INNER = 32,             /* it protects what may not stand inside a message */
     OSCORE_CHALLENGE = 33,         /* the context was restarted, and the request lacks the Echo value that the reply asks for */
-    OSCORE_UNSUPPORTED = 34,       /* an option that isn't sealed, as Block1; `detail` is its number */
+    OSCORE_UNSUPPORTED = 34,       /* an option that isn't sealed, as Observe; `detail` is its number */
     OSCORE_TOKEN_IN_USE = 35,      /* a request with this token is pending */
     OSCORE_PENDING_FULL = 36,      /* eight requests are pending */
     OSCORE_SEQUENCE_EXHAUSTED = 37, /* no own number below 2^40 is left */
@@ -186,8 +186,8 @@ typedef struct oscore_unanswered {
     uint64_t highest, mask;
 } oscore_unanswered;
 
-/* A server of up to eight contexts, which counts their numbers: plain bytes, begun by `oscore_server_begin`. Never copy one and go on
-   with both, and never restore one from a copy: its own numbers would be rolled back, and a nonce used twice. What has lost its
+/* A server of up to eight contexts, which counts their numbers: plain bytes, begun by `oscore_server_begin`. Never go on with
+   two copies of one, and never with an old one: its own numbers would be rolled back, and a nonce used twice. What has lost its
    server begins a new one, and adds each context as `restarted`. One call at a time works on a server. It holds keys:
    `oscore_wipe(&server, sizeof server)` when it isn't needed. */
 typedef struct oscore_server {

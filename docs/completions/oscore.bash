@@ -22,6 +22,7 @@ _oscore() {
     case $before in
         --role) words=(server client) ;;
         --window) words=(32 64) ;;
+        --allow) words=(blocks) ;;
         --numbers)
             compopt -o filenames 2>/dev/null
             mapfile -t COMPREPLY < <(compgen -f -- "$word")
@@ -36,7 +37,7 @@ _oscore() {
     fi
 
     case $call in
-        derive | open | protect | run) words=(--secret --salt --sender --recipient --id-context --help) ;;
+        derive | open | protect | run) words=(--secret --salt --sender --recipient --id-context --allow --help) ;;
         explain) words=(--help) ;;
         help) ((COMP_CWORD == 2)) && words=(derive open protect explain run) ;;
     esac

@@ -39,6 +39,7 @@ complete -c oscore -n "$context --salt" -l salt -x -d 'The Master Salt, 0 to 64 
 complete -c oscore -n "$context --sender" -l sender -x -d 'This end\'s identifier, 0 to 7 bytes of hex'
 complete -c oscore -n "$context --recipient" -l recipient -x -d 'The other end\'s identifier, 0 to 7 bytes of hex'
 complete -c oscore -n "$context --id-context" -l id-context -x -d 'The ID Context, 1 to 32 bytes of hex'
+complete -c oscore -n "$context --allow" -l allow -x -a blocks -d 'What may also pass inside'
 
 complete -c oscore -n '__oscore_call open protect; and __oscore_without --request' -l request -x -d 'Of a response: the number of its request'
 complete -c oscore -n '__oscore_call protect; and __oscore_without --sequence' -l sequence -x -d 'The own number of the message'

@@ -56,21 +56,21 @@ module _ (x a y b : ℕ → ℕ → ℕ) (h : ℕ → ℕ) (e : h 0 ≡ 0)
 -- its gates, in their order
 abbrev pub substitution_gates : List Gate
 substitution_gates =
-    Xor 3 5 ∷ Xor 1 7 ∷ Xor 2 5 ∷ Xor 3 8 ∷ Xor 5 6 ∷ Xor 0 12 ∷ Xor 0 9 ∷ Xor 5 6 ∷
-    Xor 2 8 ∷ Xor 3 15 ∷ Xor 0 6 ∷ Xor 15 3 ∷ Xor 0 17 ∷ Xor 1 14 ∷ Xor 1 21 ∷ Xor 2 10 ∷
-    Xor 2 13 ∷ Xor 24 0 ∷ Xor 2 1 ∷ Xor 3 15 ∷ Xor 15 3 ∷ Xor 19 0 ∷ Xor 22 1 ∷ And 15 10 ∷
-    And 13 9 ∷ Xor 0 1 ∷ And 19 33 ∷ Xor 0 3 ∷ And 26 7 ∷ And 19 23 ∷ Xor 0 1 ∷ And 22 13 ∷
-    Xor 0 3 ∷ And 30 16 ∷ And 33 15 ∷ Xor 0 1 ∷ And 32 20 ∷ Xor 0 3 ∷ Xor 12 2 ∷ Xor 11 1 ∷
-    Xor 9 4 ∷ Xor 8 3 ∷ Xor 3 28 ∷ Xor 3 23 ∷ Xor 3 22 ∷ Xor 3 22 ∷ Xor 3 2 ∷ And 4 2 ∷
-    Xor 2 0 ∷ And 2 0 ∷ Xor 0 6 ∷ Xor 6 5 ∷ Xor 8 4 ∷ And 0 1 ∷ Xor 0 8 ∷ Xor 10 0 ∷
-    Xor 7 1 ∷ And 11 0 ∷ Xor 0 2 ∷ Xor 10 1 ∷ And 9 0 ∷ Xor 14 0 ∷ Xor 0 3 ∷ Xor 12 8 ∷
-    Xor 13 2 ∷ Xor 10 6 ∷ Xor 2 3 ∷ And 1 54 ∷ And 9 53 ∷ And 14 76 ∷ And 5 49 ∷ And 9 65 ∷
-    And 21 54 ∷ And 9 56 ∷ And 7 55 ∷ And 12 59 ∷ And 10 68 ∷ And 18 66 ∷ And 23 71 ∷ And 14 77 ∷
-    And 18 70 ∷ And 30 72 ∷ And 18 79 ∷ And 16 82 ∷ And 21 80 ∷ Xor 2 1 ∷ Xor 8 7 ∷ Xor 14 6 ∷
-    Xor 11 10 ∷ Xor 19 9 ∷ Xor 20 17 ∷ Xor 16 15 ∷ Xor 24 21 ∷ Xor 19 18 ∷ Xor 10 9 ∷ Xor 15 7 ∷
-    Xor 6 3 ∷ Xor 25 11 ∷ Xor 27 4 ∷ Xor 13 2 ∷ Xor 18 3 ∷ Xor 9 3 ∷ Xor 13 4 ∷ Xor 31 4 ∷
-    Xor 3 2 ∷ Xor 36 2 ∷ Xor 7 3 ∷ Xor 11 5 ∷ Xor 0 116 ∷ Xor 21 9 ∷ Xor 0 118 ∷ Xor 7 6 ∷
-    Xor 19 6 ∷ Xor 22 7 ∷ Xor 27 9 ∷ Xor 11 2 ∷ Xor 0 124 ∷ Xor 22 5 ∷ Xor 0 126 ∷
+    Xor 3 5 ∷ Xor 1 7 ∷ Xor 3 4 ∷ Xor 3 8 ∷ Xor 1 11 ∷ Xor 3 4 ∷ Xor 10 0 ∷ Xor 0 8 ∷
+    Xor 3 8 ∷ Xor 4 15 ∷ Xor 0 6 ∷ Xor 11 14 ∷ Xor 5 17 ∷ Xor 0 20 ∷ Xor 1 11 ∷ Xor 7 3 ∷
+    Xor 13 0 ∷ Xor 2 1 ∷ Xor 13 21 ∷ Xor 26 3 ∷ Xor 5 16 ∷ Xor 21 4 ∷ Xor 20 5 ∷ And 17 10 ∷
+    And 20 9 ∷ And 6 32 ∷ And 17 6 ∷ And 16 13 ∷ And 26 11 ∷ Xor 1 5 ∷ And 20 25 ∷ And 30 13 ∷
+    And 20 16 ∷ Xor 2 4 ∷ Xor 9 1 ∷ Xor 3 2 ∷ Xor 2 0 ∷ Xor 7 1 ∷ Xor 12 14 ∷ Xor 0 4 ∷
+    Xor 0 19 ∷ Xor 14 12 ∷ Xor 4 34 ∷ Xor 6 20 ∷ Xor 2 9 ∷ Xor 2 4 ∷ Xor 1 24 ∷ And 4 3 ∷
+    Xor 1 0 ∷ Xor 5 2 ∷ And 4 1 ∷ Xor 10 3 ∷ And 0 2 ∷ Xor 0 6 ∷ Xor 10 0 ∷ Xor 6 1 ∷
+    And 9 0 ∷ Xor 0 2 ∷ Xor 7 17 ∷ Xor 10 2 ∷ And 1 51 ∷ And 2 1 ∷ Xor 16 0 ∷ Xor 4 9 ∷
+    Xor 1 6 ∷ Xor 11 7 ∷ And 0 53 ∷ And 8 47 ∷ And 10 54 ∷ Xor 5 4 ∷ And 16 77 ∷ And 17 52 ∷
+    And 8 56 ∷ Xor 14 10 ∷ And 9 70 ∷ And 1 58 ∷ And 13 71 ∷ And 7 59 ∷ And 13 63 ∷ And 16 69 ∷
+    And 14 74 ∷ And 23 70 ∷ And 8 80 ∷ And 19 71 ∷ And 14 83 ∷ Xor 18 9 ∷ Xor 13 8 ∷ Xor 3 2 ∷
+    Xor 11 0 ∷ Xor 8 7 ∷ Xor 22 10 ∷ Xor 20 23 ∷ Xor 10 20 ∷ Xor 22 10 ∷ Xor 0 8 ∷ Xor 34 0 ∷
+    Xor 6 7 ∷ Xor 21 10 ∷ Xor 10 3 ∷ Xor 21 20 ∷ Xor 0 11 ∷ Xor 24 3 ∷ Xor 6 1 ∷ Xor 5 6 ∷
+    Xor 21 13 ∷ Xor 36 8 ∷ Xor 1 5 ∷ Xor 0 115 ∷ Xor 22 2 ∷ Xor 24 34 ∷ Xor 18 4 ∷ Xor 9 8 ∷
+    Xor 19 9 ∷ Xor 11 4 ∷ Xor 0 122 ∷ Xor 24 16 ∷ Xor 0 124 ∷ Xor 7 5 ∷ Xor 0 126 ∷
     []
 
 -- its inputs: the bits of a byte, the highest first behind the others, and a one
@@ -79,7 +79,7 @@ inputs f one = f 7 ∷ f 6 ∷ f 5 ∷ f 4 ∷ f 3 ∷ f 2 ∷ f 1 ∷ f 0 ∷ o
 
 -- where its outputs stand among the values, the lowest bit first
 abbrev pub places : List ℕ
-places = 8 ∷ 10 ∷ 4 ∷ 5 ∷ 6 ∷ 0 ∷ 2 ∷ 12 ∷ []
+places = 2 ∷ 11 ∷ 6 ∷ 8 ∷ 10 ∷ 0 ∷ 4 ∷ 15 ∷ []
 
 -- its outputs
 abbrev pub outputs : List ℕ → List ℕ

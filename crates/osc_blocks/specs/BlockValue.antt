@@ -3,7 +3,8 @@
 use Rattle.std.specs.Prelude.{◌≡◌, ℕ, ◌+◌, ◌*◌, ◌%◌, ◌^◌, ◌<◌, ◌≤◌, ◌⊎◌, List, length, Bool, true, false}
 use Rattle.osc_blocks.specs.declared.block_size.BlockSize.{BlockSize}
 use Rattle.osc_blocks.specs.declared.block_size.BlockSize.TheVariants.{Bytes16, Bytes32, Bytes64, Bytes128, Bytes256, Bytes512, Bytes1024}
-use Rattle.osc_blocks.specs.Uint.{SpellsNumber, spelled_number}
+use Rattle.osc_context.specs.PartialIv.{spelled_number}
+use Rattle.osc_blocks.specs.Uint.{SpellsNumber}
 
 -- what a value says: the number of a block, whether more blocks follow it, and a size (RFC 7959, 2.2)
 pub record BlockParts : Type 0 where

@@ -49,9 +49,10 @@ impl<const MOST: usize> Body<MOST> {
         }
     }
 
-    /// Takes a block. `operation` is up to 64 bytes that tell one body from another: for Block1 the code and the options but
-    /// Block1 and Size1, with Request-Tag; for Block2 the ETag (RFC 7959, 2.4 and 2.5; own rule: the limit). Refuses with
-    /// LongOperation, WrongLength, OutOfOrder, OtherOperation or TooLarge, judged in this order.
+    /// Takes a block. `operation` is up to 64 bytes that tell one body from another: for Block1 the code and the
+    /// options, Request-Tag among them, but not Block1, Block2 and the elective options that are no part of the Cache-Key, as
+    /// Size1 and Echo; for Block2 the ETag (RFC 7252, 5.4.2; RFC 7959, 2.4 and 2.5; RFC 9175, 3.3; own rule: the limit). Refuses
+    /// with LongOperation, WrongLength, OutOfOrder, OtherOperation or TooLarge, judged in this order.
     #[tactic(auto, unfolding(crate::specs::Views::kept_of))]
     pub fn take(
         &mut self,

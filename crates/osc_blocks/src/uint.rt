@@ -2,7 +2,8 @@
 
 ghost use Rattle.std.specs.Prelude.{◌≡◌, ◌^◌, ◌<◌, ◌≤◌, ℕ, List, length};
 ghost use Rattle.arrayvec.specs.ArrayVec.{array_vec_len};
-ghost use Rattle.osc_blocks.specs.Uint.{spelled_number, SpellsNumber};
+ghost use Rattle.osc_blocks.specs.Uint.{SpellsNumber};
+ghost use Rattle.osc_context.specs.PartialIv.{spelled_number};
 
 use arrayvec::ArrayVec;
 

@@ -2,11 +2,11 @@
 
 use crate::words::{bytes_of, required_bytes};
 use clap::ArgMatches;
-use osc_context::Params;
-use osc_text::Fault;
+use osc_context::{Features, Params};
+use osc_text::{Agreed, Fault};
 use std::alloc::Global;
 
-/// The bytes of a context's options. The context is derived from them.
+/// The bytes of a context's options, from which the context is derived, and what may pass inside its protection.
 #[derive(Drop)]
 pub(crate) struct ContextWords {
     secret: Vec<u8>,
@@ -14,6 +14,7 @@ pub(crate) struct ContextWords {
     sender: Vec<u8>,
     recipient: Vec<u8>,
     id_context: Option<Vec<u8>>,
+    blocks: bool,
 }
 
 impl ContextWords {
@@ -37,17 +38,22 @@ impl ContextWords {
             sender,
             recipient,
             id_context,
+            blocks: matches.get_str("allow").is_some(),
         })
     }
 
-    /// Returns what the context is derived from.
-    pub(crate) fn params(&self) -> Params<'_> {
-        Params {
+    /// Returns what was agreed: what the context is derived from, and the features that it takes part in.
+    pub(crate) fn agreed(&self) -> Agreed<'_> {
+        let params = Params {
             secret: self.secret.as_slice(),
             salt: self.salt.as_slice(),
             id_context: self.id_context.as_deref(),
             sender: self.sender.as_slice(),
             recipient: self.recipient.as_slice(),
-        }
+        };
+        let features = Features {
+            blocks: self.blocks,
+        };
+        Agreed { params, features }
     }
 }

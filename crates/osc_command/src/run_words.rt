@@ -3,7 +3,7 @@
 ghost use Rattle.std.specs.Prelude.{◌≡◌, IfOk, false};
 ghost use Rattle.osc_command.specs.Calls.{IsLocal};
 
-use crate::words::{input_fault, optional_number, value_option, with_context};
+use crate::words::{choice_option, input_fault, optional_number, value_option, with_context};
 use clap::{Arg, ArgAction, ArgMatches, Command};
 use osc_context::Piv;
 use osc_text::{Asking, Fault, Serving, Wrong, read_decimal};
@@ -61,19 +61,6 @@ const HELP_LIFE: &str = "How many ms a request is pending [default: 60000]";
 const LIFE_MS: u64 = 60_000;
 
 const SIZES: &[&str] = &["32", "64"];
-
-/// Returns an option with one value, which is one of `choices`.
-fn choice_option<'a>(
-    alloc: Global,
-    name: &'a str,
-    value: &'a str,
-    choices: &'a [&'a str],
-    help: &'a str,
-) -> Arg<'a>
-    ensures { result.global ≡ false }
-{
-    value_option(alloc, name, value, help).value_parser(choices)
-}
 
 /// Returns the option without a value.
 fn restarted_flag<'a>(alloc: Global) -> Arg<'a>

@@ -10,11 +10,11 @@ use crate::run_words::{read_asking, read_input, read_life, read_serving, read_wi
 use crate::words::{input_fault, optional_number, read_words, required_bytes};
 use clap::error::ErrorKind;
 use clap::{ArgMatches, Error};
-use osc_context::{Keeper, Params};
+use osc_context::Keeper;
 use osc_protect::RequestRef;
 use osc_text::{
-    Fault, Opening, Sealing, Wrong, ask_kept_text, ask_text, derive_text, explain_text, open_text,
-    protect_text, serve_kept_text, serve_text,
+    Agreed, Fault, Opening, Sealing, Wrong, ask_kept_text, ask_text, derive_text, explain_text,
+    open_text, protect_text, serve_kept_text, serve_text,
 };
 use std::alloc::Global;
 use std::io::{Read, Write};
@@ -24,7 +24,7 @@ fn run_derive<W: Write>(alloc: Global, matches: &ArgMatches<'_>, out: &mut W) ->
     ensures { IfOk result (λ s. (s ≡ 0) ⊎ (s ≡ 2)) }
 {
     let context = ContextWords::read(alloc, matches)?;
-    derive_text(alloc, context.params(), out)
+    derive_text(alloc, context.agreed(), out)
 }
 
 /// Reads what a datagram has to be opened as: a response, if the words name the request that it answers.
@@ -56,7 +56,7 @@ fn run_open<W: Write>(alloc: Global, matches: &ArgMatches<'_>, out: &mut W) -> R
     let context = ContextWords::read(alloc, matches)?;
     let what = read_opening(matches)?;
     let mut datagram = required_bytes(alloc, matches, "datagram", "DATAGRAM")?;
-    open_text(alloc, context.params(), what, datagram.as_mut_slice(), out)
+    open_text(alloc, context.agreed(), what, datagram.as_mut_slice(), out)
 }
 
 /// Does what `protect` asks for.
@@ -66,7 +66,7 @@ fn run_protect<W: Write>(alloc: Global, matches: &ArgMatches<'_>, out: &mut W) -
     let context = ContextWords::read(alloc, matches)?;
     let what = read_sealing(matches)?;
     let plain = required_bytes(alloc, matches, "datagram", "DATAGRAM")?;
-    protect_text(alloc, context.params(), what, plain.as_slice(), out)
+    protect_text(alloc, context.agreed(), what, plain.as_slice(), out)
 }
 
 /// Does what `explain` asks for.
@@ -91,7 +91,7 @@ fn told(alloc: Global, done: Result<u8, Fault>, forms: Forms, input: &[u8]) -> R
 fn run_server<R: Read, W: Write, K: Keeper + Drop, F: FnOnce(&str) -> K + Drop>(
     alloc: Global,
     matches: &ArgMatches<'_>,
-    params: Params<'_>,
+    agreed: Agreed<'_>,
     input: &mut R,
     out: &mut W,
     make: F,
@@ -102,12 +102,12 @@ fn run_server<R: Read, W: Write, K: Keeper + Drop, F: FnOnce(&str) -> K + Drop>(
     let Some(file) = matches.get_str("numbers") else {
         let serving = read_serving(matches)?;
         let bytes = read_input(alloc, input)?;
-        let done = serve_text(alloc, params, serving, bytes.as_slice(), out);
+        let done = serve_text(alloc, agreed, serving, bytes.as_slice(), out);
         return told(alloc, done, SERVER, bytes.as_slice());
     };
     let window = read_window(matches)?;
     let bytes = read_input(alloc, input)?;
-    let done = serve_kept_text(alloc, params, make(file), window, bytes.as_slice(), out);
+    let done = serve_kept_text(alloc, agreed, make(file), window, bytes.as_slice(), out);
     told(alloc, done, KEPT_SERVER, bytes.as_slice())
 }
 
@@ -115,7 +115,7 @@ fn run_server<R: Read, W: Write, K: Keeper + Drop, F: FnOnce(&str) -> K + Drop>(
 fn run_client<R: Read, W: Write, K: Keeper + Drop, F: FnOnce(&str) -> K + Drop>(
     alloc: Global,
     matches: &ArgMatches<'_>,
-    params: Params<'_>,
+    agreed: Agreed<'_>,
     input: &mut R,
     out: &mut W,
     make: F,
@@ -126,12 +126,12 @@ fn run_client<R: Read, W: Write, K: Keeper + Drop, F: FnOnce(&str) -> K + Drop>(
     let Some(file) = matches.get_str("numbers") else {
         let asking = read_asking(matches)?;
         let bytes = read_input(alloc, input)?;
-        let done = ask_text(alloc, params, asking, bytes.as_slice(), out);
+        let done = ask_text(alloc, agreed, asking, bytes.as_slice(), out);
         return told(alloc, done, CLIENT, bytes.as_slice());
     };
     let life_ms = read_life(matches)?;
     let bytes = read_input(alloc, input)?;
-    let done = ask_kept_text(alloc, params, make(file), life_ms, bytes.as_slice(), out);
+    let done = ask_kept_text(alloc, agreed, make(file), life_ms, bytes.as_slice(), out);
     told(alloc, done, KEPT_CLIENT, bytes.as_slice())
 }
 
@@ -147,11 +147,11 @@ fn run_role<R: Read, W: Write, K: Keeper + Drop, F: FnOnce(&str) -> K + Drop>(
     ensures { IfOk result (λ s. (s ≡ 0) ⊎ (s ≡ 2)) }
 {
     let context = ContextWords::read(alloc, matches)?;
-    let params = context.params();
+    let agreed = context.agreed();
     if matches.get_str("role") == Some("client") {
-        return run_client(alloc, matches, params, input, out, make);
+        return run_client(alloc, matches, agreed, input, out, make);
     }
-    run_server(alloc, matches, params, input, out, make)
+    run_server(alloc, matches, agreed, input, out, make)
 }
 
 /// Does what a call asks for, depending on its name.

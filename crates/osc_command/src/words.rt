@@ -45,6 +45,9 @@ const HELP_REQUEST: &str = "Of a response: the number of its request [optional]"
 
 const ABOUT_EXPLAIN: &str = "Prints what a datagram shows without a key.";
 
+/// What a context may take part in, by the names that `--allow` knows.
+const FEATURES: &[&str] = &["blocks"];
+
 const EXAMPLE_EXPLAIN: &str = "Example:
   oscore explain \\
     44025d1f00003974396c6f63616c686f7374620914ff612f1092f1776f1c1668b3825e";
@@ -63,6 +66,19 @@ pub(crate) fn value_option<'a>(
         .value_name(value)
         .action(ArgAction::Set)
         .help(help)
+}
+
+/// Returns an option with one value, which is one of `choices`.
+pub(crate) fn choice_option<'a>(
+    alloc: Global,
+    name: &'a str,
+    value: &'a str,
+    choices: &'a [&'a str],
+    help: &'a str,
+) -> Arg<'a>
+    ensures { result.global ≡ false }
+{
+    value_option(alloc, name, value, help).value_parser(choices)
 }
 
 /// Returns an option with one value, a word of hex.
@@ -111,12 +127,20 @@ pub(crate) fn with_context<'a>(
         "id-context",
         "The ID Context, 1 to 32 bytes [optional]",
     );
+    let allow = choice_option(
+        alloc,
+        "allow",
+        "WHAT",
+        FEATURES,
+        "What may also pass inside; both ends need the same [default: none]",
+    );
     command
         .arg(secret)?
         .arg(salt)?
         .arg(sender)?
         .arg(recipient)?
-        .arg(id_context)
+        .arg(id_context)?
+        .arg(allow)
 }
 
 fn derive_command<'a>(alloc: Global) -> Result<Command<'a>, AllocError>

@@ -5,8 +5,7 @@ ghost use Rattle.osc_text.specs.Hex.{SpellsBytes};
 ghost use Rattle.osc_text.specs.Opening.{OpenText};
 ghost use Rattle.osc_text.specs.declared.opening.Opening.TheVariants.{Request};
 
-use osc_context::Params;
-use osc_text::{Opening, open_text, read_hex};
+use osc_text::{Agreed, Opening, open_text, read_hex};
 use std::alloc::Global;
 use std::io::Write;
 
@@ -14,15 +13,15 @@ use std::io::Write;
 /// opens, and 2 if it is refused.
 pub fn print_request<W: Write>(
     alloc: Global,
-    params: Params<'_>,
+    agreed: Agreed<'_>,
     word: &str,
     out: &mut W,
 ) -> Option<u8>
     ensures { IfSome result (λ s. (datagram : List ℕ) × (lines : List (List ℕ)) × SpellsBytes word.now datagram
-        × OpenText params.entry Request datagram lines s) }
+        × OpenText agreed.entry Request datagram lines s) }
 {
     let Ok(mut datagram) = read_hex(alloc, word) else {
         return None;
     };
-    open_text(alloc, params, Opening::Request, &mut datagram, out).ok()
+    open_text(alloc, agreed, Opening::Request, &mut datagram, out).ok()
 }

@@ -1,6 +1,7 @@
 //! What holds for a server in bytes, with no premise on tickets. A call does nothing: its contract is there for the proof of its
 //! caller.
 
+ghost use Rattle.osc_handle.specs.OneContext.{ContextsStandAlone};
 ghost use Rattle.osc_handle.specs.ServerLaws.{HandleAnswersOnce, HandleKeysOrNoncesOnce, HandleNoncesOnce};
 
 use osc_endpoint::{answered_once, keys_or_nonces_once};
@@ -21,3 +22,9 @@ pub fn server_keys_or_nonces_once()
 {
     keys_or_nonces_once();
 }
+
+/// States that each context of a server is answered as if it were alone: what happens to the others leaves its life and its answers as they
+/// are. So contexts may be spread over any number of servers, in any order. A server of one context is a [`crate::SingleServerHandle`].
+pub fn contexts_stand_alone()
+    ensures { ContextsStandAlone }
+{}

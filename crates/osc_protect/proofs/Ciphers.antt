@@ -8,12 +8,12 @@ use Rattle.osc_protect.specs.Protection.{request_cipher, response_cipher, respon
 use Rattle.osc_protect.specs.Views.{cipher_of}
 use Rattle.osc_protect.specs.declared.aead.Aead.{Aead}
 
-pub is_request_cipher : (s : SecurityContext) (a : Aead) (iv kid : List ℕ) (n : ℕ) (m : List ℕ) → kid ≡ s.client → key_under a.schedule.now ≡ s.client_key → iv ≡ s.common_iv
+pub is_request_cipher : (s : SecurityContext) (a : Aead) (iv kid : List ℕ) (n : ℕ) (m : List ℕ) → kid ≡ s.client → key_under a.cipher ≡ s.client_key → iv ≡ s.common_iv
     → a.nonce ≡ nonce_of iv kid n → a.additional_data.items ≡ additional_data_of kid n → cipher_of a m ≡ request_cipher s n m
 unfolding cipher_of request_cipher
 is_request_cipher s a iv kid n m client key common nonce additional = rw (nonce, additional, client, key, common) refl
 
-pub is_response_cipher : (s : SecurityContext) (a : Aead) (iv client server : List ℕ) (n : ℕ) (own : Option ℕ) (m : List ℕ) → server ≡ s.server → key_under a.schedule.now ≡ s.server_key → iv ≡ s.common_iv → client ≡ s.client
+pub is_response_cipher : (s : SecurityContext) (a : Aead) (iv client server : List ℕ) (n : ℕ) (own : Option ℕ) (m : List ℕ) → server ≡ s.server → key_under a.cipher ≡ s.server_key → iv ≡ s.common_iv → client ≡ s.client
     → a.nonce ≡ response_nonce iv client server n own → a.additional_data.items ≡ additional_data_of client n → cipher_of a m ≡ response_cipher s n own m
 unfolding cipher_of response_cipher
 is_response_cipher s a iv client server n own m end key common other nonce additional = rw (nonce, additional, end, key, common, other) refl

@@ -3,13 +3,25 @@ use Rattle.std.specs.Prelude.{ℕ, List, Bool, true, false}
 use Rattle.osc_aes.specs.Keyed.{key_of, plane_key_of}
 use Rattle.osc_protect.specs.declared.context_cipher.ContextCipher.{ContextCipher}
 use Rattle.osc_protect.specs.declared.context_cipher.ContextCipher.TheVariants.{ByTables, ConstantTime}
+use Rattle.osc_protect.specs.declared.context_cipher.KeptSchedule.{KeptSchedule}
+use Rattle.osc_protect.specs.declared.context_cipher.KeptSchedule.TheVariants.{Tables, Planes}
 
 -- the key of the cipher (how the code is seen)
 abbrev pub key_under : ContextCipher → List ℕ
-key_under (ByTables cipher) = key_of cipher
-key_under (ConstantTime cipher) = plane_key_of cipher
+key_under (ByTables schedule) = key_of schedule.now
+key_under (ConstantTime schedule) = plane_key_of schedule.now
 
 -- the cipher is the one in constant time (own rule)
 abbrev pub is_in_constant_time : ContextCipher → Bool
-is_in_constant_time (ByTables cipher) = false
-is_in_constant_time (ConstantTime cipher) = true
+is_in_constant_time (ByTables schedule) = false
+is_in_constant_time (ConstantTime schedule) = true
+
+-- the key of a schedule that is kept (how the code is seen)
+abbrev pub kept_key : KeptSchedule → List ℕ
+kept_key (Tables schedule) = key_of schedule
+kept_key (Planes schedule) = plane_key_of schedule
+
+-- the schedule that is kept is of the cipher in constant time (own rule)
+abbrev pub keeps_constant_time : KeptSchedule → Bool
+keeps_constant_time (Tables schedule) = false
+keeps_constant_time (Planes schedule) = true

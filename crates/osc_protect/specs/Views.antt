@@ -41,7 +41,7 @@ request_number r = number_of r.number
 
 -- the cipher of one message, from a plaintext to what protects it (RFC 8613, 5)
 unfoldable pub cipher_of : Aead → List ℕ → List ℕ
-cipher_of a plaintext = ccm (key_under a.schedule.now) a.nonce a.additional_data.items plaintext
+cipher_of a plaintext = ccm (key_under a.cipher) a.nonce a.additional_data.items plaintext
 
 -- the context of a keyed context (how the code is seen)
 abbrev pub context_of : KeyedContext → Context

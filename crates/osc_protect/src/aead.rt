@@ -21,10 +21,10 @@ use osc_ccm::{open, protection_length, seal};
 use osc_coap::payload_stands_last;
 use osc_context::{Kid, Piv, aad, nonce};
 
-/// What the cipher of one message takes besides the plaintext: the schedule of a key, the nonce and the additional data.
+/// What protects one message, besides its plaintext: the cipher under a key, the nonce and the additional data.
 #[derive(Drop)]
 pub(crate) struct Aead<'a> {
-    schedule: &'a ContextCipher,
+    cipher: ContextCipher<'a>,
     nonce: [u8; 13],
     additional_data: ArrayVec<u8, 32>,
 }
@@ -56,7 +56,7 @@ impl<'a> Aead<'a> {
             → cipher_of result m ≡ request_cipher s (number_of number) m }
     {
         Aead {
-            schedule: client.schedule,
+            cipher: client.cipher,
             nonce: nonce(common_iv, client.kid, number),
             additional_data: aad(client.kid, number),
         }
@@ -75,7 +75,7 @@ impl<'a> Aead<'a> {
             → cipher_of result m ≡ response_cipher s (number_of request) (option_map number_of own) m }
     {
         Aead {
-            schedule: server.schedule,
+            cipher: server.cipher,
             nonce: nonce_of_response(common_iv, client, server.kid, request, own),
             additional_data: aad(client, request),
         }
@@ -90,10 +90,9 @@ impl<'a> Aead<'a> {
         ensures sealed { payload.new ≡ cipher_of self.now (take len payload.old) ++ drop (len + tag_length) payload.old }
     {
         let additional_data = self.additional_data.as_slice();
-        let schedule = self.schedule;
-        let sealed = match schedule {
-            ByTables(cipher) => seal(cipher, &self.nonce, additional_data, payload, len),
-            ConstantTime(cipher) => seal(cipher, &self.nonce, additional_data, payload, len),
+        let sealed = match self.cipher {
+            ByTables(schedule) => seal(schedule, &self.nonce, additional_data, payload, len),
+            ConstantTime(schedule) => seal(schedule, &self.nonce, additional_data, payload, len),
         };
         match sealed {
             Ok(sealed) => sealed,
@@ -113,10 +112,9 @@ impl<'a> Aead<'a> {
     {
         protection_length();
         let additional_data = self.additional_data.as_slice();
-        let schedule = self.schedule;
-        let opened = match schedule {
-            ByTables(cipher) => open(cipher, &self.nonce, additional_data, payload),
-            ConstantTime(cipher) => open(cipher, &self.nonce, additional_data, payload),
+        let opened = match self.cipher {
+            ByTables(schedule) => open(schedule, &self.nonce, additional_data, payload),
+            ConstantTime(schedule) => open(schedule, &self.nonce, additional_data, payload),
         };
         opened.ok()
     }

@@ -1,37 +1,34 @@
 //! The cipher of a context's keys: by tables, or in constant time if the context asks for that.
 
-ghost use Rattle.std.specs.Prelude.{◌≡◌, true};
-ghost use Rattle.osc_protect.specs.ContextCipher.{is_in_constant_time, key_under};
+ghost use Rattle.std.specs.Prelude.{◌≡◌};
+ghost use Rattle.osc_protect.specs.ContextCipher.{is_in_constant_time, key_under, keeps_constant_time, kept_key};
 
 use osc_aes::{PlaneAes, TableAes};
 
-/// AES-128 under one key of a context. `Aead` checks once per message which cipher this is, and calls it.
-#[derive(Drop)]
-pub(crate) enum ContextCipher {
-    ByTables(TableAes),
-    ConstantTime(PlaneAes),
+/// AES-128 under one key of a context, over a schedule that lies elsewhere. `Aead` checks once per message which cipher this is, and calls
+/// it.
+#[derive(Clone, Copy)]
+pub(crate) enum ContextCipher<'a> {
+    ByTables(&'a TableAes),
+    ConstantTime(&'a PlaneAes),
 }
 
-impl ContextCipher {
-    /// Makes the schedule of a key.
-    #[inline(always)]
-    pub(crate) fn new(key: &[u8; 16], constant_time: bool) -> ContextCipher
-        ensures key { key_under result ≡ key.now }
-        ensures chosen { is_in_constant_time result ≡ constant_time }
-    {
-        if constant_time {
-            ContextCipher::in_planes(key)
-        } else {
-            ContextCipher::ByTables(TableAes::new(key))
-        }
-    }
+/// The schedule of one key of a context, kept from message to message.
+#[derive(Drop)]
+pub(crate) enum KeptSchedule {
+    Tables(TableAes),
+    Planes(PlaneAes),
+}
 
-    /// Makes the schedule of a key in planes. This is a separate call so that the cipher by tables needs no room for it on its stack.
-    #[inline(never)]
-    fn in_planes(key: &[u8; 16]) -> ContextCipher
-        ensures key { key_under result ≡ key.now }
-        ensures chosen { is_in_constant_time result ≡ true }
+impl KeptSchedule {
+    /// Returns the cipher over this schedule.
+    pub(crate) fn cipher(&self) -> ContextCipher<'_>
+        ensures key { key_under result ≡ kept_key self.now }
+        ensures chosen { is_in_constant_time result ≡ keeps_constant_time self.now }
     {
-        ContextCipher::ConstantTime(PlaneAes::new(key))
+        match self {
+            KeptSchedule::Tables(schedule) => ContextCipher::ByTables(schedule),
+            KeptSchedule::Planes(schedule) => ContextCipher::ConstantTime(schedule),
+        }
     }
 }

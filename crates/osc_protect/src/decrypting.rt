@@ -8,6 +8,7 @@ ghost use Rattle.osc_protect.specs.StageViews.{DecryptsRequest, DecryptsResponse
 ghost use Rattle.osc_protect.specs.Views.{context_of, opened_requests, opened_responses};
 
 use crate::aead::Aead;
+use crate::context_cipher::ContextCipher::{ByTables, ConstantTime};
 use crate::ends::Recipient;
 use crate::keyed_context::KeyedContext;
 use crate::laws::one_head;
@@ -69,9 +70,16 @@ fn decrypt_request_either(
     if let Some(recipient) = context.kept_recipient() {
         return decrypt_request_forward(recipient, datagram, sealed);
     }
-    let schedule = Recipient::schedule_of(context.context());
-    let recipient = Recipient::new(context.context(), &schedule);
-    decrypt_request_forward(recipient, datagram, sealed)
+    let context = context.context();
+    if context.is_constant_time() {
+        let planes = Recipient::planes_of(context);
+        let recipient = Recipient::new(context, ConstantTime(&planes));
+        decrypt_request_forward(recipient, datagram, sealed)
+    } else {
+        let tables = Recipient::tables_of(context);
+        let recipient = Recipient::new(context, ByTables(&tables));
+        decrypt_request_forward(recipient, datagram, sealed)
+    }
 }
 
 /// Decrypts a request under the recipient's key.
@@ -114,9 +122,16 @@ fn decrypt_response_either(
     if let Some(recipient) = context.kept_recipient() {
         return decrypt_response_forward(recipient, request, datagram, sealed);
     }
-    let schedule = Recipient::schedule_of(context.context());
-    let recipient = Recipient::new(context.context(), &schedule);
-    decrypt_response_forward(recipient, request, datagram, sealed)
+    let context = context.context();
+    if context.is_constant_time() {
+        let planes = Recipient::planes_of(context);
+        let recipient = Recipient::new(context, ConstantTime(&planes));
+        decrypt_response_forward(recipient, request, datagram, sealed)
+    } else {
+        let tables = Recipient::tables_of(context);
+        let recipient = Recipient::new(context, ByTables(&tables));
+        decrypt_response_forward(recipient, request, datagram, sealed)
+    }
 }
 
 /// Decrypts a response under the recipient's key.

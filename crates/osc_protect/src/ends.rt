@@ -1,53 +1,78 @@
-//! The ends of a context (RFC 8613, 3.1), each with the schedule of its key. Identifier and key travel together, so a key never meets the
+//! The ends of a context (RFC 8613, 3.1), each with the cipher under its key. Identifier and key travel together, so a key never meets the
 //! identifier of the other end.
 
 ghost use Rattle.std.specs.Prelude.{◌≡◌};
+ghost use Rattle.osc_aes.specs.Keyed.{key_of, plane_key_of};
 ghost use Rattle.osc_context.specs.Views.{as_client, as_server, is_constant_time};
-ghost use Rattle.osc_protect.specs.ContextCipher.{is_in_constant_time, key_under};
+ghost use Rattle.osc_protect.specs.ContextCipher.{is_in_constant_time, key_under, keeps_constant_time, kept_key};
 
-use crate::context_cipher::ContextCipher;
+use crate::context_cipher::{ContextCipher, KeptSchedule};
+use osc_aes::{PlaneAes, TableAes};
 use osc_context::{Context, Kid};
 
-/// An end, as the cipher of a message needs it: its identifier, and the schedule of its key.
+/// An end, as a message needs it: its identifier, and the cipher under its key.
 #[derive(Clone, Copy)]
 pub(crate) struct End<'a> {
     pub(crate) kid: &'a Kid,
-    pub(crate) schedule: &'a ContextCipher,
+    pub(crate) cipher: ContextCipher<'a>,
 }
 
-/// A context with the schedule of the Sender Key. This end seals with it.
+/// A context with the cipher under the Sender Key. This end seals with it.
 #[derive(Clone, Copy)]
 pub(crate) struct Sender<'a> {
     pub(crate) context: &'a Context,
-    schedule: &'a ContextCipher,
-    ghost keyed: { key_under schedule.now ≡ (as_client context.now).client_key },
+    cipher: ContextCipher<'a>,
+    ghost keyed: { key_under cipher ≡ (as_client context.now).client_key },
+    ghost chosen: { is_in_constant_time cipher ≡ is_constant_time context.now },
 }
 
-/// A context with the schedule of the Recipient Key. This end opens with it.
+/// A context with the cipher under the Recipient Key. This end opens with it.
 #[derive(Clone, Copy)]
 pub(crate) struct Recipient<'a> {
     pub(crate) context: &'a Context,
-    schedule: &'a ContextCipher,
-    ghost keyed: { key_under schedule.now ≡ (as_server context.now).client_key },
+    cipher: ContextCipher<'a>,
+    ghost keyed: { key_under cipher ≡ (as_server context.now).client_key },
+    ghost chosen: { is_in_constant_time cipher ≡ is_constant_time context.now },
 }
 
 impl<'a> Sender<'a> {
     ghost use Rattle.osc_protect.specs.Ends.{IsClientOf, IsServerOf};
 
-    /// Makes the schedule of the Sender Key.
-    pub(crate) fn schedule_of(context: &Context) -> ContextCipher
-        ensures key { key_under result ≡ (as_client context.now).client_key }
-        ensures chosen { is_in_constant_time result ≡ is_constant_time context.now }
+    /// Makes the tables of the Sender Key.
+    #[inline(always)]
+    pub(crate) fn tables_of(context: &Context) -> TableAes
+        ensures { key_of result ≡ (as_client context.now).client_key }
     {
-        ContextCipher::new(context.sender_key(), context.is_constant_time())
+        TableAes::new(context.sender_key())
     }
 
-    /// Pairs a context with the schedule of its Sender Key.
-    pub(crate) fn new(context: &'a Context, schedule: &'a ContextCipher) -> Sender<'a>
-        requires { key_under schedule.now ≡ (as_client context.now).client_key }
+    /// Makes the planes of the Sender Key.
+    #[inline(always)]
+    pub(crate) fn planes_of(context: &Context) -> PlaneAes
+        ensures { plane_key_of result ≡ (as_client context.now).client_key }
+    {
+        PlaneAes::new(context.sender_key())
+    }
+
+    /// Makes the schedule of the Sender Key that the context asks for.
+    pub(crate) fn schedule_of(context: &Context) -> KeptSchedule
+        ensures key { kept_key result ≡ (as_client context.now).client_key }
+        ensures chosen { keeps_constant_time result ≡ is_constant_time context.now }
+    {
+        if context.is_constant_time() {
+            KeptSchedule::Planes(Sender::planes_of(context))
+        } else {
+            KeptSchedule::Tables(Sender::tables_of(context))
+        }
+    }
+
+    /// Pairs a context with the cipher under its Sender Key.
+    pub(crate) fn new(context: &'a Context, cipher: ContextCipher<'a>) -> Sender<'a>
+        requires keyed { key_under cipher ≡ (as_client context.now).client_key }
+        requires chosen { is_in_constant_time cipher ≡ is_constant_time context.now }
         ensures { result.context.now ≡ context.entry.now }
     {
-        Sender { context, schedule }
+        Sender { context, cipher }
     }
 
     /// Returns this end. It is the client of requests, and the server of responses.
@@ -57,7 +82,7 @@ impl<'a> Sender<'a> {
     {
         End {
             kid: self.context.sender(),
-            schedule: self.schedule,
+            cipher: self.cipher,
         }
     }
 }
@@ -65,20 +90,41 @@ impl<'a> Sender<'a> {
 impl<'a> Recipient<'a> {
     ghost use Rattle.osc_protect.specs.Ends.{IsClientOf, IsServerOf};
 
-    /// Makes the schedule of the Recipient Key.
-    pub(crate) fn schedule_of(context: &Context) -> ContextCipher
-        ensures key { key_under result ≡ (as_server context.now).client_key }
-        ensures chosen { is_in_constant_time result ≡ is_constant_time context.now }
+    /// Makes the tables of the Recipient Key.
+    #[inline(always)]
+    pub(crate) fn tables_of(context: &Context) -> TableAes
+        ensures { key_of result ≡ (as_server context.now).client_key }
     {
-        ContextCipher::new(context.recipient_key(), context.is_constant_time())
+        TableAes::new(context.recipient_key())
     }
 
-    /// Pairs a context with the schedule of its Recipient Key.
-    pub(crate) fn new(context: &'a Context, schedule: &'a ContextCipher) -> Recipient<'a>
-        requires { key_under schedule.now ≡ (as_server context.now).client_key }
+    /// Makes the planes of the Recipient Key.
+    #[inline(always)]
+    pub(crate) fn planes_of(context: &Context) -> PlaneAes
+        ensures { plane_key_of result ≡ (as_server context.now).client_key }
+    {
+        PlaneAes::new(context.recipient_key())
+    }
+
+    /// Makes the schedule of the Recipient Key that the context asks for.
+    pub(crate) fn schedule_of(context: &Context) -> KeptSchedule
+        ensures key { kept_key result ≡ (as_server context.now).client_key }
+        ensures chosen { keeps_constant_time result ≡ is_constant_time context.now }
+    {
+        if context.is_constant_time() {
+            KeptSchedule::Planes(Recipient::planes_of(context))
+        } else {
+            KeptSchedule::Tables(Recipient::tables_of(context))
+        }
+    }
+
+    /// Pairs a context with the cipher under its Recipient Key.
+    pub(crate) fn new(context: &'a Context, cipher: ContextCipher<'a>) -> Recipient<'a>
+        requires keyed { key_under cipher ≡ (as_server context.now).client_key }
+        requires chosen { is_in_constant_time cipher ≡ is_constant_time context.now }
         ensures { result.context.now ≡ context.entry.now }
     {
-        Recipient { context, schedule }
+        Recipient { context, cipher }
     }
 
     /// Returns the other end. It is the client of requests, and the server of responses.
@@ -88,7 +134,7 @@ impl<'a> Recipient<'a> {
     {
         End {
             kid: self.context.recipient(),
-            schedule: self.schedule,
+            cipher: self.cipher,
         }
     }
 }

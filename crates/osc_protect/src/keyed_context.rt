@@ -5,12 +5,12 @@ ghost use Rattle.std.specs.Option.{ForSome, option_map};
 ghost use Rattle.osc_coap.specs.Inner.{InnerParts};
 ghost use Rattle.osc_coap.specs.Views.{parts_of};
 ghost use Rattle.osc_context.specs.Views.{as_client, as_server, is_constant_time, number_of};
-ghost use Rattle.osc_protect.specs.ContextCipher.{is_in_constant_time, key_under};
+ghost use Rattle.osc_protect.specs.ContextCipher.{keeps_constant_time, kept_key};
 ghost use Rattle.osc_protect.specs.declared.protect_error.ProtectError.{ProtectError};
 ghost use Rattle.osc_protect.specs.declared.unprotect_error.UnprotectError.{UnprotectError};
 ghost use Rattle.osc_protect.specs.declared.unprotect_error.UnprotectError.TheVariants.{WrongContext};
 
-use crate::context_cipher::ContextCipher;
+use crate::context_cipher::KeptSchedule;
 use crate::ends::{Recipient, Sender};
 use crate::opened::Opened;
 use crate::opening::{open_request, open_request_by, open_response, open_response_by};
@@ -27,13 +27,18 @@ use std::fmt;
 #[derive(Drop)]
 pub struct KeyedContext {
     context: Context,
-    // Both are kept, or neither.
-    sender: Option<ContextCipher>,
-    recipient: Option<ContextCipher>,
-    ghost sender_keyed: { ForSome sender (λ schedule. (key_under schedule ≡ (as_client context).client_key)
-        × (is_in_constant_time schedule ≡ is_constant_time context)) },
-    ghost recipient_keyed: { ForSome recipient (λ schedule. (key_under schedule ≡ (as_server context).client_key)
-        × (is_in_constant_time schedule ≡ is_constant_time context)) },
+    schedules: Option<Schedules>,
+    ghost sender_keyed: { ForSome schedules (λ kept. (kept_key kept.sender ≡ (as_client context).client_key)
+        × (keeps_constant_time kept.sender ≡ is_constant_time context)) },
+    ghost recipient_keyed: { ForSome schedules (λ kept. (kept_key kept.recipient ≡ (as_server context).client_key)
+        × (keeps_constant_time kept.recipient ≡ is_constant_time context)) },
+}
+
+/// The schedules of a context's two keys.
+#[derive(Drop)]
+struct Schedules {
+    sender: KeptSchedule,
+    recipient: KeptSchedule,
 }
 
 impl KeyedContext {
@@ -50,8 +55,10 @@ impl KeyedContext {
         ensures { context_of result ≡ context }
     {
         KeyedContext {
-            sender: Some(Sender::schedule_of(&context)),
-            recipient: Some(Recipient::schedule_of(&context)),
+            schedules: Some(Schedules {
+                sender: Sender::schedule_of(&context),
+                recipient: Recipient::schedule_of(&context),
+            }),
             context,
         }
     }
@@ -64,8 +71,7 @@ impl KeyedContext {
         ensures { context_of result ≡ context }
     {
         KeyedContext {
-            sender: None,
-            recipient: None,
+            schedules: None,
             context,
         }
     }
@@ -82,8 +88,8 @@ impl KeyedContext {
     fn kept_sender(&self) -> Option<Sender<'_>>
         ensures { ForSome result (λ sender. sender.context.now ≡ context_of self.now) }
     {
-        match &self.sender {
-            Some(schedule) => Some(Sender::new(&self.context, schedule)),
+        match &self.schedules {
+            Some(kept) => Some(Sender::new(&self.context, kept.sender.cipher())),
             None => None,
         }
     }
@@ -92,8 +98,8 @@ impl KeyedContext {
     pub(crate) fn kept_recipient(&self) -> Option<Recipient<'_>>
         ensures { ForSome result (λ recipient. recipient.context.now ≡ context_of self.now) }
     {
-        match &self.recipient {
-            Some(schedule) => Some(Recipient::new(&self.context, schedule)),
+        match &self.schedules {
+            Some(kept) => Some(Recipient::new(&self.context, kept.recipient.cipher())),
             None => None,
         }
     }

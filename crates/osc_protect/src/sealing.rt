@@ -24,6 +24,7 @@ ghost use Rattle.osc_protect.specs.declared.protect_error.ProtectError.{ProtectE
 
 use crate::aead::Aead;
 use crate::checks::{check_request, check_response};
+use crate::context_cipher::ContextCipher::{ByTables, ConstantTime};
 use crate::ends::Sender;
 use crate::lengths::judge_length;
 use crate::protect_error::ProtectError;
@@ -195,8 +196,15 @@ pub fn seal_request(
         → IsErrOf result e }
     ensures unchanged { OnErr result (out.new ≡ out.old) }
 {
-    let schedule = Sender::schedule_of(context);
-    seal_request_by(Sender::new(context, &schedule), number, plain, out)
+    if context.is_constant_time() {
+        let planes = Sender::planes_of(context);
+        let sender = Sender::new(context, ConstantTime(&planes));
+        seal_request_by(sender, number, plain, out)
+    } else {
+        let tables = Sender::tables_of(context);
+        let sender = Sender::new(context, ByTables(&tables));
+        seal_request_by(sender, number, plain, out)
+    }
 }
 
 /// Seals a response to a request, with the server's own Partial IV or else with the request's nonce. Returns how many bytes it takes at
@@ -220,8 +228,15 @@ pub fn seal_response(
         → IsErrOf result e }
     ensures unchanged { OnErr result (out.new ≡ out.old) }
 {
-    let schedule = Sender::schedule_of(context);
-    seal_response_by(Sender::new(context, &schedule), request, own, plain, out)
+    if context.is_constant_time() {
+        let planes = Sender::planes_of(context);
+        let sender = Sender::new(context, ConstantTime(&planes));
+        seal_response_by(sender, request, own, plain, out)
+    } else {
+        let tables = Sender::tables_of(context);
+        let sender = Sender::new(context, ByTables(&tables));
+        seal_response_by(sender, request, own, plain, out)
+    }
 }
 
 /// Seals a request under the sender's key.

@@ -4,13 +4,13 @@ use Rattle.std.proofs.lemmas.List.{take_all}
 use Rattle.std.proofs.lemmas.List.Elements.{All-head, All-tail}
 use Rattle.osc_context.specs.ContextRefusal.{context_error_text}
 use Rattle.osc_context.specs.SecurityContext.{SecurityContext}
-use Rattle.osc_context.specs.Views.{client_context_of, server_context_of}
 use Rattle.osc_context.specs.declared.keeper.Keeper as keeper
 use Rattle.osc_context.specs.declared.parameters.Params.{Params}
+use Rattle.osc_text.specs.declared.agreed.Agreed.{Agreed}
 use Rattle.osc_kept.specs.KeptRuns.{RunOf}
 use Rattle.osc_window.specs.declared.window_size.WindowSize.{WindowSize}
 use Rattle.osc_text.specs.Asking.{places}
-use Rattle.osc_text.specs.Contexts.{InContext, Told}
+use Rattle.osc_text.specs.Contexts.{agreed_client, agreed_server, InContext, Told}
 use Rattle.osc_text.specs.Contexts.InContext.{in_context, no_context}
 use Rattle.osc_text.specs.EntryLines.{entry_line}
 use Rattle.osc_text.specs.InputReading.{Misreads, SpellsNone, SpellsSeen}
@@ -139,12 +139,12 @@ module _ {K : Type 0} (k : keeper.Ghosts K) (keeper : K) (input : List ℕ) wher
   start_two c size lines n (not_started e after refuses other text is) = inr is
   start_two c size lines n (served s starts text) = input_two SpellsKept KeptLine s input lines n text
 
-  pub serve_two : (g : Params) (size : WindowSize) → ZeroOrTwo (KeptServeText k g size keeper input)
-  serve_two g size = in_context_two g (StartText k (server_context_of g) size keeper (λ s. InputText SpellsKept KeptLine s input)) (start_two (server_context_of g) size)
+  pub serve_two : (g : Agreed) (size : WindowSize) → ZeroOrTwo (KeptServeText k g size keeper input)
+  serve_two g size = in_context_two g.params (StartText k (agreed_server g) size keeper (λ s. InputText SpellsKept KeptLine s input)) (start_two (agreed_server g) size)
 
   client_start_two : (c : SecurityContext) (life : ℕ) → ZeroOrTwo (ClientStartText k c life keeper (λ s. InputText SpellsKeptAsked (KeptAskedLine places) s input))
   client_start_two c life lines n (no_client e after refuses other text is) = inr is
   client_start_two c life lines n (asked s starts text) = input_two SpellsKeptAsked (KeptAskedLine places) s input lines n text
 
-  pub ask_two : (g : Params) (life : ℕ) → ZeroOrTwo (KeptAskText k g life keeper input)
-  ask_two g life = in_context_two g (ClientStartText k (client_context_of g) life keeper (λ s. InputText SpellsKeptAsked (KeptAskedLine places) s input)) (client_start_two (client_context_of g) life)
+  pub ask_two : (g : Agreed) (life : ℕ) → ZeroOrTwo (KeptAskText k g life keeper input)
+  ask_two g life = in_context_two g.params (ClientStartText k (agreed_client g) life keeper (λ s. InputText SpellsKeptAsked (KeptAskedLine places) s input)) (client_start_two (agreed_client g) life)

@@ -5,9 +5,9 @@ use Rattle.osc_coap.specs.Datagram.{Parts, IsDatagram}
 use Rattle.osc_coap.specs.Fault.{HasFault}
 use Rattle.osc_coap.specs.declared.format_error.Fault.{Fault as MessageFault}
 use Rattle.osc_context.specs.ContextRefusal.{RefusesParams}
-use Rattle.osc_context.specs.Views.{client_context_of, number_of}
+use Rattle.osc_context.specs.Views.{number_of}
 use Rattle.osc_context.specs.declared.context_error.ContextError.{ContextError}
-use Rattle.osc_context.specs.declared.parameters.Params.{Params}
+use Rattle.osc_text.specs.declared.agreed.Agreed.{Agreed}
 use Rattle.osc_endpoint.specs.ClientHistory.{History, New, Answer, Request, Datagram, Forget, Restart, Advance, Sent, NotSent, Took, Forgot, Restarted, Advanced, next}
 use Rattle.osc_endpoint.specs.ClientRun.{GoesOn}
 use Rattle.osc_endpoint.specs.Text.{request_error_text}
@@ -15,7 +15,7 @@ use Rattle.osc_endpoint.specs.declared.client_outcome.RequestError.{RequestError
 use Rattle.osc_text.specs.AskedEvents.{AskedEvent, SpellsAsked}
 use Rattle.osc_text.specs.AskedEvents as asked
 use Rattle.osc_text.specs.ClientLines.{answer_line, forgot_line, sent_line}
-use Rattle.osc_text.specs.Contexts.{InContext, Told}
+use Rattle.osc_text.specs.Contexts.{agreed_client, InContext, Told}
 use Rattle.osc_text.specs.EntryLines.{bad_plain_line, not_done_line, restarted_line}
 use Rattle.osc_text.specs.InputText.{InputText}
 use Rattle.osc_text.specs.Inputs.{IsFirstBadLine}
@@ -46,10 +46,10 @@ ClientLine h (asked.Forget token) line k = (was_pending : Bool) × GoesOn places
 ClientLine h (asked.Restart first) line k = GoesOn places h (Restart first) Restarted k × (line ≡ restarted_line)
 
 -- what `run` prints for a client: one line for each event of the input (RFC 8613, 8.1 and 8.4)
-abbrev pub AskText : Params → Asking → List ℕ → Told
-AskText g asking bytes = InContext g (InputText SpellsAsked ClientLine (New (client_context_of g) (number_of asking.next) asking.life_ms) bytes)
+abbrev pub AskText : Agreed → Asking → List ℕ → Told
+AskText g asking bytes = InContext g.params (InputText SpellsAsked ClientLine (New (agreed_client g) (number_of asking.next) asking.life_ms) bytes)
 
 -- the context is derived, and the line with this number, counted from 1, is the first that spells no event (own rule)
-pub record HasBadAskedLine (g : Params) (bytes : List ℕ) (number : ℕ) : Type 0 where
-  pub in_context : (e : ContextError) → ¬ RefusesParams g e
+pub record HasBadAskedLine (g : Agreed) (bytes : List ℕ) (number : ℕ) : Type 0 where
+  pub in_context : (e : ContextError) → ¬ RefusesParams g.params e
   pub first_bad : IsFirstBadLine SpellsAsked bytes number

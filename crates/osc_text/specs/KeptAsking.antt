@@ -3,10 +3,9 @@
 use Rattle.std.specs.Prelude.{◌≡◌, ◌≢◌, ℕ, [], ◌∷◌, List}
 use Rattle.osc_context.specs.ContextRefusal.{RefusesParams}
 use Rattle.osc_context.specs.SecurityContext.{SecurityContext}
-use Rattle.osc_context.specs.Views.{client_context_of}
 use Rattle.osc_context.specs.declared.context_error.ContextError.{ContextError}
 use Rattle.osc_context.specs.declared.keeper.Keeper as keeper
-use Rattle.osc_context.specs.declared.parameters.Params.{Params}
+use Rattle.osc_text.specs.declared.agreed.Agreed.{Agreed}
 use Rattle.osc_endpoint.specs.ClientHistory.{New}
 use Rattle.osc_kept.specs.KeptRuns.{ClientState, ClientStep}
 use Rattle.osc_kept.specs.Numbering.{Goes, Load, nothing_drawn}
@@ -16,7 +15,7 @@ use Rattle.osc_kept.specs.Views.{kept_error_text}
 use Rattle.osc_kept.specs.declared.kept_error.KeptError.{KeptError}
 use Rattle.osc_kept.specs.declared.kept_error.KeptError.TheVariants.{LivesExhausted}
 use Rattle.osc_text.specs.Asking.{places}
-use Rattle.osc_text.specs.Contexts.{InContext, Told}
+use Rattle.osc_text.specs.Contexts.{agreed_client, InContext, Told}
 use Rattle.osc_text.specs.InputText.{InputText}
 use Rattle.osc_text.specs.Inputs.{IsFirstBadLine}
 use Rattle.osc_text.specs.KeptAskedEvents.{KeptAsked, SpellsKeptAsked}
@@ -41,16 +40,16 @@ pub data ClientStartText {K : Type 0} (k : keeper.Ghosts K) (c : SecurityContext
   asked : (s : ClientState k) → StartsClient k c life keeper s → told s lines status → ClientStartText k c life keeper told lines status
 
 -- what `run` prints for a client: one line for each event of the input (RFC 8613, 7.2.1, 8.1, 8.4 and B.1.1)
-abbrev pub KeptAskText : {K : Type 0} (k : keeper.Ghosts K) → Params → ℕ → K → List ℕ → Told
-KeptAskText k g life keeper input = InContext g (ClientStartText k (client_context_of g) life keeper (λ s. InputText SpellsKeptAsked (KeptAskedLine places) s input))
+abbrev pub KeptAskText : {K : Type 0} (k : keeper.Ghosts K) → Agreed → ℕ → K → List ℕ → Told
+KeptAskText k g life keeper input = InContext g.params (ClientStartText k (agreed_client g) life keeper (λ s. InputText SpellsKeptAsked (KeptAskedLine places) s input))
 
 -- the text whose front `run` prints if memory is refused: the line of a refusal, or one line for each of the first events of the input (own rule)
-abbrev pub KeptAskFront : {K : Type 0} (k : keeper.Ghosts K) → Params → ℕ → K → List ℕ → Told
-KeptAskFront k g life keeper input = InContext g (ClientStartText k (client_context_of g) life keeper (λ s. FrontText SpellsKeptAsked (KeptAskedLine places) s input))
+abbrev pub KeptAskFront : {K : Type 0} (k : keeper.Ghosts K) → Agreed → ℕ → K → List ℕ → Told
+KeptAskFront k g life keeper input = InContext g.params (ClientStartText k (agreed_client g) life keeper (λ s. FrontText SpellsKeptAsked (KeptAskedLine places) s input))
 
 -- the context is derived, the client started, and the line with this number, counted from 1, is the first that spells no event (own rule)
-pub record HasBadKeptAskedLine {K : Type 0} (k : keeper.Ghosts K) (g : Params) (life : ℕ) (keeper : K) (input : List ℕ) (number : ℕ) : Type 0 where
-  pub in_context : (e : ContextError) → ¬ RefusesParams g e
+pub record HasBadKeptAskedLine {K : Type 0} (k : keeper.Ghosts K) (g : Agreed) (life : ℕ) (keeper : K) (input : List ℕ) (number : ℕ) : Type 0 where
+  pub in_context : (e : ContextError) → ¬ RefusesParams g.params e
   pub state : ClientState k
-  pub starts : StartsClient k (client_context_of g) life keeper state
+  pub starts : StartsClient k (agreed_client g) life keeper state
   pub first_bad : IsFirstBadLine SpellsKeptAsked input number

@@ -3,10 +3,9 @@
 use Rattle.std.specs.Prelude.{◌≡◌, ◌≢◌, ℕ, [], ◌∷◌, List}
 use Rattle.osc_context.specs.ContextRefusal.{RefusesParams}
 use Rattle.osc_context.specs.SecurityContext.{SecurityContext}
-use Rattle.osc_context.specs.Views.{server_context_of}
 use Rattle.osc_context.specs.declared.context_error.ContextError.{ContextError}
 use Rattle.osc_context.specs.declared.keeper.Keeper as keeper
-use Rattle.osc_context.specs.declared.parameters.Params.{Params}
+use Rattle.osc_text.specs.declared.agreed.Agreed.{Agreed}
 use Rattle.osc_endpoint.specs.ServerHistory.{Begin, Then, Add, Added}
 use Rattle.osc_endpoint.specs.declared.start.Start.{Start}
 use Rattle.osc_kept.specs.KeptRuns.{ServerState, ServerStep}
@@ -18,7 +17,7 @@ use Rattle.osc_kept.specs.Views.{kept_error_text}
 use Rattle.osc_kept.specs.declared.kept_error.KeptError.{KeptError}
 use Rattle.osc_kept.specs.declared.kept_error.KeptError.TheVariants.{LivesExhausted}
 use Rattle.osc_window.specs.declared.window_size.WindowSize.{WindowSize}
-use Rattle.osc_text.specs.Contexts.{InContext, Told}
+use Rattle.osc_text.specs.Contexts.{agreed_server, InContext, Told}
 use Rattle.osc_text.specs.InputText.{InputText}
 use Rattle.osc_text.specs.Inputs.{IsFirstBadLine}
 use Rattle.osc_text.specs.KeptEvents.{KeptEvent, SpellsKept}
@@ -44,16 +43,16 @@ pub data StartText {K : Type 0} (k : keeper.Ghosts K) (c : SecurityContext) (siz
   served : (s : ServerState k) → Starts k c size keeper s → told s lines status → StartText k c size keeper told lines status
 
 -- what `run` prints for a server: one line for each event of the input (RFC 8613, 7.2.1, 7.4, 8.2, 8.3 and B.1)
-abbrev pub KeptServeText : {K : Type 0} (k : keeper.Ghosts K) → Params → WindowSize → K → List ℕ → Told
-KeptServeText k g size keeper input = InContext g (StartText k (server_context_of g) size keeper (λ s. InputText SpellsKept KeptLine s input))
+abbrev pub KeptServeText : {K : Type 0} (k : keeper.Ghosts K) → Agreed → WindowSize → K → List ℕ → Told
+KeptServeText k g size keeper input = InContext g.params (StartText k (agreed_server g) size keeper (λ s. InputText SpellsKept KeptLine s input))
 
 -- the text whose front `run` prints if memory is refused: the line of a refusal, or one line for each of the first events of the input (own rule)
-abbrev pub KeptServeFront : {K : Type 0} (k : keeper.Ghosts K) → Params → WindowSize → K → List ℕ → Told
-KeptServeFront k g size keeper input = InContext g (StartText k (server_context_of g) size keeper (λ s. FrontText SpellsKept KeptLine s input))
+abbrev pub KeptServeFront : {K : Type 0} (k : keeper.Ghosts K) → Agreed → WindowSize → K → List ℕ → Told
+KeptServeFront k g size keeper input = InContext g.params (StartText k (agreed_server g) size keeper (λ s. FrontText SpellsKept KeptLine s input))
 
 -- the context is derived, the server started, and the line with this number, counted from 1, is the first that spells no event (own rule)
-pub record HasBadKeptLine {K : Type 0} (k : keeper.Ghosts K) (g : Params) (size : WindowSize) (keeper : K) (input : List ℕ) (number : ℕ) : Type 0 where
-  pub in_context : (e : ContextError) → ¬ RefusesParams g e
+pub record HasBadKeptLine {K : Type 0} (k : keeper.Ghosts K) (g : Agreed) (size : WindowSize) (keeper : K) (input : List ℕ) (number : ℕ) : Type 0 where
+  pub in_context : (e : ContextError) → ¬ RefusesParams g.params e
   pub state : ServerState k
-  pub starts : Starts k (server_context_of g) size keeper state
+  pub starts : Starts k (agreed_server g) size keeper state
   pub first_bad : IsFirstBadLine SpellsKept input number

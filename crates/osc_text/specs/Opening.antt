@@ -9,14 +9,13 @@ use Rattle.osc_coap.specs.Inner.{InnerParts}
 use Rattle.osc_coap.specs.Search.{values_at, first_of}
 use Rattle.osc_coap.specs.OptionNumbers.{uri_host, uri_port}
 use Rattle.osc_context.specs.SecurityContext.{SecurityContext}
-use Rattle.osc_context.specs.Views.{client_context_of, server_context_of}
-use Rattle.osc_context.specs.declared.parameters.Params.{Params}
+use Rattle.osc_text.specs.declared.agreed.Agreed.{Agreed}
 use Rattle.osc_protect.specs.Protection.{Protection, Protects, requests, responses}
 use Rattle.osc_protect.specs.Text.{unprotect_error_text}
 use Rattle.osc_protect.specs.Refusals.{RefusesToOpen}
 use Rattle.osc_protect.specs.Views.{request_number}
 use Rattle.osc_protect.specs.declared.unprotect_error.UnprotectError.{UnprotectError}
-use Rattle.osc_text.specs.Contexts.{InContext, Told}
+use Rattle.osc_text.specs.Contexts.{agreed_client, agreed_server, InContext, Told}
 use Rattle.osc_text.specs.declared.opening.Opening.{Opening}
 use Rattle.osc_text.specs.declared.opening.Opening.TheVariants.{Request, Response}
 use Rattle.osc_text.specs.Lines.{head_lines, number_line, bytes_line, part_lines, option_line, refused_line}
@@ -52,5 +51,5 @@ OpeningText client server Request d = DatagramText (requests server) d
 OpeningText client server (Response request) d = DatagramText (responses client (request_number request)) d
 
 -- what `open` prints for a datagram (RFC 8613, 8.2 and 8.4)
-abbrev pub OpenText : Params → Opening → List ℕ → Told
-OpenText g what d = InContext g (OpeningText (client_context_of g) (server_context_of g) what d)
+abbrev pub OpenText : Agreed → Opening → List ℕ → Told
+OpenText g what d = InContext g.params (OpeningText (agreed_client g) (agreed_server g) what d)

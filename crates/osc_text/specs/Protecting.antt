@@ -8,15 +8,15 @@ use Rattle.osc_coap.specs.Fault.{HasFault}
 use Rattle.osc_coap.specs.Text.{error_text}
 use Rattle.osc_coap.specs.declared.format_error.FormatError.{FormatError}
 use Rattle.osc_context.specs.SecurityContext.{SecurityContext}
-use Rattle.osc_context.specs.Views.{client_context_of, server_context_of, number_of}
-use Rattle.osc_context.specs.declared.parameters.Params.{Params}
+use Rattle.osc_context.specs.Views.{number_of}
+use Rattle.osc_text.specs.declared.agreed.Agreed.{Agreed}
 use Rattle.osc_protect.specs.Protection.{Protection, requests, responses}
 use Rattle.osc_protect.specs.Sealed.{IsSealed}
 use Rattle.osc_protect.specs.SealRefusals.{RefusesToSeal}
 use Rattle.osc_protect.specs.Text.{protect_error_text}
 use Rattle.osc_protect.specs.Views.{request_number}
 use Rattle.osc_protect.specs.declared.protect_error.ProtectError.{ProtectError}
-use Rattle.osc_text.specs.Contexts.{InContext, Told}
+use Rattle.osc_text.specs.Contexts.{agreed_client, agreed_server, InContext, Told}
 use Rattle.osc_text.specs.declared.protection.Sealing.{Sealing}
 use Rattle.osc_text.specs.declared.protection.Sealing.TheVariants.{Request, Response}
 use Rattle.osc_text.specs.Lines.{hex_line, refused_line}
@@ -41,5 +41,5 @@ pub data PlainText (told : Parts → Told) (d : List ℕ) (lines : List (List �
   faulty : (e : FormatError) → HasFault d e.fault e.place → lines ≡ refused_line (error_text e) ∷ [] → status ≡ 2 → PlainText told d lines status
 
 -- what `protect` prints for a plain datagram (RFC 8613, 8.1 and 8.3)
-abbrev pub ProtectText : Params → Sealing → List ℕ → Told
-ProtectText g what d = InContext g (PlainText (SealingText (client_context_of g) (server_context_of g) what) d)
+abbrev pub ProtectText : Agreed → Sealing → List ℕ → Told
+ProtectText g what d = InContext g.params (PlainText (SealingText (agreed_client g) (agreed_server g) what) d)

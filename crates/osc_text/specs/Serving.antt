@@ -5,10 +5,9 @@ use Rattle.osc_coap.specs.Datagram.{Parts, IsDatagram}
 use Rattle.osc_coap.specs.Fault.{HasFault}
 use Rattle.osc_coap.specs.declared.format_error.Fault.{Fault as MessageFault}
 use Rattle.osc_context.specs.SecurityContext.{SecurityContext}
-use Rattle.osc_context.specs.Views.{server_context_of}
 use Rattle.osc_context.specs.ContextRefusal.{RefusesParams}
 use Rattle.osc_context.specs.declared.context_error.ContextError.{ContextError}
-use Rattle.osc_context.specs.declared.parameters.Params.{Params}
+use Rattle.osc_text.specs.declared.agreed.Agreed.{Agreed}
 use Rattle.osc_window.specs.declared.window_size.WindowSize.{WindowSize}
 use Rattle.osc_endpoint.specs.ServerAnswer.{ServerAnswer}
 use Rattle.osc_endpoint.specs.ServerHistory.{History, Begin, Then, Answer, TicketValues, Add, Datagram, Reply, Restart, Added, NotAdded, Took, Replied, NotReplied, Restarted, NotRestarted}
@@ -19,7 +18,7 @@ use Rattle.osc_endpoint.specs.declared.server_error.ReplyError.{ReplyError}
 use Rattle.osc_endpoint.specs.declared.server_error.RestartError.{RestartError}
 use Rattle.osc_endpoint.specs.declared.start.Start.{Start}
 use Rattle.osc_endpoint.specs.declared.start.Start.TheVariants as starts
-use Rattle.osc_text.specs.Contexts.{InContext, Told}
+use Rattle.osc_text.specs.Contexts.{agreed_server, InContext, Told}
 use Rattle.osc_text.specs.EntryLines.{bad_plain_line, not_done_line, restarted_line}
 use Rattle.osc_text.specs.InputEvents.{InputEvent, SpellsEvent}
 use Rattle.osc_text.specs.InputEvents as input
@@ -73,12 +72,12 @@ pub data ServerText (s : SecurityContext) (start : Start) (size : WindowSize) (b
       → InputText SpellsEvent ServerLine (Then Begin (Add s start size) (Added index), []) bytes lines status → ServerText s start size bytes lines status
 
 -- what `run` prints for a server (RFC 8613, 7.4, 8.2 and 8.3)
-abbrev pub ServeText : Params → Serving → List ℕ → Told
-ServeText g serving bytes = InContext g (ServerText (server_context_of g) (start_of serving) serving.window bytes)
+abbrev pub ServeText : Agreed → Serving → List ℕ → Told
+ServeText g serving bytes = InContext g.params (ServerText (agreed_server g) (start_of serving) serving.window bytes)
 
 -- the context is derived and starts, and the line with this number, counted from 1, is the first that spells no event (own rule)
-pub record HasBadLine (g : Params) (serving : Serving) (bytes : List ℕ) (number : ℕ) : Type 0 where
-  pub in_context : (e : ContextError) → ¬ RefusesParams g e
+pub record HasBadLine (g : Agreed) (serving : Serving) (bytes : List ℕ) (number : ℕ) : Type 0 where
+  pub in_context : (e : ContextError) → ¬ RefusesParams g.params e
   pub index : ℕ
-  pub starts : ServerAnswer Begin (Add (server_context_of g) (start_of serving) serving.window) (Added index)
+  pub starts : ServerAnswer Begin (Add (agreed_server g) (start_of serving) serving.window) (Added index)
   pub first_bad : IsFirstBadLine SpellsEvent bytes number

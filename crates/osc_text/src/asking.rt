@@ -5,11 +5,12 @@ ghost use Rattle.osc_context.specs.Views.{number_of};
 ghost use Rattle.osc_endpoint.specs.Agrees.{ClientAgrees};
 ghost use Rattle.osc_endpoint.specs.ClientHistory.{History, New};
 
+use crate::agreed::Agreed;
 use crate::ends::{Beginning, End, write_input, write_run};
 use crate::entry_lines::write_log;
 use crate::fault::Fault;
 use osc_coap::one_datagram;
-use osc_context::{Context, Params, Piv};
+use osc_context::{Context, Piv};
 use osc_endpoint::{Client, ClientEvent, one_client_answer, run_client};
 use std::alloc::Global;
 use std::io::Write;
@@ -39,23 +40,23 @@ ghost use Rattle.osc_text.specs.declared.fault.Fault.TheVariants.{Line};
 /// completely before writing it.
 pub fn ask_text<W: Write>(
     alloc: Global,
-    params: Params<'_>,
+    agreed: Agreed<'_>,
     asking: Asking,
     input: &[u8],
     out: &mut W,
 ) -> Result<u8, Fault>
     // If a status is returned, there is a text. The next two clauses say that this text is what is written.
-    ensures told { IfOk result (λ s. (lines : List (List ℕ)) × AskText params.entry asking input.now lines s) }
-    ensures written { (lines : List (List ℕ)) (status : ℕ) → AskText params.entry asking input.now lines status
+    ensures told { IfOk result (λ s. (lines : List (List ℕ)) × AskText agreed.entry asking input.now lines s) }
+    ensures written { (lines : List (List ℕ)) (status : ℕ) → AskText agreed.entry asking input.now lines status
         → Writes (W.contents out.old) (W.contents out.new) lines result }
-    ensures status { (lines : List (List ℕ)) (status : ℕ) → AskText params.entry asking input.now lines status
+    ensures status { (lines : List (List ℕ)) (status : ℕ) → AskText agreed.entry asking input.now lines status
         → IfOk result (λ s. s ≡ status) }
     ensures two { IfOk result (λ s. (s ≡ 0) ⊎ (s ≡ 2)) }
-    ensures refused { (n : ℕ) → result ≡ Err (Line n) → HasBadAskedLine params.entry input.now n }
-    ensures refuses { (n : ℕ) → HasBadAskedLine params.entry input.now n → RefusesLine n result }
-    ensures quiet { (n : ℕ) → HasBadAskedLine params.entry input.now n → out.new ≡ out.old }
+    ensures refused { (n : ℕ) → result ≡ Err (Line n) → HasBadAskedLine agreed.entry input.now n }
+    ensures refuses { (n : ℕ) → HasBadAskedLine agreed.entry input.now n → RefusesLine n result }
+    ensures quiet { (n : ℕ) → HasBadAskedLine agreed.entry input.now n → out.new ≡ out.old }
 {
-    write_run(alloc, params, asking, input, out)
+    write_run(alloc, agreed, asking, input, out)
 }
 
 impl Beginning for Asking {

@@ -5,33 +5,34 @@ ghost use Rattle.osc_context.specs.Views.{as_client};
 ghost use Rattle.osc_text.specs.Contexts.{DeriveText, key_lines};
 ghost use Rattle.osc_text.specs.Written.{Writes};
 
+use crate::agreed::Agreed;
 use crate::fault::Fault;
 use crate::lines::{put_bytes, put_refused};
-use osc_context::{Context, Params, one_context_refusal};
+use osc_context::{Context, one_context_refusal};
 use std::alloc::Global;
 use std::io::Write;
 
 /// Derives a context, and writes its keys and its Common IV, one per line, or the one line of a refusal. Returns the status: 0 if the
 /// context is derived, 2 if it is refused. Builds each line completely before writing it.
-pub fn derive_text<W: Write>(alloc: Global, params: Params<'_>, out: &mut W) -> Result<u8, Fault>
+pub fn derive_text<W: Write>(alloc: Global, agreed: Agreed<'_>, out: &mut W) -> Result<u8, Fault>
     // Each context has a text. The next two clauses say that this text is what is written.
-    ensures told { (lines : List (List ℕ)) × (status : ℕ) × DeriveText params.entry lines status }
-    ensures written { (lines : List (List ℕ)) (status : ℕ) → DeriveText params.entry lines status
+    ensures told { (lines : List (List ℕ)) × (status : ℕ) × DeriveText agreed.entry lines status }
+    ensures written { (lines : List (List ℕ)) (status : ℕ) → DeriveText agreed.entry lines status
         → Writes (W.contents out.old) (W.contents out.new) lines result }
-    ensures status { (lines : List (List ℕ)) (status : ℕ) → DeriveText params.entry lines status
+    ensures status { (lines : List (List ℕ)) (status : ℕ) → DeriveText agreed.entry lines status
         → IfOk result (λ s. s ≡ status) }
     ensures two { IfOk result (λ s. (s ≡ 0) ⊎ (s ≡ 2)) }
 {
     one_context_refusal();
-    write_derivation(alloc, params, out)
+    write_derivation(alloc, agreed, out)
 }
 
 /// Writes what is derived, or the refusal.
-fn write_derivation<W: Write>(alloc: Global, params: Params<'_>, out: &mut W) -> Result<u8, Fault>
-    ensures { (lines : List (List ℕ)) × (status : ℕ) × DeriveText params.entry lines status
+fn write_derivation<W: Write>(alloc: Global, agreed: Agreed<'_>, out: &mut W) -> Result<u8, Fault>
+    ensures { (lines : List (List ℕ)) × (status : ℕ) × DeriveText agreed.entry lines status
         × Writes (W.contents out.old) (W.contents out.new) lines result × IfOk result (λ s. s ≡ status) }
 {
-    match Context::derive(params) {
+    match agreed.derive() {
         Ok(context) => {
             put_keys(alloc, &context, out)?;
             Ok(0)

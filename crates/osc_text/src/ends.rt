@@ -3,13 +3,15 @@
 
 ghost use Rattle.std.specs.Prelude.{ℕ, List};
 ghost use Rattle.osc_context.specs.SecurityContext.{SecurityContext};
-ghost use Rattle.osc_context.specs.Views.{as_client, as_server, client_context_of, server_context_of};
+ghost use Rattle.osc_context.specs.Views.{as_client, as_server};
+ghost use Rattle.osc_text.specs.Contexts.{agreed_client, agreed_server};
 ghost use Rattle.osc_text.specs.Printing.{Promised, RunsContext, RunsEvents, RunsInput};
 
+use crate::agreed::Agreed;
 use crate::fault::Fault;
 use crate::input_lines::{LineEvent, read_events};
 use crate::lines::put_refused;
-use osc_context::{Context, Params, one_context_refusal};
+use osc_context::{Context, one_context_refusal};
 use std::alloc::Global;
 use std::io::Write;
 
@@ -50,16 +52,16 @@ pub(crate) trait End {
 /// Derives a context, and writes what an end that begins under it prints, or the refusal of the context.
 pub(crate) fn write_run<B: Beginning, W: Write>(
     alloc: Global,
-    params: Params<'_>,
+    agreed: Agreed<'_>,
     beginning: B,
     input: &[u8],
     out: &mut W,
 ) -> Result<u8, Fault>
-    ensures { RunsContext params.entry (W.contents out.old) (W.contents out.new) result
-        (B.promised beginning (client_context_of params.entry) (server_context_of params.entry) input.now W W.contents out.old out.new result) }
+    ensures { RunsContext agreed.entry.params (W.contents out.old) (W.contents out.new) result
+        (B.promised beginning (agreed_client agreed.entry) (agreed_server agreed.entry) input.now W W.contents out.old out.new result) }
 {
     one_context_refusal();
-    match Context::derive(params) {
+    match agreed.derive() {
         Ok(context) => beginning.write_under(alloc, context, input, out),
         Err(refusal) => put_refused(alloc, refusal, out),
     }

@@ -20,11 +20,12 @@ ghost use Rattle.osc_text.specs.KeptStarting.{StartsClientBadly, StartsKeptBadly
 ghost use Rattle.osc_text.specs.KeptText.{WroteBy};
 ghost use Rattle.osc_text.specs.Printing.{WroteAround};
 
+use crate::agreed::Agreed;
 use crate::ends::{Beginning, End, write_input, write_run};
 use crate::entry_lines::write_log;
 use crate::fault::Fault;
 use crate::lines::put_refused;
-use osc_context::{Context, Keeper, Params};
+use osc_context::{Context, Keeper};
 use osc_kept::{
     KeptClient, KeptClientEvent, KeptServer, KeptServerEvent, run_kept_client, run_kept_server,
 };
@@ -44,18 +45,18 @@ struct Kept<K, T>(K, T);
 /// then nothing is written. Builds each line completely before writing it.
 pub fn serve_kept_text<K: Keeper + Drop, W: Write>(
     alloc: Global,
-    params: Params<'_>,
+    agreed: Agreed<'_>,
     keeper: K,
     window: WindowSize,
     input: &[u8],
     out: &mut W,
 ) -> Result<u8, Fault>
-    ensures written { WroteBy W.contents (KeptServeText K.Keeper params.entry window keeper input.now)
-        (KeptServeFront K.Keeper params.entry window keeper input.now)
-        (HasBadKeptLine K.Keeper params.entry window keeper input.now) out.old out.new result }
+    ensures written { WroteBy W.contents (KeptServeText K.Keeper agreed.entry window keeper input.now)
+        (KeptServeFront K.Keeper agreed.entry window keeper input.now)
+        (HasBadKeptLine K.Keeper agreed.entry window keeper input.now) out.old out.new result }
     ensures two { IfOk result (λ s. (s ≡ 0) ⊎ (s ≡ 2)) }
 {
-    write_run(alloc, params, Kept(keeper, window), input, out)
+    write_run(alloc, agreed, Kept(keeper, window), input, out)
 }
 
 impl<K: Keeper + Drop> Beginning for Kept<K, WindowSize> {
@@ -102,18 +103,18 @@ impl<K: Keeper + Drop> End for KeptServer<K> {
 /// refused. The first line that spells no event is a fault, and then nothing is written. Builds each line completely before writing it.
 pub fn ask_kept_text<K: Keeper + Drop, W: Write>(
     alloc: Global,
-    params: Params<'_>,
+    agreed: Agreed<'_>,
     keeper: K,
     life_ms: u64,
     input: &[u8],
     out: &mut W,
 ) -> Result<u8, Fault>
-    ensures written { WroteBy W.contents (KeptAskText K.Keeper params.entry life_ms keeper input.now)
-        (KeptAskFront K.Keeper params.entry life_ms keeper input.now)
-        (HasBadKeptAskedLine K.Keeper params.entry life_ms keeper input.now) out.old out.new result }
+    ensures written { WroteBy W.contents (KeptAskText K.Keeper agreed.entry life_ms keeper input.now)
+        (KeptAskFront K.Keeper agreed.entry life_ms keeper input.now)
+        (HasBadKeptAskedLine K.Keeper agreed.entry life_ms keeper input.now) out.old out.new result }
     ensures two { IfOk result (λ s. (s ≡ 0) ⊎ (s ≡ 2)) }
 {
-    write_run(alloc, params, Kept(keeper, life_ms), input, out)
+    write_run(alloc, agreed, Kept(keeper, life_ms), input, out)
 }
 
 /// Returns whether a value of this type takes fewer than 2^63 bytes.

@@ -3,11 +3,13 @@
 //!
 //! ```
 //! let params = Params { secret, salt, id_context: None, sender, recipient };
+//! let agreed = Agreed { params, features: NO_FEATURES };
 //! let mut datagram = read_hex(alloc, word)?;
-//! let status = open_text(alloc, params, Opening::Request, &mut datagram, &mut out)?;
+//! let status = open_text(alloc, agreed, Opening::Request, &mut datagram, &mut out)?;
 //! ```
 #![tactic(auto)]
 
+mod agreed;
 mod asked_entries;
 mod asked_events;
 mod asking;
@@ -31,6 +33,7 @@ mod protection;
 mod served_entries;
 mod serving;
 
+pub use agreed::Agreed;
 pub use asking::{Asking, ask_text};
 pub use derivation::derive_text;
 pub use explanation::explain_text;

@@ -3,10 +3,11 @@
 ghost use Rattle.std.specs.Prelude.{◌≡◌, ◌⊎◌, ℕ, List, IfOk};
 ghost use Rattle.osc_context.specs.Views.{as_client, as_server};
 
+use crate::agreed::Agreed;
 use crate::fault::Fault;
 use crate::lines::{put_opened, put_refused};
 use osc_coap::one_datagram;
-use osc_context::{Context, Params, one_context_refusal};
+use osc_context::{Context, one_context_refusal};
 use osc_protect::{
     Opened, RequestRef, UnprotectError, one_request, one_response, open_request, open_response,
 };
@@ -32,16 +33,16 @@ ghost use Rattle.osc_text.specs.Written.{Writes};
 /// `open_response` leave it.
 pub fn open_text<W: Write>(
     alloc: Global,
-    params: Params<'_>,
+    agreed: Agreed<'_>,
     what: Opening,
     datagram: &mut [u8],
     out: &mut W,
 ) -> Result<u8, Fault>
     // Each datagram has a text. The next two clauses say that this text is what is written.
-    ensures told { (lines : List (List ℕ)) × (status : ℕ) × OpenText params.entry what datagram.old lines status }
-    ensures written { (lines : List (List ℕ)) (status : ℕ) → OpenText params.entry what datagram.old lines status
+    ensures told { (lines : List (List ℕ)) × (status : ℕ) × OpenText agreed.entry what datagram.old lines status }
+    ensures written { (lines : List (List ℕ)) (status : ℕ) → OpenText agreed.entry what datagram.old lines status
         → Writes (W.contents out.old) (W.contents out.new) lines result }
-    ensures status { (lines : List (List ℕ)) (status : ℕ) → OpenText params.entry what datagram.old lines status
+    ensures status { (lines : List (List ℕ)) (status : ℕ) → OpenText agreed.entry what datagram.old lines status
         → IfOk result (λ s. s ≡ status) }
     ensures two { IfOk result (λ s. (s ≡ 0) ⊎ (s ≡ 2)) }
 {
@@ -49,21 +50,21 @@ pub fn open_text<W: Write>(
     one_request();
     one_response();
     one_datagram();
-    write_opening(alloc, params, what, datagram, out)
+    write_opening(alloc, agreed, what, datagram, out)
 }
 
 /// Writes what a datagram says, or the refusal of the datagram or of the context.
 fn write_opening<W: Write>(
     alloc: Global,
-    params: Params<'_>,
+    agreed: Agreed<'_>,
     what: Opening,
     datagram: &mut [u8],
     out: &mut W,
 ) -> Result<u8, Fault>
-    ensures { (lines : List (List ℕ)) × (status : ℕ) × OpenText params.entry what datagram.old lines status
+    ensures { (lines : List (List ℕ)) × (status : ℕ) × OpenText agreed.entry what datagram.old lines status
         × Writes (W.contents out.old) (W.contents out.new) lines result × IfOk result (λ s. s ≡ status) }
 {
-    match Context::derive(params) {
+    match agreed.derive() {
         Ok(context) => write_datagram(alloc, &context, what, datagram, out),
         Err(refusal) => put_refused(alloc, refusal, out),
     }

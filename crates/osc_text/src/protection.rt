@@ -4,10 +4,11 @@ ghost use Rattle.std.specs.Prelude.{◌≡◌, ◌≤◌, ◌⊎◌, ℕ, List, 
 ghost use Rattle.osc_coap.specs.Views.{parts_of};
 ghost use Rattle.osc_context.specs.Views.{as_client, as_server};
 
+use crate::agreed::Agreed;
 use crate::fault::Fault;
 use crate::lines::{put_hex, put_refused};
 use osc_coap::{MOST_DATAGRAM, Message, one_datagram, parse};
-use osc_context::{Context, Params, Piv, one_context_refusal};
+use osc_context::{Context, Piv, one_context_refusal};
 use osc_protect::{ProtectError, RequestRef, one_sealed, seal_request, seal_response};
 use std::alloc::Global;
 use std::io::Write;
@@ -34,37 +35,37 @@ ghost use Rattle.osc_text.specs.Written.{Writes};
 /// fresh, and seals at most one response without an own number to a request.
 pub fn protect_text<W: Write>(
     alloc: Global,
-    params: Params<'_>,
+    agreed: Agreed<'_>,
     what: Sealing,
     plain: &[u8],
     out: &mut W,
 ) -> Result<u8, Fault>
     // Each datagram has a text. The next two clauses say that this text is what is written.
-    ensures told { (lines : List (List ℕ)) × (status : ℕ) × ProtectText params.entry what plain.now lines status }
-    ensures written { (lines : List (List ℕ)) (status : ℕ) → ProtectText params.entry what plain.now lines status
+    ensures told { (lines : List (List ℕ)) × (status : ℕ) × ProtectText agreed.entry what plain.now lines status }
+    ensures written { (lines : List (List ℕ)) (status : ℕ) → ProtectText agreed.entry what plain.now lines status
         → Writes (W.contents out.old) (W.contents out.new) lines result }
-    ensures status { (lines : List (List ℕ)) (status : ℕ) → ProtectText params.entry what plain.now lines status
+    ensures status { (lines : List (List ℕ)) (status : ℕ) → ProtectText agreed.entry what plain.now lines status
         → IfOk result (λ s. s ≡ status) }
     ensures two { IfOk result (λ s. (s ≡ 0) ⊎ (s ≡ 2)) }
 {
     one_context_refusal();
     one_sealed();
     one_datagram();
-    write_protection(alloc, params, what, plain, out)
+    write_protection(alloc, agreed, what, plain, out)
 }
 
 /// Writes what a plain datagram is sealed to, or the refusal of the datagram or of the context.
 fn write_protection<W: Write>(
     alloc: Global,
-    params: Params<'_>,
+    agreed: Agreed<'_>,
     what: Sealing,
     plain: &[u8],
     out: &mut W,
 ) -> Result<u8, Fault>
-    ensures { (lines : List (List ℕ)) × (status : ℕ) × ProtectText params.entry what plain.now lines status
+    ensures { (lines : List (List ℕ)) × (status : ℕ) × ProtectText agreed.entry what plain.now lines status
         × Writes (W.contents out.old) (W.contents out.new) lines result × IfOk result (λ s. s ≡ status) }
 {
-    match Context::derive(params) {
+    match agreed.derive() {
         Ok(context) => write_plain(alloc, &context, what, plain, out),
         Err(refusal) => put_refused(alloc, refusal, out),
     }

@@ -4,12 +4,13 @@ ghost use Rattle.std.specs.Prelude.{◌≡◌, ◌⊎◌, ℕ, [], List, All, Er
 ghost use Rattle.osc_endpoint.specs.Agrees.{Agrees};
 ghost use Rattle.osc_endpoint.specs.ServerHistory.{History};
 
+use crate::agreed::Agreed;
 use crate::ends::{Beginning, End, write_input, write_run};
 use crate::entry_lines::write_log;
 use crate::fault::Fault;
 use crate::lines::put_refused;
 use osc_coap::one_datagram;
-use osc_context::{Context, Params, Piv};
+use osc_context::{Context, Piv};
 use osc_endpoint::{Server, ServerEvent, Start, one_server_answer, run_server};
 use osc_window::WindowSize;
 use std::alloc::Global;
@@ -54,23 +55,23 @@ impl Serving {
 /// completely before writing it.
 pub fn serve_text<W: Write>(
     alloc: Global,
-    params: Params<'_>,
+    agreed: Agreed<'_>,
     serving: Serving,
     input: &[u8],
     out: &mut W,
 ) -> Result<u8, Fault>
     // If a status is returned, there is a text. The next two clauses say that this text is what is written.
-    ensures told { IfOk result (λ s. (lines : List (List ℕ)) × ServeText params.entry serving input.now lines s) }
-    ensures written { (lines : List (List ℕ)) (status : ℕ) → ServeText params.entry serving input.now lines status
+    ensures told { IfOk result (λ s. (lines : List (List ℕ)) × ServeText agreed.entry serving input.now lines s) }
+    ensures written { (lines : List (List ℕ)) (status : ℕ) → ServeText agreed.entry serving input.now lines status
         → Writes (W.contents out.old) (W.contents out.new) lines result }
-    ensures status { (lines : List (List ℕ)) (status : ℕ) → ServeText params.entry serving input.now lines status
+    ensures status { (lines : List (List ℕ)) (status : ℕ) → ServeText agreed.entry serving input.now lines status
         → IfOk result (λ s. s ≡ status) }
     ensures two { IfOk result (λ s. (s ≡ 0) ⊎ (s ≡ 2)) }
-    ensures refused { (n : ℕ) → result ≡ Err (Line n) → HasBadLine params.entry serving input.now n }
-    ensures refuses { (n : ℕ) → HasBadLine params.entry serving input.now n → RefusesLine n result }
-    ensures quiet { (n : ℕ) → HasBadLine params.entry serving input.now n → out.new ≡ out.old }
+    ensures refused { (n : ℕ) → result ≡ Err (Line n) → HasBadLine agreed.entry serving input.now n }
+    ensures refuses { (n : ℕ) → HasBadLine agreed.entry serving input.now n → RefusesLine n result }
+    ensures quiet { (n : ℕ) → HasBadLine agreed.entry serving input.now n → out.new ≡ out.old }
 {
-    write_run(alloc, params, serving, input, out)
+    write_run(alloc, agreed, serving, input, out)
 }
 
 impl Beginning for Serving {

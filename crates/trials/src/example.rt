@@ -1,6 +1,7 @@
 //! The context of RFC 8613, C.1, which all trials take, and what the contexts of C.2 and C.3 have in place of its parts.
 
-use osc_context::Params;
+use osc_context::{NO_FEATURES, Params};
+use osc_text::Agreed;
 
 const SECRET: [u8; 16] = [1, 2, 3, 4, 5, 6, 7, 8, 9, 10, 11, 12, 13, 14, 15, 16];
 
@@ -23,5 +24,13 @@ pub(crate) fn params<'a>(sender: &'a [u8], recipient: &'a [u8]) -> Params<'a> {
         id_context: None,
         sender,
         recipient,
+    }
+}
+
+/// Returns the same with no features, as a call of the command names it.
+pub(crate) fn agreed<'a>(sender: &'a [u8], recipient: &'a [u8]) -> Agreed<'a> {
+    Agreed {
+        params: params(sender, recipient),
+        features: NO_FEATURES,
     }
 }

@@ -5,7 +5,7 @@
 
 mod runs;
 
-use crate::example::{SERVER, params};
+use crate::example::{SERVER, agreed};
 use osc_context::Piv;
 use osc_text::{Asking, Fault, Serving, ask_text, serve_text};
 use osc_window::WindowSize;
@@ -44,12 +44,12 @@ fn print<W: Write>(alloc: Global, out: &mut W) -> Result<u8, Fault> {
         is_restarted: false,
         window: WindowSize::default(),
     };
-    serve_text(alloc, params(SERVER, &[]), serving, REQUESTS, out)?;
+    serve_text(alloc, agreed(SERVER, &[]), serving, REQUESTS, out)?;
     let asking = Asking {
         next: Piv::MAX,
         life_ms: 60_000,
     };
-    ask_text(alloc, params(&[], SERVER), asking, RESPONSES, out)
+    ask_text(alloc, agreed(&[], SERVER), asking, RESPONSES, out)
 }
 
 /// Prints those runs, and then two that continue after a growth of theirs is refused. Returns the status.

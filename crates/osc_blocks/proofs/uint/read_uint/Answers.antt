@@ -1,5 +1,6 @@
 use Rattle.std.proofs.Common.{arith, ◌∙◌, ap, ℕ, ◌*◌, ◌+◌}
-use Rattle.osc_blocks.proofs.Uints.{number_taken, bound_more, power_small}
+use Rattle.osc_context.proofs.PartialIvs.{number_taken, bound_more}
+use Rattle.osc_blocks.proofs.Uints.{power_small}
 use Rattle.osc_blocks.proofs.uint.read_uint.Goals as goal
 
 pub overflow_mul-number : goal.overflow_mul-number

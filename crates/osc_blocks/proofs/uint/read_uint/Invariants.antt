@@ -1,5 +1,5 @@
 use Rattle.std.proofs.Common.{◌≡◌, ◌^◌, ◌<◌, take}
-use Rattle.osc_blocks.specs.Uint.{spelled_number}
+use Rattle.osc_context.specs.PartialIv.{spelled_number}
 use Rattle.osc_blocks.proofs.uint.read_uint.Given as goal
 
 abbrev pub invariant-loop-byte : goal.invariant-loop-byte

@@ -9,4 +9,5 @@ returns c =
     let with_salt = adds_local _ _ _ c.in_ok-arg-2.ensures with_secret c.hex_option-salt.ensures in
     let with_sender = adds_local _ _ _ c.in_ok-arg-3.ensures with_salt c.hex_option-sender.ensures in
     let with_recipient = adds_local _ _ _ c.in_ok-arg-4.ensures with_sender c.hex_option-recipient.ensures in
-    may_add_local _ _ c.arg-5.result c.arg-5.ensures with_recipient c.hex_option-id_context.ensures
+    let with_id_context = adds_local _ _ _ c.in_ok-arg-5.ensures with_recipient c.hex_option-id_context.ensures in
+    may_add_local _ _ c.arg-6.result c.arg-6.ensures with_id_context c.choice_option-allow.ensures

@@ -13,11 +13,11 @@ some_of P Q (Err e) p more = tt
 pub returns : goal.returns
 returns g c =
     let told = c.open_text.ensures.told in
-    subst (λ (answer : Option ℕ). IfSome answer (λ s. (datagram : List ℕ) × (lines : List (List ℕ)) × SpellsBytes c.args.word.now datagram × OpenText c.args.params Request datagram lines s))
+    subst (λ (answer : Option ℕ). IfSome answer (λ s. (datagram : List ℕ) × (lines : List (List ℕ)) × SpellsBytes c.args.word.now datagram × OpenText c.args.agreed Request datagram lines s))
     (sym c.ok.ensures.value)
     (some_of _ _ c.open_text.result (c.open_text.ensures.status told.0 told.1 told.2) (λ s same. (
       c.in-Ok.datagram.items,
       told.0,
       c.in-Ok.ensures.spelled,
-      subst (λ (d : List ℕ). OpenText c.args.params Request d told.0 s) c.deref_mut.ensures.value (subst (λ (n : ℕ). OpenText c.args.params Request c.deref_mut.result.now told.0 n) (sym same) told.2),
+      subst (λ (d : List ℕ). OpenText c.args.agreed Request d told.0 s) c.deref_mut.ensures.value (subst (λ (n : ℕ). OpenText c.args.agreed Request c.deref_mut.result.now told.0 n) (sym same) told.2),
     )))

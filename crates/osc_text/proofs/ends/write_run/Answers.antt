@@ -9,4 +9,4 @@ pub returns-in-Err : goal.returns-in-Err
 returns-in-Err g c =
     let e = c.in-Err.refusal in
     let first = c.in-Err.ensures.refused in
-    refused e first (λ f first_too. c.one_context_refusal.ensures c.args.params f e first_too first) c.put_refused.ensures.written c.put_refused.ensures.status
+    refused e first (λ f first_too. c.one_context_refusal.ensures c.args.agreed.params f e first_too first) c.put_refused.ensures.written c.put_refused.ensures.status

@@ -1,4 +1,4 @@
-use Rattle.osc_context.specs.Views.{server_context_of}
+use Rattle.osc_text.specs.Contexts.{agreed_server}
 use Rattle.osc_text.specs.Serving.{HasBadLine, ServerText, start_of}
 use Rattle.osc_text.specs.Starting.{StartsBadly}
 use Rattle.osc_text.proofs.InputTexts.{context_prints}
@@ -7,9 +7,9 @@ use Rattle.osc_text.proofs.serving.serve_text.Goals as goal
 pub returns : goal.returns
 returns g c =
     let v = c.args.serving in
-    let p = c.args.params in
+    let p = c.args.agreed in
     let bytes = c.args.input.now in
-    let s = server_context_of p in
-    let prints = context_prints g.W.Write.contents p (ServerText s (start_of v) v.window bytes) (StartsBadly s (start_of v) v.window bytes) (HasBadLine p v bytes) c.args.out.now _ c.write_run.result
+    let s = agreed_server p in
+    let prints = context_prints g.W.Write.contents p.params (ServerText s (start_of v) v.window bytes) (StartsBadly s (start_of v) v.window bytes) (HasBadLine p v bytes) c.args.out.now _ c.write_run.result
     (λ n bad. record { in_context = bad.0; index = bad.1.0; starts = bad.1.1; first_bad = bad.1.2 }) (λ n bad. (bad.in_context, (bad.index, bad.starts, bad.first_bad))) c.write_run.ensures in
     record { told = prints.told; written = prints.written; status = prints.status; two = prints.two; refused = prints.refused; refuses = prints.refuses; quiet = prints.quiet }
