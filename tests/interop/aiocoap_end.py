@@ -1,18 +1,22 @@
 """One end of aiocoap over UDP on 127.0.0.1, with its own transports, credentials, and files of a context.
 
     aiocoap_end.py client FOLDER PORT
-        asks by lines "KIND METHOD PATH TOKEN_LEN PAYLOAD [observe]", and prints "CODE PAYLOAD", or "failed NAME"
+        asks by lines "KIND METHOD PATH TOKEN_LEN PAYLOAD [observe|SIZE]", where SIZE is that of blocks, and prints "CODE PAYLOAD", or
+        "failed NAME"
     aiocoap_end.py server FOLDER PORT
         prints "ready", and what its resource lock was told
 
 FOLDER holds the context's settings.json; aiocoap keeps its numbers there. Payloads are hex, "-" where there are none. The server's
 resources: lock, which PUT opens and shuts; mirror, which says back the method and the payload, 1,024 bytes at most; slow, the same
 later than aiocoap waits with its acknowledgment; own, the same under an own number; long, which says as many bytes as it is asked
-for. Of what aiocoap imports lakers, which is for EDHOC alone, gets a stand-in that does nothing where it isn't here."""
+for; body, which says what was put there. Of what aiocoap imports lakers, which is for EDHOC alone, gets a stand-in that does nothing where
+it isn't here."""
 
 from __future__ import annotations
 
 import asyncio
+import functools
+import hashlib
 import importlib.util
 import logging
 import sys
@@ -79,9 +83,23 @@ class Lock(aiocoap.resource.Resource):
         return aiocoap.Message(code=aiocoap.CHANGED, payload=request.payload)
 
 
+class Body(aiocoap.resource.Resource):
+    body = b""
+
+    async def render_put(self, request):
+        self.body = request.payload
+        return aiocoap.Message(code=aiocoap.CHANGED)
+
+    async def render_get(self, request):
+        response = aiocoap.Message(payload=self.body)
+        response.opt.etag = hashlib.sha256(self.body).digest()[:8]
+        return response
+
+
 async def serve(folder: str, port: int) -> None:
     site, credentials = aiocoap.resource.Site(), CredentialsMap()
-    for path, resource in (("lock", Lock()), ("mirror", Mirror()), ("slow", Mirror(LATE_S)), ("own", Mirror()), ("long", Long())):
+    for path, resource in (("lock", Lock()), ("mirror", Mirror()), ("slow", Mirror(LATE_S)), ("own", Mirror()), ("long", Long()),
+                           ("body", Body())):
         site.add_resource([path], resource)
     credentials[":context"] = Context(folder)
     await aiocoap.Context.create_server_context(OscoreSiteWrapper(site, credentials), bind=("127.0.0.1", port),
@@ -90,21 +108,36 @@ async def serve(folder: str, port: int) -> None:
     await asyncio.get_running_loop().run_in_executor(None, sys.stdin.read)
 
 
+def next_token(manager, token_len: int) -> bytes:
+    manager._token += 1
+    return manager._token.to_bytes(8, "big")[8 - token_len:]
+
+
 def set_tokens(context: aiocoap.Context, token_len: int) -> None:
     """aiocoap counts its tokens itself; here each gets a length."""
     for manager in context.request_interfaces:
         if hasattr(manager, "next_token"):
-            manager._token += 1
-            manager.next_token = lambda: manager._token.to_bytes(8, "big")[8 - token_len:]
+            manager.next_token = functools.partial(next_token, manager, token_len)
+
+
+def set_size(request: aiocoap.Message, size: int) -> None:
+    """Of the blocks that are sent, or are asked for."""
+    block = (0, False, size.bit_length() - 5)
+    if request.payload:
+        request.opt.block1 = block
+    else:
+        request.opt.block2 = block
 
 
 async def ask(context: aiocoap.Context, port: int, words: List[str]) -> str:
-    kind, method, path, token_len, payload, *observe = words
+    kind, method, path, token_len, payload, *more = words
     set_tokens(context, int(token_len))
     request = aiocoap.Message(code=METHODS[method], uri=f"coap://127.0.0.1:{port}/{path}", payload=bytes.fromhex(payload.strip("-")))
     request.mtype = {"CON": aiocoap.CON, "NON": aiocoap.NON}[kind]
-    if observe:
+    if more == ["observe"]:
         request.opt.observe = 0
+    elif more:
+        set_size(request, int(more[0]))
     try:
         response = await asyncio.wait_for(context.request(request).response, GIVEN_UP_S)
     except (aiocoap.error.Error, asyncio.TimeoutError) as failure:

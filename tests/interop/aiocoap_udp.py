@@ -57,11 +57,14 @@ class End:
 class Aiocoap:
     name = "aiocoap"
     shows_codes = True
-    first_asks_echo, first_put = False, "2.04"
+    first_asks_echo, first_put, body_path = False, "2.04", "body"
     lengths = (*PAYLOAD_LENGTHS, SPLIT_LENGTH)
     otherwise = {"a forged reply comes before each": ("failed ProtectionInvalid", b""),
                  "a reply without protection comes before each": ("failed NotAProtectedMessage", b"")}
     left_out = dict.fromkeys(("in parts", "with Observe"), ("failed NotAProtectedMessage", ["Inner", "Replay"]))
+    block_orders = {"2": "4.08", "0 2": "2.31 5.00", "0 0 1 2 3": "2.31 2.31 2.31 2.31 2.04"}
+    blocks_otherwise: dict = {}
+    can_be_told = False
     orders = {"1 0": "DD", "0 2 0": "DDR", "2 3 2": "DDR"}
 
     def __init__(self, bench: Bench):
@@ -79,6 +82,9 @@ class Aiocoap:
         rows += [("put", "slow", payload)]
         return [(method, path, sent, (answer_code(method), (f"0.{METHODS.index(method) + 1:02} ".encode() + sent)[:MOST_PAYLOAD]))
                 for method, path, sent in rows]
+
+    def most_block(self, at: int) -> int:
+        return 1024
 
     def comes_by_itself(self, path: str, code: str) -> bool:
         return path == "slow"

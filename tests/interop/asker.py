@@ -33,16 +33,19 @@ class Response(NamedTuple):
 class Calls:
     """Seals and opens by the C library, by tables and in constant time by turns, under one count of numbers."""
 
-    def __init__(self, program: str, words: Words, number: int = 0):
+    def __init__(self, program: str, words: Words, number: int = 0, allows_blocks: bool = False):
         self.library, self.number = Library(program), number
-        ends = f"{words.secret} {words.salt} {words.id_context} {words.client} {words.server}"
-        self.library.ask([f"derive {CLIENT + cipher} {cipher} 0 {ends}" for cipher in range(len(CIPHERS))])
+        ends = f"{int(allows_blocks)} {words.secret} {words.salt} {words.id_context} {words.client} {words.server}"
+        self.library.ask([f"derive {CLIENT + cipher} {cipher} {ends}" for cipher in range(len(CIPHERS))])
 
     def answer_to(self, line: str):
         return answer_of(self.library.ask([line])[0])
 
     def seal_under(self, number: int, message: Message) -> bytes:
-        return self.answer_to(f"seal-request {CLIENT + number % len(CIPHERS)} {number} {shown(coap_reading.write(message))}").datagram
+        sealed = self.answer_to(f"seal-request {CLIENT + number % len(CIPHERS)} {number} {shown(coap_reading.write(message))}")
+        if sealed.status != "Done":
+            raise SystemExit(f"a request isn't sealed: {sealed.status} {sealed.detail}")
+        return sealed.datagram
 
     def seal(self, message: Message) -> Tuple[int, bytes]:
         """Under the next number, which is answered too."""
@@ -104,11 +107,16 @@ class Asker:
         return response
 
     def ask(self, kind: str, code: int, path: str, payload: bytes, token_len: int = 5) -> Tuple[str, bytes]:
-        """The code and the payload of the response, or a refusal. It asks again where the server wants its Echo value."""
-        options = [(URI_PATH, path.encode())] + ([TEXT] if payload else [])
+        """The code and the payload of the response, or a refusal."""
+        response = self.response_to(kind, code, path, payload, token_len)
+        return response.code, response.payload
+
+    def response_to(self, kind: str, code: int, path: str, payload: bytes, token_len: int = 5, more: Options = ()) -> Response:
+        """It asks again where the server wants its Echo value."""
+        options = [(URI_PATH, path.encode())] + ([TEXT] if payload else []) + list(more)
         response = self.exchange(self.request(kind, code, token_len, options, payload))
         echoes = [value for option, value in response.options if option == ECHO]
         if response.code == UNAUTHORIZED and echoes:
             self.challenges += 1
             response = self.exchange(self.request(kind, code, token_len, options + [(ECHO, echoes[0])], payload))
-        return response.code, response.payload
+        return response

@@ -17,7 +17,7 @@ METHODS = ("get", "post", "put", "delete", "fetch", "patch", "ipatch")
 WITHOUT_PAYLOAD = ("get", "delete")
 KINDS = ("CON", "NON")
 PAYLOAD_LENGTHS, SPLIT_LENGTH = (0, 1, 12, 13, 255, 600, 1024), 1100
-"""What is longer than 1,024 bytes both peers send in parts, by Block1 or Block2, which are left out here."""
+"""What is longer than 1,024 bytes both peers send in parts, by Block1 or Block2, which a context refuses unless it allows blocks."""
 MOST_TOKEN = 8
 MOST_SHOWN, MOST_FAILURES = 200, 12
 PING = b"\x40\0\0\1"

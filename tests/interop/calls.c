@@ -10,10 +10,17 @@
        open-response SLOT REQUEST DATAGRAM
            STATUS DETAIL DATAGRAM_AFTERWARDS, and behind Done
            KIND CODE MESSAGE_ID TOKEN NUMBER URI_HOST URI_PORT PAYLOAD [OPTION VALUE]..
+       serve SLOT RESTARTED
+           STATUS
+       take NOW ECHO MESSAGE_ID DATAGRAM
+           STATUS DETAIL REPLY, and behind Done as above
+       reply OWN MESSAGE_ID PLAIN
+           STATUS DETAIL SEALED
        end
 
-   What was printed is sent at `end`, so that whoever asks may write several lines before reading. Each run of bytes has memory of its
-   own, of exactly its length, so that a sanitizer sees what reads or writes past it. */
+   There is one server, of one context, which `serve` begins; a reply answers the request that it delivered last. What was printed is sent
+   at `end`, so that whoever asks may write several lines before reading. Each run of bytes has memory of its own, of exactly its length, so
+   that a sanitizer sees what reads or writes past it. */
 #define _POSIX_C_SOURCE 200809L
 #include "oscore.h"
 #include <inttypes.h>
@@ -30,6 +37,8 @@ typedef struct bytes {
 } bytes;
 
 static oscore_context contexts[SLOTS];
+static oscore_server1 server;
+static oscore_ticket ticket;
 static void *runs[MOST_RUNS];
 static size_t run_count;
 
@@ -166,6 +175,42 @@ static void open_message(bool is_request) {
     if (status == OSCORE_DONE) print_opened(&opened, options);
 }
 
+static void serve(void) {
+    const oscore_context *context = next_slot();
+    bool restarted = next_number() != 0;
+    server = (oscore_server1)OSCORE_ZERO;
+    print_status(oscore_server1_begin(&server, context, restarted, 0, 32));
+}
+
+static void take(void) {
+    static oscore_option options[MOST_OPTIONS];
+    oscore_opened opened = OSCORE_ZERO;
+    uint64_t now = next_number();
+    bytes echo = next_bytes();
+    uint16_t message_id = (uint16_t)next_number();
+    bytes datagram = next_bytes();
+    size_t out_len = 0, detail = 0;
+    uint8_t *out = room(64);
+    if (echo.len != 8) stop("an Echo value has 8 bytes");
+    oscore_status status = oscore_server1_take(&server, now, echo.at, message_id, datagram.at, datagram.len, options, MOST_OPTIONS, &opened,
+                                               &ticket, out, &out_len, &detail);
+    print_status(status);
+    printf(" %zu", detail);
+    print_bytes(out, out_len);
+    if (status == OSCORE_DONE) print_opened(&opened, options);
+}
+
+static void reply(void) {
+    bool own = next_number() != 0;
+    uint16_t message_id = (uint16_t)next_number();
+    bytes plain = next_bytes();
+    size_t out_room = OSCORE_ROOM(plain.len), out_len = 0, detail = 0;
+    uint8_t *out = room(out_room);
+    print_status(oscore_server1_reply(&server, &ticket, own, message_id, plain.at, plain.len, out, out_room, &out_len, &detail));
+    printf(" %zu", detail);
+    print_bytes(out, out_len);
+}
+
 static void answer(char *line) {
     const char *word = strtok(line, " \n");
     if (!word) stop("an empty line");
@@ -178,6 +223,9 @@ static void answer(char *line) {
     else if (!strcmp(word, "seal-response")) seal(false);
     else if (!strcmp(word, "open-request")) open_message(true);
     else if (!strcmp(word, "open-response")) open_message(false);
+    else if (!strcmp(word, "serve")) serve();
+    else if (!strcmp(word, "take")) take();
+    else if (!strcmp(word, "reply")) reply();
     else stop("no such call");
     putchar('\n');
     free_runs();

@@ -9,16 +9,15 @@ from __future__ import annotations
 
 import pathlib
 import secrets
-import socket
 import subprocess
-import threading
 import time
 from typing import List, Optional, Tuple
 
 import coap_reading
 from asker import Options, Response
 from bench import GIVEN_UP_S, METHODS, Words, answer_code, mirrored
-from coap_reading import ACK, CON, NON, Message
+from coap_reading import ACK, CON, Message
+from serving import Answer, Resource, UdpServer
 
 OPTIONS_OF_A_CONTEXT = ("--secret", "--salt", "--id-context", "--sender", "--recipient")
 
@@ -71,57 +70,35 @@ class Life:
         return entries[-1].split(" ")
 
 
-class Server:
-    """A server that says back what each request was, as mirror.c does, or obeys PUT /lock. Each second response is under an own number."""
+def mirror(request: Message) -> Message:
+    """Says back what a request was, as mirror.c does."""
+    method = METHODS[request.code - 1]
+    payload = mirrored("CON" if request.kind == CON else "NON", method, len(request.token), request.payload)
+    return Message(ACK, code_of(answer_code(method)), 0, b"", (), payload)
+
+
+class Server(UdpServer):
+    """A server whose requests a resource answers. Each second response is under an own number."""
 
     REPLY_AT = {"challenge": 2, "replay": 1, "bad-tag": 1, "no-context": 1, "undecodable": 1}
     """Which word of an entry is the reply that goes back."""
 
-    def __init__(self, life: Life):
-        self.life, self.datagrams, self.delivered = life, [], []
-        self.udp = socket.socket(socket.AF_INET, socket.SOCK_DGRAM)
-        self.udp.bind(("127.0.0.1", 0))
-        self.udp.settimeout(0.05)
-        self.port, self.is_over, self.failure = self.udp.getsockname()[1], threading.Event(), None
-        self.thread = threading.Thread(target=self.run, daemon=True)
+    def __init__(self, life: Life, resource: Resource = mirror):
+        super().__init__()
+        self.life, self.resource, self.delivered = life, resource, []
 
-    def __enter__(self) -> "Server":
-        self.thread.start()
-        return self
-
-    def __exit__(self, *_: object) -> None:
-        self.is_over.set()
-        self.thread.join()
-        self.udp.close()
-
-    def answer(self, datagram: bytes) -> Optional[bytes]:
+    def answer(self, datagram: bytes) -> Answer:
         at = len(self.life.events)
         words = self.life.happens(f"take {self.life.now()} {secrets.token_hex(8)} {secrets.token_hex(2)} {datagram.hex()}")
         if words[0] != "deliver":
             place = self.REPLY_AT.get(words[0])
-            return bytes.fromhex(words[place]) if place and len(words) > place else None
+            return Answer(bytes.fromhex(words[place]) if place and len(words) > place else None, False)
         self.delivered.append(int(words[2]))
-        method, outer = METHODS[code_of(words[3]) - 1], coap_reading.read(datagram)
-        payload = mirrored("CON" if outer.kind == CON else "NON", method, len(outer.token), bytes_of(words[5]))
-        plain = coap_reading.write(Message(ACK, code_of(answer_code(method)), 0, b"", (), payload))
+        code, options, payload = code_of(words[3]), tuple(options_of(words[4])), bytes_of(words[5])
+        plain = self.resource(coap_reading.read(datagram)._replace(code=code, options=options, payload=payload))
         own = "own" if len(self.delivered) % 2 else "shared"
-        words = self.life.happens(f"reply {at} {own} {secrets.token_hex(2)} {plain.hex()}")
-        return bytes.fromhex(words[1]) if words[0] == "replied" else None
-
-    def run(self) -> None:
-        while not self.is_over.is_set():
-            try:
-                datagram, sender = self.udp.recvfrom(2000)
-            except TimeoutError:
-                continue
-            self.datagrams.append(datagram)
-            try:
-                reply = self.answer(datagram)
-            except (SystemExit, subprocess.TimeoutExpired) as failure:
-                self.failure = str(failure)
-                return
-            if reply:
-                self.udp.sendto(reply, sender)
+        words = self.life.happens(f"reply {at} {own} {secrets.token_hex(2)} {coap_reading.write(plain).hex()}")
+        return Answer(bytes.fromhex(words[1]) if words[0] == "replied" else None, True)
 
 
 class Client:

@@ -1,8 +1,8 @@
 """Exchanges over UDP on 127.0.0.1 with a peer, both ways.
 
-    over_udp.py library OURS PEER [THEIRS]
+    over_udp.py library|library-blocks OURS PEER [THEIRS]
         OURS holds our programs lock, key, mirror and calls
-    over_udp.py command OSCORE PEER [THEIRS]
+    over_udp.py command|command-blocks OSCORE PEER [THEIRS]
         OSCORE is our program of that name
 
 PEER is aiocoap, or libcoap with THEIRS, the folder of its two programs."""
@@ -17,13 +17,18 @@ from typing import List
 
 from aiocoap_udp import Aiocoap
 from bench import Bench
+from block_rows import BlockRows, CommandBlockRows
 from command_rows import CommandRows
 from libcoap import Libcoap
 from rows import Rows
 
+ROWS = {"library": (Rows, "the library"), "library-blocks": (BlockRows, "the library's blocks"), "command": (CommandRows, "the command"),
+        "command-blocks": (CommandBlockRows, "the command's blocks")}
+"""The rows of each first word, and whose they are."""
+
 
 def main(words: List[str]) -> int:
-    if len(words) != {"aiocoap": 3, "libcoap": 4}.get(words[2] if len(words) > 2 else "") or words[0] not in ("library", "command"):
+    if len(words) != {"aiocoap": 3, "libcoap": 4}.get(words[2] if len(words) > 2 else "") or words[0] not in ROWS:
         raise SystemExit(__doc__)
     what, ours, name, *theirs = words
     # Whoever ends this program early ends its servers too.
@@ -32,8 +37,9 @@ def main(words: List[str]) -> int:
         bench = Bench(ours, pathlib.Path(work))
         peer = Aiocoap(bench) if name == "aiocoap" else Libcoap(bench, theirs[0])
         named = peer.begin()
-        (Rows(bench, peer) if what == "library" else CommandRows(bench, peer, ours)).run()
-        print(f"the {what} and {named} over UDP: {bench.looked} answers looked at; {bench.failures} are otherwise")
+        rows, whose = ROWS[what]
+        rows(bench, peer, *([ours] if what.startswith("command") else [])).run()
+        print(f"{whose} and {named} over UDP: {bench.looked} answers looked at; {bench.failures} are otherwise")
         return 1 if bench.failures else 0
 
 
