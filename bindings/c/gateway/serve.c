@@ -1,0 +1,224 @@
+#include "serve.h"
+#include "counts.h"
+#include "store.h"
+#include "trial.h"
+#include "worker.h"
+#include <arpa/inet.h>
+#include <errno.h>
+#include <netdb.h>
+#include <poll.h>
+#include <signal.h>
+#include <stdio.h>
+#include <stdlib.h>
+#include <string.h>
+#include <sys/prctl.h>
+#include <sys/stat.h>
+#include <sys/un.h>
+#include <sys/wait.h>
+#include <time.h>
+#include <unistd.h>
+
+/* A worker that ended by itself found its store broken: the next one begins after a pause. One that was killed is replaced at once. */
+enum { LOOK_MS = 50, PAUSE_MS = 200, END_MS = 10000, RECEIVE_ROOM = 8 << 20 };
+
+typedef struct parent {
+    const settings *with;
+    counts *counted;
+    int udp, metrics;
+    pid_t workers[WORKERS_MOST];    /* 0: to be started */
+    uint64_t begin_at[WORKERS_MOST]; /* not before */
+    bool in_order;
+} parent;
+
+/* POSIX gives a signal handler no other place. */
+static volatile sig_atomic_t ending;
+
+static void end(int signal) {
+    if (signal != SIGCHLD) ending = 1;
+}
+
+static uint64_t monotonic_ms(void) {
+    struct timespec now;
+    if (clock_gettime(CLOCK_MONOTONIC, &now)) return 0;
+    return (uint64_t)now.tv_sec * 1000 + (uint64_t)now.tv_nsec / 1000000;
+}
+
+/* Signals come in ppoll alone, here and in the workers. */
+static bool hold_signals(void) {
+    const int signals[] = {SIGTERM, SIGINT, SIGCHLD};
+    const struct sigaction handled = {.sa_handler = end};
+    sigset_t held;
+    if (sigemptyset(&held)) return false;
+    for (size_t i = 0; i < 3; i++)
+        if (sigaddset(&held, signals[i]) || sigaction(signals[i], &handled, NULL)) return false;
+    return !sigprocmask(SIG_BLOCK, &held, NULL);
+}
+
+/* More datagrams wait than the system's default has room for; where that isn't allowed, fewer do. */
+static void widen(int udp) {
+    int room = RECEIVE_ROOM;
+    if (setsockopt(udp, SOL_SOCKET, SO_RCVBUFFORCE, &room, sizeof room) && setsockopt(udp, SOL_SOCKET, SO_RCVBUF, &room, sizeof room))
+        perror("serve: room for datagrams");
+}
+
+static int open_udp(const settings *with) {
+    const struct addrinfo wanted = {.ai_flags = AI_NUMERICHOST | AI_NUMERICSERV, .ai_socktype = SOCK_DGRAM};
+    struct addrinfo *found = NULL;
+    char port[8];
+    int len = snprintf(port, sizeof port, "%u", (unsigned)with->port), udp = -1;
+    if (len < 0 || getaddrinfo(with->address, port, &wanted, &found)) {
+        fputs("serve: that is no address\n", stderr);
+        return -1;
+    }
+    udp = socket(found->ai_family, SOCK_DGRAM | SOCK_CLOEXEC, 0);
+    if (udp >= 0 && bind(udp, found->ai_addr, found->ai_addrlen)) {
+        perror("serve: bind");
+        (void)close(udp);
+        udp = -1;
+    }
+    freeaddrinfo(found);
+    if (udp >= 0) widen(udp);
+    return udp;
+}
+
+/* Whoever may open the path reads the metrics: the owner alone. */
+static int open_metrics(const char *path) {
+    struct sockaddr_un at = {.sun_family = AF_UNIX};
+    size_t len = strlen(path);
+    int metrics = len < sizeof at.sun_path ? socket(AF_UNIX, SOCK_STREAM | SOCK_CLOEXEC | SOCK_NONBLOCK, 0) : -1;
+    if (metrics >= 0) memcpy(at.sun_path, path, len);
+    if (metrics >= 0 && unlink(path) && errno != ENOENT) perror("serve: metrics");
+    if (metrics < 0 || bind(metrics, (struct sockaddr *)&at, sizeof at) || chmod(path, 0600) || listen(metrics, 8)) {
+        perror("serve: metrics");
+        if (metrics >= 0) (void)close(metrics);
+        return -1;
+    }
+    return metrics;
+}
+
+/* The text is short, so it is taken at once or not at all. */
+static void show_metrics(const parent *p) {
+    char text[METRICS_ROOM];
+    int to = accept(p->metrics, NULL, NULL);
+    if (to < 0) return;
+    size_t len = counts_text(p->counted, text);
+    if (send(to, text, len, MSG_NOSIGNAL | MSG_DONTWAIT) != (ssize_t)len) fputs("serve: metrics: not taken\n", stderr);
+    if (close(to)) perror("serve: metrics");
+}
+
+/* A worker ends when its parent does, however that ends. */
+static _Noreturn void become_worker(const parent *p, unsigned index, pid_t above) {
+    if (prctl(PR_SET_PDEATHSIG, SIGTERM) || getppid() != above) _exit(WORKER_BROKEN);
+    if (p->metrics >= 0) (void)close(p->metrics);
+    _exit(worker_run(p->with, p->udp, p->counted, index));
+}
+
+static void start_workers(parent *p) {
+    pid_t own = getpid();
+    for (size_t i = 0; i < p->with->workers; i++) {
+        if (p->workers[i] != 0 || monotonic_ms() < p->begin_at[i]) continue;
+        pid_t worker = fork();
+        if (worker == 0) become_worker(p, (unsigned)i, own);
+        if (worker > 0) p->workers[i] = worker;
+        else perror("serve: fork");
+    }
+}
+
+static size_t running(const parent *p) {
+    size_t count = 0;
+    for (size_t i = 0; i < p->with->workers; i++) count += p->workers[i] != 0;
+    return count;
+}
+
+static void reap(parent *p) {
+    int status;
+    for (pid_t gone; (gone = waitpid(-1, &status, WNOHANG)) > 0;) {
+        bool in_order = WIFEXITED(status) && WEXITSTATUS(status) == WORKER_DONE;
+        for (size_t i = 0; i < p->with->workers; i++) {
+            if (p->workers[i] != gone) continue;
+            p->workers[i] = 0;
+            p->begin_at[i] = monotonic_ms() + (WIFEXITED(status) ? PAUSE_MS : 0);
+        }
+        /* A worker that somebody killed sent nothing that wasn't written. */
+        bool killed = WIFSIGNALED(status) && WTERMSIG(status) == SIGKILL;
+        if (ending && !in_order && !killed) p->in_order = false;
+    }
+}
+
+static bool wait_a_while(const parent *p) {
+    const struct timespec while_long = {.tv_nsec = LOOK_MS * 1000000};
+    struct pollfd metrics = {.fd = p->metrics, .events = POLLIN};
+    sigset_t all_open;
+    if (sigemptyset(&all_open)) return false;
+    int came = ppoll(&metrics, p->metrics >= 0 ? 1 : 0, &while_long, &all_open);
+    if (came == 1) show_metrics(p);
+    return came >= 0 || errno == EINTR;
+}
+
+static void signal_all(const parent *p, int signal) {
+    for (size_t i = 0; i < p->with->workers; i++)
+        if (p->workers[i] != 0 && kill(p->workers[i], signal)) perror("serve: kill");
+}
+
+static void end_workers(parent *p) {
+    uint64_t until = monotonic_ms() + END_MS;
+    signal_all(p, SIGTERM);
+    while (reap(p), running(p) > 0) {
+        if (monotonic_ms() > until) {
+            signal_all(p, SIGKILL);
+            p->in_order = false;
+        }
+        if (!wait_a_while(p)) p->in_order = false;
+    }
+}
+
+static void run(parent *p) {
+    while (!ending) {
+        start_workers(p);
+        if (!wait_a_while(p)) {
+            perror("serve: wait");
+            p->in_order = false;
+            break;
+        }
+        reap(p);
+        trial_kill_one(p->workers, p->with->workers);
+    }
+    ending = 1;
+    end_workers(p);
+}
+
+/* Says at the start what workers would say again and again: that there is no store, no table in it, or none that batches. */
+static bool store_opens(const settings *with) {
+    static const row_key none = {.len = 0};
+    row_bytes nothing;
+    store *opened = store_open(with->store);
+    if (!opened) return false;
+    bool shares = opened->calls->batches || with->batch <= 1;
+    if (!shares) fputs("serve: this store takes one datagram a transaction: batch=1\n", stderr);
+    bool reads = opened->calls->get(opened, &none, &nothing) == STORE_NOT;
+    opened->calls->close(opened);
+    return shares && reads;
+}
+
+/* The first line says which port was given. */
+static bool say_port(int udp) {
+    struct sockaddr_storage own;
+    socklen_t len = sizeof own;
+    if (getsockname(udp, (struct sockaddr *)&own, &len)) return false;
+    in_port_t port = own.ss_family == AF_INET6 ? ((struct sockaddr_in6 *)&own)->sin6_port : ((struct sockaddr_in *)&own)->sin_port;
+    return printf("port %u\n", ntohs(port)) > 0 && !fflush(stdout);
+}
+
+bool serve(const settings *with) {
+    parent p = {.with = with, .udp = -1, .metrics = -1, .in_order = true};
+    bool begun = store_opens(with) && hold_signals() && trial_begin() && (p.counted = counts_make()) && (p.udp = open_udp(with)) >= 0
+        && (!with->metrics || (p.metrics = open_metrics(with->metrics)) >= 0) && say_port(p.udp);
+    if (begun) {
+        run(&p);
+        trial_end();
+    }
+    if (p.metrics >= 0 && (close(p.metrics) || unlink(with->metrics))) perror("serve: metrics");
+    if (p.udp >= 0 && close(p.udp)) perror("serve: close");
+    if (p.counted && counts_end(p.counted)) perror("serve: counts");
+    return begun && p.in_order;
+}

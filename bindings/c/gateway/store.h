@@ -1,0 +1,45 @@
+/* A store holds one row for each context. All of the gateway's safety over several workers rests on two things of it, which are premises:
+   a write happens only where the version is still the one that was read, whoever else writes; and what it answers as written stays so.
+
+   No call reports a secret: errors go to standard error in the words of the database, without the values of a row. */
+#ifndef GATEWAY_STORE_H
+#define GATEWAY_STORE_H
+
+#include "row.h"
+
+typedef enum store_answer {
+    STORE_DONE,   /* it is read, or written for good (between begin and commit: it will be, if commit answers true) */
+    STORE_NOT,    /* there is no such row; its version is another; or there is a row like the one to add */
+    STORE_BROKEN  /* anything else. It isn't known whether a write happened: whoever gets this sends nothing, acts on nothing, and ends */
+} store_answer;
+
+typedef struct store store;
+
+typedef struct store_calls {
+    const char *name;
+    bool batches; /* whether several datagrams may share a transaction */
+    store_answer (*get)(store *, const row_key *, row_bytes *);
+    store_answer (*put)(store *, const row_key *, const row_bytes *);
+    store_answer (*add)(store *, const row_key *, const uint8_t fingerprint[FINGERPRINT_LEN], const row_bytes *);
+    bool (*make)(store *); /* the table, where there is none */
+    bool (*begin)(store *);
+    bool (*commit)(store *);
+    bool (*undo)(store *);
+    void (*close)(store *);
+} store_calls;
+
+/* Each kind of store has a struct of its own that begins with this one. */
+struct store {
+    const store_calls *calls;
+};
+
+/* Opens a store by its name, and says on standard error why it can't: NULL. store_names says which names there are.
+   What is behind the colon may hold a password, so it is never printed. */
+store *store_open(const char *name);
+extern const char *const store_names;
+
+store *store_sqlite_open(const char *file, bool full);
+store *store_postgres_open(const char *conninfo, bool on);
+store *store_memory_open(const char *file);
+
+#endif

@@ -1,0 +1,104 @@
+/* A store in memory, in a file that the workers share and that nothing syncs: for measuring what the rest costs, and nothing else. A worker
+   that is killed inside a call leaves its cell locked. A reply that has no room in the state isn't kept. */
+#include "store.h"
+#include "bytes.h"
+#include <fcntl.h>
+#include <stdatomic.h>
+#include <stdio.h>
+#include <stdlib.h>
+#include <sys/mman.h>
+#include <sys/stat.h>
+#include <unistd.h>
+
+enum { CELLS = 1 << 21 };
+
+typedef struct cell {
+    _Atomic uint32_t lock;
+    bool used;
+    row_key key;
+    uint64_t version;
+    uint8_t state[STATE_MOST];
+    size_t state_len;
+} cell;
+
+typedef struct memory_store {
+    store of;
+    cell *cells;
+} memory_store;
+
+/* The cell of a key, or the free one where it would be. The table is never full: it has room for twice what is measured. */
+static cell *find(store *of, const row_key *key) {
+    cell *cells = ((memory_store *)of)->cells;
+    size_t at = hash_bytes(HASH_BEGIN, key->bytes, key->len) % CELLS;
+    while (cells[at].used && (cells[at].key.len != key->len || memcmp(cells[at].key.bytes, key->bytes, key->len))) at = (at + 1) % CELLS;
+    return &cells[at];
+}
+
+static void lock(cell *at) {
+    uint32_t open = 0;
+    while (!atomic_compare_exchange_weak(&at->lock, &open, 1)) open = 0;
+}
+
+static store_answer get(store *of, const row_key *key, row_bytes *row) {
+    cell *at = find(of, key);
+    if (!at->used) return STORE_NOT;
+    lock(at);
+    row->version = at->version;
+    row->state_len = at->state_len;
+    row->reply_len = 0;
+    memcpy(row->state, at->state, at->state_len);
+    atomic_store(&at->lock, 0);
+    return STORE_DONE;
+}
+
+static store_answer put(store *of, const row_key *key, const row_bytes *row) {
+    cell *at = find(of, key);
+    if (!at->used || row->reply_len > 0) return STORE_BROKEN;
+    lock(at);
+    bool same = at->version == row->version;
+    if (same) {
+        at->version++;
+        at->state_len = row->state_len;
+        memcpy(at->state, row->state, row->state_len);
+    }
+    atomic_store(&at->lock, 0);
+    return same ? STORE_DONE : STORE_NOT;
+}
+
+/* Fingerprints aren't compared here. */
+static store_answer add(store *of, const row_key *key, const uint8_t fingerprint[FINGERPRINT_LEN], const row_bytes *row) {
+    (void)fingerprint;
+    cell *at = find(of, key);
+    if (at->used) return STORE_NOT;
+    *at = (cell){.used = true, .key = *key, .state_len = row->state_len};
+    memcpy(at->state, row->state, row->state_len);
+    return STORE_DONE;
+}
+
+static bool nothing(store *of) {
+    return of != NULL;
+}
+
+static void close_memory(store *of) {
+    memory_store *s = (memory_store *)of;
+    if (munmap(s->cells, CELLS * sizeof *s->cells)) perror("memory: close");
+    free(s);
+}
+
+store *store_memory_open(const char *file) {
+    static const store_calls CALLS = {"memory", true, get, put, add, nothing, nothing, nothing, nothing, close_memory};
+    memory_store *s = calloc(1, sizeof *s);
+    int at = open(file, O_RDWR | O_CREAT | O_CLOEXEC, 0600);
+    void *cells = MAP_FAILED;
+    if (s && at >= 0 && !ftruncate(at, (off_t)(CELLS * sizeof(cell))))
+        cells = mmap(NULL, CELLS * sizeof(cell), PROT_READ | PROT_WRITE, MAP_SHARED, at, 0);
+    if (at >= 0 && close(at)) perror("memory: close");
+    if (cells == MAP_FAILED) {
+        perror("memory: open");
+        free(s);
+        return NULL;
+    }
+    s->of.calls = &CALLS;
+    s->cells = cells;
+    return &s->of;
+}
