@@ -57,20 +57,20 @@ module _ (x a y b : ℕ → ℕ → ℕ) (h : ℕ → ℕ) (e : h 0 ≡ 0)
 abbrev pub substitution_gates : List Gate
 substitution_gates =
     Xor 3 5 ∷ Xor 1 7 ∷ Xor 3 4 ∷ Xor 3 8 ∷ Xor 1 11 ∷ Xor 3 4 ∷ Xor 10 0 ∷ Xor 0 8 ∷
-    Xor 3 8 ∷ Xor 4 15 ∷ Xor 0 6 ∷ Xor 11 14 ∷ Xor 5 17 ∷ Xor 0 20 ∷ Xor 1 11 ∷ Xor 7 3 ∷
-    Xor 13 0 ∷ Xor 2 1 ∷ Xor 13 21 ∷ Xor 26 3 ∷ Xor 5 16 ∷ Xor 21 4 ∷ Xor 20 5 ∷ And 17 10 ∷
-    And 20 9 ∷ And 6 32 ∷ And 17 6 ∷ And 16 13 ∷ And 26 11 ∷ Xor 1 5 ∷ And 20 25 ∷ And 30 13 ∷
-    And 20 16 ∷ Xor 2 4 ∷ Xor 9 1 ∷ Xor 3 2 ∷ Xor 2 0 ∷ Xor 7 1 ∷ Xor 12 14 ∷ Xor 0 4 ∷
-    Xor 0 19 ∷ Xor 14 12 ∷ Xor 4 34 ∷ Xor 6 20 ∷ Xor 2 9 ∷ Xor 2 4 ∷ Xor 1 24 ∷ And 4 3 ∷
-    Xor 1 0 ∷ Xor 5 2 ∷ And 4 1 ∷ Xor 10 3 ∷ And 0 2 ∷ Xor 0 6 ∷ Xor 10 0 ∷ Xor 6 1 ∷
-    And 9 0 ∷ Xor 0 2 ∷ Xor 7 17 ∷ Xor 10 2 ∷ And 1 51 ∷ And 2 1 ∷ Xor 16 0 ∷ Xor 4 9 ∷
-    Xor 1 6 ∷ Xor 11 7 ∷ And 0 53 ∷ And 8 47 ∷ And 10 54 ∷ Xor 5 4 ∷ And 16 77 ∷ And 17 52 ∷
-    And 8 56 ∷ Xor 14 10 ∷ And 9 70 ∷ And 1 58 ∷ And 13 71 ∷ And 7 59 ∷ And 13 63 ∷ And 16 69 ∷
-    And 14 74 ∷ And 23 70 ∷ And 8 80 ∷ And 19 71 ∷ And 14 83 ∷ Xor 18 9 ∷ Xor 13 8 ∷ Xor 3 2 ∷
-    Xor 11 0 ∷ Xor 8 7 ∷ Xor 22 10 ∷ Xor 20 23 ∷ Xor 10 20 ∷ Xor 22 10 ∷ Xor 0 8 ∷ Xor 34 0 ∷
-    Xor 6 7 ∷ Xor 21 10 ∷ Xor 10 3 ∷ Xor 21 20 ∷ Xor 0 11 ∷ Xor 24 3 ∷ Xor 6 1 ∷ Xor 5 6 ∷
-    Xor 21 13 ∷ Xor 36 8 ∷ Xor 1 5 ∷ Xor 0 115 ∷ Xor 22 2 ∷ Xor 24 34 ∷ Xor 18 4 ∷ Xor 9 8 ∷
-    Xor 19 9 ∷ Xor 11 4 ∷ Xor 0 122 ∷ Xor 24 16 ∷ Xor 0 124 ∷ Xor 7 5 ∷ Xor 0 126 ∷
+    Xor 3 8 ∷ Xor 4 15 ∷ Xor 0 6 ∷ Xor 4 16 ∷ Xor 0 19 ∷ Xor 13 16 ∷ Xor 2 11 ∷ Xor 7 1 ∷
+    Xor 13 0 ∷ Xor 2 13 ∷ Xor 16 1 ∷ Xor 14 22 ∷ Xor 20 3 ∷ Xor 6 5 ∷ Xor 29 6 ∷ And 19 8 ∷
+    And 4 31 ∷ And 19 13 ∷ And 15 13 ∷ Xor 0 1 ∷ And 18 23 ∷ And 27 12 ∷ And 29 8 ∷ And 17 15 ∷
+    Xor 7 6 ∷ And 24 10 ∷ Xor 5 4 ∷ Xor 4 3 ∷ Xor 1 0 ∷ Xor 13 5 ∷ Xor 4 8 ∷ Xor 6 1 ∷
+    Xor 12 4 ∷ Xor 1 23 ∷ Xor 1 34 ∷ Xor 6 24 ∷ Xor 5 6 ∷ Xor 2 3 ∷ Xor 1 25 ∷ And 4 3 ∷
+    Xor 1 0 ∷ Xor 7 1 ∷ Xor 6 3 ∷ And 1 0 ∷ And 6 3 ∷ Xor 1 6 ∷ Xor 5 0 ∷ And 8 0 ∷
+    Xor 12 2 ∷ Xor 1 0 ∷ Xor 5 16 ∷ Xor 10 3 ∷ And 1 37 ∷ And 2 1 ∷ Xor 3 8 ∷ And 4 54 ∷
+    Xor 18 2 ∷ Xor 0 7 ∷ Xor 12 8 ∷ And 2 62 ∷ And 1 56 ∷ Xor 6 3 ∷ And 16 77 ∷ And 17 51 ∷
+    And 9 56 ∷ And 15 60 ∷ Xor 15 9 ∷ And 9 71 ∷ And 1 59 ∷ And 11 62 ∷ And 13 68 ∷ And 9 57 ∷
+    And 13 74 ∷ And 23 70 ∷ And 7 80 ∷ And 20 69 ∷ And 14 83 ∷ Xor 1 0 ∷ Xor 13 6 ∷ Xor 19 1 ∷
+    Xor 7 6 ∷ Xor 28 10 ∷ Xor 13 3 ∷ Xor 22 14 ∷ Xor 21 31 ∷ Xor 11 21 ∷ Xor 23 11 ∷ Xor 0 3 ∷
+    Xor 32 0 ∷ Xor 8 9 ∷ Xor 15 8 ∷ Xor 19 21 ∷ Xor 0 12 ∷ Xor 33 10 ∷ Xor 11 4 ∷ Xor 17 7 ∷
+    Xor 7 3 ∷ Xor 31 7 ∷ Xor 14 0 ∷ Xor 22 31 ∷ Xor 9 7 ∷ Xor 0 117 ∷ Xor 17 4 ∷ Xor 17 6 ∷
+    Xor 10 5 ∷ Xor 0 121 ∷ Xor 12 9 ∷ Xor 25 11 ∷ Xor 0 124 ∷ Xor 9 2 ∷ Xor 0 126 ∷
     []
 
 -- its inputs: the bits of a byte, the highest first behind the others, and a one
@@ -79,7 +79,7 @@ inputs f one = f 7 ∷ f 6 ∷ f 5 ∷ f 4 ∷ f 3 ∷ f 2 ∷ f 1 ∷ f 0 ∷ o
 
 -- where its outputs stand among the values, the lowest bit first
 abbrev pub places : List ℕ
-places = 2 ∷ 11 ∷ 6 ∷ 8 ∷ 10 ∷ 0 ∷ 4 ∷ 15 ∷ []
+places = 2 ∷ 9 ∷ 7 ∷ 8 ∷ 12 ∷ 0 ∷ 5 ∷ 16 ∷ []
 
 -- its outputs
 abbrev pub outputs : List ℕ → List ℕ

@@ -35,9 +35,9 @@ moves ss from e x fit i lt within =
 abbrev turned_word : ℕ → ℕ → List Step
 turned_word k rest = Down 0 k ∷ Up 1 rest ∷ Sum 1 0 ∷ []
 
--- the steps that turn each byte of the newest word right by k bits
-abbrev turned_bytes : ℕ → ℕ → ℕ → ℕ → List Step
-turned_bytes k low rest high = Down 0 k ∷ Under 0 low ∷ Up 2 rest ∷ Under 0 high ∷ Sum 2 0 ∷ []
+-- the steps that turn a word right by k bits under one mask, and by l bits under another
+abbrev turned_apart : ℕ → ℕ → ℕ → ℕ → ℕ → ℕ → List Step
+turned_apart k rest low l past high = turned_word k rest ++ (Under 0 low ∷ Down 4 l ∷ Up 5 past ∷ Sum 1 0 ∷ Under 0 high ∷ Sum 4 0 ∷ [])
 
 -- the word that steps make of one
 abbrev made : List Step → ℕ → ℕ
@@ -52,16 +52,16 @@ pub turn_0 : TurnsOnce 0 (turned_word 8 24)
 turn_0 x fit i lt = moves (turned_word 8 24) (below 0) refl x fit i lt (omega arith)
 
 -- for j 1
-pub turn_1 : TurnsOnce 1 (turned_word 8 24 ++ turned_bytes 2 0x3f3f3f3f 6 0xc0c0c0c0)
-turn_1 x fit i lt = moves (turned_word 8 24 ++ turned_bytes 2 0x3f3f3f3f 6 0xc0c0c0c0) (below 1) refl x fit i lt (omega arith)
+pub turn_1 : TurnsOnce 1 (turned_apart 10 22 0x3f3f3f3f 2 30 0xc0c0c0c0)
+turn_1 x fit i lt = moves (turned_apart 10 22 0x3f3f3f3f 2 30 0xc0c0c0c0) (below 1) refl x fit i lt (omega arith)
 
 -- for j 2
-pub turn_2 : TurnsOnce 2 (turned_word 8 24 ++ turned_bytes 4 0x0f0f0f0f 4 0xf0f0f0f0)
-turn_2 x fit i lt = moves (turned_word 8 24 ++ turned_bytes 4 0x0f0f0f0f 4 0xf0f0f0f0) (below 2) refl x fit i lt (omega arith)
+pub turn_2 : TurnsOnce 2 (turned_apart 12 20 0x0f0f0f0f 4 28 0xf0f0f0f0)
+turn_2 x fit i lt = moves (turned_apart 12 20 0x0f0f0f0f 4 28 0xf0f0f0f0) (below 2) refl x fit i lt (omega arith)
 
 -- for j 3
-pub turn_3 : TurnsOnce 3 (turned_word 8 24 ++ turned_bytes 6 0x03030303 2 0xfcfcfcfc)
-turn_3 x fit i lt = moves (turned_word 8 24 ++ turned_bytes 6 0x03030303 2 0xfcfcfcfc) (below 3) refl x fit i lt (omega arith)
+pub turn_3 : TurnsOnce 3 (turned_apart 14 18 0x03030303 6 26 0xfcfcfcfc)
+turn_3 x fit i lt = moves (turned_apart 14 18 0x03030303 6 26 0xfcfcfcfc) (below 3) refl x fit i lt (omega arith)
 
 -- it has the bits of the lanes two rows below
 abbrev TurnsTwice : ℕ → List Step → Type 0
@@ -69,7 +69,7 @@ TurnsTwice j ss = (x : ℕ) → x < 2 ^ 32 → (i : ℕ) → i < 32 → bit_at (
 
 -- the steps that put each row in the place of the second row above it, for j 1 and 3
 abbrev turned_far : List Step
-turned_far = turned_word 16 16 ++ turned_bytes 4 0x0f0f0f0f 4 0xf0f0f0f0
+turned_far = turned_apart 20 12 0x0f0f0f0f 12 20 0xf0f0f0f0
 
 -- for j 0 and 2
 pub far_even : (j : ℕ) → j < 4 → j % 2 ≡ 0 → TurnsTwice j (turned_word 16 16)

@@ -18,13 +18,13 @@ pub(crate) const OWN_LIMIT: u64 = 1 << 40;
 /// One context of a server, in its present life.
 #[derive(Drop)]
 pub struct Slot {
-    pub context: KeyedContext,
     pub size: WindowSize,
     pub gate: Gate,
     // The next own Sender Sequence Number, or the limit if none is left.
     pub next: u64,
     // How often the context was restarted.
     pub life: u64,
+    pub context: KeyedContext,
     pub ghost in_range: { next ≤ 2 ^ 40 },
 }
 

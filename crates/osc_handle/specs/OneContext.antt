@@ -53,6 +53,6 @@ pub record AnswersAlone (h : History) (i : ℕ) : Type 0 where
       → ServerAnswer h (Reply ticket own mid plain room) entry → ServerAnswer (share i h) (Reply (ticket_alone ticket) own mid plain room) entry
   pub restart : (next : ℕ) (entry : Entry) → ServerAnswer h (Restart i next) entry → ServerAnswer (share i h) (Restart 0 next) entry
 
--- each context of a server is answered as if it were alone, so contexts may be spread over any number of servers (own rule)
+-- each context of a server is answered as if it were alone under the server's clock (own rule)
 abbrev pub ContextsStandAlone : Type 0
 ContextsStandAlone = (h : History) (i : ℕ) → AllAnswers h → AnswersAlone h i

@@ -23,8 +23,8 @@ pub fn server_keys_or_nonces_once()
     keys_or_nonces_once();
 }
 
-/// States that each context of a server is answered as if it were alone: what happens to the others leaves its life and its answers as they
-/// are. So contexts may be spread over any number of servers, in any order. A server of one context is a [`crate::SingleServerHandle`].
+/// States that each context of a server is answered as if it were alone under the server's clock: what happens to the others leaves its life
+/// and its answers as they are, but for the moment that each datagram sets. A server of one context is a [`crate::SingleServerHandle`].
 pub fn contexts_stand_alone()
     ensures { ContextsStandAlone }
 {}

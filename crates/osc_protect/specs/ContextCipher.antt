@@ -2,7 +2,7 @@
 use Rattle.std.specs.Prelude.{ℕ, List, Bool, true, false}
 use Rattle.osc_aes.specs.Keyed.{key_of, plane_key_of}
 use Rattle.osc_protect.specs.declared.context_cipher.ContextCipher.{ContextCipher}
-use Rattle.osc_protect.specs.declared.context_cipher.ContextCipher.TheVariants.{ByTables, ConstantTime}
+use Rattle.osc_protect.specs.declared.context_cipher.ContextCipher.TheVariants.{ByTables, ByTablesOf, ConstantTime, ConstantTimeOf}
 use Rattle.osc_protect.specs.declared.context_cipher.KeptSchedule.{KeptSchedule}
 use Rattle.osc_protect.specs.declared.context_cipher.KeptSchedule.TheVariants.{Tables, Planes}
 
@@ -10,11 +10,15 @@ use Rattle.osc_protect.specs.declared.context_cipher.KeptSchedule.TheVariants.{T
 abbrev pub key_under : ContextCipher → List ℕ
 key_under (ByTables schedule) = key_of schedule.now
 key_under (ConstantTime schedule) = plane_key_of schedule.now
+key_under (ByTablesOf key) = key.now
+key_under (ConstantTimeOf key) = key.now
 
 -- the cipher is the one in constant time (own rule)
 abbrev pub is_in_constant_time : ContextCipher → Bool
 is_in_constant_time (ByTables schedule) = false
 is_in_constant_time (ConstantTime schedule) = true
+is_in_constant_time (ByTablesOf key) = false
+is_in_constant_time (ConstantTimeOf key) = true
 
 -- the key of a schedule that is kept (how the code is seen)
 abbrev pub kept_key : KeptSchedule → List ℕ

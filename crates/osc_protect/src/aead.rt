@@ -14,10 +14,10 @@ ghost use Rattle.osc_context.specs.Views.{number_of};
 ghost use Rattle.osc_protect.specs.Ends.{IsClientOf, IsServerOf};
 ghost use Rattle.osc_protect.specs.Protection.{request_cipher, response_cipher, response_nonce};
 
-use crate::context_cipher::ContextCipher::{self, ByTables, ConstantTime};
+use crate::context_cipher::ContextCipher;
 use crate::ends::End;
 use arrayvec::ArrayVec;
-use osc_ccm::{open, protection_length, seal};
+use osc_ccm::protection_length;
 use osc_coap::payload_stands_last;
 use osc_context::{Kid, Piv, aad, nonce};
 
@@ -90,10 +90,7 @@ impl<'a> Aead<'a> {
         ensures sealed { payload.new ≡ cipher_of self.now (take len payload.old) ++ drop (len + tag_length) payload.old }
     {
         let additional_data = self.additional_data.as_slice();
-        let sealed = match self.cipher {
-            ByTables(schedule) => seal(schedule, &self.nonce, additional_data, payload, len),
-            ConstantTime(schedule) => seal(schedule, &self.nonce, additional_data, payload, len),
-        };
+        let sealed = self.cipher.seal(&self.nonce, additional_data, payload, len);
         match sealed {
             Ok(sealed) => sealed,
             Err(_) => unreachable!(),
@@ -112,10 +109,7 @@ impl<'a> Aead<'a> {
     {
         protection_length();
         let additional_data = self.additional_data.as_slice();
-        let opened = match self.cipher {
-            ByTables(schedule) => open(schedule, &self.nonce, additional_data, payload),
-            ConstantTime(schedule) => open(schedule, &self.nonce, additional_data, payload),
-        };
+        let opened = self.cipher.open(&self.nonce, additional_data, payload);
         opened.ok()
     }
 

@@ -1,16 +1,144 @@
 //! The cipher of a context's keys: by tables, or in constant time if the context asks for that.
 
-ghost use Rattle.std.specs.Prelude.{◌≡◌};
+ghost use Rattle.std.specs.Prelude.{◌≡◌, ◌+◌, ◌++◌, ◌≤◌, ℕ, List, length, take, drop, IfOk, IsOk, OnOk, OnErr};
+ghost use Rattle.osc_ccm.specs.Ccm.{ccm, tag_length};
 ghost use Rattle.osc_protect.specs.ContextCipher.{is_in_constant_time, key_under, keeps_constant_time, kept_key};
 
 use osc_aes::{PlaneAes, TableAes};
+use osc_ccm::{OpenError, SealError, open, seal};
 
-/// AES-128 under one key of a context, over a schedule that lies elsewhere. `Aead` checks once per message which cipher this is, and calls
-/// it.
+/// AES-CCM under one key of a context: over a schedule that is kept, or over one that each call makes of the key. Each call checks once which
+/// cipher this is.
 #[derive(Clone, Copy)]
 pub(crate) enum ContextCipher<'a> {
     ByTables(&'a TableAes),
     ConstantTime(&'a PlaneAes),
+    ByTablesOf(&'a [u8; 16]),
+    ConstantTimeOf(&'a [u8; 16]),
+}
+
+impl<'a> ContextCipher<'a> {
+    /// Returns the cipher of a key whose schedule isn't kept.
+    pub(crate) fn of_key(key: &'a [u8; 16], constant_time: bool) -> ContextCipher<'a>
+        ensures key { key_under result ≡ key.now }
+        ensures chosen { is_in_constant_time result ≡ constant_time }
+    {
+        if constant_time {
+            ContextCipher::ConstantTimeOf(key)
+        } else {
+            ContextCipher::ByTablesOf(key)
+        }
+    }
+
+    /// Seals the first `len` bytes of `payload` in place, as `osc_ccm::seal` does.
+    pub(crate) fn seal(
+        self,
+        nonce: &[u8; 13],
+        additional_data: &[u8],
+        payload: &mut [u8],
+        len: usize,
+    ) -> Result<usize, SealError>
+        requires additional_data { length additional_data.now ≤ 65279 }
+        requires plaintext { len ≤ length payload.old }
+        ensures length { IfOk result (λ sealed_len. sealed_len ≡ len + tag_length) }
+        ensures sealed { OnOk result (payload.new
+            ≡ ccm (key_under self.entry) nonce.now additional_data.now (take len payload.old) ++ drop (len + tag_length) payload.old) }
+        ensures accepts { len ≤ 65535 → len + tag_length ≤ length payload.old → IsOk result }
+    {
+        match self {
+            ContextCipher::ByTables(schedule) => seal(
+                schedule,
+                nonce,
+                additional_data,
+                payload,
+                len,
+            ),
+            ContextCipher::ConstantTime(schedule) => seal(
+                schedule,
+                nonce,
+                additional_data,
+                payload,
+                len,
+            ),
+            ContextCipher::ByTablesOf(key) => {
+                seal(&TableAes::new(key), nonce, additional_data, payload, len)
+            }
+            ContextCipher::ConstantTimeOf(key) => {
+                seal_in_planes(key, nonce, additional_data, payload, len)
+            }
+        }
+    }
+
+    /// Opens `payload` in place, as `osc_ccm::open` does.
+    pub(crate) fn open(
+        self,
+        nonce: &[u8; 13],
+        additional_data: &[u8],
+        payload: &mut [u8],
+    ) -> Result<usize, OpenError>
+        requires { length additional_data.now ≤ 65279 }
+        ensures length { IfOk result (λ len. len + tag_length ≡ length payload.old) }
+        ensures opened { IfOk result (λ len. payload.old
+            ≡ ccm (key_under self.entry) nonce.now additional_data.now (take len payload.new)) }
+        ensures tag_stays { IfOk result (λ len. drop len payload.new ≡ drop len payload.old) }
+        ensures accepts { (m : List ℕ) → length m ≤ 65535
+            → payload.old ≡ ccm (key_under self.entry) nonce.now additional_data.now m → IsOk result }
+        ensures unchanged { OnErr result (payload.new ≡ payload.old) }
+    {
+        match self {
+            ContextCipher::ByTables(schedule) => open(schedule, nonce, additional_data, payload),
+            ContextCipher::ConstantTime(schedule) => open(
+                schedule,
+                nonce,
+                additional_data,
+                payload,
+            ),
+            ContextCipher::ByTablesOf(key) => {
+                open(&TableAes::new(key), nonce, additional_data, payload)
+            }
+            ContextCipher::ConstantTimeOf(key) => {
+                open_in_planes(key, nonce, additional_data, payload)
+            }
+        }
+    }
+}
+
+/// Seals so under a key whose planes are made here. It stays a separate call, so that the cipher by tables has no room for planes in its frame.
+#[inline(never)]
+fn seal_in_planes(
+    key: &[u8; 16],
+    nonce: &[u8; 13],
+    additional_data: &[u8],
+    payload: &mut [u8],
+    len: usize,
+) -> Result<usize, SealError>
+    requires additional_data { length additional_data.now ≤ 65279 }
+    requires plaintext { len ≤ length payload.old }
+    ensures length { IfOk result (λ sealed_len. sealed_len ≡ len + tag_length) }
+    ensures sealed { OnOk result (payload.new
+        ≡ ccm key.now nonce.now additional_data.now (take len payload.old) ++ drop (len + tag_length) payload.old) }
+    ensures accepts { len ≤ 65535 → len + tag_length ≤ length payload.old → IsOk result }
+{
+    seal(&PlaneAes::new(key), nonce, additional_data, payload, len)
+}
+
+/// Opens so under a key whose planes are made here. It stays a separate call, as `seal_in_planes` does.
+#[inline(never)]
+fn open_in_planes(
+    key: &[u8; 16],
+    nonce: &[u8; 13],
+    additional_data: &[u8],
+    payload: &mut [u8],
+) -> Result<usize, OpenError>
+    requires { length additional_data.now ≤ 65279 }
+    ensures length { IfOk result (λ len. len + tag_length ≡ length payload.old) }
+    ensures opened { IfOk result (λ len. payload.old ≡ ccm key.now nonce.now additional_data.now (take len payload.new)) }
+    ensures tag_stays { IfOk result (λ len. drop len payload.new ≡ drop len payload.old) }
+    ensures accepts { (m : List ℕ) → length m ≤ 65535
+        → payload.old ≡ ccm key.now nonce.now additional_data.now m → IsOk result }
+    ensures unchanged { OnErr result (payload.new ≡ payload.old) }
+{
+    open(&PlaneAes::new(key), nonce, additional_data, payload)
 }
 
 /// The schedule of one key of a context, kept from message to message.
@@ -21,6 +149,18 @@ pub(crate) enum KeptSchedule {
 }
 
 impl KeptSchedule {
+    /// Makes the schedule of a key.
+    pub(crate) fn of_key(key: &[u8; 16], constant_time: bool) -> KeptSchedule
+        ensures key { kept_key result ≡ key.now }
+        ensures chosen { keeps_constant_time result ≡ constant_time }
+    {
+        if constant_time {
+            KeptSchedule::Planes(PlaneAes::new(key))
+        } else {
+            KeptSchedule::Tables(TableAes::new(key))
+        }
+    }
+
     /// Returns the cipher over this schedule.
     pub(crate) fn cipher(&self) -> ContextCipher<'_>
         ensures key { key_under result ≡ kept_key self.now }

@@ -8,7 +8,6 @@ ghost use Rattle.osc_protect.specs.StageViews.{DecryptsRequest, DecryptsResponse
 ghost use Rattle.osc_protect.specs.Views.{context_of, opened_requests, opened_responses};
 
 use crate::aead::Aead;
-use crate::context_cipher::ContextCipher::{ByTables, ConstantTime};
 use crate::ends::Recipient;
 use crate::keyed_context::KeyedContext;
 use crate::laws::one_head;
@@ -32,7 +31,7 @@ pub fn decrypt_request(
     ensures unchanged { OnErr result (datagram.new ≡ datagram.old) }
 {
     one_head();
-    decrypt_request_either(context, datagram, sealed)
+    decrypt_request_forward(context.recipient(), datagram, sealed)
 }
 
 /// Decrypts a response in its datagram. `sealed` comes from the datagram's head. On `Ok` the payload is the plaintext, followed by the old
@@ -52,34 +51,7 @@ pub fn decrypt_response(
     ensures unchanged { OnErr result (datagram.new ≡ datagram.old) }
 {
     one_head();
-    decrypt_response_either(context, request, datagram, sealed)
-}
-
-/// Decrypts a request under the kept schedule, or under one that it makes.
-fn decrypt_request_either(
-    context: &KeyedContext,
-    datagram: &mut [u8],
-    sealed: SealedRequest,
-) -> Result<DecryptedRequest, BadTag>
-    requires { IsSealedRequest (opened_requests (context_of context.now)) datagram.old sealed }
-    ensures decrypted { IfOk result (λ x. DecryptsRequest (opened_requests (context_of context.now)) datagram.old x datagram.new) }
-    ensures placed { IfOk result (λ x. FitsRequest datagram.new x) }
-    ensures refused { OnErr result (RefusesTag (opened_requests (context_of context.now)) datagram.old) }
-    ensures unchanged { OnErr result (datagram.new ≡ datagram.old) }
-{
-    if let Some(recipient) = context.kept_recipient() {
-        return decrypt_request_forward(recipient, datagram, sealed);
-    }
-    let context = context.context();
-    if context.is_constant_time() {
-        let planes = Recipient::planes_of(context);
-        let recipient = Recipient::new(context, ConstantTime(&planes));
-        decrypt_request_forward(recipient, datagram, sealed)
-    } else {
-        let tables = Recipient::tables_of(context);
-        let recipient = Recipient::new(context, ByTables(&tables));
-        decrypt_request_forward(recipient, datagram, sealed)
-    }
+    decrypt_response_forward(context.recipient(), request, datagram, sealed)
 }
 
 /// Decrypts a request under the recipient's key.
@@ -103,34 +75,6 @@ pub(crate) fn decrypt_request_forward(
             len,
         }),
         None => Err(BadTag),
-    }
-}
-
-/// Decrypts a response under the kept schedule, or under one that it makes.
-fn decrypt_response_either(
-    context: &KeyedContext,
-    request: &RequestRef,
-    datagram: &mut [u8],
-    sealed: SealedResponse,
-) -> Result<DecryptedResponse, BadTag>
-    requires { IsSealedResponse (opened_responses (context_of context.now) request.now) datagram.old sealed }
-    ensures decrypted { IfOk result (λ x. DecryptsResponse (opened_responses (context_of context.now) request.now) datagram.old x datagram.new) }
-    ensures placed { IfOk result (λ x. FitsResponse datagram.new x) }
-    ensures refused { OnErr result (RefusesTag (opened_responses (context_of context.now) request.now) datagram.old) }
-    ensures unchanged { OnErr result (datagram.new ≡ datagram.old) }
-{
-    if let Some(recipient) = context.kept_recipient() {
-        return decrypt_response_forward(recipient, request, datagram, sealed);
-    }
-    let context = context.context();
-    if context.is_constant_time() {
-        let planes = Recipient::planes_of(context);
-        let recipient = Recipient::new(context, ConstantTime(&planes));
-        decrypt_response_forward(recipient, request, datagram, sealed)
-    } else {
-        let tables = Recipient::tables_of(context);
-        let recipient = Recipient::new(context, ByTables(&tables));
-        decrypt_response_forward(recipient, request, datagram, sealed)
     }
 }
 

@@ -2,12 +2,10 @@
 //! identifier of the other end.
 
 ghost use Rattle.std.specs.Prelude.{◌≡◌};
-ghost use Rattle.osc_aes.specs.Keyed.{key_of, plane_key_of};
 ghost use Rattle.osc_context.specs.Views.{as_client, as_server, is_constant_time};
 ghost use Rattle.osc_protect.specs.ContextCipher.{is_in_constant_time, key_under, keeps_constant_time, kept_key};
 
 use crate::context_cipher::{ContextCipher, KeptSchedule};
-use osc_aes::{PlaneAes, TableAes};
 use osc_context::{Context, Kid};
 
 /// An end, as a message needs it: its identifier, and the cipher under its key.
@@ -38,32 +36,20 @@ pub(crate) struct Recipient<'a> {
 impl<'a> Sender<'a> {
     ghost use Rattle.osc_protect.specs.Ends.{IsClientOf, IsServerOf};
 
-    /// Makes the tables of the Sender Key.
-    #[inline(always)]
-    pub(crate) fn tables_of(context: &Context) -> TableAes
-        ensures { key_of result ≡ (as_client context.now).client_key }
-    {
-        TableAes::new(context.sender_key())
-    }
-
-    /// Makes the planes of the Sender Key.
-    #[inline(always)]
-    pub(crate) fn planes_of(context: &Context) -> PlaneAes
-        ensures { plane_key_of result ≡ (as_client context.now).client_key }
-    {
-        PlaneAes::new(context.sender_key())
-    }
-
     /// Makes the schedule of the Sender Key that the context asks for.
     pub(crate) fn schedule_of(context: &Context) -> KeptSchedule
         ensures key { kept_key result ≡ (as_client context.now).client_key }
         ensures chosen { keeps_constant_time result ≡ is_constant_time context.now }
     {
-        if context.is_constant_time() {
-            KeptSchedule::Planes(Sender::planes_of(context))
-        } else {
-            KeptSchedule::Tables(Sender::tables_of(context))
-        }
+        KeptSchedule::of_key(context.sender_key(), context.is_constant_time())
+    }
+
+    /// Pairs a context with the cipher under its Sender Key, whose schedule isn't kept.
+    pub(crate) fn of(context: &'a Context) -> Sender<'a>
+        ensures { result.context.now ≡ context.entry.now }
+    {
+        let cipher = ContextCipher::of_key(context.sender_key(), context.is_constant_time());
+        Sender::new(context, cipher)
     }
 
     /// Pairs a context with the cipher under its Sender Key.
@@ -90,32 +76,20 @@ impl<'a> Sender<'a> {
 impl<'a> Recipient<'a> {
     ghost use Rattle.osc_protect.specs.Ends.{IsClientOf, IsServerOf};
 
-    /// Makes the tables of the Recipient Key.
-    #[inline(always)]
-    pub(crate) fn tables_of(context: &Context) -> TableAes
-        ensures { key_of result ≡ (as_server context.now).client_key }
-    {
-        TableAes::new(context.recipient_key())
-    }
-
-    /// Makes the planes of the Recipient Key.
-    #[inline(always)]
-    pub(crate) fn planes_of(context: &Context) -> PlaneAes
-        ensures { plane_key_of result ≡ (as_server context.now).client_key }
-    {
-        PlaneAes::new(context.recipient_key())
-    }
-
     /// Makes the schedule of the Recipient Key that the context asks for.
     pub(crate) fn schedule_of(context: &Context) -> KeptSchedule
         ensures key { kept_key result ≡ (as_server context.now).client_key }
         ensures chosen { keeps_constant_time result ≡ is_constant_time context.now }
     {
-        if context.is_constant_time() {
-            KeptSchedule::Planes(Recipient::planes_of(context))
-        } else {
-            KeptSchedule::Tables(Recipient::tables_of(context))
-        }
+        KeptSchedule::of_key(context.recipient_key(), context.is_constant_time())
+    }
+
+    /// Pairs a context with the cipher under its Recipient Key, whose schedule isn't kept.
+    pub(crate) fn of(context: &'a Context) -> Recipient<'a>
+        ensures { result.context.now ≡ context.entry.now }
+    {
+        let cipher = ContextCipher::of_key(context.recipient_key(), context.is_constant_time());
+        Recipient::new(context, cipher)
     }
 
     /// Pairs a context with the cipher under its Recipient Key.

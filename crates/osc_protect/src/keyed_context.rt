@@ -13,10 +13,10 @@ ghost use Rattle.osc_protect.specs.declared.unprotect_error.UnprotectError.TheVa
 use crate::context_cipher::KeptSchedule;
 use crate::ends::{Recipient, Sender};
 use crate::opened::Opened;
-use crate::opening::{open_request, open_request_by, open_response, open_response_by};
+use crate::opening::{open_request_by, open_response_by};
 use crate::protect_error::ProtectError;
 use crate::request_ref::RequestRef;
-use crate::sealing::{seal_request, seal_request_by, seal_response, seal_response_by};
+use crate::sealing::{seal_request_by, seal_response_by};
 use crate::unprotect_error::UnprotectError;
 use osc_coap::Message;
 use osc_context::{Context, Piv};
@@ -84,23 +84,23 @@ impl KeyedContext {
         &self.context
     }
 
-    /// Returns what this end seals with, if its schedule is kept.
-    fn kept_sender(&self) -> Option<Sender<'_>>
-        ensures { ForSome result (λ sender. sender.context.now ≡ context_of self.now) }
+    /// Returns what this end seals with.
+    fn sender(&self) -> Sender<'_>
+        ensures { result.context.now ≡ context_of self.now }
     {
         match &self.schedules {
-            Some(kept) => Some(Sender::new(&self.context, kept.sender.cipher())),
-            None => None,
+            Some(kept) => Sender::new(&self.context, kept.sender.cipher()),
+            None => Sender::of(&self.context),
         }
     }
 
-    /// Returns what this end opens with, if its schedule is kept.
-    pub(crate) fn kept_recipient(&self) -> Option<Recipient<'_>>
-        ensures { ForSome result (λ recipient. recipient.context.now ≡ context_of self.now) }
+    /// Returns what this end opens with.
+    pub(crate) fn recipient(&self) -> Recipient<'_>
+        ensures { result.context.now ≡ context_of self.now }
     {
         match &self.schedules {
-            Some(kept) => Some(Recipient::new(&self.context, kept.recipient.cipher())),
-            None => None,
+            Some(kept) => Recipient::new(&self.context, kept.recipient.cipher()),
+            None => Recipient::of(&self.context),
         }
     }
 
@@ -120,10 +120,7 @@ impl KeyedContext {
             → IsErrOf result e }
         ensures unchanged { OnErr result (out.new ≡ out.old) }
     {
-        match self.kept_sender() {
-            Some(sender) => seal_request_by(sender, number, plain, out),
-            None => seal_request(&self.context, number, plain, out),
-        }
+        seal_request_by(self.sender(), number, plain, out)
     }
 
     /// Seals a response as [`crate::seal_response`] does, under the kept schedule or under one that it makes.
@@ -146,10 +143,7 @@ impl KeyedContext {
             → IsErrOf result e }
         ensures unchanged { OnErr result (out.new ≡ out.old) }
     {
-        match self.kept_sender() {
-            Some(sender) => seal_response_by(sender, request, own, plain, out),
-            None => seal_response(&self.context, request, own, plain, out),
-        }
+        seal_response_by(self.sender(), request, own, plain, out)
     }
 
     /// Opens a request as [`crate::open_request`] does, under the kept schedule or under one that it makes.
@@ -160,10 +154,7 @@ impl KeyedContext {
         ensures refused { IfErr result (λ e. RefusesToOpen (opened_requests (context_of self.now)) datagram.old e) }
         ensures refuses { (e : UnprotectError) → RefusesToOpen (opened_requests (context_of self.now)) datagram.old e → IsErrOf result e }
     {
-        match self.kept_recipient() {
-            Some(recipient) => open_request_by(recipient, datagram),
-            None => open_request(&self.context, datagram),
-        }
+        open_request_by(self.recipient(), datagram)
     }
 
     /// Opens a response as [`crate::open_response`] does, under the kept schedule or under one that it makes.
@@ -180,10 +171,7 @@ impl KeyedContext {
         ensures refuses { (e : UnprotectError) → RefusesToOpen (opened_responses (context_of self.now) request.now) datagram.old e → IsErrOf result e }
         ensures no_wrong_context { IfErr result (λ e. e ≢ WrongContext) }
     {
-        match self.kept_recipient() {
-            Some(recipient) => open_response_by(recipient, request, datagram),
-            None => open_response(&self.context, request, datagram),
-        }
+        open_response_by(self.recipient(), request, datagram)
     }
 }
 

@@ -13,7 +13,6 @@ ghost use Rattle.osc_protect.specs.Views.{message_of, opened_number, opened_requ
 ghost use Rattle.osc_protect.specs.declared.unprotect_error.UnprotectError.{UnprotectError};
 ghost use Rattle.osc_protect.specs.declared.unprotect_error.UnprotectError.TheVariants.{WrongContext};
 
-use crate::context_cipher::ContextCipher::{ByTables, ConstantTime};
 use crate::decrypting::{decrypt_request_forward, decrypt_response_forward};
 use crate::ends::Recipient;
 use crate::laws::{one_request, one_response};
@@ -39,15 +38,7 @@ pub fn open_request<'b>(
     ensures refused { IfErr result (λ e. RefusesToOpen (opened_requests context.now) datagram.old e) }
     ensures refuses { (e : UnprotectError) → RefusesToOpen (opened_requests context.now) datagram.old e → IsErrOf result e }
 {
-    if context.is_constant_time() {
-        let planes = Recipient::planes_of(context);
-        let recipient = Recipient::new(context, ConstantTime(&planes));
-        open_request_by(recipient, datagram)
-    } else {
-        let tables = Recipient::tables_of(context);
-        let recipient = Recipient::new(context, ByTables(&tables));
-        open_request_by(recipient, datagram)
-    }
+    open_request_by(Recipient::of(context), datagram)
 }
 
 /// Opens a response to a request in its datagram: reads the head, decrypts and reads. Returns the first refusal in the order of
@@ -66,15 +57,7 @@ pub fn open_response<'b>(
     ensures refuses { (e : UnprotectError) → RefusesToOpen (opened_responses context.now request.now) datagram.old e → IsErrOf result e }
     ensures no_wrong_context { IfErr result (λ e. e ≢ WrongContext) }
 {
-    if context.is_constant_time() {
-        let planes = Recipient::planes_of(context);
-        let recipient = Recipient::new(context, ConstantTime(&planes));
-        open_response_by(recipient, request, datagram)
-    } else {
-        let tables = Recipient::tables_of(context);
-        let recipient = Recipient::new(context, ByTables(&tables));
-        open_response_by(recipient, request, datagram)
-    }
+    open_response_by(Recipient::of(context), request, datagram)
 }
 
 /// Opens a request under the recipient's key.

@@ -24,7 +24,6 @@ ghost use Rattle.osc_protect.specs.declared.protect_error.ProtectError.{ProtectE
 
 use crate::aead::Aead;
 use crate::checks::{check_request, check_response};
-use crate::context_cipher::ContextCipher::{ByTables, ConstantTime};
 use crate::ends::Sender;
 use crate::lengths::judge_length;
 use crate::protect_error::ProtectError;
@@ -196,15 +195,7 @@ pub fn seal_request(
         → IsErrOf result e }
     ensures unchanged { OnErr result (out.new ≡ out.old) }
 {
-    if context.is_constant_time() {
-        let planes = Sender::planes_of(context);
-        let sender = Sender::new(context, ConstantTime(&planes));
-        seal_request_by(sender, number, plain, out)
-    } else {
-        let tables = Sender::tables_of(context);
-        let sender = Sender::new(context, ByTables(&tables));
-        seal_request_by(sender, number, plain, out)
-    }
+    seal_request_by(Sender::of(context), number, plain, out)
 }
 
 /// Seals a response to a request, with the server's own Partial IV or else with the request's nonce. Returns how many bytes it takes at
@@ -228,15 +219,7 @@ pub fn seal_response(
         → IsErrOf result e }
     ensures unchanged { OnErr result (out.new ≡ out.old) }
 {
-    if context.is_constant_time() {
-        let planes = Sender::planes_of(context);
-        let sender = Sender::new(context, ConstantTime(&planes));
-        seal_response_by(sender, request, own, plain, out)
-    } else {
-        let tables = Sender::tables_of(context);
-        let sender = Sender::new(context, ByTables(&tables));
-        seal_response_by(sender, request, own, plain, out)
-    }
+    seal_response_by(Sender::of(context), request, own, plain, out)
 }
 
 /// Seals a request under the sender's key.
