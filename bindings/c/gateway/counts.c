@@ -5,6 +5,7 @@
 static const char *const NAMES[COUNTS] = {
     "read", "delivered", "challenged", "answered", "resent", "waiting", "replays", "unknown", "refused", "silenced", "too_long", "unsent",
     "conflicts", "renewed", "later_era", "limited", "spoilt", "forwarded", "timeouts", "starts",
+    "added", "not_added",
 };
 
 counts *counts_make(void) {

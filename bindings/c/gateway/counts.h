@@ -27,6 +27,8 @@ typedef enum count {
     COUNT_FORWARDED,   /* requests sent on to the application */
     COUNT_TIMEOUTS,    /* of them, those that it didn't answer: 5.04 */
     COUNT_STARTS,      /* of workers */
+    COUNT_ADDED,       /* contexts that were inserted into the table `provision`, and added */
+    COUNT_NOT_ADDED,   /* lines of that table that were marked as refused */
     COUNTS
 } count;
 
@@ -43,8 +45,12 @@ counts *counts_make(void);
 /* 0, or what munmap answers. */
 int counts_end(counts *made);
 
+static inline void count_more(counts *in, count what, uint64_t more) {
+    atomic_fetch_add_explicit(&in->of[what], more, memory_order_relaxed);
+}
+
 static inline void count_one(counts *in, count what) {
-    atomic_fetch_add_explicit(&in->of[what], 1, memory_order_relaxed);
+    count_more(in, what, 1);
 }
 
 /* Whether one more unprotected reply may go to a host in this second, by a clock that doesn't go back. */

@@ -1,5 +1,6 @@
 #include "serve.h"
 #include "counts.h"
+#include "provisioner.h"
 #include "store.h"
 #include "trial.h"
 #include "worker.h"
@@ -18,15 +19,16 @@
 #include <time.h>
 #include <unistd.h>
 
-/* A worker that ended by itself found its store broken: the next one begins after a pause. One that was killed is replaced at once. */
-enum { LOOK_MS = 50, PAUSE_MS = 200, END_MS = 10000, RECEIVE_ROOM = 8 << 20 };
+/* A process that ended by itself found its store broken: the next one begins after a pause. One that was killed is replaced at once. */
+enum { LOOK_MS = 50, PAUSE_MS = 200, PROCESSES_MOST = WORKERS_MOST + 1, END_MS = 10000, RECEIVE_ROOM = 8 << 20 };
 
 typedef struct parent {
     const settings *with;
     counts *counted;
     int udp, metrics;
-    pid_t workers[WORKERS_MOST];    /* 0: to be started */
-    uint64_t begin_at[WORKERS_MOST]; /* not before */
+    size_t count;                      /* of the workers, and, behind them, the provisioner */
+    pid_t process[PROCESSES_MOST];     /* 0: to be started */
+    uint64_t begin_at[PROCESSES_MOST]; /* not before */
     bool in_order;
 } parent;
 
@@ -106,40 +108,46 @@ static void show_metrics(const parent *p) {
     if (close(to)) perror("serve: metrics");
 }
 
-/* A worker ends when its parent does, however that ends. */
-static _Noreturn void become_worker(const parent *p, unsigned index, pid_t above) {
+/* A process ends when its parent does, however that ends. */
+static _Noreturn void become(const parent *p, size_t index, pid_t above) {
     if (prctl(PR_SET_PDEATHSIG, SIGTERM) || getppid() != above) _exit(WORKER_BROKEN);
     if (p->metrics >= 0) (void)close(p->metrics);
-    _exit(worker_run(p->with, p->udp, p->counted, index));
+    if (index == p->with->workers) _exit(provisioner_run(p->with, p->counted));
+    _exit(worker_run(p->with, p->udp, p->counted, (unsigned)index));
 }
 
-static void start_workers(parent *p) {
+static void start_all(parent *p) {
     pid_t own = getpid();
-    for (size_t i = 0; i < p->with->workers; i++) {
-        if (p->workers[i] != 0 || monotonic_ms() < p->begin_at[i]) continue;
-        pid_t worker = fork();
-        if (worker == 0) become_worker(p, (unsigned)i, own);
-        if (worker > 0) p->workers[i] = worker;
+    for (size_t i = 0; i < p->count; i++) {
+        if (p->process[i] != 0 || monotonic_ms() < p->begin_at[i]) continue;
+        pid_t started = fork();
+        if (started == 0) become(p, i, own);
+        if (started > 0) p->process[i] = started;
         else perror("serve: fork");
     }
 }
 
 static size_t running(const parent *p) {
     size_t count = 0;
-    for (size_t i = 0; i < p->with->workers; i++) count += p->workers[i] != 0;
+    for (size_t i = 0; i < p->count; i++) count += p->process[i] != 0;
     return count;
+}
+
+/* How long one that ended by itself isn't started again. The provisioner has its pause between two looks. */
+static uint64_t pause_of(const parent *p, size_t index) {
+    return index < p->with->workers ? PAUSE_MS : p->with->provision * 1000;
 }
 
 static void reap(parent *p) {
     int status;
     for (pid_t gone; (gone = waitpid(-1, &status, WNOHANG)) > 0;) {
         bool in_order = WIFEXITED(status) && WEXITSTATUS(status) == WORKER_DONE;
-        for (size_t i = 0; i < p->with->workers; i++) {
-            if (p->workers[i] != gone) continue;
-            p->workers[i] = 0;
-            p->begin_at[i] = monotonic_ms() + (WIFEXITED(status) ? PAUSE_MS : 0);
+        for (size_t i = 0; i < p->count; i++) {
+            if (p->process[i] != gone) continue;
+            p->process[i] = 0;
+            p->begin_at[i] = monotonic_ms() + (WIFEXITED(status) ? pause_of(p, i) : 0);
         }
-        /* A worker that somebody killed sent nothing that wasn't written. */
+        /* A process that somebody killed sent nothing that wasn't written. */
         bool killed = WIFSIGNALED(status) && WTERMSIG(status) == SIGKILL;
         if (ending && !in_order && !killed) p->in_order = false;
     }
@@ -156,11 +164,11 @@ static bool wait_a_while(const parent *p) {
 }
 
 static void signal_all(const parent *p, int signal) {
-    for (size_t i = 0; i < p->with->workers; i++)
-        if (p->workers[i] != 0 && kill(p->workers[i], signal)) perror("serve: kill");
+    for (size_t i = 0; i < p->count; i++)
+        if (p->process[i] != 0 && kill(p->process[i], signal)) perror("serve: kill");
 }
 
-static void end_workers(parent *p) {
+static void end_all(parent *p) {
     uint64_t until = monotonic_ms() + END_MS;
     signal_all(p, SIGTERM);
     while (reap(p), running(p) > 0) {
@@ -174,28 +182,31 @@ static void end_workers(parent *p) {
 
 static void run(parent *p) {
     while (!ending) {
-        start_workers(p);
+        start_all(p);
         if (!wait_a_while(p)) {
             perror("serve: wait");
             p->in_order = false;
             break;
         }
         reap(p);
-        trial_kill_one(p->workers, p->with->workers);
+        trial_kill_one(p->process, p->count);
     }
     ending = 1;
-    end_workers(p);
+    end_all(p);
 }
 
-/* Says at the start what workers would say again and again: that there is no store, no table in it, or none that batches. */
+/* Says at the start what the processes would say again and again: that there is no store, no table in it, or none that batches. */
 static bool store_opens(const settings *with) {
     static const row_key none = {.len = 0};
     row_bytes nothing;
+    waiting_line line;
     store *opened = store_open(with->store);
     if (!opened) return false;
     bool shares = opened->calls->batches || with->batch <= 1;
     if (!shares) fputs("serve: this store takes one datagram a transaction: batch=1\n", stderr);
-    bool reads = opened->calls->get(opened, &none, &nothing) == STORE_NOT;
+    bool reads = opened->calls->get(opened, &none, &nothing) == STORE_NOT
+        && (with->provision == 0 || opened->calls->next(opened, &line) != STORE_BROKEN);
+    oscore_wipe(&line, sizeof line);
     opened->calls->close(opened);
     return shares && reads;
 }
@@ -210,7 +221,7 @@ static bool say_port(int udp) {
 }
 
 bool serve(const settings *with) {
-    parent p = {.with = with, .udp = -1, .metrics = -1, .in_order = true};
+    parent p = {.with = with, .count = with->workers + (with->provision > 0), .udp = -1, .metrics = -1, .in_order = true};
     bool begun = store_opens(with) && hold_signals() && trial_begin() && (p.counted = counts_make()) && (p.udp = open_udp(with)) >= 0
         && (!with->metrics || (p.metrics = open_metrics(with->metrics)) >= 0) && say_port(p.udp);
     if (begun) {

@@ -20,6 +20,7 @@ typedef struct settings {
     size_t workers, batch; /* datagrams a transaction; 0: as the store has it */
     uint64_t era;
     uint32_t unprotected; /* replies a second to one address */
+    uint64_t provision;   /* seconds between two looks at the table `provision`; 0: it isn't looked at */
 } settings;
 
 #endif

@@ -15,13 +15,26 @@ typedef enum store_answer {
 
 typedef struct store store;
 
+/* A line of the table `provision`, into which contexts are inserted by SQL: its number and its columns. A column that is no text, or has no
+   room here, is a word that no column may have. */
+enum { LINE_COLUMNS = 8, WORD_ROOM = 160 };
+#define LINE_NO_WORD "?"
+
+typedef struct waiting_line {
+    int64_t number;
+    char words[LINE_COLUMNS][WORD_ROOM]; /* secret, salt, own, their, idcontext, state, next, words */
+} waiting_line;
+
 typedef struct store_calls {
     const char *name;
     bool batches; /* whether several datagrams may share a transaction */
     store_answer (*get)(store *, const row_key *, row_bytes *);
     store_answer (*put)(store *, const row_key *, const row_bytes *);
     store_answer (*add)(store *, const row_key *, const uint8_t fingerprint[FINGERPRINT_LEN], const row_bytes *);
-    bool (*make)(store *); /* the table, where there is none */
+    store_answer (*next)(store *, waiting_line *);                    /* the first line that waits; between begin and commit nobody else has it */
+    store_answer (*clear)(store *, int64_t number);                   /* removes a line */
+    store_answer (*refuse)(store *, int64_t number, const char *why); /* marks a line: it waits no longer */
+    bool (*make)(store *); /* the tables, where there are none */
     bool (*begin)(store *);
     bool (*commit)(store *);
     bool (*undo)(store *);

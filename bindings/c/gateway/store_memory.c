@@ -75,6 +75,22 @@ static store_answer add(store *of, const row_key *key, const uint8_t fingerprint
     return STORE_DONE;
 }
 
+/* Nothing is inserted here by SQL. */
+static store_answer no_line(store *of, waiting_line *line) {
+    (void)of, (void)line;
+    return STORE_NOT;
+}
+
+static store_answer no_clear(store *of, int64_t number) {
+    (void)of, (void)number;
+    return STORE_BROKEN;
+}
+
+static store_answer no_refuse(store *of, int64_t number, const char *why) {
+    (void)of, (void)number, (void)why;
+    return STORE_BROKEN;
+}
+
 static bool nothing(store *of) {
     return of != NULL;
 }
@@ -86,7 +102,7 @@ static void close_memory(store *of) {
 }
 
 store *store_memory_open(const char *file) {
-    static const store_calls CALLS = {"memory", true, get, put, add, nothing, nothing, nothing, nothing, close_memory};
+    static const store_calls CALLS = {"memory", true, get, put, add, no_line, no_clear, no_refuse, nothing, nothing, nothing, nothing, close_memory};
     memory_store *s = calloc(1, sizeof *s);
     int at = open(file, O_RDWR | O_CREAT | O_CLOEXEC, 0600);
     void *cells = MAP_FAILED;

@@ -9,10 +9,10 @@
 typedef struct postgres_store {
     store of;
     PGconn *connection;
-    bool prepared;
+    bool prepared, lines_prepared;
 } postgres_store;
 
-enum { BYTEA = 17, INT8 = 20, MOST_VALUES = 4 };
+enum { BYTEA = 17, INT8 = 20, TEXT = 25, MOST_VALUES = 4 };
 
 /* A statement's values, each as bytes. */
 typedef struct values {
@@ -23,6 +23,12 @@ typedef struct values {
 static void add_value(values *to, const uint8_t *bytes, size_t len) {
     to->bytes[to->count] = (const char *)bytes;
     to->lens[to->count++] = (int)len;
+}
+
+static void add_number(values *to, uint8_t bytes[VERSION_LEN], uint64_t number) {
+    cursor at = {bytes};
+    put_number(&at, number, VERSION_LEN);
+    add_value(to, bytes, VERSION_LEN);
 }
 
 static void add_reply(values *to, const row_bytes *row) {
@@ -62,9 +68,19 @@ static bool prepare_all(postgres_store *s) {
     return s->prepared;
 }
 
+/* A line that another gateway has at the moment is passed over. Of a column no more is asked for than shows that it is too long. */
+static bool prepare_lines(postgres_store *s) {
+    if (s->lines_prepared) return true;
+    s->lines_prepared = prepare(s, "next", "SELECT n, substr(secret, 1, 160), substr(salt, 1, 160), substr(own, 1, 160), substr(their, 1, 160),"
+                                           " substr(idcontext, 1, 160), substr(state, 1, 160), next::text, substr(words, 1, 160) FROM provision"
+                                           " WHERE refused IS NULL ORDER BY n LIMIT 1 FOR UPDATE SKIP LOCKED", 0, NULL)
+        && prepare(s, "clear", "DELETE FROM provision WHERE n = $1", 1, (const Oid[]){INT8})
+        && prepare(s, "refuse", "UPDATE provision SET refused = $2 WHERE n = $1", 2, (const Oid[]){INT8, TEXT});
+    return s->lines_prepared;
+}
+
 static PGresult *run(postgres_store *s, const char *name, const values *of) {
     static const int BINARY[MOST_VALUES] = {1, 1, 1, 1};
-    if (!prepare_all(s)) return NULL;
     return PQexecPrepared(s->connection, name, of->count, of->bytes, of->lens, BINARY, 1);
 }
 
@@ -90,7 +106,7 @@ static store_answer get(store *of, const row_key *key, row_bytes *row) {
     postgres_store *s = (postgres_store *)of;
     values with = {.count = 0};
     add_value(&with, key->bytes, key->len);
-    PGresult *result = run(s, "get", &with);
+    PGresult *result = prepare_all(s) ? run(s, "get", &with) : NULL;
     store_answer answer = STORE_BROKEN;
     if (PQresultStatus(result) == PGRES_TUPLES_OK && PQntuples(result) == 0) answer = STORE_NOT;
     else if (PQresultStatus(result) == PGRES_TUPLES_OK && take_row(result, row)) answer = STORE_DONE;
@@ -100,8 +116,8 @@ static store_answer get(store *of, const row_key *key, row_bytes *row) {
 }
 
 /* Runs a statement that writes one row, or none. */
-static store_answer write_one(postgres_store *s, const char *name, const values *with) {
-    PGresult *result = run(s, name, with);
+static store_answer write_one(postgres_store *s, bool is_prepared, const char *name, const values *with) {
+    PGresult *result = is_prepared ? run(s, name, with) : NULL;
     store_answer answer = STORE_BROKEN;
     if (PQresultStatus(result) == PGRES_COMMAND_OK) answer = !strcmp(PQcmdTuples(result), "1") ? STORE_DONE : STORE_NOT;
     else report(name, s->connection, result);
@@ -110,30 +126,77 @@ static store_answer write_one(postgres_store *s, const char *name, const values 
 }
 
 static store_answer put(store *of, const row_key *key, const row_bytes *row) {
+    postgres_store *s = (postgres_store *)of;
     uint8_t version[VERSION_LEN];
-    cursor at = {version};
-    put_number(&at, row->version, VERSION_LEN);
     values with = {.count = 0};
     add_value(&with, row->state, row->state_len);
     add_reply(&with, row);
     add_value(&with, key->bytes, key->len);
-    add_value(&with, version, sizeof version);
-    return write_one((postgres_store *)of, "put", &with);
+    add_number(&with, version, row->version);
+    return write_one(s, prepare_all(s), "put", &with);
 }
 
 static store_answer add(store *of, const row_key *key, const uint8_t fingerprint[FINGERPRINT_LEN], const row_bytes *row) {
+    postgres_store *s = (postgres_store *)of;
     values with = {.count = 0};
     add_value(&with, key->bytes, key->len);
     add_value(&with, fingerprint, FINGERPRINT_LEN);
     add_value(&with, row->state, row->state_len);
     add_reply(&with, row);
-    return write_one((postgres_store *)of, "add", &with);
+    return write_one(s, prepare_all(s), "add", &with);
+}
+
+static void take_word(const PGresult *from, int column, char word[WORD_ROOM]) {
+    bool fits = PQgetlength(from, 0, column) < WORD_ROOM;
+    const char *text = fits ? PQgetvalue(from, 0, column) : LINE_NO_WORD;
+    memcpy(word, text, strlen(text) + 1);
+}
+
+static bool take_line(const PGresult *from, waiting_line *line) {
+    if (PQnfields(from) != 1 + LINE_COLUMNS || PQgetlength(from, 0, 0) != VERSION_LEN) return false;
+    reader at = {(const uint8_t *)PQgetvalue(from, 0, 0)};
+    line->number = (int64_t)get_number(&at, VERSION_LEN);
+    for (int i = 0; i < LINE_COLUMNS; i++) take_word(from, i + 1, line->words[i]);
+    return true;
+}
+
+static store_answer next(store *of, waiting_line *line) {
+    postgres_store *s = (postgres_store *)of;
+    const values none = {.count = 0};
+    PGresult *result = prepare_lines(s) ? run(s, "next", &none) : NULL;
+    store_answer answer = STORE_BROKEN;
+    if (PQresultStatus(result) == PGRES_TUPLES_OK && PQntuples(result) == 0) answer = STORE_NOT;
+    else if (PQresultStatus(result) == PGRES_TUPLES_OK && take_line(result, line)) answer = STORE_DONE;
+    if (answer == STORE_BROKEN) report("the next line", s->connection, result);
+    PQclear(result);
+    return answer;
+}
+
+static store_answer clear(store *of, int64_t number) {
+    postgres_store *s = (postgres_store *)of;
+    uint8_t bytes[VERSION_LEN];
+    values with = {.count = 0};
+    add_number(&with, bytes, (uint64_t)number);
+    return write_one(s, prepare_lines(s), "clear", &with);
+}
+
+static store_answer refuse(store *of, int64_t number, const char *why) {
+    postgres_store *s = (postgres_store *)of;
+    uint8_t bytes[VERSION_LEN];
+    values with = {.count = 0};
+    add_number(&with, bytes, (uint64_t)number);
+    add_value(&with, (const uint8_t *)why, strlen(why));
+    return write_one(s, prepare_lines(s), "refuse", &with);
 }
 
 /* Half of each page stays free, so that a row is rewritten on its page, and no index changes. */
 static bool make(store *of) {
-    return tell((postgres_store *)of, "CREATE TABLE IF NOT EXISTS contexts (k bytea PRIMARY KEY, v bigint NOT NULL, f bytea NOT NULL UNIQUE,"
-                                      " h bytea NOT NULL, r bytea) WITH (fillfactor = 50)");
+    postgres_store *s = (postgres_store *)of;
+    return tell(s, "CREATE TABLE IF NOT EXISTS contexts (k bytea PRIMARY KEY, v bigint NOT NULL, f bytea NOT NULL UNIQUE, h bytea NOT NULL, r bytea)"
+                   " WITH (fillfactor = 50)")
+        && tell(s, "CREATE TABLE IF NOT EXISTS provision (n bigint GENERATED BY DEFAULT AS IDENTITY PRIMARY KEY, secret text NOT NULL,"
+                   " salt text NOT NULL DEFAULT '-', own text NOT NULL, their text NOT NULL, idcontext text NOT NULL DEFAULT '-',"
+                   " state text NOT NULL, next bigint NOT NULL, words text NOT NULL DEFAULT '', refused text)");
 }
 
 static bool begin(store *of) {
@@ -166,13 +229,13 @@ static void pass_over(void *unused, const char *note) {
 }
 
 store *store_postgres_open(const char *conninfo, bool on) {
-    static const store_calls CALLS = {"pg", false, get, put, add, make, begin, commit, undo, close_postgres};
+    static const store_calls CALLS = {"pg", false, get, put, add, next, clear, refuse, make, begin, commit, undo, close_postgres};
     postgres_store *s = calloc(1, sizeof *s);
     if (!s) return NULL;
     s->of.calls = &CALLS;
     s->connection = PQconnectdb(conninfo);
     if (PQstatus(s->connection) != CONNECTION_OK) report("open", s->connection, NULL);
-    else if (PQsetNoticeProcessor(s->connection, pass_over, NULL) && tell(s, on ? "SET synchronous_commit = on" : "SET synchronous_commit = off"))
+    else if (PQsetNoticeProcessor(s->connection, pass_over, NULL) && !PQsetClientEncoding(s->connection, "SQL_ASCII") && tell(s, on ? "SET synchronous_commit = on" : "SET synchronous_commit = off"))
         return &s->of;
     close_postgres(&s->of);
     return NULL;

@@ -14,8 +14,8 @@ enum { BUSY_MS = 20000, PATH_ROOM = 512 };
 typedef struct sqlite_store {
     store of;
     sqlite3 *db;
-    sqlite3_stmt *get, *put, *add, *begin, *commit, *undo;
-    bool prepared;
+    sqlite3_stmt *get, *put, *add, *next, *clear, *refuse, *begin, *commit, *undo;
+    bool prepared, lines_prepared;
     int turn; /* a file whose lock says whose turn it is to write: SQLite's own wait looks again and again, this one is woken */
 } sqlite_store;
 
@@ -99,6 +99,53 @@ static store_answer add(store *of, const row_key *key, const uint8_t fingerprint
     return write_one(s, s->add, bound, "add");
 }
 
+static bool tell(sqlite_store *s, const char *sql) {
+    if (sqlite3_exec(s->db, sql, NULL, NULL, NULL) == SQLITE_OK) return true;
+    broken(s, sql);
+    return false;
+}
+
+/* What is cleared is overwritten in the file, since a line holds a secret. */
+static bool prepare_lines(sqlite_store *s) {
+    s->lines_prepared = s->lines_prepared || (tell(s, "PRAGMA secure_delete=ON")
+        && prepare(s, "SELECT n, secret, salt, own, their, idcontext, state, CAST(next AS TEXT), words FROM provision WHERE refused IS NULL"
+                      " ORDER BY n LIMIT 1", &s->next)
+        && prepare(s, "DELETE FROM provision WHERE n = ?1", &s->clear)
+        && prepare(s, "UPDATE provision SET refused = ?2 WHERE n = ?1", &s->refuse));
+    return s->lines_prepared;
+}
+
+static void take_word(sqlite3_stmt *from, int column, char word[WORD_ROOM]) {
+    const char *text = sqlite3_column_type(from, column) == SQLITE_TEXT ? (const char *)sqlite3_column_text(from, column) : NULL;
+    size_t len = text ? (size_t)sqlite3_column_bytes(from, column) : WORD_ROOM;
+    if (len >= WORD_ROOM || strlen(text) != len) text = LINE_NO_WORD;
+    memcpy(word, text, strlen(text) + 1);
+}
+
+static store_answer next(store *of, waiting_line *line) {
+    sqlite_store *s = (sqlite_store *)of;
+    int status = prepare_lines(s) ? sqlite3_step(s->next) : SQLITE_ERROR;
+    store_answer answer = status == SQLITE_ROW ? STORE_DONE : status == SQLITE_DONE ? STORE_NOT : broken(s, "the next line");
+    if (answer == STORE_DONE) {
+        line->number = sqlite3_column_int64(s->next, 0);
+        for (int i = 0; i < LINE_COLUMNS; i++) take_word(s->next, i + 1, line->words[i]);
+    }
+    if (sqlite3_reset(s->next) != SQLITE_OK && answer != STORE_BROKEN) answer = broken(s, "the next line");
+    return answer;
+}
+
+static store_answer clear(store *of, int64_t number) {
+    sqlite_store *s = (sqlite_store *)of;
+    return write_one(s, s->clear, prepare_lines(s) && sqlite3_bind_int64(s->clear, 1, number) == SQLITE_OK, "clear a line");
+}
+
+static store_answer refuse(store *of, int64_t number, const char *why) {
+    sqlite_store *s = (sqlite_store *)of;
+    bool bound = prepare_lines(s) && sqlite3_bind_int64(s->refuse, 1, number) == SQLITE_OK
+        && sqlite3_bind_text(s->refuse, 2, why, -1, SQLITE_STATIC) == SQLITE_OK;
+    return write_one(s, s->refuse, bound, "mark a line");
+}
+
 static bool run(sqlite_store *s, sqlite3_stmt *statement, const char *what) {
     bool done = sqlite3_step(statement) == SQLITE_DONE;
     if (!done) broken(s, what);
@@ -127,20 +174,18 @@ static bool undo(store *of) {
     return run(s, s->undo, "undo") && take_turn(s, LOCK_UN);
 }
 
-static bool tell(sqlite_store *s, const char *sql) {
-    if (sqlite3_exec(s->db, sql, NULL, NULL, NULL) == SQLITE_OK) return true;
-    broken(s, sql);
-    return false;
-}
-
 static bool make(store *of) {
-    return tell((sqlite_store *)of, "CREATE TABLE IF NOT EXISTS contexts (k BLOB PRIMARY KEY, v INTEGER NOT NULL, f BLOB NOT NULL UNIQUE,"
-                                    " h BLOB NOT NULL, r BLOB) WITHOUT ROWID");
+    sqlite_store *s = (sqlite_store *)of;
+    return tell(s, "CREATE TABLE IF NOT EXISTS contexts (k BLOB PRIMARY KEY, v INTEGER NOT NULL, f BLOB NOT NULL UNIQUE, h BLOB NOT NULL, r BLOB)"
+                   " WITHOUT ROWID")
+        && tell(s, "CREATE TABLE IF NOT EXISTS provision (n INTEGER PRIMARY KEY AUTOINCREMENT, secret TEXT NOT NULL, salt TEXT NOT NULL DEFAULT '-',"
+                   " own TEXT NOT NULL, their TEXT NOT NULL, idcontext TEXT NOT NULL DEFAULT '-', state TEXT NOT NULL, next INTEGER NOT NULL,"
+                   " words TEXT NOT NULL DEFAULT '', refused TEXT)");
 }
 
 static void close_sqlite(store *of) {
     sqlite_store *s = (sqlite_store *)of;
-    sqlite3_stmt *statements[] = {s->get, s->put, s->add, s->begin, s->commit, s->undo};
+    sqlite3_stmt *statements[] = {s->get, s->put, s->add, s->next, s->clear, s->refuse, s->begin, s->commit, s->undo};
     /* What their last runs said was looked at. */
     for (size_t i = 0; i < sizeof statements / sizeof statements[0]; i++) (void)sqlite3_finalize(statements[i]);
     if (s->db && sqlite3_close(s->db) != SQLITE_OK) broken(s, "close");
@@ -148,7 +193,7 @@ static void close_sqlite(store *of) {
     free(s);
 }
 
-static const store_calls CALLS = {"sqlite", true, get, put, add, make, begin, commit, undo, close_sqlite};
+static const store_calls CALLS = {"sqlite", true, get, put, add, next, clear, refuse, make, begin, commit, undo, close_sqlite};
 
 static bool open_turn(sqlite_store *s, const char *file) {
     char path[PATH_ROOM];

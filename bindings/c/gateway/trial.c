@@ -18,7 +18,7 @@ typedef struct passes {
 } passes;
 
 static passes *shared;
-static uint64_t one_in, every_ms, next_kill_ms;
+static uint64_t one_in, every_ms, next_kill_ms, pause_ms;
 static trial_order order;
 static int log_file = -1;
 
@@ -34,6 +34,7 @@ bool trial_begin(void) {
     shared = at;
     one_in = number_of("GATEWAY_KILL");
     every_ms = number_of("GATEWAY_KILL_MS");
+    pause_ms = number_of("GATEWAY_PAUSE_MS");
     const char *wanted = getenv("GATEWAY_ORDER");
     for (int i = 0; wanted && i < 4; i++)
         if (!strcmp(wanted, ORDERS[i])) order = (trial_order)i;
@@ -50,6 +51,8 @@ bool trial_begin_worker(unsigned index) {
 }
 
 void trial_reach(trial_step step) {
+    const struct timespec pause = {.tv_nsec = (long)pause_ms * 1000000};
+    if (step == (order == TRIAL_RIGHT ? TRIAL_WRITTEN : TRIAL_TAKEN) && pause_ms > 0 && nanosleep(&pause, NULL)) abort();
     if (one_in == 0 || (atomic_fetch_add(&shared->reached[step], 1) + 1) % one_in) return;
     atomic_fetch_add(&shared->killed[step], 1);
     if (raise(SIGKILL)) abort();
@@ -87,21 +90,21 @@ void trial_sent(const row_key *key, uint64_t number, const uint8_t *bytes, size_
     note('S', key, number, bytes, len);
 }
 
-void trial_kill_one(const pid_t *workers, size_t count) {
+void trial_kill_one(const pid_t *processes, size_t count) {
     struct timespec now;
     if (every_ms == 0 || clock_gettime(CLOCK_MONOTONIC, &now)) return;
     uint64_t ms = (uint64_t)now.tv_sec * 1000 + (uint64_t)now.tv_nsec / 1000000;
     if (ms < next_kill_ms) return;
     next_kill_ms = ms + every_ms;
-    pid_t worker = workers[(size_t)now.tv_nsec / 1000 % count];
-    if (worker > 0 && !kill(worker, SIGKILL)) shared->at_random++;
+    pid_t process = processes[(size_t)now.tv_nsec / 1000 % count];
+    if (process > 0 && !kill(process, SIGKILL)) shared->at_random++;
 }
 
 void trial_end(void) {
-    const char *names[TRIAL_STEPS] = {"taken", "written", "acted", "ready", "sent"};
+    const char *names[] = {"taken", "written", "acted", "ready", "sent"};
     printf("killed: random %llu", (unsigned long long)shared->at_random);
-    for (int i = 0; i < TRIAL_STEPS; i++) printf(" %s %llu", names[i], (unsigned long long)shared->killed[i]);
-    puts("");
+    for (int i = 0; i <= TRIAL_SENT; i++) printf(" %s %llu", names[i], (unsigned long long)shared->killed[i]);
+    printf("\nkilled while a context was added: %llu\n", (unsigned long long)shared->killed[TRIAL_ADDED]);
 }
 #else
 /* A file with nothing in it isn't C11. */
