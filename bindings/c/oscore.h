@@ -87,7 +87,7 @@ typedef enum oscore_status {
     OSCORE_TAG = 31,               /* the payload protects nothing under this context and this number */
     OSCORE_INNER = 32,             /* it protects what may not stand inside a message */
     OSCORE_CHALLENGE = 33,         /* the context was restarted, and the request lacks the Echo value that the reply asks for */
-    OSCORE_UNSUPPORTED = 34,       /* an option that isn't sealed, as Observe; `detail` is its number */
+    OSCORE_UNSUPPORTED = 34,       /* an option that isn't sealed, as Proxy-Uri; `detail` is its number */
     OSCORE_TOKEN_IN_USE = 35,      /* a request with this token is pending */
     OSCORE_PENDING_FULL = 36,      /* eight requests are pending */
     OSCORE_SEQUENCE_EXHAUSTED = 37, /* no own number below 2^40 is left */
@@ -109,7 +109,9 @@ OSCORE_ASSERT(sizeof(oscore_status) == 4, "a status has 4 bytes: compile without
    for its length, the flags, 5 of a Partial IV, a length and 32 of a kid context, 7 of a kid); 10 of the marker, the code inside and the
    tag; and 1, since an inner option may come after Uri-Port in the plain datagram, and after nothing inside, so that its delta is up to
    7 more, and that can take an extended byte more (RFC 7252, 3.1). A response has no kid, so its option has at most 7 bytes, and the
-   server puts the request's token of up to 8 bytes into it. Some messages take all 59. The sealed message has at most 65,535 bytes. */
+   server puts the request's token of up to 8 bytes into it. Some messages take all 59. The sealed message has at most 65,535 bytes.
+   One message may need more: what `oscore_seal_request` seals with Observe, under a context that allows it. The option then stands
+   twice, so it takes at most its header and its value more: 4 bytes for a value of at most 3, as RFC 7641, 2 has it. */
 #define OSCORE_ROOM(plain_len) ((plain_len) + 59)
 
 /* A context as one of its two ends holds it (RFC 8613, 3.1): plain bytes, to be made by `oscore_derive` and copied as you like.
@@ -122,6 +124,7 @@ typedef struct oscore_context {
     uint8_t sender_key[16], recipient_key[16], common_iv[13];
     uint8_t constant_time; /* by any value but 0 its keys are used in constant time */
     uint8_t blocks; /* any value but 0 lets block-wise options pass inside the protection */
+    uint8_t observe; /* any value but 0 lets Observe pass in requests, inside and outside the protection */
 } oscore_context;
 
 /* An option of a message: of one that was opened its value lies in the datagram; of one that is to be written, anywhere but in `out`. */
@@ -262,11 +265,16 @@ void oscore_status_name(uint32_t status, char name[24]);
    whose times may tell of a key to whoever shares the machine; with `constant_time` by a cipher whose source has no look-up and no branch
    that depends on a key or a message, which is slower. What is sent is the same, and the other end may choose otherwise.
    With `blocks` the options Block1 and Block2 (27 and 23) pass inside the protection, both ways (RFC 8613, 4.1.3.4.1). Without it no
-   message with such an option is sealed, and none opens. Both ends must choose the same. */
+   message with such an option is sealed, and none opens.
+   With `observe` a request may have Observe (6), as one that registers for notifications (RFC 8613, 4.1.3.5; RFC 7641): the option then
+   stands outside and, encrypted, inside, the code outside is 0.05, and who opens sees the one inside. `oscore_seal_request` seals such a
+   request, `oscore_open_request` opens it, and a server takes it; a client seals none, since it takes no notifications, and answers
+   OSCORE_UNSUPPORTED. Without `observe` none is sealed, and none opens. No response has Observe, either way, so a server answers a
+   registration by a plain response, as RFC 7641, 4.1 allows. Both ends must choose the same of `blocks` and of `observe`. */
 OSCORE_MUST_USE oscore_status oscore_derive(oscore_context *out, const uint8_t *secret, size_t secret_len, const uint8_t *salt,
                                             size_t salt_len, bool has_id_context, const uint8_t *id_context, size_t id_context_len,
                                             const uint8_t *sender, size_t sender_len, const uint8_t *recipient,
-                                            size_t recipient_len, bool constant_time, bool blocks);
+                                            size_t recipient_len, bool constant_time, bool blocks, bool observe);
 
 /* Writes a plain message, as it is to be sealed: its kind (0 CON, 1 NON, 2 ACK, 3 RST), its code (1 GET .. ; 69 is 2.05), message ID and
    token, its options in ascending order of their numbers, and its payload, which is behind a marker where it isn't empty. The first

@@ -22,7 +22,7 @@ _oscore() {
     case $before in
         --role) words=(server client) ;;
         --window) words=(32 64) ;;
-        --allow) words=(blocks) ;;
+        --allow) words=(blocks observe) ;;
         --numbers)
             compopt -o filenames 2>/dev/null
             mapfile -t COMPREPLY < <(compgen -f -- "$word")
@@ -42,8 +42,8 @@ _oscore() {
         help) ((COMP_CWORD == 2)) && words=(derive open protect explain run) ;;
     esac
     case $call in
-        open) words+=(--request) ;;
-        protect) words+=(--sequence --request) ;;
+        open) words+=(--request --registers) ;;
+        protect) words+=(--sequence --request --registers) ;;
         run)
             words+=(--role)
             [[ $given == *" --numbers "* ]] || words+=(--sequence)
@@ -54,7 +54,8 @@ _oscore() {
             ;;
     esac
     for option in $(compgen -W "${words[*]}" -- "$word"); do
-        [[ $given == *" $option "* ]] || COMPREPLY+=("$option")
+        # --allow may be given for each thing that is allowed.
+        [[ $option != --allow && $given == *" $option "* ]] || COMPREPLY+=("$option")
     done
 }
 

@@ -9,7 +9,7 @@ end
 # Whether none of these words is given, alone or before a =. An option whose value is at the cursor isn't given yet.
 function __oscore_without
     set -l words (commandline -opc)
-    if string match -qr -- '^--[a-z-]+$' "$words[-1]"; and not contains -- "$words[-1]" --restarted --help
+    if string match -qr -- '^--[a-z-]+$' "$words[-1]"; and not contains -- "$words[-1]" --restarted --registers --help
         set -e words[-1]
     end
     not string match -qr -- '^('(string join '|' -- $argv)')(=|$)' $words
@@ -39,9 +39,10 @@ complete -c oscore -n "$context --salt" -l salt -x -d 'The Master Salt, 0 to 64 
 complete -c oscore -n "$context --sender" -l sender -x -d 'This end\'s identifier, 0 to 7 bytes of hex'
 complete -c oscore -n "$context --recipient" -l recipient -x -d 'The other end\'s identifier, 0 to 7 bytes of hex'
 complete -c oscore -n "$context --id-context" -l id-context -x -d 'The ID Context, 1 to 32 bytes of hex'
-complete -c oscore -n "$context --allow" -l allow -x -a blocks -d 'What may also pass inside'
+complete -c oscore -n '__oscore_call derive open protect run' -l allow -x -a 'blocks observe' -d 'What may also pass'
 
 complete -c oscore -n '__oscore_call open protect; and __oscore_without --request' -l request -x -d 'Of a response: the number of its request'
+complete -c oscore -n '__oscore_call open protect; and __oscore_without --registers' -l registers -d 'Its request registers an observation'
 complete -c oscore -n '__oscore_call protect; and __oscore_without --sequence' -l sequence -x -d 'The own number of the message'
 
 complete -c oscore -n '__oscore_call run; and __oscore_without --role' -l role -x -a 'server client' -d 'What this end is'

@@ -77,7 +77,7 @@ int main(int count, char **words) {
     if (count != 5) stop("asking PORT PATH NUMBER MILLISECONDS");
     server.sin_port = htons((uint16_t)atoi(words[1]));
     if (udp < 0 || connect(udp, (struct sockaddr *)&server, sizeof server)) stop("no such port");
-    if (oscore_derive(&context, SECRET, sizeof SECRET, NULL, 0, false, NULL, 0, OWN, 1, THEIR, 1, false, false)) stop("no context");
+    if (oscore_derive(&context, SECRET, sizeof SECRET, NULL, 0, false, NULL, 0, OWN, 1, THEIR, 1, false, false, false)) stop("no context");
     if (oscore_client_begin(&client, &context, strtoull(words[3], NULL, 10), 60000)) stop("no client");
     const uint8_t *echo = ask(udp, words[2], NULL);
     uint8_t value[ECHO_LEN];

@@ -47,8 +47,8 @@ int main(int count, char **words) {
     long rounds = count > 2 ? atol(words[2]) : 0;
     if (count < 3) return 2;
     response_len = prepare_response((size_t)atol(words[1]));
-    need(oscore_derive(&client, SECRET, sizeof SECRET, SALT, sizeof SALT, false, NULL, 0, NULL, 0, SERVER_ID, 1, count > 3, false), "the client");
-    need(oscore_derive(&server, SECRET, sizeof SECRET, SALT, sizeof SALT, false, NULL, 0, SERVER_ID, 1, NULL, 0, count > 3, false), "the server");
+    need(oscore_derive(&client, SECRET, sizeof SECRET, SALT, sizeof SALT, false, NULL, 0, NULL, 0, SERVER_ID, 1, count > 3, false, false), "the client");
+    need(oscore_derive(&server, SECRET, sizeof SECRET, SALT, sizeof SALT, false, NULL, 0, SERVER_ID, 1, NULL, 0, count > 3, false, false), "the server");
     oscore_server_begin(&serving);
     need(oscore_server_add(&serving, &server, false, 0, 32, &index), "the server");
     need(oscore_client_begin(&asking, &client, FIRST_NUMBER, 60000), "the client");

@@ -58,7 +58,7 @@ static uint8_t len_of(const char *text) {
 static void derive(oscore_context *context, const char *own, const char *their, const char *id_context, bool constant_time) {
     need("a context", OSCORE_DONE,
          oscore_derive(context, SECRET, sizeof SECRET, NULL, 0, *id_context != 0, (const uint8_t *)id_context, len_of(id_context),
-                       (const uint8_t *)own, len_of(own), (const uint8_t *)their, len_of(their), constant_time, false));
+                       (const uint8_t *)own, len_of(own), (const uint8_t *)their, len_of(their), constant_time, false, false));
 }
 
 /* The highest numbers, those around the edges of their lengths in bytes, and any. */

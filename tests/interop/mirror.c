@@ -52,7 +52,7 @@ static void add(char **words) {
     oscore_context context = OSCORE_ZERO;
     for (int i = 0; i < 5; i++) lens[i] = hex(words[i], bytes[i]);
     oscore_status status = oscore_derive(&context, bytes[0], lens[0], bytes[1], lens[1], strcmp(words[2], "none") != 0, bytes[2], lens[2],
-                                         bytes[3], lens[3], bytes[4], lens[4], false, false);
+                                         bytes[3], lens[3], bytes[4], lens[4], false, false, false);
     if (!status) status = oscore_server_add(&server, &context, false, 0, 32, &index);
     if (status) stop("no context");
 }

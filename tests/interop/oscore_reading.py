@@ -1,7 +1,7 @@
 """OSCORE (RFC 8613) as this harness reads it, over AES-CCM and HKDF of Python's `cryptography`: one AEAD algorithm,
 AES-CCM-16-64-128, and HKDF with SHA-256. It is written from the RFC and from docs/DECISIONS.md, and shares nothing with the library
-that it judges. What that library leaves out (Observe, options for proxies, and block-wise transfer unless a context allows it) is refused
-here too."""
+that it judges. What that library leaves out (options for proxies, and Observe and block-wise transfer unless a context allows them) is
+refused here too."""
 
 from __future__ import annotations
 
@@ -22,9 +22,10 @@ OUTSIDE = (URI_HOST, URI_PORT)
 rule what may stand on both sides."""
 BLOCKS = (BLOCK2, BLOCK1)
 REFUSED = (OBSERVE, OSCORE, *BLOCKS, PROXY_URI, PROXY_SCHEME)
-"""Options that a context refuses unless it allows blocks; then it refuses these but for the two of BLOCKS."""
-POST, CHANGED = 0x02, 0x44
-"""The codes outside, without Observe: 0.02 of a request and 2.04 of a response (RFC 8613, 4.2)."""
+"""Options that a context refuses, but for the two of BLOCKS if it allows blocks, and for Observe if it allows that."""
+POST, FETCH, CHANGED, CONTENT = 0x02, 0x05, 0x44, 0x45
+REQUEST_CODES, RESPONSE_CODES = (POST, FETCH), (CHANGED, CONTENT)
+"""The codes outside, of a message without Observe and of one with it: 0.02 and 0.05, 2.04 and 2.05 (RFC 8613, 4.1.3.5 and 4.2)."""
 AES_CCM_16_64_128 = 10
 KEY_LEN, NONCE_LEN, TAG_LEN, PARTIAL_IV_LEN = 16, 13, 8, 5
 KID_FLAG, KID_CONTEXT_FLAG, PARTIAL_IV_LENGTH_MASK = 0x08, 0x10, 0x07
@@ -40,7 +41,7 @@ class Refused(Exception):
 
 @dataclass(frozen=True)
 class Context:
-    """A context as one of its ends holds it (RFC 8613, 3.1). An ID Context that isn't there is None. Own rule: `blocks`."""
+    """A context as one of its ends holds it (RFC 8613, 3.1). An ID Context that isn't there is None. Own rule: `blocks` and `observe`."""
 
     sender: bytes
     recipient: bytes
@@ -49,9 +50,12 @@ class Context:
     recipient_key: bytes
     common_iv: bytes
     blocks: bool = False
+    observe: bool = False
 
-    def refused(self) -> Tuple[int, ...]:
-        return tuple(number for number in REFUSED if not (self.blocks and number in BLOCKS))
+    def refused(self, may_observe: bool = True) -> Tuple[int, ...]:
+        """A response may have Observe only if its request registers an observation (RFC 7641, 3.1)."""
+        allowed = (BLOCKS if self.blocks else ()) + ((OBSERVE,) if self.observe and may_observe else ())
+        return tuple(number for number in REFUSED if number not in allowed)
 
 
 @dataclass(frozen=True)
@@ -154,13 +158,17 @@ def read_option(value: bytes) -> Tuple[bytes, Optional[bytes], Optional[bytes]]:
     return partial_iv, kid_context, kid
 
 
-def seal(context: Context, nonce: bytes, additional_data: bytes, value: bytes, code: int, message: Message) -> bytes:
-    """Parts a message into what goes inside and what stays outside (RFC 8613, 4.1 and 5.3), and protects the first."""
+def seal(context: Context, nonce: bytes, additional_data: bytes, value: bytes, codes: Tuple[int, int], message: Message,
+         may_observe: bool = True) -> bytes:
+    """Parts a message into what goes inside and what stays outside (RFC 8613, 4.1 and 5.3), and protects the first. Observe goes to both
+    sides: of a request with its value, of a response with its value outside and empty inside (RFC 8613, 4.1.3.5)."""
     for number in sorted(number for number, _ in message.options):
-        if number in context.refused():
+        if number in context.refused(may_observe):
             raise Refused("Unsupported", number)
-    inner = [option for option in message.options if option[0] not in OUTSIDE]
-    outer = [option for option in message.options if option[0] in OUTSIDE]
+    is_response = codes == RESPONSE_CODES
+    inner = [(number, b"" if is_response and number == OBSERVE else said) for number, said in message.options if number not in OUTSIDE]
+    outer = [option for option in message.options if option[0] in (*OUTSIDE, OBSERVE)]
+    code = codes[first(message.options, OBSERVE) is not None]
     plaintext = bytes([message.code]) + coap_reading.write_rest(inner, message.payload)
     ciphertext = AESCCM(context.sender_key, TAG_LEN).encrypt(nonce, plaintext, additional_data)
     outer.append((OSCORE, value))
@@ -173,11 +181,12 @@ def seal_request(context: Context, number: int, message: Message) -> bytes:
     nonce = nonce_of(context.common_iv, context.sender, partial_iv)
     additional_data = additional_data_of(context.sender, partial_iv)
     value = write_option(partial_iv, context.id_context, context.sender)
-    return seal(context, nonce, additional_data, value, POST, message)
+    return seal(context, nonce, additional_data, value, REQUEST_CODES, message)
 
 
-def seal_response(context: Context, request: int, own: Optional[int], message: Message) -> bytes:
-    """As a server, to the request of that number: under an own number, or under the request's nonce (RFC 8613, 8.3 and 5.2)."""
+def seal_response(context: Context, request: int, own: Optional[int], message: Message, registers: bool = False) -> bytes:
+    """As a server, to the request of that number, which may register an observation: under an own number, or under the request's nonce
+    (RFC 8613, 8.3 and 5.2)."""
     request_piv = partial_iv_of(request)
     nonce = nonce_of(context.common_iv, context.recipient, request_piv)
     value = b""
@@ -186,7 +195,7 @@ def seal_response(context: Context, request: int, own: Optional[int], message: M
         nonce = nonce_of(context.common_iv, context.sender, own_piv)
         value = write_option(own_piv, None, None)
     additional_data = additional_data_of(context.recipient, request_piv)
-    return seal(context, nonce, additional_data, value, CHANGED, message)
+    return seal(context, nonce, additional_data, value, RESPONSE_CODES, message, registers)
 
 
 def first(options: Options, number: int) -> Optional[bytes]:
@@ -203,13 +212,14 @@ def oscore_value(message: Message) -> bytes:
     return values[0]
 
 
-def open_payload(context: Context, nonce: bytes, additional_data: bytes, number: Optional[int], message: Message) -> Opened:
+def open_payload(context: Context, nonce: bytes, additional_data: bytes, number: Optional[int], message: Message,
+                 may_observe: bool = True) -> Opened:
     try:
         plaintext = AESCCM(context.recipient_key, TAG_LEN).decrypt(nonce, message.payload, additional_data)
     except InvalidTag:
         raise Refused("Tag") from None
     options, payload = coap_reading.read_rest(plaintext[1:])
-    if any(option in context.refused() or option in OUTSIDE for option, _ in options):
+    if any(option in context.refused(may_observe) or option in OUTSIDE for option, _ in options):
         raise Refused("Inner")
     hosts = first(message.options, URI_HOST), first(message.options, URI_PORT)
     return Opened(message.kind, plaintext[0], message.message_id, message.token, number, *hosts, options, payload)
@@ -228,8 +238,8 @@ def open_request(context: Context, datagram: bytes) -> Opened:
     return open_payload(context, nonce, additional_data, int.from_bytes(partial_iv, "big"), message)
 
 
-def open_response(context: Context, request: int, datagram: bytes) -> Opened:
-    """As a client (RFC 8613, 8.4). A kid or a kid context in a response is refused (own rule)."""
+def open_response(context: Context, request: int, datagram: bytes, registers: bool = False) -> Opened:
+    """As a client (RFC 8613, 8.4); the request may register an observation. A kid or a kid context in a response is refused (own rule)."""
     message = coap_reading.read(datagram)
     partial_iv, kid_context, kid = read_option(oscore_value(message))
     if kid is not None or kid_context is not None:
@@ -239,4 +249,4 @@ def open_response(context: Context, request: int, datagram: bytes) -> Opened:
     if partial_iv:
         nonce, own = nonce_of(context.common_iv, context.recipient, partial_iv), int.from_bytes(partial_iv, "big")
     additional_data = additional_data_of(context.sender, request_piv)
-    return open_payload(context, nonce, additional_data, own, message)
+    return open_payload(context, nonce, additional_data, own, message, registers)

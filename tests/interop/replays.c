@@ -106,9 +106,9 @@ static void seal(datagram *sealed, uint64_t number, const uint8_t *echo) {
 }
 
 static void prepare(void) {
-    need(oscore_derive(&client, SECRET, sizeof SECRET, NULL, 0, false, NULL, 0, CLIENT, 1, SERVER, 1, false, false), "the client");
+    need(oscore_derive(&client, SECRET, sizeof SECRET, NULL, 0, false, NULL, 0, CLIENT, 1, SERVER, 1, false, false, false), "the client");
     for (int cipher = 0; cipher < CIPHERS; cipher++)
-        need(oscore_derive(&servers[cipher], SECRET, sizeof SECRET, NULL, 0, false, NULL, 0, SERVER, 1, CLIENT, 1, cipher == 1, false),
+        need(oscore_derive(&servers[cipher], SECRET, sizeof SECRET, NULL, 0, false, NULL, 0, SERVER, 1, CLIENT, 1, cipher == 1, false, false),
              "a server's context");
     for (uint64_t number = 0; number < MOST_NUMBERS; number++) {
         seal(&requests[number], number, NULL);

@@ -189,7 +189,7 @@ static void begin(void) {
     uint64_t loaded;
     if (!load_number(number_file, &loaded)) stop("no number in FILE");
     oscore_status status = oscore_derive(&context, SECRET, sizeof SECRET, NULL, 0, false, NULL, 0, KEY, sizeof KEY, LOCK, sizeof LOCK,
-                                         false, false);
+                                         false, false, false);
     if (!status) status = oscore_kept_client_begin(&client, &context, loaded, EXCHANGE_LIFETIME_MS);
     oscore_wipe(&context, sizeof context); /* the client has a copy */
     if (status) stop("no client");

@@ -190,7 +190,7 @@ int main(int count, char **words) {
     number_file = words[3];
     if (!load_number(number_file, &loaded)) stop("no number in FILE");
     oscore_status status = oscore_derive(&context, SECRET, sizeof SECRET, NULL, 0, false, NULL, 0, LOCK, sizeof LOCK, KEY, sizeof KEY,
-                                         false, false);
+                                         false, false, false);
     if (!status) status = oscore_kept_server_begin(&server, &context, loaded, 32);
     oscore_wipe(&context, sizeof context); /* the server has a copy */
     if (status) stop("no server");

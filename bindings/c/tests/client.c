@@ -53,7 +53,7 @@ static void begin(uint64_t next) {
     hex("0102030405060708090a0b0c0d0e0f10", secret);
     hex("9e7ca92223786340", salt);
     CHECK(!oscore_derive(context, guarded_copy(SECRET, secret, 16), 16, guarded_copy(SALT, salt, 8), 8, false, NULL, 0, NULL, 0,
-                         guarded_copy(RECIPIENT, &one, 1), 1, constant_time, false));
+                         guarded_copy(RECIPIENT, &one, 1), 1, constant_time, false, false));
     CHECK(!oscore_client_begin(client, context, next, LIFE));
     CHECK(client->next == next && client->life_ms == LIFE && client->clock == 0 && client->count == 0);
 }

@@ -51,8 +51,8 @@ static size_t message(uint8_t *plain, uint8_t code, uint8_t token, size_t len) {
 static void derive(oscore_context *client, oscore_context *server, bool constant_time) {
     uint8_t secret[16] = {1, 2, 3, 4, 5, 6, 7, 8, 9, 10, 11, 12, 13, 14, 15, 16};
     (void)VALGRIND_MAKE_MEM_UNDEFINED(secret, sizeof secret);
-    CHECK(!oscore_derive(client, secret, sizeof secret, salt, sizeof salt, false, NULL, 0, NULL, 0, &one, 1, constant_time, false));
-    CHECK(!oscore_derive(server, secret, sizeof secret, salt, sizeof salt, false, NULL, 0, &one, 1, NULL, 0, constant_time, false));
+    CHECK(!oscore_derive(client, secret, sizeof secret, salt, sizeof salt, false, NULL, 0, NULL, 0, &one, 1, constant_time, false, false));
+    CHECK(!oscore_derive(server, secret, sizeof secret, salt, sizeof salt, false, NULL, 0, &one, 1, NULL, 0, constant_time, false, false));
     CHECK(reports() == 0);
     /* So the keys are unknown too. To ask is one more report. */
     CHECK(VALGRIND_CHECK_MEM_IS_DEFINED(client->sender_key, 16) && VALGRIND_CHECK_MEM_IS_DEFINED(client->recipient_key, 16));

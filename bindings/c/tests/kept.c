@@ -71,8 +71,8 @@ static void derive(void) {
     uint8_t bytes[16], one = 1;
     const uint8_t *secret = guarded_copy(SECRET, bytes, hex("0102030405060708090a0b0c0d0e0f10", bytes));
     const uint8_t *salt = guarded_copy(SALT, bytes, hex("9e7ca92223786340", bytes)), *id = guarded_copy(ONE, &one, 1);
-    CHECK(!oscore_derive(context, secret, 16, salt, 8, false, NULL, 0, NULL, 0, id, 1, constant_time, false));
-    CHECK(!oscore_derive(own, secret, 16, salt, 8, false, NULL, 0, id, 1, NULL, 0, constant_time, false));
+    CHECK(!oscore_derive(context, secret, 16, salt, 8, false, NULL, 0, NULL, 0, id, 1, constant_time, false, false));
+    CHECK(!oscore_derive(own, secret, 16, salt, 8, false, NULL, 0, id, 1, NULL, 0, constant_time, false, false));
 }
 
 static void begin_client(uint64_t loaded) {

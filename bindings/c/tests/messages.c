@@ -9,7 +9,7 @@
 enum { C1, C2, C3, CONTEXTS };
 /* What is handed in, each at a place of its own. */
 enum { CLIENTS, SERVERS = CLIENTS + CONTEXTS, OPTIONS = SERVERS + CONTEXTS, OPENED, HEAD, OUT, SEALED_LEN, DETAIL, PLAIN, DATAGRAM, HANDLE,
-    SECRET, SALT, ID_CONTEXT, SENDER, RECIPIENT, NAME, SIZES };
+    SECRET, SALT, ID_CONTEXT, SENDER, RECIPIENT, NAME, SIZES, SERVER, CLIENT, TICKET, INDEX, REPLY, ECHO };
 static oscore_context *clients[CONTEXTS], *servers[CONTEXTS];
 static oscore_option *options;
 static oscore_opened *opened;
@@ -75,7 +75,7 @@ static uint32_t derive_into(oscore_context *context, const uint8_t *sender, size
     if (DERIVED[i].id_context) id_context = bytes_at(ID_CONTEXT, DERIVED[i].id_context, 0, &id_context_len);
     return oscore_derive(context, secret, secret_len, salt, salt_len, id_context, id_context, id_context_len,
                          guarded_copy(SENDER, sender, sender_len), sender_len, guarded_copy(RECIPIENT, recipient, recipient_len), recipient_len,
-                         constant_time, false);
+                         constant_time, false, false);
 }
 
 static void derives(bool constant_time) {
@@ -150,8 +150,97 @@ static void allows_blocks(void) {
     CHECK(!oscore_open_request(servers[C1], out, len, options, 4, opened, detail) && opened->option_count == 2);
     CHECK(options[1].number == 23 && options[1].value_len == 1 && options[1].value[0] == 2);
     CHECK(!oscore_derive(clients[C1], guarded_copy(SECRET, wanted, 16), 16, NULL, 0, false, NULL, 0, NULL, 0,
-                         guarded_copy(RECIPIENT, wanted, 1), 1, false, true));
-    CHECK(clients[C1]->blocks == 1);
+                         guarded_copy(RECIPIENT, wanted, 1), 1, false, true, false));
+    CHECK(clients[C1]->blocks == 1 && clients[C1]->observe == 0);
+    derives(false);
+}
+
+/* A registration under C.1: GET /temp with Observe of no byte, number 20. What is sealed, and a response to it without an own number, were
+   worked by another reading of RFC 8613, 4.1.3.5, which shares nothing with the library: as the plain message, and as 2.05 with Content-Format
+   0 and 20.5. */
+static const char *REGISTRATION = "410101014a605474656d70", *REGISTERED = "410501014a60320914ff61fc3090a5ed1bf69f1d661cf04b96";
+
+static void is_registration(void) {
+    CHECK(opened->kind == 0 && opened->code == 1 && opened->message_id == 0x0101 && opened->number == 20 && opened->option_count == 2
+        && !opened->has_more_options && !opened->payload_len);
+    CHECK(options[0].number == 6 && options[0].value_len == 0 && options[1].number == 11 && options[1].value_len == 4
+        && !memcmp(options[1].value, "temp", 4));
+}
+
+/* Sealed and opened where both ends allow Observe, and refused where the handle's byte is 0. A response with Observe is refused always. */
+static void allows_observe(void) {
+    uint8_t wanted[64];
+    size_t plain_len, answer_len, len = hex(REGISTERED, wanted);
+    uint8_t *plain = bytes_at(PLAIN, REGISTRATION, 0, &plain_len), *out = guarded_room(OUT, len);
+    CHECK(clients[C1]->observe == 0 && servers[C1]->observe == 0);
+    CHECK(oscore_seal_request(clients[C1], 20, plain, plain_len, out, len, out_len, detail) == OSCORE_UNSUPPORTED && *detail == 6);
+    memcpy(out, wanted, len);
+    CHECK(oscore_open_request(servers[C1], out, len, options, 4, opened, detail) == OSCORE_INNER);
+    clients[C1]->observe = 1, servers[C1]->observe = (uint8_t)(1 + rand() % 255);
+    CHECK(!oscore_seal_request(clients[C1], 20, plain, plain_len, out, len, out_len, detail) && *out_len == len && !memcmp(out, wanted, len));
+    CHECK(!oscore_open_request(servers[C1], out, len, options, 4, opened, detail));
+    is_registration();
+    clients[C1]->observe = (uint8_t)(1 + rand() % 255);
+    CHECK(!oscore_seal_request(clients[C1], 20, plain, plain_len, out, len, out_len, detail) && !memcmp(out, wanted, len));
+    out = guarded_room(OUT, len - 1);
+    CHECK(oscore_seal_request(clients[C1], 20, plain, plain_len, out, len - 1, out_len, detail) == OSCORE_NO_ROOM);
+    out = guarded_room(OUT, len);
+    uint8_t *answer = bytes_at(DATAGRAM, "614501014a610160ff32302e31", 0, &answer_len);
+    CHECK(oscore_seal_response(servers[C1], 20, false, 0, answer, answer_len, out, len, out_len, detail) == OSCORE_UNSUPPORTED && *detail == 6);
+    CHECK(!oscore_derive(clients[C1], guarded_copy(SECRET, wanted, 16), 16, NULL, 0, false, NULL, 0, NULL, 0,
+                         guarded_copy(RECIPIENT, wanted, 1), 1, false, false, true));
+    CHECK(clients[C1]->observe == 1 && clients[C1]->blocks == 0);
+    derives(false);
+}
+
+/* A notification that another end sealed doesn't open, whatever the context allows; a plain response to a registration does. */
+static void takes_no_notification(void) {
+    uint8_t notified[64];
+    size_t len = hex("614501014a6101320100ff4dd33bfccdd8f762dd9be55ed4da0a72", notified);
+    for (int observe = 0; observe < 2; observe++) {
+        clients[C1]->observe = observe;
+        uint8_t *datagram = guarded_copy(DATAGRAM, notified, len);
+        CHECK(oscore_open_response(clients[C1], 20, datagram, len, options, 4, opened, detail) == OSCORE_INNER);
+    }
+    derives(false);
+}
+
+/* A server takes a registration, and a plain reply answers it: the other reading's bytes of one to the cancellation, 2.05 with
+   Content-Format 0 and 20.5, to a request of the number 21. A reply with Observe, and a client's request with it, are refused. */
+static void serves_observe(void) {
+    static const uint8_t echo_bytes[8] = {1};
+    uint8_t wanted[64], answered[64];
+    size_t plain_len, len = hex("410501024a6101320915ff936409589edfdd4f42d67694bb1ccab7", wanted), answer_len;
+    size_t answered_len = hex("614401024a90ff084f7601a8fc2d24e35074827481bc", answered);
+    oscore_server *server = guarded(SERVER, sizeof *server);
+    oscore_client *client = guarded(CLIENT, sizeof *client);
+    oscore_ticket *ticket = guarded(TICKET, sizeof *ticket);
+    size_t *index = guarded_room(INDEX, sizeof *index);
+    uint8_t *reply = guarded_room(REPLY, 64), *out = guarded_room(OUT, answered_len);
+    clients[C1]->observe = servers[C1]->observe = 1;
+    oscore_server_begin(server);
+    CHECK(!oscore_server_add(server, servers[C1], false, 0, 32, index));
+    uint8_t *datagram = guarded_copy(DATAGRAM, wanted, len);
+    const uint8_t *echo = guarded_copy(ECHO, echo_bytes, 8);
+    CHECK(!oscore_server_take(server, 0, echo, 3, datagram, len, options, 4, opened, ticket, reply, out_len, detail) && *out_len == 0);
+    CHECK(opened->code == 1 && opened->number == 21 && opened->option_count == 2 && options[0].number == 6 && options[0].value_len == 1
+        && options[0].value[0] == 1 && options[1].number == 11);
+    uint8_t *noted = bytes_at(PLAIN, "604500006060ff32302e35", 0, &answer_len);
+    CHECK(oscore_server_reply(server, ticket, false, 3, noted, answer_len, out, answered_len, out_len, detail) == OSCORE_UNSUPPORTED
+        && *detail == 6);
+    uint8_t *answer = bytes_at(PLAIN, "60450000c0ff32302e35", 0, &answer_len);
+    CHECK(!oscore_server_reply(server, ticket, false, 3, answer, answer_len, out, answered_len, out_len, detail));
+    CHECK(*out_len == answered_len && !memcmp(out, answered, answered_len));
+    CHECK(!oscore_open_response(clients[C1], 21, out, answered_len, options, 4, opened, detail) && opened->code == 0x45
+        && opened->payload_len == 4 && !memcmp(opened->payload, "20.5", 4));
+    datagram = guarded_copy(DATAGRAM, wanted, hex(REGISTERED, wanted));
+    CHECK(!oscore_server_take(server, 0, echo, 3, datagram, strlen(REGISTERED) / 2, options, 4, opened, ticket, reply, out_len, detail));
+    is_registration();
+    CHECK(!oscore_client_begin(client, clients[C1], 20, 1000));
+    uint8_t *plain = bytes_at(PLAIN, REGISTRATION, 0, &plain_len);
+    out = guarded_room(OUT, OSCORE_ROOM(plain_len));
+    CHECK(oscore_client_request(client, 0, plain, plain_len, out, OSCORE_ROOM(plain_len), out_len, detail) == OSCORE_UNSUPPORTED
+        && *detail == 6 && client->next == 20 && client->count == 0);
     derives(false);
 }
 
@@ -188,7 +277,7 @@ static uint32_t derive(size_t secret, size_t salt, size_t id, size_t id_context)
     oscore_context *context = guarded(HANDLE, sizeof *context), none = OSCORE_ZERO;
     uint32_t status = oscore_derive(context, guarded_copy(SECRET, bytes, secret), secret, guarded_copy(SALT, bytes, salt), salt, true,
                                     guarded_copy(ID_CONTEXT, bytes, id_context), id_context, guarded_copy(SENDER, bytes, id), id,
-                                    guarded_copy(RECIPIENT, bytes, 1), 1, true, false);
+                                    guarded_copy(RECIPIENT, bytes, 1), 1, true, false, false);
     CHECK(!memcmp(context, &none, sizeof none));
     return status;
 }
@@ -378,11 +467,28 @@ static size_t growth(const uint8_t *bytes, size_t len, bool request, uint64_t nu
     return *out_len - len;
 }
 
+/* Observe stands twice in a request where the context allows it, and takes 1 to 4 bytes more for a value of at most 3. With Uri-Port and an
+   option 19 behind it all of that is taken: 19 has a delta of 12 in the plain message, and of 13 inside. */
+static void has_room_for_observe(void) {
+    for (size_t value_len = 0; value_len <= 3; value_len++) {
+        uint8_t bytes[16] = {0x40, 1, 0, 1, (uint8_t)(0x60 | value_len)};
+        size_t len = 7 + value_len, most = OSCORE_ROOM(len) + 1 + value_len;
+        bytes[len - 2] = 0x10, bytes[len - 1] = 0xc0;
+        oscore_context *context = guarded_copy(HANDLE, clients[C1], sizeof *context);
+        context->sender_len = 7, context->recipient_len = 0, context->id_context_len = 32, context->observe = 1;
+        uint8_t *plain = guarded_copy(PLAIN, bytes, len), *out = guarded_room(OUT, most - 1);
+        CHECK(oscore_seal_request(context, (1ull << 40) - 1, plain, len, out, most - 1, out_len, detail) == OSCORE_NO_ROOM);
+        out = guarded_room(OUT, most);
+        CHECK(!oscore_seal_request(context, (1ull << 40) - 1, plain, len, out, most, out_len, detail) && *out_len == most);
+    }
+}
+
 /* The largest growth is that of Uri-Port and Uri-Query, with the longest identifiers and number. */
 static void has_room(void) {
     static uint8_t bytes[8192];
     size_t len = hex("40010001708161", bytes);
     CHECK(growth(bytes, len, true, (1ull << 40) - 1) == OSCORE_ROOM(0));
+    has_room_for_observe();
     for (int i = 0; i < rounds; i++) {
         uint64_t number = ((uint64_t)rand() << 20 ^ (uint64_t)rand()) % (1ull << 40) >> rand() % 40;
         len = random_plain(i % 2 ? 1 : 69, bytes);
@@ -401,6 +507,9 @@ int main(int count, char **words) {
             exchanges_responses();
         }
         allows_blocks();
+        allows_observe();
+        takes_no_notification();
+        serves_observe();
         counts_options();
         shows_what_is_not_there();
         refuses_arguments();
@@ -412,7 +521,7 @@ int main(int count, char **words) {
         ciphers_agree();
         has_room();
     }
-    printf("messages: C.1 to C.8, a block, each status; behind a guard page and before one %d spoilt datagrams, %d spoilt handles, %d messages by both "
+    printf("messages: C.1 to C.8, a block, a registration, each status; behind a guard page and before one %d spoilt datagrams, %d spoilt handles, %d messages by both "
            "ciphers, %d in the room that the header says\n", rounds, rounds, rounds / 2, rounds);
     return 0;
 }

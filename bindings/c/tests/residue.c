@@ -62,7 +62,7 @@ static void fails(int line, const char *condition) {
         if (wiping == CALLER) oscore_wipe_stack(); \
         return status; \
     }
-CALL(derive, &client_end, secret, 16, SALT, 8, false, NULL, 0, NULL, 0, &ONE, 1, constant_time, false)
+CALL(derive, &client_end, secret, 16, SALT, 8, false, NULL, 0, NULL, 0, &ONE, 1, constant_time, false, false)
 CALL(seal_request, &client_end, NUMBER, ASKS[0], sizeof ASKS[0] - 1, out, ROOM, &out_len, &detail)
 CALL(seal_response, &server_end, NUMBER, false, 0, ANSWER, sizeof ANSWER - 1, response, ROOM, &response_len, &detail)
 CALL(open_request, &server_end, request, request_len, options, 4, &opened, &detail)
@@ -112,7 +112,7 @@ static void prepare(int which, before before) {
     uint8_t sent[ROOM];
     secret = SECRETS[which];
     CHECK(!derive());
-    CHECK(!oscore_derive(&server_end, secret, 16, SALT, 8, false, NULL, 0, &ONE, 1, NULL, 0, constant_time, false));
+    CHECK(!oscore_derive(&server_end, secret, 16, SALT, 8, false, NULL, 0, &ONE, 1, NULL, 0, constant_time, false, false));
     oscore_server_begin(&server);
     CHECK(!client_begin() && !seal_response() && (before == EMPTY || !server_add()));
     CHECK(!oscore_client_request(&client, 0, ASKS[0], sizeof ASKS[0] - 1, request, ROOM, &request_len, &detail));

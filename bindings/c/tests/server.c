@@ -65,8 +65,8 @@ static void derive(uint8_t recipient, size_t recipient_len, const char *id_conte
     size_t id_len = id_context ? hex(id_context, bytes) : 0;
     const uint8_t *id = guarded_copy(ID_CONTEXT, bytes, id_len), *client_id = guarded_copy(SENDER, &recipient, recipient_len);
     const uint8_t *server_id = guarded_copy(RECIPIENT, &sender, 1);
-    CHECK(!oscore_derive(client, secret, 16, salt, 8, id_context, id, id_len, client_id, recipient_len, server_id, 1, constant_time, false));
-    CHECK(!oscore_derive(own, secret, 16, salt, 8, id_context, id, id_len, server_id, 1, client_id, recipient_len, constant_time, false));
+    CHECK(!oscore_derive(client, secret, 16, salt, 8, id_context, id, id_len, client_id, recipient_len, server_id, 1, constant_time, false, false));
+    CHECK(!oscore_derive(own, secret, 16, salt, 8, id_context, id, id_len, server_id, 1, client_id, recipient_len, constant_time, false, false));
 }
 
 static void begin(bool restarted, uint64_t next) {

@@ -59,8 +59,8 @@ static void derive(bool constant_time) {
     const uint8_t *secret = guarded_copy(SECRET, bytes, hex("0102030405060708090a0b0c0d0e0f10", bytes));
     const uint8_t *salt = guarded_copy(SALT, bytes, hex("9e7ca92223786340", bytes));
     const uint8_t *none = guarded_room(ID_CONTEXT, 0), *empty = guarded_room(SENDER, 0), *server_id = guarded_copy(RECIPIENT, &one_byte, 1);
-    CHECK(!oscore_derive(client, secret, 16, salt, 8, false, none, 0, empty, 0, server_id, 1, constant_time, false));
-    CHECK(!oscore_derive(own, secret, 16, salt, 8, false, none, 0, server_id, 1, empty, 0, constant_time, false));
+    CHECK(!oscore_derive(client, secret, 16, salt, 8, false, none, 0, empty, 0, server_id, 1, constant_time, false, false));
+    CHECK(!oscore_derive(own, secret, 16, salt, 8, false, none, 0, server_id, 1, empty, 0, constant_time, false, false));
 }
 
 static void begin(bool restarted, uint64_t next, uint8_t places) {

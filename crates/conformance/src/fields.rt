@@ -219,16 +219,25 @@ impl<'t> Fields<'t> {
         }
     }
 
-    /// Returns the features that a last field names: `blocks`, or none without such a field.
+    /// Returns the features that a last field names: `blocks`, `observe` or `blocks-observe`, or none without such a field.
     pub(crate) fn features(&self, place: usize) -> Features {
         let len = self.fields.len();
         if len == place {
             return NO_FEATURES;
         }
-        if len <= place || len - place != 1 || self.word(place) != "blocks" {
+        if len <= place || len - place != 1 {
             self.refuse();
         }
-        Features { blocks: true }
+        let (observe, blocks) = match self.word(place) {
+            "blocks" => (false, true),
+            "observe" => (true, false),
+            "blocks-observe" => (true, true),
+            _ => {
+                self.refuse();
+                (false, false)
+            }
+        };
+        Features { observe, blocks }
     }
 
     /// Returns the context that the first field names.

@@ -1,14 +1,14 @@
 //! Calls of osc_protect.
 
-ghost use Rattle.std.specs.Prelude.{ℕ, IfOk};
+ghost use Rattle.std.specs.Prelude.{Bool, ℕ, IfOk};
 ghost use Rattle.osc_context.specs.SecurityContext.{SecurityContext};
-ghost use Rattle.osc_protect.specs.Protection.{responses};
+ghost use Rattle.osc_protect.specs.Protection.{responses_to};
 ghost use Rattle.osc_protect.specs.StageViews.{IsSealedResponse};
 
 use crate::answer::Answer;
 use crate::fields::Fields;
 use osc_coap::parse;
-use osc_context::Context;
+use osc_context::{Context, Piv};
 use osc_protect::{
     HeadError, KeyedContext, Opened, ProtectError, RequestHead, RequestRef, ResponseHead,
     SealedResponse, UnprotectError, check_request, check_response, decrypt_request,
@@ -129,14 +129,36 @@ pub(crate) fn sealed_request(fields: &Fields<'_>, context: &KeyedContext, answer
     sealed(outcome, out.as_slice(), answer);
 }
 
+/// What the request of a response does.
+#[derive(Clone, Copy)]
+pub(crate) enum Asked {
+    /// It registers no observation.
+    Once,
+    /// It registers one.
+    Registers,
+}
+
+/// Names the request of a response.
+fn request_of(number: Piv, asked: Asked) -> RequestRef {
+    match asked {
+        Asked::Once => RequestRef::new(number),
+        Asked::Registers => RequestRef::registering(number),
+    }
+}
+
 /// Seals a response over a context, and then over one that keeps its schedules.
-pub(crate) fn sealed_response(fields: &Fields<'_>, context: &KeyedContext, answer: &mut Answer) {
+pub(crate) fn sealed_response(
+    fields: &Fields<'_>,
+    context: &KeyedContext,
+    asked: Asked,
+    answer: &mut Answer,
+) {
     fields.count(5);
     let own = fields.partial_iv(2);
     let (Some(number), Some(plain)) = (fields.partial_iv(1), fields.message(3)) else {
         return;
     };
-    let request = RequestRef::new(number);
+    let request = request_of(number, asked);
     let mut out = fields.room(4, FILLED_WITH);
     let outcome = seal_response(context.context(), &request, own, &plain, out.as_mut_slice());
     sealed(outcome, out.as_slice(), answer);
@@ -210,7 +232,7 @@ pub(crate) fn opened_request(fields: &Fields<'_>, context: &KeyedContext, answer
 
 /// Returns what has to be decrypted of a response.
 fn sealed_of_response(datagram: &[u8]) -> Result<SealedResponse, UnprotectError>
-    ensures { IfOk result (λ x. (s : SecurityContext) (n : ℕ) → IsSealedResponse (responses s n) datagram.now x) }
+    ensures { IfOk result (λ x. (s : SecurityContext) (r : Bool) (n : ℕ) → IsSealedResponse (responses_to s r n) datagram.now x) }
 {
     let message = match parse(datagram) {
         Ok(message) => message,
@@ -239,12 +261,17 @@ fn response_in_stages<'b>(
 }
 
 /// Opens a response by one call over a context, by one over the context that keeps its schedules, and in stages.
-pub(crate) fn opened_response(fields: &Fields<'_>, context: &KeyedContext, answer: &mut Answer) {
+pub(crate) fn opened_response(
+    fields: &Fields<'_>,
+    context: &KeyedContext,
+    asked: Asked,
+    answer: &mut Answer,
+) {
     fields.count(3);
     let Some(number) = fields.partial_iv(1) else {
         return fields.refuse();
     };
-    let (request, came) = (RequestRef::new(number), fields.bytes(2));
+    let (request, came) = (request_of(number, asked), fields.bytes(2));
     let mut datagram = fields.copy(2);
     let outcome = open_response(context.context(), &request, datagram.as_mut_slice());
     opened(outcome, answer);

@@ -2,6 +2,7 @@
 
 use crate::answer::Answer;
 use crate::fields::{Fields, NamedContext};
+use crate::protection::Asked;
 use crate::{blocks, ciphers, context, numbers, protection, reading, window, writing};
 use osc_protect::KeyedContext;
 
@@ -124,9 +125,21 @@ fn under_this(verb: &str, fields: &Fields<'_>, context: &KeyedContext, answer: &
         "answers-to" => context::answers_to(fields, context.context(), answer),
         "names" => protection::named(fields, context, answer),
         "seal-request" => protection::sealed_request(fields, context, answer),
-        "seal-response" => protection::sealed_response(fields, context, answer),
+        "seal-response" => protection::sealed_response(fields, context, Asked::Once, answer),
+        "seal-notification" => protection::sealed_response(
+            fields,
+            context,
+            Asked::Registers,
+            answer,
+        ),
         "open-request" => protection::opened_request(fields, context, answer),
-        "open-response" => protection::opened_response(fields, context, answer),
+        "open-response" => protection::opened_response(fields, context, Asked::Once, answer),
+        "open-notification" => protection::opened_response(
+            fields,
+            context,
+            Asked::Registers,
+            answer,
+        ),
         _ => fields.refuse(),
     }
 }

@@ -1,6 +1,7 @@
 -- How much longer what is sealed is than its plain message. entries are options, x the features of the context, d is the number before the
 -- first of them, o that before the first outside, i that before the first inside, p the plain message, value that of the OSCORE option.
-use Rattle.std.proofs.Common.{◌≡◌, ℕ, ◌+◌, ◌-◌, ◌<◌, ◌≤◌, ◌==◌, ◌||◌, ◌⊎◌, ◌∙◌, Bool, true, false, List, [], ◌∷◌, length, refl, ap, inl, inr, arith}
+use Rattle.std.proofs.Common.{◌≡◌, ℕ, ◌+◌, ◌-◌, ◌<◌, ◌≤◌, ◌==◌, ◌||◌, ◌&&◌, ◌⊎◌, ◌∙◌, Bool, true, false, List, [], ◌∷◌, ◌++◌, length, refl, ap, inl, inr, arith}
+use Rattle.std.specs.Prelude.{cond}
 use Rattle.osc_coap.specs.Class.{class, inner_options, is_inner, is_outer, outer_options}
 use Rattle.osc_coap.specs.Datagram.{Parts, IsDatagram}
 use Rattle.osc_coap.specs.Laws.{DatagramHasItsLength, OptionsAscend}
@@ -10,9 +11,11 @@ use Rattle.osc_coap.specs.Search.{has_number}
 use Rattle.osc_coap.specs.declared.class.Class.{Class}
 use Rattle.osc_coap.specs.declared.message.Kind.{Kind}
 use Rattle.osc_coap.specs.declared.class.Class.TheVariants.{E, U, Both}
+use Rattle.osc_context.specs.Features.{unobserved}
 use Rattle.osc_context.specs.declared.features.Features.{Features}
-use Rattle.osc_protect.specs.OptionSets.{is_left_out, is_proxy, is_unsupported}
-use Rattle.osc_protect.specs.Sealed.{sealed_length}
+use Rattle.osc_protect.specs.OptionSets.{is_left_out, is_observe, is_outside, is_proxy, is_unsupported}
+use Rattle.osc_protect.specs.Protection.{as_it_is}
+use Rattle.osc_protect.specs.Sealed.{options_outside, sealed_length}
 use Rattle.osc_c.proofs.OptionLists.{spelled_append}
 
 chosen : (b : Bool) → (b ≡ true) ⊎ (b ≡ false)
@@ -66,6 +69,37 @@ all_inside x d (e ∷ entries) behind up none =
           (here.0 ∙ rest.0, here.1 ∙ ap (λ (z : List Entry). e ∷ z) rest.1)
     ]
 
+-- ---- Observe
+
+-- where Observe isn't allowed, or isn't there, the options outside are those of class U
+pub outside_plainly : (x : Features) (entries : List Entry) → (x.observe ≡ true → has_number is_observe entries ≡ false) → options_outside x entries ≡ outer_options entries
+outside_plainly x [] none = refl
+outside_plainly x (e ∷ entries) none =
+    step (is_outside x e.0) (is_outer (class e.0)) (options_outside x entries) (outer_options entries)
+    (here x.observe (is_observe e.0) (is_outer (class e.0)) (λ is. (neither (is_observe e.0) (has_number is_observe entries) (none is)).0))
+    (outside_plainly x entries (λ is. (neither (is_observe e.0) (has_number is_observe entries) (none is)).1))
+  where
+    here : (allowed is outer : Bool) → (allowed ≡ true → is ≡ false) → ((allowed && is) || outer) ≡ outer
+    here true true outer never = absurd (let bad : true ≡ false = never refl in cc)
+    here true false outer never = refl
+    here false is outer never = refl
+
+    step : (b c : Bool) (xs ys : List Entry) → b ≡ c → xs ≡ ys → cond b (e ∷ xs) xs ≡ cond c (e ∷ ys) ys
+    step b c xs ys same rest = rw (same, rest) refl
+
+-- what can be sealed without Observe has none
+pub has_none : (x : Features) (entries : List Entry) → has_number (is_unsupported (unobserved x)) entries ≡ false → has_number is_observe entries ≡ false
+has_none x [] none = refl
+has_none x (e ∷ entries) none =
+    let both = neither (is_unsupported (unobserved x) e.0) (has_number (is_unsupported (unobserved x)) entries) none in
+    let last = neither (is_left_out (unobserved x) e.0 || is_proxy e.0) (e.0 == oscore) both.0 in
+    let left = neither (is_left_out (unobserved x) e.0) (is_proxy e.0) last.0 in
+    first (is_observe e.0) _ _ (has_number is_observe entries) left.0 (has_none x entries both.1)
+  where
+    first : (a b c rest : Bool) → ((a || b) || c) ≡ false → rest ≡ false → (a || rest) ≡ false
+    first true b c rest h more = absurd (cc)
+    first false b c rest h more = more
+
 -- ---- how long they are
 
 -- a small delta takes no further byte
@@ -117,12 +151,14 @@ option_size last len short =
     small n le = grind (arith)
 
 -- how much longer what is sealed with a short value is than the plain message, also under another head: 13 bytes, the value, and what
--- the token grows by
-pub sealed_growth : DatagramHasItsLength → OptionsAscend → (x : Features) (p : Parts) (bytes value : List ℕ) → IsDatagram p bytes → has_number (is_unsupported x) p.options ≡ false → length value ≤ 46
-    → (kind : Kind) (message_id : ℕ) (token : List ℕ) → sealed_length (record p { kind = kind; message_id = message_id; token = token }) value + length p.token ≤ length bytes + (length token + (13 + length value))
-sealed_growth long ascend x p bytes value h none short kind message_id token =
+-- the token grows by; where no Observe stands outside
+pub sealed_growth : DatagramHasItsLength → OptionsAscend → (x : Features) (p : Parts) (bytes value : List ℕ) → IsDatagram p bytes → has_number (is_unsupported x) p.options ≡ false
+    → (x.observe ≡ true → has_number is_observe p.options ≡ false) → length value ≤ 46
+    → (kind : Kind) (message_id : ℕ) (token : List ℕ) → sealed_length x as_it_is (record p { kind = kind; message_id = message_id; token = token }) value + length p.token ≤ length bytes + (length token + (13 + length value))
+sealed_growth long ascend x p bytes value h none unobserving short kind message_id token =
     let all = long p bytes h in
     let sides = sides_grow x 0 0 0 p.options (omega arith) (omega arith) (omega arith) (ascend p bytes h) none in
+    let plainly = ap (λ (es : List Entry). spelling_length 0 (es ++ (oscore, value) ∷ [])) (outside_plainly x p.options unobserving) in
     let outside = spelled_append 0 (outer_options p.options) ((oscore, value) ∷ []) in
     let option = option_size (last_number 0 (outer_options p.options)) (length value) short in
-    omega (arith, all, sides, outside, option)
+    omega (arith, all, sides, plainly, outside, option)

@@ -1,14 +1,17 @@
--- So much room is enough: a sealing isn't refused for want of it. s are the bytes of a server before a call, c those of a client or of a context, t those
--- of a ticket, new are the bytes afterwards, plain is the datagram of a plain message, room the length of the buffer.
-use Rattle.std.proofs.Common.{◌≡◌, ℕ, ◌+◌, ◌≤◌, Bool, List, Option, zero, suc, length, ap, sym, subst, arith, length-take}
+-- So much room is enough: a sealing isn't refused for want of it, where no Observe stands outside. s are the bytes of a server before a call, c those of a
+-- client or of a context, t those of a ticket, new are the bytes afterwards, plain is the datagram of a plain message, room the length of the buffer.
+use Rattle.std.proofs.Common.{◌≡◌, ℕ, ◌+◌, ◌≤◌, Bool, true, false, List, Option, zero, suc, length, ap, sym, subst, arith, length-take}
 use Rattle.osc_coap.specs.Datagram.{Parts, IsDatagram}
 use Rattle.osc_coap.specs.Laws.{DatagramHasItsLength, OptionsAscend}
+use Rattle.osc_coap.specs.Search.{has_number}
 use Rattle.osc_coap.specs.declared.message.Kind.{Kind}
 use Rattle.osc_coap.specs.declared.format_error.Fault.{Fault}
 use Rattle.osc_coap.specs.declared.format_error.Fault.TheVariants as faults
+use Rattle.osc_context.specs.Features.{unobserved}
 use Rattle.osc_context.specs.Laws.{ValueMostLen}
 use Rattle.osc_context.specs.OscoreValue.{IsOscoreValue, kid_context_bytes}
 use Rattle.osc_context.specs.SecurityContext.{SecurityContext}
+use Rattle.osc_protect.specs.OptionSets.{is_observe}
 use Rattle.osc_protect.specs.Protection.{Protection, requests, responses}
 use Rattle.osc_protect.specs.SealRefusals.{RefusesToSeal}
 use Rattle.osc_protect.specs.Usage.{value_of_request, value_of_response}
@@ -26,7 +29,7 @@ use Rattle.osc_handle.specs.declared.client_handle.ClientHandle.{ClientHandle}
 use Rattle.osc_handle.specs.declared.context_handle.ContextHandle.{ContextHandle}
 use Rattle.osc_handle.specs.declared.server_handle.ServerHandle.{ServerHandle}
 use Rattle.osc_handle.specs.declared.ticket_handle.TicketHandle.{TicketHandle}
-use Rattle.osc_c.specs.Calls.{RefusesSealing}
+use Rattle.osc_c.specs.Calls.{LacksObserve, RefusesSealing}
 use Rattle.osc_c.specs.Calls.RefusesSealing.{bad_handle, bad_number, malformed, refused}
 use Rattle.osc_c.specs.ClientCalls.{RefusesAsking}
 use Rattle.osc_c.specs.ClientCalls.RefusesAsking.{bad_handle as ask_handle, malformed as ask_malformed, refused as ask_refused}
@@ -34,7 +37,7 @@ use Rattle.osc_c.specs.ServerCalls.{RefusesReplying}
 use Rattle.osc_c.specs.ServerCalls.RefusesReplying.{bad_handle as reply_handle, malformed as reply_malformed, spent as reply_spent, refused as reply_refused}
 use Rattle.osc_c.specs.Statuses.{code, format_status}
 use Rattle.osc_c.specs.declared.status.Status.{Status}
-use Rattle.osc_c.proofs.Growth.{sealed_growth}
+use Rattle.osc_c.proofs.Growth.{has_none, sealed_growth}
 
 -- ---- how long values are
 
@@ -58,12 +61,13 @@ response_value most s asked own value reads = let all = most (value_of_response 
 -- ---- enough room
 
 -- a request is not refused for want of so much room
-request_room : DatagramHasItsLength → OptionsAscend → ValueMostLen → (c : ContextHandle) (n : ℕ) (p : Parts) (plain : List ℕ) (room : ℕ) → IsContext c → IsDatagram p plain → length plain + 59 ≤ room
+request_room : DatagramHasItsLength → OptionsAscend → ValueMostLen → (c : ContextHandle) (n : ℕ) (p : Parts) (plain : List ℕ) (room : ℕ) → IsContext c → IsDatagram p plain
+    → ((client_in c).features.observe ≡ true → has_number is_observe p.options ≡ false) → length plain + 59 ≤ room
     → RefusesToSeal (requests (client_in c)) n p room seals.NoRoom → ⊥
-request_room long ascend most c n p plain room whole of enough refuses =
+request_room long ascend most c n p plain room whole of none enough refuses =
     let value = refuses.1.0 in
     let short = request_value most c n whole value refuses.1.1 in
-    let size = sealed_growth long ascend (client_in c).features p plain value of refuses.0.1 short p.kind p.message_id p.token in
+    let size = sealed_growth long ascend (client_in c).features p plain value of refuses.0.1 none short p.kind p.message_id p.token in
     let less = refuses.1.2.1 in
     omega (arith, size, short, less, enough)
 
@@ -73,7 +77,7 @@ response_room : DatagramHasItsLength → OptionsAscend → ValueMostLen → (s :
 response_room long ascend most s asked own p kind message_id token plain room of few enough refuses =
     let value = refuses.1.0 in
     let short = response_value most s asked own value refuses.1.1 in
-    let size = sealed_growth long ascend s.features p plain value of refuses.0.1 (omega (arith, short)) kind message_id token in
+    let size = sealed_growth long ascend (unobserved s.features) p plain value of refuses.0.1 (λ is. absurd (let bad : false ≡ true = is in cc)) (omega (arith, short)) kind message_id token in
     let less = refuses.1.2.1 in
     omega (arith, size, short, less, few, enough)
 
@@ -105,9 +109,9 @@ sealing_room A B f i plain room status detail enough (refused a b p of seals.NoR
 
 -- a request of a context has enough
 pub request_has_room : DatagramHasItsLength → OptionsAscend → ValueMostLen → (B : Type 0) (c : ContextHandle) (n : ℕ) (plain : List ℕ) (room : ℕ) (status : Status) (detail : ℕ)
-    → RefusesSealing (IsContext c) B (requests (client_in c)) n plain room status detail → length plain + 59 ≤ room → code status ≡ 39 → ⊥
-request_has_room long ascend most B c n plain room status detail refuses enough =
-    sealing_room (IsContext c) B (requests (client_in c)) n plain room status detail (λ whole p of. request_room long ascend most c n p plain room whole of enough) refuses
+    → RefusesSealing (IsContext c) B (requests (client_in c)) n plain room status detail → LacksObserve (client_in c).features plain → length plain + 59 ≤ room → code status ≡ 39 → ⊥
+request_has_room long ascend most B c n plain room status detail refuses none enough =
+    sealing_room (IsContext c) B (requests (client_in c)) n plain room status detail (λ whole p of. request_room long ascend most c n p plain room whole of (λ allowed. none allowed p of) enough) refuses
 
 -- a response too
 pub response_has_room : DatagramHasItsLength → OptionsAscend → ValueMostLen → (A B : Type 0) (s : SecurityContext) (asked : ℕ) (own : Option ℕ) (plain : List ℕ) (room : ℕ) (status : Status) (detail : ℕ)
@@ -146,5 +150,5 @@ asking_has_room long ascend most c new now plain room status detail (ask_refused
 asking_has_room long ascend most c new now plain room status detail (ask_refused a p of asks.KeeperFailed is holds) h held enough says = absurd is
 asking_has_room long ascend most c new now plain room status detail (ask_refused a p of asks.NoRoom is holds) h held enough says =
     let row = (holds h held).0 in
-    request_room long ascend most c.context (client.next h) p plain room a.context of enough
+    request_room long ascend most c.context (client.next h) p plain room a.context of (λ allowed. has_none (client.context h).features p.options row.0.0.0.1) enough
     (subst (λ (s : SecurityContext). RefusesToSeal (requests s) (client.next h) p room seals.NoRoom) (sym held.context_is) row.1)

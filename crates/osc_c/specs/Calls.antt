@@ -1,10 +1,14 @@
 -- To be believed: why a call of C does nothing, row by row in the order in which the reasons are checked. IsHandle says that the
 -- handle's bytes are ones that a call may have written, AreNumbers that all numbers are below 2^40; f is a protection, i a number
--- that it knows, plain the datagram of a plain message, room the length of the buffer, d a datagram to open.
-use Rattle.std.specs.Prelude.{◌≡◌, ℕ, ◌<◌, ◌^◌, Bool, true, List}
+-- that it knows, x are the features of a context, plain is the datagram of a plain message, room the length of the buffer, d a datagram to
+-- open.
+use Rattle.std.specs.Prelude.{◌≡◌, ℕ, ◌<◌, ◌^◌, Bool, true, false, List}
 use Rattle.osc_coap.specs.Datagram.{Parts, IsDatagram}
 use Rattle.osc_coap.specs.Fault.{HasFault}
+use Rattle.osc_coap.specs.Search.{has_number}
 use Rattle.osc_coap.specs.declared.format_error.Fault.{Fault}
+use Rattle.osc_context.specs.declared.features.Features.{Features}
+use Rattle.osc_protect.specs.OptionSets.{is_observe}
 use Rattle.osc_protect.specs.Protection.{Protection}
 use Rattle.osc_protect.specs.Refusals.{RefusesToOpen}
 use Rattle.osc_protect.specs.SealRefusals.{RefusesToSeal}
@@ -22,6 +26,10 @@ IsOwnNumber has_own own = has_own ≡ true → own < 2 ^ 40
 pub record AreNumbers (asked : ℕ) (has_own : Bool) (number : ℕ) : Type 0 where
   pub request : asked < 2 ^ 40
   pub own : IsOwnNumber has_own number
+
+-- if the context allows Observe, the plain message has none, so none stands outside (RFC 8613, 4.1.3.5)
+abbrev pub LacksObserve : Features → List ℕ → Type 0
+LacksObserve x plain = x.observe ≡ true → (p : Parts) → IsDatagram p plain → has_number is_observe p.options ≡ false
 
 -- why a plain message isn't sealed, with its detail (RFC 8613, 8.1 and 8.3)
 pub data RefusesSealing {I : Type 0} (IsHandle AreNumbers : Type 0) (f : Protection I) (i : I) (plain : List ℕ) (room : ℕ) (status : Status) (detail : ℕ) : Type 0 where

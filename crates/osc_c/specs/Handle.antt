@@ -9,6 +9,6 @@ abbrev pub given : Bor (List ℕ) → Bor (List ℕ) → Bool → Bor (List ℕ)
 given secret salt true id_context sender recipient = record { secret = secret; salt = salt; id_context = Some id_context; sender = sender; recipient = recipient }
 given secret salt false id_context sender recipient = record { secret = secret; salt = salt; id_context = None; sender = sender; recipient = recipient }
 
--- the same context, which allows block-wise transfer inside or doesn't (how the code is seen)
-abbrev pub allowing : Bool → SecurityContext → SecurityContext
-allowing blocks s = record s { features = record { blocks = blocks } }
+-- the same context, which allows block-wise transfer inside or doesn't, and Observe or doesn't (how the code is seen)
+abbrev pub allowing : Bool → Bool → SecurityContext → SecurityContext
+allowing blocks observe s = record s { features = record { observe = observe; blocks = blocks } }

@@ -14,7 +14,15 @@ pub(crate) struct ContextWords {
     sender: Vec<u8>,
     recipient: Vec<u8>,
     id_context: Option<Vec<u8>>,
-    blocks: bool,
+    features: Features,
+}
+
+/// Returns whether `--allow` gives this name.
+fn is_allowed(matches: &ArgMatches<'_>, name: &str) -> bool {
+    let Some(names) = matches.get_strs("allow") else {
+        return false;
+    };
+    names.iter().any(|allowed| *allowed == name)
 }
 
 impl ContextWords {
@@ -38,7 +46,10 @@ impl ContextWords {
             sender,
             recipient,
             id_context,
-            blocks: matches.get_str("allow").is_some(),
+            features: Features {
+                observe: is_allowed(matches, "observe"),
+                blocks: is_allowed(matches, "blocks"),
+            },
         })
     }
 
@@ -51,9 +62,9 @@ impl ContextWords {
             sender: self.sender.as_slice(),
             recipient: self.recipient.as_slice(),
         };
-        let features = Features {
-            blocks: self.blocks,
-        };
-        Agreed { params, features }
+        Agreed {
+            params,
+            features: self.features,
+        }
     }
 }

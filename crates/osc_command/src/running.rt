@@ -10,7 +10,7 @@ use crate::run_words::{read_asking, read_input, read_life, read_serving, read_wi
 use crate::words::{input_fault, optional_number, read_words, required_bytes};
 use clap::error::ErrorKind;
 use clap::{ArgMatches, Error};
-use osc_context::Keeper;
+use osc_context::{Keeper, Piv};
 use osc_protect::RequestRef;
 use osc_text::{
     Agreed, Fault, Opening, Sealing, Wrong, ask_kept_text, ask_text, derive_text, explain_text,
@@ -27,10 +27,19 @@ fn run_derive<W: Write>(alloc: Global, matches: &ArgMatches<'_>, out: &mut W) ->
     derive_text(alloc, context.agreed(), out)
 }
 
+/// Returns the request of this number, as the words name it.
+fn named_request(matches: &ArgMatches<'_>, number: Piv) -> RequestRef {
+    if matches.get_flag("registers") {
+        RequestRef::registering(number)
+    } else {
+        RequestRef::new(number)
+    }
+}
+
 /// Reads what a datagram has to be opened as: a response, if the words name the request that it answers.
 fn read_opening(matches: &ArgMatches<'_>) -> Result<Opening, Fault> {
     match optional_number(matches, "request", "--request")? {
-        Some(number) => Ok(Opening::Response(RequestRef::new(number))),
+        Some(number) => Ok(Opening::Response(named_request(matches, number))),
         None => Ok(Opening::Request),
     }
 }
@@ -41,7 +50,7 @@ fn read_sealing(matches: &ArgMatches<'_>) -> Result<Sealing, Fault> {
     let own = optional_number(matches, "sequence", "--sequence")?;
     match (optional_number(matches, "request", "--request")?, own) {
         (Some(number), own) => Ok(Sealing::Response {
-            request: RequestRef::new(number),
+            request: named_request(matches, number),
             own,
         }),
         (None, Some(number)) => Ok(Sealing::Request(number)),

@@ -43,10 +43,14 @@ const HELP_SEQUENCE: &str = "The message's own number, below 2^40 [optional]";
 
 const HELP_REQUEST: &str = "Of a response: the number of its request [optional]";
 
+const HELP_REGISTERS: &str = "Its request registers an observation (RFC 7641)";
+
 const ABOUT_EXPLAIN: &str = "Prints what a datagram shows without a key.";
 
+const HELP_ALLOW: &str = "What may also pass; both ends need the same [default: none]";
+
 /// What a context may take part in, by the names that `--allow` knows.
-const FEATURES: &[&str] = &["blocks"];
+const FEATURES: &[&str] = &["blocks", "observe"];
 
 const EXAMPLE_EXPLAIN: &str = "Example:
   oscore explain \\
@@ -88,6 +92,17 @@ fn hex_option<'a>(alloc: Global, name: &'a str, help: &'a str) -> Arg<'a>
     value_option(alloc, name, "HEX", help)
 }
 
+/// Returns the option without a value that tells more about the request which a response answers.
+fn registers_flag<'a>(alloc: Global) -> Result<Arg<'a>, AllocError>
+    ensures { IfOk result (λ arg. arg.global ≡ false) }
+{
+    Arg::new(alloc, "registers")
+        .long("registers")
+        .action(ArgAction::SetTrue)
+        .help(HELP_REGISTERS)
+        .requires_arg("request")
+}
+
 /// Returns the argument for the one word that is the datagram.
 fn datagram_word<'a>(alloc: Global) -> Arg<'a>
     ensures { result.global ≡ false }
@@ -96,6 +111,13 @@ fn datagram_word<'a>(alloc: Global) -> Arg<'a>
         .value_name("DATAGRAM")
         .required(true)
         .help("The datagram, in hex")
+}
+
+/// Returns the option for what a context takes part in. It may be given more than once.
+fn allow_option<'a>(alloc: Global) -> Arg<'a>
+    ensures { result.global ≡ false }
+{
+    choice_option(alloc, "allow", "WHAT", FEATURES, HELP_ALLOW).action(ArgAction::Append)
 }
 
 /// Adds the options of a context to a command. This end is the sender.
@@ -127,20 +149,23 @@ pub(crate) fn with_context<'a>(
         "id-context",
         "The ID Context, 1 to 32 bytes [optional]",
     );
-    let allow = choice_option(
-        alloc,
-        "allow",
-        "WHAT",
-        FEATURES,
-        "What may also pass inside; both ends need the same [default: none]",
-    );
     command
         .arg(secret)?
         .arg(salt)?
         .arg(sender)?
         .arg(recipient)?
         .arg(id_context)?
-        .arg(allow)
+        .arg(allow_option(alloc))
+}
+
+/// Adds the options of a response to a command: they tell of its request.
+fn with_request<'a>(command: Command<'a>, alloc: Global) -> Result<Command<'a>, AllocError>
+    requires { IsLocal command }
+    ensures { IfOk result IsLocal }
+{
+    command
+        .arg(value_option(alloc, "request", "M", HELP_REQUEST))?
+        .arg(registers_flag(alloc)?)
 }
 
 fn derive_command<'a>(alloc: Global) -> Result<Command<'a>, AllocError>
@@ -158,9 +183,7 @@ fn open_command<'a>(alloc: Global) -> Result<Command<'a>, AllocError>
     let command = Command::new(alloc, "open")
         .about(ABOUT_OPEN)
         .after_help(EXAMPLE);
-    with_context(command, alloc)?
-        .arg(value_option(alloc, "request", "M", HELP_REQUEST))?
-        .arg(datagram_word(alloc))
+    with_request(with_context(command, alloc)?, alloc)?.arg(datagram_word(alloc))
 }
 
 fn protect_command<'a>(alloc: Global) -> Result<Command<'a>, AllocError>
@@ -169,9 +192,8 @@ fn protect_command<'a>(alloc: Global) -> Result<Command<'a>, AllocError>
     let command = Command::new(alloc, "protect")
         .about(ABOUT_PROTECT)
         .after_help(EXAMPLE_PROTECT);
-    with_context(command, alloc)?
+    with_request(with_context(command, alloc)?, alloc)?
         .arg(value_option(alloc, "sequence", "N", HELP_SEQUENCE))?
-        .arg(value_option(alloc, "request", "M", HELP_REQUEST))?
         .arg(datagram_word(alloc))
 }
 

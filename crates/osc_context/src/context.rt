@@ -157,7 +157,8 @@ impl Context {
     }
 
     /// Returns the same context, but it takes part in these features and in no others. Both ends must have the same ones:
-    /// an end without `blocks` refuses what has a Block option inside. A context has none unless you call this.
+    /// an end without `blocks` refuses what has a Block option inside, and one without `observe` what has Observe inside.
+    /// A context has none unless you call this.
     #[inline(always)]
     #[must_use]
     pub fn with_features(self, features: Features) -> Context

@@ -5,12 +5,14 @@ use Rattle.std.proofs.lemmas.Bool.Decides.{nat_tests}
 use Rattle.osc_coap.specs.declared.message.Kind.{Kind}
 use Rattle.osc_coap.specs.declared.message.Kind.TheVariants.{Con, Non, Ack, Rst}
 use Rattle.osc_coap.specs.OptionSpelling.{extended_length}
+use Rattle.osc_context.specs.Features.{unobserved}
 use Rattle.osc_context.specs.OscoreValue.{IsOscoreValue}
 use Rattle.osc_context.specs.SecurityContext.{SecurityContext}
+use Rattle.osc_context.specs.declared.features.Features.{Features}
 use Rattle.osc_coap.specs.Code.{is_response}
 use Rattle.osc_coap.specs.Search.{has_number}
 use Rattle.osc_protect.specs.OptionSets.{is_unsupported}
-use Rattle.osc_protect.specs.Protection.{responses}
+use Rattle.osc_protect.specs.Protection.{as_it_is, responses}
 use Rattle.osc_protect.specs.Sealed.{sealed_length}
 use Rattle.osc_protect.specs.SealRefusals.{FitsToSeal}
 use Rattle.osc_protect.specs.Usage.{value_of_response}
@@ -29,16 +31,16 @@ is_answer Non = refl
 is_answer Ack = refl
 is_answer Rst = refl
 
-sealed_is_short : (kind : Kind) (id mid : ℕ) (token echo value : List ℕ) → length token ≤ 8 → length echo ≡ 8 → length value ≤ 6
-    → sealed_length (as_reply kind id token mid (challenge_message echo)) value ≤ 64
-sealed_is_short kind id mid token echo value t e v =
+sealed_is_short : (x : Features) (kind : Kind) (id mid : ℕ) (token echo value : List ℕ) → length token ≤ 8 → length echo ≡ 8 → length value ≤ 6
+    → sealed_length (unobserved x) as_it_is (as_reply kind id token mid (challenge_message echo)) value ≤ 64
+sealed_is_short x kind id mid token echo value t e v =
     let x : extended_length (length value) ≡ 0 = short_value (length value) v in
     let y : extended_length (length echo) ≡ 0 = ap extended_length e in
     omega (arith, x, y)
 
 -- it has no option that can't be sealed, whether the context allows blocks or not
 supported : (blocks : Bool) (kind : Kind) (id mid : ℕ) (token echo : List ℕ)
-    → has_number (is_unsupported (record { blocks = blocks })) (as_reply kind id token mid (challenge_message echo)).options ≡ false
+    → has_number (is_unsupported (record { observe = false; blocks = blocks })) (as_reply kind id token mid (challenge_message echo)).options ≡ false
 supported true kind id mid token echo = refl
 supported false kind id mid token echo = refl
 
@@ -49,6 +51,6 @@ pub challenge_fits : (s : SecurityContext) (n own : ℕ) (kind : Kind) (id mid :
 challenge_fits s n own kind id mid token echo room t e r short = (
   (is_answer kind, supported s.features.blocks kind id mid token echo),
   λ value reads.
-      let h = sealed_is_short kind id mid token echo value t e (short value reads) in
+      let h = sealed_is_short s.features kind id mid token echo value t e (short value reads) in
       (omega (arith, h), omega (arith, h, r)),
 )

@@ -1,5 +1,5 @@
 -- What a client decides of a datagram, after a history.
-use Rattle.std.proofs.Common.{◌≡◌, ℕ, ◌∙◌, sym, ap, subst, refl, bytes_eq, not, true, Option, Some, List}
+use Rattle.std.proofs.Common.{◌≡◌, ℕ, ◌∙◌, sym, ap, subst, refl, bytes_eq, not, Bool, true, false, Option, Some, List}
 use Rattle.std.specs.Prelude.{Contains, map, max, remove, slice_get}
 use Rattle.std.specs.Option.{option_map}
 use Rattle.osc_coap.specs.Code.{is_response}
@@ -9,7 +9,7 @@ use Rattle.osc_context.specs.SecurityContext.{SecurityContext}
 use Rattle.osc_context.specs.Views.{as_client, number_of}
 use Rattle.osc_context.specs.declared.partial_iv.Piv.{Piv}
 use Rattle.osc_protect.specs.Laws.{OneResponse}
-use Rattle.osc_protect.specs.Protection.{Protection, responses}
+use Rattle.osc_protect.specs.Protection.{Protection, responses, responses_to}
 use Rattle.osc_protect.specs.StageViews.{AcceptsResponseAfter, CanLendResponse, DecryptsResponse}
 use Rattle.osc_protect.specs.Views.{context_of}
 use Rattle.osc_protect.specs.declared.stages.DecryptedResponse.{DecryptedResponse}
@@ -27,8 +27,9 @@ use Rattle.osc_endpoint.proofs.Receiving.{said, receives_said, opened_said}
 use Rattle.osc_endpoint.proofs.Asking.{contains_at, contains_filter, differ_filter, ended, removed}
 
 -- a fact of the client's context and a request's number, in the words of the history
-pub in_history : (P : Protection (Option ℕ) → Type 0) (s t : SecurityContext) (k n m : ℕ) → s ≡ t → k ≡ n → m ≡ n → P (responses s k) → P (responses t m)
-in_history P s t k n m e f g h = subst (λ x. P (responses t x)) (f ∙ sym g) (subst (λ x. P (responses x k)) e h)
+pub in_history : (P : Protection (Option ℕ) → Type 0) (s t : SecurityContext) (r : Bool) (k n m : ℕ) → s ≡ t → r ≡ false → k ≡ n → m ≡ n
+    → P (responses_to s r k) → P (responses t m)
+in_history P s t r k n m e plain f g h = subst (λ x. P (responses t x)) (f ∙ sym g) (subst (λ x. P (responses x k)) e (subst (λ b. P (responses_to s b k)) plain h))
 
 -- what was found in the table, or not, is found among the pending requests, or not
 pub there : (xs ys : List Pending) (k n : ℕ) (t token : List ℕ) → xs ≡ ys → t ≡ token → (r : Asked) × (slice_get (map asked_of xs) k ≡ Some r) × (r.token ≡ t) × (r.number ≡ n)
@@ -77,25 +78,26 @@ module _ {N : ℕ} (c after : Client N) (h : History) (now place : ℕ) (d new :
   delivered one one_message was can accepts same_context same_life same_clock same_next items =
       let s = context h in
       let n = was.to.number in
-      let (own, m, protects) = accepts s n d was.decrypts in
+      let (own, m, protects) = accepts s false n d was.decrypts in
       let received = said (responses s n) own m d protects in
       let got = receives_said (responses s n) own m d protects in
       record {
         answer = Deliver received (number_of piv);
         row = (was.to, was.answers, (sym was.number_is, own, got));
-        decides = ((x, can, (λ q opens. opened_said (responses s n) own m d protects one (one_message s n) q (opens s n d was.decrypts))), refl);
+        decides = ((x, can, (λ q opens. opened_said (responses s n) own m d protects one (one_message s n) q (opens s false n d was.decrypts))), refl);
         agrees = ends received own one was got same_context same_life same_clock same_next items;
       }
 
 -- what decryption leaves; old is the client before those were dropped whose time has passed
-pub opened_by : {N : ℕ} (old : Client N) (clock k : ℕ) (piv : Piv) (xs : List Asked) (d new : List ℕ) (r : Asked) (x : DecryptedResponse)
-    → xs ≡ alive clock old.life_ms (map asked_of old.pending.items) → Contains xs r → r.number ≡ number_of piv → k ≡ number_of piv
-    → DecryptsResponse (responses (as_client (context_of old.context)) k) d x new → IsOpenedBy old d new
-opened_by old clock k piv xs d new r x left has number request decrypts =
+pub opened_by : {N : ℕ} (old : Client N) (clock k : ℕ) (asks : Bool) (piv : Piv) (xs : List Asked) (d new : List ℕ) (r : Asked) (x : DecryptedResponse)
+    → xs ≡ alive clock old.life_ms (map asked_of old.pending.items) → Contains xs r → r.number ≡ number_of piv
+    → asks ≡ false → k ≡ number_of piv
+    → DecryptsResponse (responses_to (as_client (context_of old.context)) asks k) d x new → IsOpenedBy old d new
+opened_by old clock k asks piv xs d new r x left has number plain request decrypts =
     let s = as_client (context_of old.context) in (
       r,
       contains_filter _ (map asked_of old.pending.items) r (subst (λ ys. Contains ys r) left has),
       option_map number_of x.number,
       x.len,
-      (in_history (λ f. DecryptsResponse f d x new) s s k (number_of piv) r.number refl request number decrypts).1,
+      (in_history (λ f. DecryptsResponse f d x new) s s asks k (number_of piv) r.number refl plain request number decrypts).1,
     )

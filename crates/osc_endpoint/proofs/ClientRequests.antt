@@ -1,12 +1,16 @@
 -- Requests of a client: their rows, and the table with one request more.
-use Rattle.std.proofs.Common.{◌≡◌, ◌≢◌, ℕ, ◌+◌, ◌-◌, ◌∙◌, sym, ap, subst, refl, arith, true, List, [], ◌∷◌, ◌++◌, length, get_or, take}
+use Rattle.std.proofs.Common.{◌≡◌, ◌≢◌, ℕ, ◌+◌, ◌-◌, ◌∙◌, sym, ap, subst, refl, arith, Bool, true, false, List, [], ◌∷◌, ◌++◌, length, get_or, take}
 use Rattle.std.specs.Prelude.{cond, map, max, nat_le}
+use Rattle.std.proofs.lemmas.Bool.{both_ways}
 use Rattle.std.proofs.lemmas.Bool.Decides.{nat_tests}
 use Rattle.std.proofs.lemmas.List.{get_or_default, map-append}
 use Rattle.std.proofs.lemmas.List.Elements.{filter-append}
 use Rattle.std.proofs.lemmas.List.Quantifiers.{all_pairs_push}
 use Rattle.osc_coap.specs.Datagram.{Parts}
+use Rattle.osc_context.specs.Features.{unobserved}
 use Rattle.osc_context.specs.Views.{as_client, number_of}
+use Rattle.osc_context.specs.declared.features.Features.{Features}
+use Rattle.osc_protect.specs.OptionSets.{is_unsupported}
 use Rattle.osc_protect.specs.Protection.{requests}
 use Rattle.osc_protect.specs.Sealed.{SealsRequest}
 use Rattle.osc_protect.specs.SealRefusals.{RefusesPlainRequest, RefusesToSeal}
@@ -22,6 +26,7 @@ use Rattle.osc_endpoint.specs.ClientAnswer.{CanAsk, IsAmong, RequestAnswer}
 use Rattle.osc_endpoint.specs.ClientHistory.{Asked, History, Then, Request, Advance, Advanced, Sent, NotSent, alive, asked, clock, context, life_ms, next, pending_at}
 use Rattle.osc_endpoint.specs.Requesting.{lifted}
 use Rattle.osc_endpoint.specs.Views.{asked_of}
+use Rattle.osc_endpoint.proofs.LifeReplies.{unsupported_among}
 use Rattle.osc_endpoint.proofs.SealedReplies.{front_fits}
 
 -- ---- refusals
@@ -39,16 +44,26 @@ refused_now n h now room p NoRoom r = r
 refused_now n h now room p KeeperFailed r = r
 
 pub plain_refused : (n : ℕ) (h : History) (moment room : ℕ) (p : Parts) (e : ProtectError)
-    → RefusesPlainRequest (context h).features p e → RequestAnswer n h moment p room (NotSent (lifted e))
+    → RefusesPlainRequest (unobserved (context h).features) p e → RequestAnswer n h moment p room (NotSent (lifted e))
 plain_refused n h moment room p protects.NotThatKind r = r
 plain_refused n h moment room p (protects.Unsupported k) r = r
 plain_refused n h moment room p protects.TooLong r = absurd r
 plain_refused n h moment room p protects.NoRoom r = absurd r
 
+-- what can't be sealed can't be sealed without Observe
+pub still_unsupported : (x : Features) (k : ℕ) → is_unsupported x k ≡ true → is_unsupported (unobserved x) k ≡ true
+still_unsupported x k = by_features x.observe x.blocks
+  where
+    by_features : (observe blocks : Bool) → is_unsupported (record { observe = observe; blocks = blocks }) k ≡ true → is_unsupported (record { observe = false; blocks = blocks }) k ≡ true
+    by_features false blocks h = h
+    by_features true blocks h = grind (arith)
+
 pub seal_refused : (n : ℕ) (h : History) (moment room : ℕ) (p : Parts) (e : ProtectError) → CanAsk n h moment p
     → RefusesToSeal (requests (context h)) (next h) p room e → RequestAnswer n h moment p room (NotSent (lifted e))
-seal_refused n h moment room p protects.NotThatKind can r = r
-seal_refused n h moment room p (protects.Unsupported k) can r = r
+seal_refused n h moment room p protects.NotThatKind can r = absurd (both_ways _ r can.0.0.0)
+seal_refused n h moment room p (protects.Unsupported k) can r =
+    let x = (context h).features in
+    absurd (both_ways _ can.0.0.1 (unsupported_among (unobserved x) k p.options (still_unsupported x k r.1.unsupported) r.1.among))
 seal_refused n h moment room p protects.TooLong can r = (can, r)
 seal_refused n h moment room p protects.NoRoom can r = (can, r)
 

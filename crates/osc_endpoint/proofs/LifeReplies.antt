@@ -5,6 +5,7 @@ use Rattle.std.proofs.lemmas.Bool.{both_ways, eqb-true, or_cases, or_left, or_ri
 use Rattle.osc_coap.specs.Datagram.{Parts}
 use Rattle.osc_coap.specs.OptionSpelling.{Entry as Spelled}
 use Rattle.osc_coap.specs.Search.{has_number}
+use Rattle.osc_context.specs.Features.{unobserved}
 use Rattle.osc_context.specs.declared.features.Features.{Features}
 use Rattle.osc_protect.specs.OptionSets.{is_unsupported}
 use Rattle.osc_protect.specs.Protection.{responses}
@@ -31,12 +32,12 @@ unsupported_among x n (entry ∷ entries) unsupported among = elim (or_cases (en
 record IsRefused (of : Life) (n : ℕ) (own : Bool) (p : Parts) (room : ℕ) (entry : Entry) : Type 0 where
   pub refusal : ProtectError
   pub refuses : RefusesToSeal (responses of.context n) (own_number own of) p room refusal
-  pub asked : IsPlainResponse of.context.features p → HasAsked own of
+  pub asked : IsPlainResponse (unobserved of.context.features) p → HasAsked own of
   pub entry_is : entry ≡ NotReplied (lifted refusal)
 
 -- no own number is left
 record IsExhausted (of : Life) (own : Bool) (p : Parts) (entry : Entry) : Type 0 where
-  pub plain : IsPlainResponse of.context.features p
+  pub plain : IsPlainResponse (unobserved of.context.features) p
   pub wanted : own ≡ true
   pub none : HasOwn of → ⊥
   pub entry_is : entry ≡ NotReplied NoOwnLeft
@@ -58,7 +59,7 @@ module _ (laws : AnswerLaws) (of : Life) (n : ℕ) (own : Bool) (p : Parts) (roo
       inl (record {
         refusal = seals.Unsupported k;
         refuses = row;
-        asked = λ plain. absurd (both_ways _ plain.1 (unsupported_among of.context.features k p.options row.1.unsupported row.1.among));
+        asked = λ plain. absurd (both_ways _ plain.1 (unsupported_among (unobserved of.context.features) k p.options row.1.unsupported row.1.among));
         entry_is = refl;
       })
   sort_of (NotReplied NoOwnLeft) row = inr (inl (record { plain = row.0; wanted = row.1; none = row.2; entry_is = refl }))

@@ -1,9 +1,13 @@
 -- A reply that was sealed.
-use Rattle.std.proofs.Common.{◌≡◌, ℕ, ◌≤◌, subst, arith, Bool, Option, List, length, take, length-take}
+use Rattle.std.proofs.Common.{◌≡◌, ℕ, ◌≤◌, sym, subst, arith, Bool, false, Option, List, length, take, length-take}
 use Rattle.osc_coap.specs.Datagram.{Parts}
 use Rattle.osc_context.specs.Views.{as_server}
-use Rattle.osc_protect.specs.Sealed.{SealsResponse}
-use Rattle.osc_protect.specs.Views.{context_of}
+use Rattle.osc_context.specs.SecurityContext.{SecurityContext}
+use Rattle.osc_protect.specs.Protection.{responses, responses_to}
+use Rattle.osc_protect.specs.Sealed.{IsSealed, SealsResponse}
+use Rattle.osc_protect.specs.SealRefusals.{FitsToSeal}
+use Rattle.osc_protect.specs.Views.{context_of, registers, request_number, sealed_responses}
+use Rattle.osc_protect.specs.declared.request_ref.RequestRef.{RequestRef}
 use Rattle.osc_endpoint.specs.declared.slot.Slot.{Slot}
 use Rattle.osc_endpoint.specs.Agrees.{SlotAgrees}
 use Rattle.osc_endpoint.specs.Life.{Life}
@@ -13,12 +17,24 @@ use Rattle.osc_endpoint.specs.ServerHistory.{Replied}
 pub front_fits : (n : ℕ) (new old : List ℕ) → length new ≡ length old → length (take n new) ≤ length old
 front_fits n new old same = omega (arith, length-take n new, same)
 
-pub sealed_reply : (l : Life) (slot : Slot) (n m len : ℕ) (number : Option ℕ) (own : Bool) (p q : Parts) (new old : List ℕ)
-    → SlotAgrees slot l → (number ≡ own_number own l) × HasAsked own l → m ≡ n → p ≡ q → length new ≡ length old
-    → SealsResponse (as_server (context_of slot.context)) m number p (take len new)
+-- what is sealed as a response to a request that registers nothing is sealed as a plain one
+pub plainly_sealed : (s : SecurityContext) (r : RequestRef) (n : ℕ) (own : Option ℕ) (p : Parts) (d : List ℕ) → registers r ≡ false → request_number r ≡ n
+    → IsSealed (responses_to s (registers r) (request_number r)) own p d → SealsResponse s n own p d
+plainly_sealed s r n own p d plain number sealed =
+    subst (λ k. SealsResponse s k own p d) number (subst (λ b. IsSealed (responses_to s b (request_number r)) own p d) plain sealed)
+
+-- what fits as a plain response fits as a response to a request that registers nothing
+pub named_fits : (s : SecurityContext) (r : RequestRef) (n : ℕ) (own : Option ℕ) (p : Parts) (room : ℕ) → registers r ≡ false → request_number r ≡ n
+    → FitsToSeal (responses s n) own p room → FitsToSeal (responses_to s (registers r) (request_number r)) own p room
+named_fits s r n own p room plain number fits =
+    subst (λ b. FitsToSeal (responses_to s b (request_number r)) own p room) (sym plain) (subst (λ k. FitsToSeal (responses s k) own p room) (sym number) fits)
+
+pub sealed_reply : (l : Life) (slot : Slot) (r : RequestRef) (n len : ℕ) (number : Option ℕ) (own : Bool) (p q : Parts) (new old : List ℕ)
+    → SlotAgrees slot l → (number ≡ own_number own l) × HasAsked own l → registers r ≡ false → request_number r ≡ n → p ≡ q → length new ≡ length old
+    → IsSealed (sealed_responses (context_of slot.context) r) number p (take len new)
     → LifeReply l n own q (length old) (Replied (take len new))
-sealed_reply l slot n m len number own p q new old a (number_is, asked) same parts room sealed =
-    let by_life = subst (λ s. SealsResponse s m number p (take len new)) a.context sealed in
-    let by_number = subst (λ k. SealsResponse l.context k number p (take len new)) same by_life in
-    let by_own = subst (λ k. SealsResponse l.context n k p (take len new)) number_is by_number in
+sealed_reply l slot r n len number own p q new old a (number_is, asked) plain same parts room sealed =
+    let by_number = plainly_sealed (as_server (context_of slot.context)) r n number p (take len new) plain same sealed in
+    let by_life = subst (λ s. SealsResponse s n number p (take len new)) a.context by_number in
+    let by_own = subst (λ k. SealsResponse l.context n k p (take len new)) number_is by_life in
     (asked, subst (λ x. SealsResponse l.context n (own_number own l) x (take len new)) parts by_own, front_fits len new old room)

@@ -7,6 +7,7 @@ use Rattle.osc_coap.specs.Code.{is_response}
 use Rattle.osc_coap.specs.Datagram.{Parts, IsDatagram}
 use Rattle.osc_coap.specs.Fault.{HasFault}
 use Rattle.osc_coap.specs.Inner.{InnerParts}
+use Rattle.osc_context.specs.Features.{unobserved}
 use Rattle.osc_context.specs.SecurityContext.{SecurityContext}
 use Rattle.osc_protect.specs.Head.{HasNoResponseHead}
 use Rattle.osc_protect.specs.Protection.{ProtectsResponse, requests, responses}
@@ -51,19 +52,19 @@ ResponseAnswer h clock d NotResponse = HasNoResponseHead d heads.NotThatKind
 ResponseAnswer h clock d UnknownToken = (token : List ℕ) × IsResponseWith d token × (IsAmong token (pending_at h clock) → ⊥)
 ResponseAnswer h clock d answer = PendingAnswer h clock d answer
 
--- a request that can be sealed, and whose token isn't pending (RFC 7252, 5.3.1)
+-- a request that can be sealed and has no Observe, and whose token isn't pending (RFC 7252, 5.3.1; RFC 8613, 4.1.3.5; own rule: no request registers)
 abbrev pub IsNewRequest : History → ℕ → Parts → Type 0
-IsNewRequest h clock p = IsPlainRequest (context h).features p × (IsAmong p.token (pending_at h clock) → ⊥)
+IsNewRequest h clock p = IsPlainRequest (unobserved (context h).features) p × (IsAmong p.token (pending_at h clock) → ⊥)
 
 -- such a request, with room for it among n pending ones, and a number left for it (RFC 8613, 7.2.1; own rule: the room)
 abbrev pub CanAsk : ℕ → History → ℕ → Parts → Type 0
 CanAsk n h clock p = IsNewRequest h clock p × (length (pending_at h clock) < n) × (next h < 2 ^ 40)
 
--- the answer to Request, row by row (RFC 8613, 8.1; own rule: the order)
+-- the answer to Request, row by row; p is refused if it has Observe (RFC 8613, 4.1.3.5 and 8.1; own rule: the order, and that no request registers)
 abbrev pub RequestAnswer : ℕ → History → ℕ → Parts → ℕ → Entry → Type 0
-RequestAnswer n h clock p room (NotSent NotThatKind) = RefusesPlainRequest (context h).features p seals.NotThatKind
-RequestAnswer n h clock p room (NotSent (Unsupported k)) = RefusesPlainRequest (context h).features p (seals.Unsupported k)
-RequestAnswer n h clock p room (NotSent TokenInUse) = IsPlainRequest (context h).features p × IsAmong p.token (pending_at h clock)
+RequestAnswer n h clock p room (NotSent NotThatKind) = RefusesPlainRequest (unobserved (context h).features) p seals.NotThatKind
+RequestAnswer n h clock p room (NotSent (Unsupported k)) = RefusesPlainRequest (unobserved (context h).features) p (seals.Unsupported k)
+RequestAnswer n h clock p room (NotSent TokenInUse) = IsPlainRequest (unobserved (context h).features) p × IsAmong p.token (pending_at h clock)
 RequestAnswer n h clock p room (NotSent PendingFull) = IsNewRequest h clock p × (n ≤ length (pending_at h clock))
 RequestAnswer n h clock p room (NotSent SequenceExhausted) = IsNewRequest h clock p × (length (pending_at h clock) < n) × (2 ^ 40 ≤ next h)
 RequestAnswer n h clock p room (NotSent TooLong) = CanAsk n h clock p × RefusesToSeal (requests (context h)) (next h) p room seals.TooLong

@@ -6,6 +6,7 @@ use Rattle.std.specs.Prelude.{◌≡◌, ◌≢◌, ℕ, ◌+◌, ◌<◌, ◌�
 use Rattle.osc_coap.specs.Datagram.{Parts, IsDatagram}
 use Rattle.osc_coap.specs.Fault.{HasFault}
 use Rattle.osc_coap.specs.Inner.{InnerParts}
+use Rattle.osc_context.specs.Features.{unobserved}
 use Rattle.osc_context.specs.SecurityContext.{SecurityContext}
 use Rattle.osc_protect.specs.Head.{Head, HasRequestHead, HasNoRequestHead}
 use Rattle.osc_protect.specs.Protection.{ProtectsRequest, requests, responses}
@@ -138,11 +139,11 @@ own_number own of = if own then Some (next_own of) else None
 abbrev pub HasAsked : Bool → Life → Type 0
 HasAsked own of = own ≡ true → HasOwn of
 
--- the answer of the ticket's life to Reply, row by row; p is the message with the reply's head (RFC 8613, 8.3)
+-- the answer of the ticket's life to Reply, row by row; p is the message with the reply's head, refused if it has Observe (RFC 8613, 4.1.3.5 and 8.3; own rule: no reply is a notification)
 abbrev pub LifeReply : Life → ℕ → Bool → Parts → ℕ → Entry → Type 0
-LifeReply of n own p room (NotReplied NotThatKind) = RefusesPlainResponse of.context.features p seals.NotThatKind
-LifeReply of n own p room (NotReplied (Unsupported k)) = RefusesPlainResponse of.context.features p (seals.Unsupported k)
-LifeReply of n own p room (NotReplied NoOwnLeft) = IsPlainResponse of.context.features p × (own ≡ true) × (HasOwn of → ⊥)
+LifeReply of n own p room (NotReplied NotThatKind) = RefusesPlainResponse (unobserved of.context.features) p seals.NotThatKind
+LifeReply of n own p room (NotReplied (Unsupported k)) = RefusesPlainResponse (unobserved of.context.features) p (seals.Unsupported k)
+LifeReply of n own p room (NotReplied NoOwnLeft) = IsPlainResponse (unobserved of.context.features) p × (own ≡ true) × (HasOwn of → ⊥)
 LifeReply of n own p room (NotReplied TooLong) = HasAsked own of × RefusesToSeal (responses of.context n) (own_number own of) p room seals.TooLong
 LifeReply of n own p room (NotReplied NoRoom) = HasAsked own of × RefusesToSeal (responses of.context n) (own_number own of) p room seals.NoRoom
 LifeReply of n own p room (Replied bytes) = HasAsked own of × SealsResponse of.context n (own_number own of) p bytes × (length bytes ≤ room)

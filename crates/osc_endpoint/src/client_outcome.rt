@@ -12,7 +12,8 @@ use std::fmt;
 pub enum RequestError {
     /// The message is not CON or NON with a request code.
     NotThatKind,
-    /// The message has an option that can't be sealed. The value is the lowest number of such an option; own rule.
+    /// The message has an option that can't be sealed. Observe is one, even if the context takes part in it. The value is the lowest number
+    /// of such an option; own rule.
     Unsupported(u16),
     /// A request with this token is pending.
     TokenInUse,

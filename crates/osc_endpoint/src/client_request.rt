@@ -45,7 +45,8 @@ impl<const N: usize> Client<N> {
         ensures unused { OnOk result (IsAmong (parts_of plain.now).token (client_parts self.now).pending → ⊥) }
         ensures no_keeper_failed { IfErr result (λ e. e ≢ KeeperFailed) }
     {
-        if let Err(error) = check_request(plain, self.context.context().features()) {
+        let features = self.context.context().features().unobserved();
+        if let Err(error) = check_request(plain, features) {
             return Err(lift(error));
         }
         if find_request(self.pending.as_slice(), plain.token.as_slice()).is_some() {

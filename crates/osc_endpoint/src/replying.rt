@@ -86,7 +86,8 @@ impl Slot {
     {
         let (kind, id) = (asker.reply_kind(), asker.reply_id(mid));
         let message = plain.with_head(kind, id, asker.token());
-        if let Err(error) = check_response(&message, self.context.context().features()) {
+        let features = self.context.context().features().unobserved();
+        if let Err(error) = check_response(&message, features) {
             return Err(lift(error));
         }
         let Some(own_number) = self.asked_number(own) else {

@@ -62,7 +62,8 @@ pub enum ReplyError {
     StaleTicket,
     /// The message has no response code.
     NotThatKind,
-    /// The message has an option that can't be sealed. The value is the lowest number of such an option; own rule.
+    /// The message has an option that can't be sealed. Observe is one, even if the context takes part in it. The value is the lowest number
+    /// of such an option; own rule.
     Unsupported(u16),
     /// An own Sender Sequence Number is asked for, and none is left.
     SequenceExhausted,

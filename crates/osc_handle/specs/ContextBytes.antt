@@ -9,9 +9,9 @@ abbrev pub id_context_in : List ℕ → ℕ → Option (List ℕ)
 id_context_in bytes zero = None
 id_context_in bytes (suc n) = Some (take (suc n) bytes)
 
--- its features: any value but 0 allows blocks (own rule)
+-- its features: any value but 0 allows Observe, or blocks (own rule)
 abbrev pub features_in : ContextHandle → Features
-features_in h = record { blocks = not (h.blocks == 0) }
+features_in h = record { observe = not (h.observe == 0); blocks = not (h.blocks == 0) }
 
 -- the context of an end that makes requests (RFC 8613, 3.1)
 abbrev pub client_in : ContextHandle → SecurityContext

@@ -26,6 +26,8 @@ pub struct ContextHandle {
     pub constant_time: u8,
     /// Whether block-wise transfer passes inside the protection: any value but 0 allows it.
     pub blocks: u8,
+    /// Whether Observe passes inside the protection: any value but 0 allows it.
+    pub observe: u8,
 }
 
 impl ContextHandle {
@@ -54,6 +56,7 @@ impl ContextHandle {
             common_iv: *context.common_iv(),
             constant_time: u8::from(context.is_constant_time()),
             blocks: u8::from(context.features().blocks),
+            observe: u8::from(context.features().observe),
         }
     }
 
@@ -71,6 +74,7 @@ impl ContextHandle {
             common_iv: [0; 13],
             constant_time: 0,
             blocks: 0,
+            observe: 0,
         }
     }
 
@@ -94,6 +98,7 @@ impl ContextHandle {
             self.common_iv,
         )?;
         let features = Features {
+            observe: self.observe != 0,
             blocks: self.blocks != 0,
         };
         Some(as_asked(context, self.constant_time != 0, features))

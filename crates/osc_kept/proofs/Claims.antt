@@ -45,7 +45,7 @@ is_for : LawsBelow → (n : ℕ) (s : SecurityContext) (w : World) (k : ℕ) (ow
 is_for laws n s w k own m d i asked p x =
     let same = laws.response.numbers s x.response.number k x.response.own own i.usable (answered_small laws n s w x.response i x.was_answered) (sent_small n s w k i asked)
     (laws.in_range _ _ x.protects.reads) (laws.in_range _ _ p.reads) x.input_is in
-    let message : x.response.message ≡ m = laws.response.message s s x.response.number k x.response.own own x.response.message m x.bytes d x.protects p x.input_is x.text_is in
+    let message : x.response.message ≡ m = laws.response.message s s false false x.response.number k x.response.own own x.response.message m x.bytes d x.protects p x.input_is x.text_is in
     record {
       was_answered =
           subst (λ y. Has (record { number = y; own = own; message = m }) (answered s w)) same.0

@@ -54,7 +54,7 @@ response_inputs plaintext inner nonce additional = record {
     own_number nonce s usable n k own other h g a b (ap (λ (c : CipherInput). c.nonce) e),
   );
   nonces_differ = λ s n j i usable. own_differs nonce s usable n j i;
-  message = λ s t n k own other m l d e x y same payload.
+  message = λ s t a b n k own other m l d e x y same payload.
       one_message plaintext inner (response_seal s n own) (response_seal t k other) x.plaintext y.plaintext m l same
       (sym (response_by_input s n own x.plaintext) ∙ sym x.sealed ∙ payload ∙ y.sealed ∙ response_by_input t k other y.plaintext) x.spells y.spells;
 }

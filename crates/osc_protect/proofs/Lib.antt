@@ -4,6 +4,7 @@ pub mod Protections
 pub mod Exact
 pub mod Decrypted
 pub mod Staged
+pub mod Sides
 pub mod SealedLengths
 pub mod Supported
 pub mod Splits

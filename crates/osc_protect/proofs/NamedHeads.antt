@@ -11,18 +11,18 @@ use Rattle.osc_protect.specs.declared.usage.Usage.{Usage}
 use Rattle.osc_protect.specs.declared.head_error.HeadError.TheVariants as heads
 use Rattle.osc_protect.specs.declared.unprotect_error.UnprotectError.TheVariants.{Format, NotThatKind, NoOscore, Undecodable, WrongContext, Tag, Inner}
 use Rattle.osc_protect.proofs.Exact.{head_of_protection, heads_one, protection_head}
-use Rattle.osc_protect.proofs.Protections.{IsSound}
+use Rattle.osc_protect.proofs.Protections.{IsSound, KeepsNumbers}
 use Rattle.osc_protect.proofs.SealedOpenings.{sealed_outside, seals_protect}
 
 -- a protection shows its head
-pub heads_shown : {I : Type 0} → LayerLaws → (f : Protection I) → IsSound f → ProtectionsShowHeads f
-heads_shown laws f sound = record {
+pub heads_shown : {I : Type 0} → LayerLaws → (f : Protection I) → IsSound f → KeepsNumbers f → ProtectionsShowHeads f
+heads_shown laws f sound keeps = record {
   protects = λ d i m x. (head_of_protection laws f sound i m d x, protection_head laws f sound i m d x, refl);
   sealed = λ d i p x.
-      let y = seals_protect f i p d x in
-      let same = sealed_outside f i p d x in (
-        head_of_protection laws f sound i (inside p) d y,
-        protection_head laws f sound i (inside p) d y,
+      let y = seals_protect f keeps i p d x in
+      let same = sealed_outside f keeps i p d x in (
+        head_of_protection laws f sound i (inside (f.says p)) d y,
+        protection_head laws f sound i (inside (f.says p)) d y,
         refl,
         ap (λ (q : Parts). q.kind) same,
         ap (λ (q : Parts). q.message_id) same,

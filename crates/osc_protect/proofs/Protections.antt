@@ -1,11 +1,17 @@
 -- What the proofs need of a protection, and that requests and responses have it.
-use Rattle.std.proofs.Common.{◌≡◌, ◌≢◌, ℕ, ◌+◌, List, length, refl, ap, Option, Some, arith, true}
+use Rattle.std.proofs.Common.{◌≡◌, ◌≢◌, ℕ, ◌+◌, Bool, List, length, refl, ap, Option, Some, arith, true, false, if◌then◌else◌}
 use Rattle.std.specs.Option.{unwrap_or}
 use Rattle.osc_ccm.specs.Laws.{OnePlaintext, ProtectionLength}
+use Rattle.osc_coap.specs.Datagram.{Parts}
+use Rattle.osc_coap.specs.OptionSpelling.{Entry}
+use Rattle.osc_coap.specs.Search.{has_number}
 use Rattle.osc_context.specs.OscoreValue.{OscoreParts}
 use Rattle.osc_context.specs.SecurityContext.{SecurityContext}
-use Rattle.osc_protect.specs.Protection.{Protection, request_cipher, requests, response_cipher, responses}
-use Rattle.osc_protect.specs.Usage.{is_complete, outer_code_of}
+use Rattle.osc_context.specs.declared.features.Features.{Features}
+use Rattle.osc_protect.specs.OptionSets.{is_observe}
+use Rattle.osc_protect.specs.Protection.{Protection, request_cipher, requests, response_cipher, responses_to}
+use Rattle.osc_protect.specs.Usage.{is_complete, observing_code_of, outer_code_of, plain_code_of}
+use Rattle.osc_protect.proofs.Sides.{numbers_kept}
 use Rattle.osc_protect.specs.declared.usage.Usage.{Usage}
 use Rattle.osc_protect.specs.declared.usage.Usage.TheVariants.{Request, Response}
 
@@ -29,16 +35,37 @@ requests_sound one long s = record {
   complete = λ n. refl;
 }
 
-pub responses_sound : OnePlaintext → ProtectionLength → (s : SecurityContext) (n : ℕ) → IsSound (responses s n)
+pub responses_sound : OnePlaintext → ProtectionLength → (s : SecurityContext) (r : Bool) (n : ℕ) → IsSound (responses_to s r n)
 unfolding response_cipher
-responses_sound one long s n = record {
+responses_sound one long s r n = record {
   one_number = λ own k e. ap (λ (v : OscoreParts). v.piv) e;
   one_plaintext = λ own m l e. one _ _ _ m l e;
   long = λ own m. long _ _ _ m;
   complete = λ own. refl;
 }
 
+-- what goes inside has the message's code, and options of the same numbers
+pub record KeepsNumbers {I : Type 0} (f : Protection I) : Type 0 where
+  pub code : (p : Parts) → (f.says p).code ≡ p.code
+  pub numbers : (q : ℕ → Bool) (p : Parts) → has_number q (f.says p).options ≡ has_number q p.options
+
+pub requests_keep : (s : SecurityContext) → KeepsNumbers (requests s)
+requests_keep s = record { code = λ p. refl; numbers = λ q p. refl }
+
+pub responses_keep : (s : SecurityContext) (r : Bool) (n : ℕ) → KeepsNumbers (responses_to s r n)
+responses_keep s true n = record { code = λ p. refl; numbers = λ q p. numbers_kept q p.options }
+responses_keep s false n = record { code = λ p. refl; numbers = λ q p. refl }
+
+-- what holds of both codes outside holds of the one that is written
+pub of_outer_code : (P : ℕ → Type 0) (u : Usage) (x : Features) (entries : List Entry) → P (plain_code_of u) → P (observing_code_of u) → P (outer_code_of u x entries)
+of_outer_code P u x entries plain observing = chosen x.observe (has_number is_observe entries)
+  where
+    chosen : (a b : Bool) → P (if a then (if b then observing_code_of u else plain_code_of u) else plain_code_of u)
+    chosen true true = observing
+    chosen true false = plain
+    chosen false b = plain
+
 -- no code outside is 0.00
-pub outer_code_some : (u : Usage) → outer_code_of u ≢ 0
-outer_code_some Request = λ e. omega (arith, e)
-outer_code_some Response = λ e. omega (arith, e)
+pub outer_code_some : (u : Usage) (x : Features) (entries : List Entry) → outer_code_of u x entries ≢ 0
+outer_code_some Request x entries = of_outer_code (λ c. c ≢ 0) Request x entries (λ e. omega (arith, e)) (λ e. omega (arith, e))
+outer_code_some Response x entries = of_outer_code (λ c. c ≢ 0) Response x entries (λ e. omega (arith, e)) (λ e. omega (arith, e))

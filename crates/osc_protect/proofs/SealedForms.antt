@@ -18,11 +18,11 @@ marked_length (x ∷ xs) n h = omega (arith, h)
 
 module _ {I : Type 0} (f : Protection I) (sound : IsSound f) where
   -- what is sealed has the length of its parts
-  form_length : DatagramHasItsLength → InnerHasItsLength → (i : I) (p : Parts) (d : List ℕ) (x : IsSealed f i p d) → length d ≡ sealed_length p x.value
+  form_length : DatagramHasItsLength → InnerHasItsLength → (i : I) (p : Parts) (d : List ℕ) (x : IsSealed f i p d) → length d ≡ sealed_length f.features f.says p x.value
   form_length law inner i p d x =
       let m = x.holds.0 in
-      let whole = law (outside p (outer_code_of f.usage) x.value (f.cipher i m)) d x.holds.2 in
-      let plain = inner (inside p) m x.holds.1 in
+      let whole = law (outside f.features p (outer_code_of f.usage f.features p.options) x.value (f.cipher i m)) d x.holds.2 in
+      let plain = inner (inside (f.says p)) m x.holds.1 in
       let mark = marked_length (f.cipher i m) (length m) (sound.long i m) in
       omega (arith, whole, plain, mark)
 
@@ -30,8 +30,8 @@ module _ {I : Type 0} (f : Protection I) (sound : IsSound f) where
   one_form : OneSpelling → PartsHaveOneInner → PartsHaveOneDatagram → (i : I) (p : Parts) (d e : List ℕ) → IsSealed f i p d → IsSealed f i p e → d ≡ e
   one_form spelling inner datagram i p d e x y =
       let value = spelling (f.parts i) x.value y.value x.reads y.reads in
-      let plain = inner (inside p) (x.holds.0) (y.holds.0) x.holds.1 y.holds.1 in
-      let parts : outside p (outer_code_of f.usage) x.value (f.cipher i (x.holds.0)) ≡ outside p (outer_code_of f.usage) y.value (f.cipher i (y.holds.0)) = rw (value, plain) refl in
+      let plain = inner (inside (f.says p)) (x.holds.0) (y.holds.0) x.holds.1 y.holds.1 in
+      let parts : outside f.features p (outer_code_of f.usage f.features p.options) x.value (f.cipher i (x.holds.0)) ≡ outside f.features p (outer_code_of f.usage f.features p.options) y.value (f.cipher i (y.holds.0)) = rw (value, plain) refl in
       datagram _ d e (subst (λ (q : Parts). IsDatagram q d) parts x.holds.2) y.holds.2
 
   pub form_law : OneSpelling → PartsHaveOneInner → PartsHaveOneDatagram → DatagramHasItsLength → InnerHasItsLength → OneForm f

@@ -1,45 +1,51 @@
 -- How long what is sealed is, by its parts.
-use Rattle.std.proofs.Common.{◌≡◌, ℕ, ◌+◌, ◌-◌, ◌<◌, ◌⊎◌, List, [], ◌∷◌, ◌++◌, length, refl, ap, ◌∙◌, arith, inl, inr}
-use Rattle.osc_coap.specs.Class.{inner_options, outer_options}
+use Rattle.std.proofs.Common.{◌≡◌, ℕ, ◌+◌, ◌-◌, ◌<◌, ◌⊎◌, Bool, List, [], ◌∷◌, ◌++◌, length, refl, ap, ◌∙◌, arith, inl, inr}
 use Rattle.osc_coap.specs.Datagram.{Parts}
+use Rattle.osc_coap.specs.Inner.{inner_length}
 use Rattle.osc_coap.specs.OptionSpelling.{Entry, last_number, marked, option_length, spelling_length}
 use Rattle.osc_coap.specs.OptionNumbers.{oscore}
-use Rattle.osc_protect.specs.Sealed.{sealed_length}
+use Rattle.osc_context.specs.declared.features.Features.{Features}
+use Rattle.osc_protect.specs.Sealed.{inside, options_outside, sealed_length}
+use Rattle.osc_protect.specs.Split.{options_on, said}
+use Rattle.osc_protect.specs.declared.split.Side.TheVariants.{Inside}
+use Rattle.osc_protect.proofs.Sides.{inside_length}
 
 -- two lists of options, one after the other
 pub spelled_append : (d : ℕ) (xs ys : List Entry) → spelling_length d (xs ++ ys) ≡ spelling_length d xs + spelling_length (last_number d xs) ys
 spelled_append d [] ys = omega arith
 spelled_append d (x ∷ xs) ys = let rest = spelled_append x.0 xs ys in omega (arith, rest)
 
--- the sum of the lengths of what is sealed
-pub sealed_sum : (p : Parts) (value pay : List ℕ) (os : List Entry) (head outer last inner delta option mark : ℕ)
-    → os ≡ p.options → pay ≡ p.payload → head ≡ 4 + length p.token
-    → outer ≡ spelling_length 0 (outer_options os) → last ≡ last_number 0 (outer_options os) → inner ≡ spelling_length 0 (inner_options os)
-    → delta ≡ 9 - last → option ≡ option_length delta (length value) → mark ≡ length (marked pay)
-    → sealed_length p value ≡ head + outer + option + 1 + (1 + inner + mark) + 8
-sealed_sum p value pay os head outer last inner delta option mark eo ep eh eu el ei ed ek em =
-    let all = spelled_append 0 (outer_options p.options) ((oscore, value) ∷ []) in
-    let u : outer ≡ spelling_length 0 (outer_options p.options) = eu ∙ ap (λ (x : List Entry). spelling_length 0 (outer_options x)) eo in
-    let i : inner ≡ spelling_length 0 (inner_options p.options) = ei ∙ ap (λ (x : List Entry). spelling_length 0 (inner_options x)) eo in
-    let k : option ≡ option_length (9 - last_number 0 (outer_options p.options)) (length value) =
-    ek ∙ ap (λ (x : ℕ). option_length x (length value)) (ed ∙ ap (λ (x : ℕ). 9 - x) (el ∙ ap (λ (x : List Entry). last_number 0 (outer_options x)) eo)) in
-    let m : mark ≡ length (marked p.payload) = em ∙ ap (λ (x : List ℕ). length (marked x)) ep in
-    sums (length p.token) (spelling_length 0 (outer_options p.options ++ (oscore, value) ∷ [])) (spelling_length 0 (outer_options p.options)) (option_length (9 - last_number 0 (outer_options p.options)) (length value)) (spelling_length 0 (inner_options p.options)) (length (marked p.payload)) head outer option inner mark all eh u k i m
-  where
-    sums : (t w a b c e head outer option inner mark : ℕ) → w ≡ a + (b + 0) → head ≡ 4 + t → outer ≡ a → option ≡ b → inner ≡ c → mark ≡ e
-        → 4 + t + w + 0 + (1 + (1 + c + e + 8)) ≡ head + outer + option + 1 + (1 + inner + mark) + 8
-    sums t w a b c e head outer option inner mark h0 h1 h2 h3 h4 h5 = omega arith
+module _ (x : Features) (notifies : Bool) (p : Parts) (value : List ℕ) where
+  -- the sum of the lengths of what is sealed
+  pub sealed_sum : (pay : List ℕ) (os : List Entry) (head outer last inner delta option mark : ℕ)
+      → os ≡ p.options → pay ≡ p.payload → head ≡ 4 + length p.token
+      → outer ≡ spelling_length 0 (options_outside x os) → last ≡ last_number 0 (options_outside x os) → inner ≡ spelling_length 0 (options_on (Inside notifies) os)
+      → delta ≡ 9 - last → option ≡ option_length delta (length value) → mark ≡ length (marked pay)
+      → sealed_length x (said notifies) p value ≡ head + outer + option + 1 + (1 + inner + mark) + 8
+  sealed_sum pay os head outer last inner delta option mark eo ep eh eu el ei ed ek em =
+      let all = spelled_append 0 (options_outside x p.options) ((oscore, value) ∷ []) in
+      let long = inside_length notifies p in
+      let u : outer ≡ spelling_length 0 (options_outside x p.options) = eu ∙ ap (λ (es : List Entry). spelling_length 0 (options_outside x es)) eo in
+      let i : inner ≡ spelling_length 0 (options_on (Inside notifies) p.options) = ei ∙ ap (λ (es : List Entry). spelling_length 0 (options_on (Inside notifies) es)) eo in
+      let k : option ≡ option_length (9 - last_number 0 (options_outside x p.options)) (length value) =
+      ek ∙ ap (λ (d : ℕ). option_length d (length value)) (ed ∙ ap (λ (n : ℕ). 9 - n) (el ∙ ap (λ (es : List Entry). last_number 0 (options_outside x es)) eo)) in
+      let m : mark ≡ length (marked p.payload) = em ∙ ap (λ (bytes : List ℕ). length (marked bytes)) ep in
+      sums (length p.token) (spelling_length 0 (options_outside x p.options ++ (oscore, value) ∷ [])) (spelling_length 0 (options_outside x p.options)) (option_length (9 - last_number 0 (options_outside x p.options)) (length value)) (spelling_length 0 (options_on (Inside notifies) p.options)) (length (marked p.payload)) (inner_length (inside (said notifies p))) head outer option inner mark all long eh u k i m
+    where
+      sums : (t w a b c e l head outer option inner mark : ℕ) → w ≡ a + (b + 0) → l ≡ 1 + c + e → head ≡ 4 + t → outer ≡ a → option ≡ b → inner ≡ c → mark ≡ e
+          → 4 + t + w + 0 + (1 + (l + 8)) ≡ head + outer + option + 1 + (1 + inner + mark) + 8
+      sums t w a b c e l head outer option inner mark h0 hl h1 h2 h3 h4 h5 = omega arith
 
--- where a part is longer than a datagram can be, the whole is
-pub sealed_beyond : (p : Parts) (value : List ℕ) (os : List Entry) → os ≡ p.options
-    → (65535 < spelling_length 0 (outer_options os)) ⊎ (65535 < spelling_length 0 (inner_options os)) → 65535 < sealed_length p value
-sealed_beyond p value os eo beyond =
-    let sum = sealed_sum p value p.payload os (4 + length p.token) (spelling_length 0 (outer_options os)) (last_number 0 (outer_options os)) (spelling_length 0 (inner_options os)) (9 - last_number 0 (outer_options os)) (option_length (9 - last_number 0 (outer_options os)) (length value)) (length (marked p.payload)) eo refl refl refl refl refl refl refl refl in
-    elim beyond [
-      | inl h ↦ more (sealed_length p value) (length p.token) (spelling_length 0 (outer_options os)) (option_length (9 - last_number 0 (outer_options os)) (length value)) (spelling_length 0 (inner_options os)) (length (marked p.payload)) sum (inl h)
-      | inr h ↦ more (sealed_length p value) (length p.token) (spelling_length 0 (outer_options os)) (option_length (9 - last_number 0 (outer_options os)) (length value)) (spelling_length 0 (inner_options os)) (length (marked p.payload)) sum (inr h)
-    ]
-  where
-    more : (s t a b c e : ℕ) → s ≡ 4 + t + a + b + 1 + (1 + c + e) + 8 → (65535 < a) ⊎ (65535 < c) → 65535 < s
-    more s t a b c e h (inl x) = omega arith
-    more s t a b c e h (inr x) = omega arith
+  -- where a part is longer than a datagram can be, the whole is
+  pub sealed_beyond : (os : List Entry) → os ≡ p.options
+      → (65535 < spelling_length 0 (options_outside x os)) ⊎ (65535 < spelling_length 0 (options_on (Inside notifies) os)) → 65535 < sealed_length x (said notifies) p value
+  sealed_beyond os eo beyond =
+      let sum = sealed_sum p.payload os (4 + length p.token) (spelling_length 0 (options_outside x os)) (last_number 0 (options_outside x os)) (spelling_length 0 (options_on (Inside notifies) os)) (9 - last_number 0 (options_outside x os)) (option_length (9 - last_number 0 (options_outside x os)) (length value)) (length (marked p.payload)) eo refl refl refl refl refl refl refl refl in
+      elim beyond [
+        | inl h ↦ more (sealed_length x (said notifies) p value) (length p.token) (spelling_length 0 (options_outside x os)) (option_length (9 - last_number 0 (options_outside x os)) (length value)) (spelling_length 0 (options_on (Inside notifies) os)) (length (marked p.payload)) sum (inl h)
+        | inr h ↦ more (sealed_length x (said notifies) p value) (length p.token) (spelling_length 0 (options_outside x os)) (option_length (9 - last_number 0 (options_outside x os)) (length value)) (spelling_length 0 (options_on (Inside notifies) os)) (length (marked p.payload)) sum (inr h)
+      ]
+    where
+      more : (s t a b c e : ℕ) → s ≡ 4 + t + a + b + 1 + (1 + c + e) + 8 → (65535 < a) ⊎ (65535 < c) → 65535 < s
+      more s t a b c e h (inl l) = omega arith
+      more s t a b c e h (inr l) = omega arith

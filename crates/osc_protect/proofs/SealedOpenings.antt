@@ -1,23 +1,23 @@
 -- What is sealed is a protection.
-use Rattle.std.proofs.Common.{◌≡◌, ℕ, ◌||◌, Bool, true, false, List, [], ◌∷◌, ◌++◌, refl, inl, inr}
-use Rattle.osc_coap.specs.Class.{class, is_inner, is_outer, inner_options, outer_options}
+use Rattle.std.proofs.Common.{◌≡◌, ℕ, ◌||◌, Bool, true, false, List, [], ◌∷◌, ◌++◌, refl, ap, ◌∙◌, inl, inr}
+use Rattle.osc_coap.specs.Class.{class, is_inner, is_outer, inner_options}
 use Rattle.osc_coap.specs.OptionSpelling.{Entry}
 use Rattle.osc_coap.specs.declared.class.Class.{Class}
 use Rattle.osc_coap.specs.declared.class.Class.TheVariants as classes
 use Rattle.osc_coap.specs.declared.message.Kind.{Kind}
 use Rattle.osc_coap.specs.declared.message.Kind.TheVariants.{Con, Non, Ack, Rst}
 use Rattle.osc_coap.specs.Datagram.{Parts}
-use Rattle.osc_coap.specs.Inner.{InnerParts}
 use Rattle.osc_coap.specs.Search.{values_at, has_number}
 use Rattle.osc_coap.specs.OptionNumbers.{oscore}
 use Rattle.osc_context.specs.declared.features.Features.{Features}
-use Rattle.osc_protect.specs.OptionSets.{is_proxy, is_barred, is_left_out, is_unsupported}
+use Rattle.osc_protect.specs.OptionSets.{is_proxy, is_barred, is_left_out, is_outside, is_unsupported}
 use Rattle.osc_protect.specs.Usage.{is_code_of, is_used, outer_code_of}
-use Rattle.osc_protect.specs.Protection.{Protection, Protects, requests, responses}
-use Rattle.osc_protect.specs.Sealed.{inside, outside, IsSealed}
-use Rattle.osc_protect.specs.Laws.{OneMessage, OneRequest, OneResponse, ProtectsAlone, SealedOpens}
+use Rattle.osc_protect.specs.Protection.{Protection, Protects, notifications, requests, responses}
+use Rattle.osc_protect.specs.Sealed.{inside, options_outside, outside, IsSealed}
+use Rattle.osc_protect.specs.Laws.{OneMessage, OneNotification, OneRequest, OneResponse, ProtectsAlone, SealedOpens}
 use Rattle.osc_protect.specs.declared.usage.Usage.{Usage}
 use Rattle.osc_protect.specs.declared.usage.Usage.TheVariants.{Request, Response}
+use Rattle.osc_protect.proofs.Protections.{KeepsNumbers, of_outer_code, requests_keep, responses_keep}
 use Rattle.osc_protect.proofs.Splits.{chosen, neither, supported}
 
 both_false : (a b : Bool) → a ≡ false → b ≡ false → (a || b) ≡ false
@@ -35,25 +35,25 @@ may_stand : (x : Features) (n : ℕ) → is_inner (class n) ≡ true → is_unsu
 may_stand x n i h = both_false (is_left_out x n) _ (supported x n h).0 (not_outer (class n) i)
 
 -- outside stands one OSCORE option
-outer_values : (x : Features) (entries : List Entry) (value : List ℕ) → has_number (is_unsupported x) entries ≡ false → values_at oscore (outer_options entries ++ (oscore, value) ∷ []) ≡ value ∷ []
+outer_values : (x : Features) (entries : List Entry) (value : List ℕ) → has_number (is_unsupported x) entries ≡ false → values_at oscore (options_outside x entries ++ (oscore, value) ∷ []) ≡ value ∷ []
 outer_values x [] value h = refl
 outer_values x (entry ∷ entries) value h =
     let both = neither (is_unsupported x entry.0) (has_number (is_unsupported x) entries) h in
     let other = (supported x entry.0 both.0).2 in
     let rest = outer_values x entries value both.1 in
-    elim (chosen (is_outer (class entry.0))) [
+    elim (chosen (is_outside x entry.0)) [
       | inl is ↦ rw (is, other) rest
       | inr isnt ↦ rw isnt rest
     ]
 
 -- and none for proxies
-outer_direct : (x : Features) (entries : List Entry) (value : List ℕ) → has_number (is_unsupported x) entries ≡ false → has_number is_proxy (outer_options entries ++ (oscore, value) ∷ []) ≡ false
+outer_direct : (x : Features) (entries : List Entry) (value : List ℕ) → has_number (is_unsupported x) entries ≡ false → has_number is_proxy (options_outside x entries ++ (oscore, value) ∷ []) ≡ false
 outer_direct x [] value h = refl
 outer_direct x (entry ∷ entries) value h =
     let both = neither (is_unsupported x entry.0) (has_number (is_unsupported x) entries) h in
     let none = (supported x entry.0 both.0).1 in
     let rest = outer_direct x entries value both.1 in
-    elim (chosen (is_outer (class entry.0))) [
+    elim (chosen (is_outside x entry.0)) [
       | inl is ↦ rw is (both_false (is_proxy entry.0) _ none rest)
       | inr isnt ↦ rw isnt rest
     ]
@@ -70,48 +70,51 @@ inner_allowed x (entry ∷ entries) h =
     ]
 
 -- a message of a usage has a code of it, and stays one of it under the code outside
-used_outside : (u : Usage) (k : Kind) (code : ℕ) → is_used u k code ≡ true → (is_used u k (outer_code_of u) ≡ true) × (is_code_of u code ≡ true)
-used_outside Request Con code h = (refl, h)
-used_outside Request Non code h = (refl, h)
-used_outside Request Ack code h = absurd (cc)
-used_outside Request Rst code h = absurd (cc)
-used_outside Response Con code h = (refl, h)
-used_outside Response Non code h = (refl, h)
-used_outside Response Ack code h = (refl, h)
-used_outside Response Rst code h = absurd (cc)
+used_outside : (u : Usage) (x : Features) (entries : List Entry) (k : Kind) (code : ℕ) → is_used u k code ≡ true → (is_used u k (outer_code_of u x entries) ≡ true) × (is_code_of u code ≡ true)
+used_outside Request x entries Con code h = (of_outer_code (λ c. is_used Request Con c ≡ true) Request x entries refl refl, h)
+used_outside Request x entries Non code h = (of_outer_code (λ c. is_used Request Non c ≡ true) Request x entries refl refl, h)
+used_outside Request x entries Ack code h = absurd (cc)
+used_outside Request x entries Rst code h = absurd (cc)
+used_outside Response x entries Con code h = (of_outer_code (λ c. is_used Response Con c ≡ true) Response x entries refl refl, h)
+used_outside Response x entries Non code h = (of_outer_code (λ c. is_used Response Non c ≡ true) Response x entries refl refl, h)
+used_outside Response x entries Ack code h = (of_outer_code (λ c. is_used Response Ack c ≡ true) Response x entries refl refl, h)
+used_outside Response x entries Rst code h = absurd (cc)
 
--- what is sealed is a protection of the plain message's inside
-pub seals_protect : {I : Type 0} (f : Protection I) (i : I) (p : Parts) (d : List ℕ) → IsSealed f i p d → Protects f i (inside p) d
-seals_protect f i p d x = record {
-  outer = outside p (outer_code_of f.usage) x.value (f.cipher i (x.holds.0));
-  datagram = x.holds.2;
-  used = (used_outside f.usage p.kind p.code x.used).0;
-  value = x.value;
-  single = outer_values f.features p.options x.value x.supported;
-  reads = x.reads;
-  direct = outer_direct f.features p.options x.value x.supported;
-  code = (used_outside f.usage p.kind p.code x.used).1;
-  allowed = inner_allowed f.features p.options x.supported;
-  plaintext = x.holds.0;
-  spells = x.holds.1;
-  sealed = refl;
-}
+module _ {I : Type 0} (f : Protection I) (keeps : KeepsNumbers f) (i : I) (p : Parts) (d : List ℕ) (x : IsSealed f i p d) where
+  -- what is sealed is a protection of what the plain message says inside
+  pub seals_protect : Protects f i (inside (f.says p)) d
+  seals_protect =
+      let of_usage = used_outside f.usage f.features p.options p.kind p.code x.used in
+      record {
+        outer = outside f.features p (outer_code_of f.usage f.features p.options) x.value (f.cipher i (x.holds.0));
+        datagram = x.holds.2;
+        used = of_usage.0;
+        value = x.value;
+        single = outer_values f.features p.options x.value x.supported;
+        reads = x.reads;
+        direct = outer_direct f.features p.options x.value x.supported;
+        code = ap (is_code_of f.usage) (keeps.code p) ∙ of_usage.1;
+        allowed = inner_allowed f.features (f.says p).options (keeps.numbers (is_unsupported f.features) p ∙ x.supported);
+        plaintext = x.holds.0;
+        spells = x.holds.1;
+        sealed = refl;
+      }
 
--- with what was sealed outside
-pub sealed_outside : {I : Type 0} (f : Protection I) (i : I) (p : Parts) (d : List ℕ) (x : IsSealed f i p d)
-    → (seals_protect f i p d x).outer ≡ outside p (outer_code_of f.usage) x.value (f.cipher i (x.holds.0))
-unfolding seals_protect
-sealed_outside f i p d x = refl
+  -- with what was sealed outside
+  pub sealed_outside : seals_protect.outer ≡ outside f.features p (outer_code_of f.usage f.features p.options) x.value (f.cipher i (x.holds.0))
+  unfolding seals_protect
+  sealed_outside = refl
 
--- and of no other message
-protects_alone : {I : Type 0} (f : Protection I) → OneMessage f → (i : I) (m : InnerParts) (d : List ℕ) → Protects f i m d → ProtectsAlone f i m d
-protects_alone f law i m d x = record {
-  opens = x;
-  nothing_else = λ k l y. (law.number d k i l m y x, law.message d k i l m y x);
-}
+  -- and of no other message
+  pub sealed_alone : OneMessage f → ProtectsAlone f i (inside (f.says p)) d
+  sealed_alone law = record {
+    opens = seals_protect;
+    nothing_else = λ k l y. (law.number d k i l (inside (f.says p)) y seals_protect, law.message d k i l (inside (f.says p)) y seals_protect);
+  }
 
-pub sealed_law : OneRequest → OneResponse → SealedOpens
-sealed_law request response = record {
-  request = λ s n p d x. protects_alone (requests s) (request s) n (inside p) d (seals_protect (requests s) n p d x);
-  response = λ s n own p d x. protects_alone (responses s n) (response s n) own (inside p) d (seals_protect (responses s n) own p d x);
+pub sealed_law : OneRequest → OneResponse → OneNotification → SealedOpens
+sealed_law request response notification = record {
+  request = λ s n p d x. sealed_alone (requests s) (requests_keep s) n p d x (request s);
+  response = λ s n own p d x. sealed_alone (responses s n) (responses_keep s false n) own p d x (response s n);
+  notification = λ s n own p d x. sealed_alone (notifications s n) (responses_keep s true n) own p d x (notification s n);
 }

@@ -14,8 +14,8 @@ use Rattle.osc_protect.proofs.Supported.{never_refused, one_refusal}
 
 module _ {I : Type 0} (f : Protection I) (i : I) (p : Parts) where
   -- the length by another value is the same
-  same_length : OneSpelling → (a b : List ℕ) → IsOscoreValue (f.parts i) a → IsOscoreValue (f.parts i) b → sealed_length p a ≡ sealed_length p b
-  same_length one a b ha hb = ap (sealed_length p) (one (f.parts i) a b ha hb)
+  same_length : OneSpelling → (a b : List ℕ) → IsOscoreValue (f.parts i) a → IsOscoreValue (f.parts i) b → sealed_length f.features f.says p a ≡ sealed_length f.features f.says p b
+  same_length one a b ha hb = ap (sealed_length f.features f.says p) (one (f.parts i) a b ha hb)
 
   -- what is made was not refused
   pub made_never : OneSpelling → (room len : ℕ) (e : ProtectError) → Makes f i p room len → RefusesToSeal f i p room e → ⊥
@@ -77,7 +77,7 @@ module _ {I : Type 0} (f : Protection I) (i : I) (p : Parts) where
   plain_refuses room NoRoom h = absurd h
 
   -- one of the length too
-  length_refuses : (room : ℕ) (value : List ℕ) (e : ProtectError) → CanBeSealed f.usage f.features p → IsOscoreValue (f.parts i) value → RefusesSize (sealed_length p value) room e → RefusesToSeal f i p room e
+  length_refuses : (room : ℕ) (value : List ℕ) (e : ProtectError) → CanBeSealed f.usage f.features p → IsOscoreValue (f.parts i) value → RefusesSize (sealed_length f.features f.says p value) room e → RefusesToSeal f i p room e
   length_refuses room value NotThatKind can reads h = absurd h
   length_refuses room value (Unsupported k) can reads h = absurd h
   length_refuses room value TooLong can reads h = (can, (value, reads, h))
@@ -85,22 +85,22 @@ module _ {I : Type 0} (f : Protection I) (i : I) (p : Parts) where
 
   -- what holds of a message that can be sealed, once its length is judged
   pub all_sealed : (value out : List ℕ) (cipher : List ℕ → List ℕ) (r : Result ℕ ProtectError) → CanBeSealed f.usage f.features p → IsOscoreValue (f.parts i) value → ((m : List ℕ) → cipher m ≡ f.cipher i m)
-      → IfOk r (λ n. HoldsSealed p (outer_code_of f.usage) value cipher (take n out)) → IfOk r (λ n. IsSealed f i p (take n out))
+      → IfOk r (λ n. HoldsSealed f.features f.says p (outer_code_of f.usage f.features p.options) value cipher (take n out)) → IfOk r (λ n. IsSealed f i p (take n out))
   all_sealed value out cipher (Err e) can reads same holds = tt
   all_sealed value out cipher (Ok n) can reads same holds = record {
     used = can.0;
     supported = can.1;
     value = value;
     reads = reads;
-    holds = (holds.0, holds.1, subst (λ (z : List ℕ). IsDatagram (outside p (outer_code_of f.usage) value z) (take n out)) (same (holds.0)) holds.2);
+    holds = (holds.0, holds.1, subst (λ (z : List ℕ). IsDatagram (outside f.features p (outer_code_of f.usage f.features p.options) value z) (take n out)) (same (holds.0)) holds.2);
   }
 
   pub all_made : (value : List ℕ) (room : ℕ) (r : Result ℕ ProtectError) → CanBeSealed f.usage f.features p → IsOscoreValue (f.parts i) value
-      → IfOk r (λ n. n ≡ sealed_length p value) → IfOk r (λ n. n ≤ 65535) → IfOk r (λ n. n ≤ room) → IfOk r (λ n. Makes f i p room n)
+      → IfOk r (λ n. n ≡ sealed_length f.features f.says p value) → IfOk r (λ n. n ≤ 65535) → IfOk r (λ n. n ≤ room) → IfOk r (λ n. Makes f i p room n)
   all_made value room (Err e) can reads len fits in_room = tt
   all_made value room (Ok n) can reads len fits in_room = (can, value, reads, len, fits, in_room)
 
   pub all_refused : (value : List ℕ) (room : ℕ) (r : Result ℕ ProtectError) → CanBeSealed f.usage f.features p → IsOscoreValue (f.parts i) value
-      → IfErr r (λ e. RefusesSize (sealed_length p value) room e) → IfErr r (λ e. RefusesToSeal f i p room e)
+      → IfErr r (λ e. RefusesSize (sealed_length f.features f.says p value) room e) → IfErr r (λ e. RefusesToSeal f i p room e)
   all_refused value room (Ok n) can reads refused = tt
   all_refused value room (Err e) can reads refused = length_refuses room value e can reads refused

@@ -1,18 +1,21 @@
 -- The options of one side, and that a writer takes them.
-use Rattle.std.proofs.Common.{◌≡◌, ◌≢◌, ℕ, ◌+◌, ◌≤◌, ◌==◌, ◌||◌, ◌⊎◌, Bool, true, false, List, [], ◌∷◌, ◌++◌, filter, refl, sym, ap, subst, arith, inl, inr, append_assoc, Result, Err, IsOk}
-use Rattle.osc_coap.specs.Class.{class, is_outer, outer_options}
+use Rattle.std.proofs.Common.{◌≡◌, ◌≢◌, ℕ, ◌+◌, ◌≤◌, ◌==◌, ◌&&◌, ◌||◌, ◌⊎◌, Bool, true, false, List, [], ◌∷◌, ◌++◌, filter, refl, sym, ap, subst, arith, inl, inr, append_assoc, Result, Err, IsOk}
+use Rattle.std.proofs.lemmas.Bool.{eqb-true}
+use Rattle.osc_coap.specs.Class.{class, is_outer}
 use Rattle.osc_coap.specs.Datagram.{Parts, datagram_length}
 use Rattle.osc_coap.specs.Inner.{inner_length}
 use Rattle.osc_coap.specs.OptionSpelling.{Entry, Ascends, last_number, spelling_length}
-use Rattle.osc_coap.specs.Writing.{Draft, Datagram, Plaintext, TakesOption, bare, bare_inner, options_of, length_of, with_option, with_options}
+use Rattle.osc_coap.specs.Writing.{Draft, Datagram, Plaintext, TakesOption, TakesPayload, bare, bare_inner, options_of, length_of, with_option, with_options}
 use Rattle.osc_coap.specs.Search.{has_number}
 use Rattle.osc_coap.specs.OptionNumbers.{oscore}
 use Rattle.osc_context.specs.declared.features.Features.{Features}
-use Rattle.osc_protect.specs.OptionSets.{is_left_out, is_proxy, is_unsupported}
-use Rattle.osc_protect.specs.Sealed.{inside, outside}
-use Rattle.osc_protect.specs.Split.{TakesAll, options_on, stands_on}
+use Rattle.osc_protect.specs.OptionSets.{is_left_out, is_observe, is_outside, is_proxy, is_unsupported}
+use Rattle.osc_protect.specs.Sealed.{inside, options_outside, outside}
+use Rattle.osc_protect.specs.Split.{TakesAll, entry_on, options_on, said, stands_on}
+use Rattle.osc_protect.specs.declared.split.Side.{Side}
 use Rattle.osc_protect.specs.declared.split.Side.TheVariants.{Outside, Inside}
 use Rattle.osc_protect.proofs.SealedLengths.{spelled_append}
+use Rattle.osc_protect.proofs.Sides.{inside_length, inside_read, number_on, outside_read}
 
 -- one of two
 pub chosen : (b : Bool) → (b ≡ true) ⊎ (b ≡ false)
@@ -36,16 +39,33 @@ supported x n h =
     let first = neither (is_left_out x n) (is_proxy n) last.0 in
     (first.0, first.1, last.1)
 
--- an option outside that can be sealed comes before the OSCORE option
-below : (x : Features) (n : ℕ) → is_outer (class n) ≡ true → is_unsupported x n ≡ false → n ≤ oscore
-below x n u s = let p = (supported x n s).1 in grind (arith, u, p)
+-- one of two
+pub one_of : (a b : Bool) → (a || b) ≡ true → (a ≡ true) ⊎ (b ≡ true)
+one_of true b h = inl refl
+one_of false b h = inr h
+
+-- an option of class U that is for no proxy comes before the OSCORE option, or is that one
+outer_below : (n : ℕ) → is_outer (class n) ≡ true → is_proxy n ≡ false → n ≤ oscore
+outer_below n u p = grind (arith, u, p)
+
+-- Observe comes before it
+observe_below : (b : Bool) (n : ℕ) → (b && is_observe n) ≡ true → n ≤ oscore
+observe_below true n h = let e = eqb-true _ _ h in omega (arith, e)
+observe_below false n h = absurd (cc)
+
+-- so does an option outside that can be sealed
+below : (x : Features) (n : ℕ) → is_outside x n ≡ true → is_unsupported x n ≡ false → n ≤ oscore
+below x n u s = elim (one_of (x.observe && is_observe n) (is_outer (class n)) u) [
+  | inl h ↦ observe_below x.observe n h
+  | inr h ↦ outer_below n h (supported x n s).1
+]
 
 -- so do all of them
-pub all_below : (x : Features) (d : ℕ) (entries : List Entry) → d ≤ oscore → has_number (is_unsupported x) entries ≡ false → last_number d (outer_options entries) ≤ oscore
+pub all_below : (x : Features) (d : ℕ) (entries : List Entry) → d ≤ oscore → has_number (is_unsupported x) entries ≡ false → last_number d (options_outside x entries) ≤ oscore
 all_below x d [] le h = le
 all_below x d (entry ∷ entries) le h =
     let both = neither (is_unsupported x entry.0) (has_number (is_unsupported x) entries) h in
-    elim (chosen (is_outer (class entry.0))) [
+    elim (chosen (is_outside x entry.0)) [
       | inl is ↦ rw is (all_below x entry.0 entries (below x entry.0 is both.0) both.1)
       | inr isnt ↦ rw isnt (all_below x d entries le both.1)
     ]
@@ -84,9 +104,9 @@ part_fits d done entry rest = sums _ _ _ _ _ (spelled_append d done (entry ∷ [
 
 -- ---- what a writer takes
 
--- some of the options with one of them in front
-pub some_more : (q : Entry → Bool) (entry : Entry) (entries : List Entry) → q entry ≡ true → filter q (entry ∷ entries) ≡ entry ∷ filter q entries
-some_more q entry entries h = rw h refl
+-- the options of a side with one of them in front
+pub some_more : (side : Side) (entry : Entry) (entries : List Entry) → stands_on side entry.0 ≡ true → options_on side (entry ∷ entries) ≡ entry_on side entry ∷ options_on side entries
+some_more side entry entries h = rw h refl
 
 -- the last number of a draft with options more
 last_with : (draft : Draft) (done : List Entry) → last_number 0 (options_of (with_options draft done)) ≡ last_number (last_number 0 (options_of draft)) done
@@ -140,34 +160,59 @@ with_options-push (Plaintext p) done number value = ap (λ (es : List Entry). Pl
 pub not_err : {T E : Type 0} (r : Result T E) (e : E) → r ≡ Err e → IsOk r → ⊥
 not_err {T} {E} r e is ok = let bad : IsOk {T = T} (Err e) = subst (λ (x : Result T E). IsOk x) is ok in cc
 
+-- what is Ok for no bytes and for some is Ok
+pub taken_either : {T E : Type 0} (bytes : List ℕ) (r : Result T E) → (bytes ≡ [] → IsOk r) → (bytes ≢ [] → IsOk r) → IsOk r
+taken_either [] r empty some = empty refl
+taken_either (x ∷ bytes) r empty some = some (λ e. cc)
+
 -- the options outside have their room behind a head
-pub outside_takes : (p : Parts) (code : ℕ) (value : List ℕ) (os : List Entry) (room : ℕ) → os ≡ p.options → code ≢ 0 → Ascends 0 p.options
-    → datagram_length (outside p code value []) ≤ room → datagram_length (outside p code value []) ≤ 65535
-    → TakesAll room (Datagram (bare p.kind code p.message_id p.token)) (options_on Outside os)
-outside_takes p code value os room e some up in_room in_all =
-    let all = spelled_append 0 (outer_options p.options) ((oscore, value) ∷ []) in
-    subst (λ (es : List Entry). TakesAll room (Datagram (bare p.kind code p.message_id p.token)) (options_on Outside es)) (sym e) (record {
+pub outside_takes : (x : Features) (p : Parts) (code : ℕ) (value : List ℕ) (os : List Entry) (room : ℕ) → os ≡ p.options → code ≢ 0 → Ascends 0 p.options
+    → datagram_length (outside x p code value []) ≤ room → datagram_length (outside x p code value []) ≤ 65535
+    → TakesAll room (Datagram (bare p.kind code p.message_id p.token)) (options_on (Outside x) os)
+outside_takes x p code value os room e some up in_room in_all =
+    let all = spelled_append 0 (options_outside x p.options) ((oscore, value) ∷ []) in
+    let same = outside_read x p os e in
+    subst (λ (es : List Entry). TakesAll room (Datagram (bare p.kind code p.message_id p.token)) es) (sym same) (record {
       filled = some;
       unfinished = refl;
-      ascends = some_ascend (λ entry. stands_on Outside (class entry.0)) 0 p.options up;
+      ascends = some_ascend (λ entry. is_outside x entry.0) 0 p.options up;
       has_room = (omega (arith, all, in_room), omega (arith, all, in_all));
     })
 
 -- the OSCORE option has its room behind them
 pub oscore_takes : (x : Features) (p : Parts) (code : ℕ) (value : List ℕ) (os : List Entry) (room : ℕ) → os ≡ p.options → code ≢ 0 → has_number (is_unsupported x) p.options ≡ false
-    → datagram_length (outside p code value []) ≤ room → datagram_length (outside p code value []) ≤ 65535
-    → TakesOption room (with_options (Datagram (bare p.kind code p.message_id p.token)) (options_on Outside os)) oscore value
+    → datagram_length (outside x p code value []) ≤ room → datagram_length (outside x p code value []) ≤ 65535
+    → TakesOption room (with_options (Datagram (bare p.kind code p.message_id p.token)) (options_on (Outside x) os)) oscore value
 oscore_takes x p code value os room e some none in_room in_all =
-    subst (λ (es : List Entry). TakesOption room (with_options (Datagram (bare p.kind code p.message_id p.token)) (options_on Outside es)) 9 value) (sym e)
+    let same = outside_read x p os e in
+    subst (λ (es : List Entry). TakesOption room (with_options (Datagram (bare p.kind code p.message_id p.token)) es) 9 value) (sym same)
     (some, refl, all_below x 0 p.options (omega arith) none, (in_room, in_all))
 
+-- the options of a side ascend
+side_ascends : (side : Side) (d : ℕ) (entries : List Entry) → Ascends d entries → Ascends d (options_on side entries)
+side_ascends side d [] up = tt
+side_ascends side d (entry ∷ entries) up = elim (chosen (stands_on side entry.0)) [
+  | inl is ↦ rw is (subst (λ (n : ℕ). (d ≤ n) × (n ≤ 65535) × Ascends n (options_on side entries)) (sym (number_on side entry)) (up.0, up.1, side_ascends side entry.0 entries up.2))
+  | inr isnt ↦ rw isnt (side_ascends side d entries (weaker d entry.0 entries up.0 up.2))
+]
+
 -- the options inside have their room behind the code
-pub inside_takes : (p : Parts) (os : List Entry) (room : ℕ) → os ≡ p.options → Ascends 0 p.options → inner_length (inside p) ≤ room → inner_length (inside p) ≤ 65535
-    → TakesAll room (Plaintext (bare_inner p.code)) (options_on Inside os)
-inside_takes p os room e up in_room in_all =
-    subst (λ (es : List Entry). TakesAll room (Plaintext (bare_inner p.code)) (options_on Inside es)) (sym e) (record {
+pub inside_takes : (notifies : Bool) (p : Parts) (os : List Entry) (room : ℕ) → os ≡ p.options → Ascends 0 p.options
+    → inner_length (inside (said notifies p)) ≤ room → inner_length (inside (said notifies p)) ≤ 65535
+    → TakesAll room (Plaintext (bare_inner p.code)) (options_on (Inside notifies) os)
+inside_takes notifies p os room e up in_room in_all =
+    let long = inside_length notifies p in
+    subst (λ (es : List Entry). TakesAll room (Plaintext (bare_inner p.code)) (options_on (Inside notifies) es)) (sym e) (record {
       filled = λ x. x;
       unfinished = refl;
-      ascends = some_ascend (λ entry. stands_on Inside (class entry.0)) 0 p.options up;
-      has_room = (omega (arith, in_room), omega (arith, in_all));
+      ascends = side_ascends (Inside notifies) 0 p.options up;
+      has_room = (omega (arith, long, in_room), omega (arith, long, in_all));
     })
+
+-- the payload inside has its room behind them
+pub payload_takes : (notifies : Bool) (p : Parts) (os : List Entry) (pay : List ℕ) (room : ℕ) → os ≡ p.options → pay ≡ p.payload
+    → inner_length (inside (said notifies p)) ≤ room → inner_length (inside (said notifies p)) ≤ 65535
+    → TakesPayload room (with_options (Plaintext (bare_inner p.code)) (options_on (Inside notifies) os)) pay
+payload_takes notifies p os pay room e k in_room in_all =
+    let same = ap inner_length (inside_read notifies p os pay e k) in
+    (λ x. x, refl, (omega (arith, same, in_room), omega (arith, same, in_all)))

@@ -1,5 +1,5 @@
 -- The stages of opening together: what is read after decrypting is what the datagram protects.
-use Rattle.std.proofs.Common.{◌≡◌, ℕ, List, true, false, ◌++◌, length, take, drop, refl, sym, ap, subst, ◌∙◌, option_map, Option, Result, Ok, Err, IfOk, IfErr, IsErr, IsOk, IsOkAnd, IsErrOf, OnErr, OnOk}
+use Rattle.std.proofs.Common.{◌≡◌, ℕ, Bool, List, true, false, ◌++◌, length, take, drop, refl, sym, ap, subst, ◌∙◌, option_map, Option, Result, Ok, Err, IfOk, IfErr, IsErr, IsOk, IsOkAnd, IsErrOf, OnErr, OnOk}
 use Rattle.std.proofs.lemmas.List.{take_at}
 use Rattle.osc_coap.specs.Datagram.{Parts, IsDatagram}
 use Rattle.osc_coap.specs.Inner.{InnerParts, IsInner}
@@ -7,7 +7,8 @@ use Rattle.osc_coap.specs.Laws.{DatagramIsOneMessage}
 use Rattle.osc_context.specs.OscoreValue.{OscoreParts, IsOscoreValue}
 use Rattle.osc_context.specs.Views.{number_of}
 use Rattle.osc_context.specs.declared.partial_iv.Piv.{Piv}
-use Rattle.osc_protect.specs.Protection.{Protection, Protects}
+use Rattle.osc_context.specs.SecurityContext.{SecurityContext}
+use Rattle.osc_protect.specs.Protection.{Protection, Protects, responses_to}
 use Rattle.osc_protect.specs.Refusals.{IsBadInner, RefusesPlaintext, RefusesToOpen}
 use Rattle.osc_protect.specs.Views.{message_of, opened_number}
 use Rattle.osc_protect.specs.Opening.{ShowsOuter, Opens}
@@ -16,11 +17,16 @@ use Rattle.osc_protect.specs.OptionSets.{is_barred}
 use Rattle.osc_protect.specs.Usage.{is_code_of}
 use Rattle.osc_protect.specs.Stages.{Decrypts, HasPlaintext}
 use Rattle.osc_protect.specs.Halves.{ReadsInner, RefusesInner}
-use Rattle.osc_protect.specs.Laws.{OneMessage}
+use Rattle.osc_protect.specs.Laws.{OneMessage, OneNotification, OneResponse}
 use Rattle.osc_protect.specs.declared.opened.Opened.{Opened}
 use Rattle.osc_protect.specs.declared.stage_error.BadInner.{BadInner}
 use Rattle.osc_protect.specs.declared.unprotect_error.UnprotectError.{UnprotectError}
 use Rattle.osc_protect.specs.declared.unprotect_error.UnprotectError.TheVariants.{Inner}
+
+-- a datagram protects one response, whether its request registers or not
+pub one_to : OneResponse → OneNotification → (s : SecurityContext) (r : Bool) (n : ℕ) → OneMessage (responses_to s r n)
+one_to response notification s true n = notification s n
+one_to response notification s false n = response s n
 
 -- ---- what is read is what the datagram protected, for either outcome of reading
 

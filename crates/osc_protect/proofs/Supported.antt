@@ -1,5 +1,5 @@
 -- The options with which a message can't be sealed.
-use Rattle.std.proofs.Common.{◌≡◌, ℕ, ◌≤◌, ◌==◌, ◌||◌, ◌⊎◌, Bool, true, false, List, [], ◌∷◌, Option, Some, None, Result, Ok, Err, IsOk, IfErr, IsErrOf, refl, sym, ap, subst, ◌∙◌, arith, inl, inr}
+use Rattle.std.proofs.Common.{◌≡◌, ℕ, ◌≤◌, ◌==◌, Bool, true, false, List, [], ◌∷◌, Option, Some, None, Result, Ok, Err, IsOk, IfErr, IsErrOf, refl, sym, ap, subst, ◌∙◌, arith, inl, inr}
 use Rattle.std.specs.Option.{unwrap_or}
 use Rattle.std.proofs.lemmas.Bool.{eqb-true}
 use Rattle.osc_coap.specs.OptionSpelling.{Entry, Ascends}
@@ -10,14 +10,9 @@ use Rattle.osc_context.specs.declared.features.Features.{Features}
 use Rattle.osc_protect.specs.OptionSets.{is_unsupported}
 use Rattle.osc_protect.specs.SealRefusals.{IsLowestUnsupported, RefusesPlain, CanBeSealed}
 use Rattle.osc_protect.specs.declared.usage.Usage.{Usage}
-use Rattle.osc_protect.proofs.Splits.{chosen}
+use Rattle.osc_protect.proofs.Splits.{chosen, one_of}
 use Rattle.osc_protect.specs.declared.protect_error.ProtectError.{ProtectError}
 use Rattle.osc_protect.specs.declared.protect_error.ProtectError.TheVariants.{NotThatKind, Unsupported, TooLong, NoRoom}
-
--- a number that is one of two sides
-either : (a b : Bool) → (a || b) ≡ true → (a ≡ true) ⊎ (b ≡ true)
-either true b h = inl refl
-either false b h = inr h
 
 same_some : (n m : ℕ) → Some n ≡ Some m → n ≡ m
 same_some n m h = ap (λ (o : Option ℕ). unwrap_or o 0) h
@@ -45,7 +40,7 @@ found_first p (entry ∷ entries) n h = elim (chosen (p entry.0)) [
 -- no option that ascends from d has a number below it
 least : (d m : ℕ) (entries : List Entry) → Ascends d entries → has_number (λ k. k == m) entries ≡ true → d ≤ m
 least d m [] up h = absurd (cc)
-least d m (entry ∷ entries) up h = elim (either (entry.0 == m) (has_number (λ k. k == m) entries) h) [
+least d m (entry ∷ entries) up h = elim (one_of (entry.0 == m) (has_number (λ k. k == m) entries) h) [
   | inl e ↦ let same = eqb-true _ _ e in let le = up.0 in omega (arith, same, le)
   | inr more ↦ let rest = least entry.0 m entries up.2 more in let le = up.0 in omega (arith, rest, le)
 ]
@@ -57,11 +52,11 @@ lowest_first p d [] n up h m pm hm = absurd (cc)
 lowest_first p d (entry ∷ entries) n up h m pm hm = elim (chosen (p entry.0)) [
   | inl is ↦
       let e : entry.0 ≡ n = same_some entry.0 n (sym (rw is refl) ∙ h) in
-      elim (either (entry.0 == m) (has_number (λ k. k == m) entries) hm) [
+      elim (one_of (entry.0 == m) (has_number (λ k. k == m) entries) hm) [
         | inl same ↦ let s = eqb-true _ _ same in omega (arith, s, e)
         | inr more ↦ let le = least entry.0 m entries up.2 more in omega (arith, le, e)
       ]
-  | inr isnt ↦ elim (either (entry.0 == m) (has_number (λ k. k == m) entries) hm) [
+  | inr isnt ↦ elim (one_of (entry.0 == m) (has_number (λ k. k == m) entries) hm) [
     | inl same ↦
         let s = eqb-true _ _ same in
         let bad : false ≡ true = sym isnt ∙ ap p s ∙ pm in
@@ -81,7 +76,7 @@ lowest_unsupported x entries n up h = record {
 -- a number that is there, and is such a one, shows that one is there
 has_one : (p : ℕ → Bool) (n : ℕ) (entries : List Entry) → p n ≡ true → has_number (λ k. k == n) entries ≡ true → has_number p entries ≡ true
 has_one p n [] pn h = absurd (cc)
-has_one p n (entry ∷ entries) pn h = elim (either (entry.0 == n) (has_number (λ k. k == n) entries) h) [
+has_one p n (entry ∷ entries) pn h = elim (one_of (entry.0 == n) (has_number (λ k. k == n) entries) h) [
   | inl e ↦ let is : p entry.0 ≡ true = ap p (eqb-true _ _ e) ∙ pn in rw is refl
   | inr more ↦ let rest = has_one p n entries pn more in elim (chosen (p entry.0)) [
     | inl is ↦ rw is refl

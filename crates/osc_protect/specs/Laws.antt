@@ -1,17 +1,21 @@
 -- To be believed: what holds for all datagrams of requests and of responses (RFC 8613, 8): contracts of laws.rt. f and g are protections of
--- one usage, i, j and k are their numbers, u is a usage, s and t are security contexts, d is a datagram, h a head, o and q are opened
--- messages.
-use Rattle.std.specs.Prelude.{◌≡◌, ◌<◌, ◌≤◌, ◌⊎◌, ◌^◌, ◌==◌, ◌||◌, ℕ, true, List, length, Option, IfSome}
-use Rattle.osc_coap.specs.Datagram.{Parts}
-use Rattle.osc_coap.specs.Inner.{InnerParts}
-use Rattle.osc_coap.specs.Class.{class, is_outer}
+-- one usage, i, j and k are their numbers, u is a usage, s and t are security contexts, x is features, d a datagram, h a head, o and q are
+-- opened messages.
+use Rattle.std.specs.Prelude.{◌≡◌, ◌+◌, ◌<◌, ◌≤◌, ◌⊎◌, ◌^◌, ◌==◌, ◌||◌, ℕ, true, false, List, [], ◌∷◌, ◌++◌, length, Option, IfSome}
+use Rattle.osc_coap.specs.Datagram.{Parts, datagram_length}
+use Rattle.osc_coap.specs.Inner.{InnerParts, inner_length}
+use Rattle.osc_coap.specs.Class.{class, is_outer, outer_options}
+use Rattle.osc_coap.specs.OptionSpelling.{Entry}
 use Rattle.osc_coap.specs.OptionNumbers.{block1, block2, observe, oscore}
-use Rattle.osc_context.specs.Features.{no_features}
+use Rattle.osc_ccm.specs.Ccm.{tag_length}
+use Rattle.osc_context.specs.Features.{no_features, unobserved}
 use Rattle.osc_context.specs.SecurityContext.{SecurityContext}
-use Rattle.osc_protect.specs.OptionSets.{is_barred, is_left_out, is_proxy, is_unsupported}
+use Rattle.osc_context.specs.declared.features.Features.{Features}
+use Rattle.osc_protect.specs.OptionSets.{is_barred, is_left_out, is_outside, is_proxy, is_unsupported}
+use Rattle.osc_protect.specs.Usage.{outer_code_of, plain_code_of}
 use Rattle.osc_protect.specs.Head.{Head, HasHead, HasNoHead, ShowsHead, ShowsNoHead}
-use Rattle.osc_protect.specs.Sealed.{IsSealed, SealsRequest, SealsResponse, inside}
-use Rattle.osc_protect.specs.Protection.{Protection, Protects, requests, responses}
+use Rattle.osc_protect.specs.Sealed.{IsSealed, SealsNotification, SealsRequest, SealsResponse, inside, outside, sealed_length}
+use Rattle.osc_protect.specs.Protection.{Protection, Protects, as_it_is, as_notified, notifications, requests, responses}
 use Rattle.osc_protect.specs.Refusals.{Names, RefusesToOpen}
 use Rattle.osc_protect.specs.SealRefusals.{RefusesToSeal}
 use Rattle.osc_protect.specs.Opening.{Opens}
@@ -62,6 +66,10 @@ OneRequest = (s : SecurityContext) → OneMessage (requests s)
 abbrev pub OneResponse : Type 0
 OneResponse = (s : SecurityContext) (n : ℕ) → OneMessage (responses s n)
 
+-- a datagram protects at most one response to a request that registers an observation, or has at most one refusal (RFC 8613, 8.4)
+abbrev pub OneNotification : Type 0
+OneNotification = (s : SecurityContext) (n : ℕ) → OneMessage (notifications s n)
+
 -- a protected message has a head that says its number; a sealed one also keeps the plain message's Type, Message ID and token (RFC 8613, 8.1 and 8.3)
 pub record ProtectionsShowHeads {I : Type 0} (f : Protection I) : Type 0 where
   pub protects : (d : List ℕ) (i : I) (m : InnerParts) → Protects f i m d → (h : Head) × HasHead f.usage d h × Names f h i
@@ -75,6 +83,10 @@ RequestsShowHeads = (s : SecurityContext) → ProtectionsShowHeads (requests s)
 abbrev pub ResponsesShowHeads : Type 0
 ResponsesShowHeads = (s : SecurityContext) (n : ℕ) → ProtectionsShowHeads (responses s n)
 
+-- a protected notification shows its head (RFC 8613, 8.3.1)
+abbrev pub NotificationsShowHeads : Type 0
+NotificationsShowHeads = (s : SecurityContext) (n : ℕ) → ProtectionsShowHeads (notifications s n)
+
 -- if the head names the context, a refusal is for the tag or for the plaintext, and for nothing else (RFC 8613, 8.2 and 8.4)
 abbrev pub NamedRefusals : {I : Type 0} → Protection I → Type 0
 NamedRefusals {I} f = (d : List ℕ) (h : Head) (i : I) (e : UnprotectError) → HasHead f.usage d h → Names f h i → RefusesToOpen f d e → (e ≡ Tag) ⊎ (e ≡ Inner)
@@ -86,6 +98,10 @@ NamedRequestRefusals = (s : SecurityContext) → NamedRefusals (requests s)
 -- how a response whose head says a number or none is refused (RFC 8613, 8.4)
 abbrev pub NamedResponseRefusals : Type 0
 NamedResponseRefusals = (s : SecurityContext) (n : ℕ) → NamedRefusals (responses s n)
+
+-- how a notification whose head says a number or none is refused (RFC 8613, 8.4)
+abbrev pub NamedNotificationRefusals : Type 0
+NamedNotificationRefusals = (s : SecurityContext) (n : ℕ) → NamedRefusals (notifications s n)
 
 -- if the head says what f says under i, and g protects the datagram under j, then f and g say the same (RFC 8613, 8.2 and 8.4)
 abbrev pub SaysOneThing : {I J : Type 0} → Protection I → Protection J → Type 0
@@ -111,15 +127,21 @@ pub record OneResponseReading : Type 0 where
   pub named : (s t : SecurityContext) (n m : ℕ) → SaysOneThing (responses s n) (responses t m)
   pub opened : (s : SecurityContext) (n : ℕ) → OneOpened (responses s n)
 
+-- for every reader, a notification's OSCORE option says one thing, and the notification opens as one message (RFC 8613, 8.4)
+pub record OneNotificationReading : Type 0 where
+  pub named : (s t : SecurityContext) (n m : ℕ) → SaysOneThing (notifications s n) (notifications t m)
+  pub opened : (s : SecurityContext) (n : ℕ) → OneOpened (notifications s n)
+
 -- the datagram protects the message under this number, and nothing else (RFC 8613, 8.2 and 8.4)
 pub record ProtectsAlone {I : Type 0} (f : Protection I) (i : I) (m : InnerParts) (d : List ℕ) : Type 0 where
   pub opens : Protects f i m d
   pub nothing_else : (k : I) (l : InnerParts) → Protects f k l d → (k ≡ i) × (l ≡ m)
 
--- what one end of a context seals protects the inner part of the plain message at the other end, and nothing else (RFC 8613, 8.1 to 8.4)
+-- what one end of a context seals protects the inner part of the plain message at the other end, and nothing else; of a notification, the inner part with an empty Observe (RFC 8613, 4.1.3.5.2 and 8.1 to 8.4)
 pub record SealedOpens : Type 0 where
   pub request : (s : SecurityContext) (n : ℕ) (p : Parts) (d : List ℕ) → SealsRequest s n p d → ProtectsAlone (requests s) n (inside p) d
   pub response : (s : SecurityContext) (n : ℕ) (own : Option ℕ) (p : Parts) (d : List ℕ) → SealsResponse s n own p d → ProtectsAlone (responses s n) own (inside p) d
+  pub notification : (s : SecurityContext) (n : ℕ) (own : Option ℕ) (p : Parts) (d : List ℕ) → SealsNotification s n own p d → ProtectsAlone (notifications s n) own (inside (as_notified p)) d
 
 -- a plain message has at most one sealed form under one number, or at most one refusal, never both if there is room for that form (RFC 8613, 8.1 and 8.3)
 pub record OneForm {I : Type 0} (f : Protection I) : Type 0 where
@@ -127,14 +149,26 @@ pub record OneForm {I : Type 0} (f : Protection I) : Type 0 where
   pub never_both : (i : I) (p : Parts) (room : ℕ) (d : List ℕ) (e : ProtectError) → IsSealed f i p d → length d ≤ room → RefusesToSeal f i p room e → ⊥
   pub refusal : (i : I) (p : Parts) (room : ℕ) (e g : ProtectError) → RefusesToSeal f i p room e → RefusesToSeal f i p room g → e ≡ g
 
--- requests and responses have at most one sealed form (RFC 8613, 8.1 and 8.3)
+-- requests, responses and notifications have at most one sealed form (RFC 8613, 8.1 and 8.3)
 pub record OneSealed : Type 0 where
   pub request : (s : SecurityContext) → OneForm (requests s)
   pub response : (s : SecurityContext) (n : ℕ) → OneForm (responses s n)
+  pub notification : (s : SecurityContext) (n : ℕ) → OneForm (notifications s n)
 
--- a context without features leaves out Observe, Block2 and Block1, and one with blocks leaves out Observe alone (own rule)
+-- the part outside of a message that has no Observe there: the head, the options of class U, and the OSCORE option (RFC 8613, 4.1 and 4.2)
+abbrev pub plain_outside : Parts → ℕ → List ℕ → List ℕ → Parts
+plain_outside p code value payload = record { kind = p.kind; code = code; message_id = p.message_id; token = p.token; options = outer_options p.options ++ (oscore, value) ∷ []; payload = payload }
+
+-- a context without features leaves out Observe, Block2 and Block1, one with blocks leaves out Observe alone, and one with Observe the blocks alone; without Observe, what stands outside is the options of class U, behind a code that tells nothing (own rule; RFC 8613, 4.1.2 and 4.2)
 pub record LeavesOut : Type 0 where
   pub left_out : (n : ℕ) → is_left_out no_features n ≡ ((n == observe) || (n == block2) || (n == block1))
   pub unsupported : (n : ℕ) → is_unsupported no_features n ≡ (((n == observe) || (n == block2) || (n == block1)) || is_proxy n || (n == oscore))
   pub barred : (n : ℕ) → is_barred no_features n ≡ (((n == observe) || (n == block2) || (n == block1)) || is_outer (class n))
-  pub with_blocks : (n : ℕ) → is_left_out (record { blocks = true }) n ≡ (n == observe)
+  pub with_blocks : (n : ℕ) → is_left_out (record { observe = false; blocks = true }) n ≡ (n == observe)
+  pub with_observe : (n : ℕ) → is_left_out (record { observe = true; blocks = false }) n ≡ ((n == block2) || (n == block1))
+  pub with_both : (n : ℕ) → is_left_out (record { observe = true; blocks = true }) n ≡ false
+  pub without : unobserved no_features ≡ no_features
+  pub outside_alone : (x : Features) (n : ℕ) → is_outside (unobserved x) n ≡ is_outer (class n)
+  pub code : (u : Usage) (x : Features) (entries : List Entry) → outer_code_of u (unobserved x) entries ≡ plain_code_of u
+  pub outer : (x : Features) (p : Parts) (code : ℕ) (value payload : List ℕ) → outside (unobserved x) p code value payload ≡ plain_outside p code value payload
+  pub long : (x : Features) (p : Parts) (value : List ℕ) → sealed_length (unobserved x) as_it_is p value ≡ datagram_length (plain_outside p p.code value []) + (1 + (inner_length (inside p) + tag_length))

@@ -1,13 +1,17 @@
--- To be believed: which options a protected message doesn't have at all, or doesn't have inside (RFC 8613, 4.1). n is the number of an
--- option, x the features of the context.
+-- To be believed: which options a protected message doesn't have at all, doesn't have inside, or has outside (RFC 8613, 4.1). n is the
+-- number of an option, x the features of the context.
 use Rattle.std.specs.Prelude.{ℕ, ◌==◌, ◌||◌, ◌&&◌, Bool, not}
 use Rattle.osc_coap.specs.Class.{class, is_outer}
 use Rattle.osc_coap.specs.OptionNumbers.{block1, block2, observe, oscore, proxy_scheme, proxy_uri}
 use Rattle.osc_context.specs.declared.features.Features.{Features}
 
--- own rule: Observe is left out, and block-wise transfer is, unless the context takes part in it (RFC 8613, 4.1.3.4 and 4.1.3.5)
+-- the option is Observe (RFC 7641, 2)
+abbrev pub is_observe : ℕ → Bool
+is_observe n = n == observe
+
+-- own rule: Observe and block-wise transfer are left out, each unless the context takes part in it (RFC 8613, 4.1.3.4 and 4.1.3.5)
 abbrev pub is_left_out : Features → ℕ → Bool
-is_left_out x n = (n == observe) || (not x.blocks && (n == block2)) || (not x.blocks && (n == block1))
+is_left_out x n = (not x.observe && is_observe n) || (not x.blocks && (n == block2)) || (not x.blocks && (n == block1))
 
 -- the option is for proxies: Proxy-Uri or Proxy-Scheme (RFC 7252, 5.10.2)
 abbrev pub is_proxy : ℕ → Bool
@@ -20,3 +24,7 @@ is_unsupported x n = is_left_out x n || is_proxy n || (n == oscore)
 -- own rule: the option may not stand inside a protected message, because it is left out or is of class U (RFC 8613, 4.1)
 abbrev pub is_barred : Features → ℕ → Bool
 is_barred x n = is_left_out x n || is_outer (class n)
+
+-- the option stands outside: it is of class U, or it is Observe, which stands inside too (RFC 8613, 4.1.2 and 4.1.3.5)
+abbrev pub is_outside : Features → ℕ → Bool
+is_outside x n = (x.observe && is_observe n) || is_outer (class n)

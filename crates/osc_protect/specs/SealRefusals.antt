@@ -1,10 +1,10 @@
 -- To be believed: why a message isn't sealed (RFC 8613, 8.1 and 8.3; own rules: which options, and the limit), row by row in the order in
--- which the rows are checked. p is what the plain message says, u its usage, x the features of the context, parts what its OSCORE option
--- has to say, room the length of the buffer, f a protection, i one of its numbers.
+-- which the rows are checked. p is what the plain message says, u its usage, x the features that count, room the length of the buffer, f a
+-- protection, i one of its numbers.
 use Rattle.std.specs.Prelude.{◌≡◌, ℕ, ◌<◌, ◌≤◌, ◌==◌, List, true, false}
 use Rattle.osc_coap.specs.OptionSpelling.{Entry}
 use Rattle.osc_coap.specs.Datagram.{Parts}
-use Rattle.osc_context.specs.OscoreValue.{OscoreParts, IsOscoreValue}
+use Rattle.osc_context.specs.OscoreValue.{IsOscoreValue}
 use Rattle.osc_coap.specs.Search.{has_number}
 use Rattle.osc_context.specs.declared.features.Features.{Features}
 use Rattle.osc_protect.specs.OptionSets.{is_unsupported}
@@ -56,18 +56,18 @@ RefusesSize len room (Unsupported n) = ⊥
 RefusesSize len room TooLong = 65535 < len
 RefusesSize len room NoRoom = (len ≤ 65535) × (room < len)
 
--- the same for a message whose OSCORE option says these parts (own rule)
-abbrev pub RefusesRoom : Parts → OscoreParts → ℕ → ProtectError → Type 0
-RefusesRoom p parts room e = (value : List ℕ) × IsOscoreValue parts value × RefusesSize (sealed_length p value) room e
+-- the same for a message that is sealed under the number (own rule)
+abbrev pub RefusesRoom : {I : Type 0} → Protection I → I → Parts → ℕ → ProtectError → Type 0
+RefusesRoom f i p room e = (value : List ℕ) × IsOscoreValue (f.parts i) value × RefusesSize (sealed_length f.features f.says p value) room e
 
 -- the condition of each refusal to seal, which excludes the earlier ones (RFC 8613, 8.1 and 8.3)
 abbrev pub RefusesToSeal : {I : Type 0} → Protection I → I → Parts → ℕ → ProtectError → Type 0
 RefusesToSeal f i p room NotThatKind = RefusesPlain f.usage f.features p NotThatKind
 RefusesToSeal f i p room (Unsupported k) = RefusesPlain f.usage f.features p (Unsupported k)
-RefusesToSeal f i p room TooLong = CanBeSealed f.usage f.features p × RefusesRoom p (f.parts i) room TooLong
-RefusesToSeal f i p room NoRoom = CanBeSealed f.usage f.features p × RefusesRoom p (f.parts i) room NoRoom
+RefusesToSeal f i p room TooLong = CanBeSealed f.usage f.features p × RefusesRoom f i p room TooLong
+RefusesToSeal f i p room NoRoom = CanBeSealed f.usage f.features p × RefusesRoom f i p room NoRoom
 
 -- the message can be sealed, and there is room for it (RFC 8613, 8.1 and 8.3)
 abbrev pub FitsToSeal : {I : Type 0} → Protection I → I → Parts → ℕ → Type 0
 FitsToSeal f i p room = CanBeSealed f.usage f.features p
-    × ((value : List ℕ) → IsOscoreValue (f.parts i) value → (sealed_length p value ≤ 65535) × (sealed_length p value ≤ room))
+    × ((value : List ℕ) → IsOscoreValue (f.parts i) value → (sealed_length f.features f.says p value ≤ 65535) × (sealed_length f.features f.says p value ≤ room))

@@ -1,11 +1,11 @@
--- How the code is seen: the values that the stages of opening pass on. s is a security context, n a request's number, d, old and new are
--- datagrams, o is the opened message.
-use Rattle.std.specs.Prelude.{◌≡◌, ℕ, List, Option}
+-- How the code is seen: the values that the stages of opening pass on. s is a security context, n a request's number, r whether that request
+-- registers an observation, d, old and new are datagrams, o is the opened message.
+use Rattle.std.specs.Prelude.{◌≡◌, ℕ, Bool, List, Option}
 use Rattle.std.specs.Option.{option_map}
 use Rattle.osc_coap.specs.Inner.{InnerParts}
 use Rattle.osc_context.specs.SecurityContext.{SecurityContext}
 use Rattle.osc_context.specs.Views.{number_of}
-use Rattle.osc_protect.specs.Protection.{Protection, ProtectsRequest, ProtectsResponse, requests, responses}
+use Rattle.osc_protect.specs.Protection.{Protection, Protects, ProtectsRequest, requests, responses_to}
 use Rattle.osc_protect.specs.Refusals.{RefusesPlaintext}
 use Rattle.osc_protect.specs.Opening.{Opens}
 use Rattle.osc_protect.specs.Stages.{Decrypts, HasPayloadOf, HasPlaintext, HasSealed}
@@ -56,16 +56,16 @@ RefusesRequestAfter new x = (s : SecurityContext) (old : List ℕ) → DecryptsR
 
 -- each datagram that was decrypted to this one as a response protects what was read from it (RFC 8613, 8.4)
 abbrev pub OpensResponseAfter : List ℕ → DecryptedResponse → Opened → Type 0
-OpensResponseAfter new x o = (s : SecurityContext) (n : ℕ) (old : List ℕ) → DecryptsResponse (responses s n) old x new → Opens (responses s n) old o
+OpensResponseAfter new x o = (s : SecurityContext) (r : Bool) (n : ℕ) (old : List ℕ) → DecryptsResponse (responses_to s r n) old x new → Opens (responses_to s r n) old o
 
 -- each datagram that was decrypted to this one as a response protects a message (RFC 8613, 8.4)
 abbrev pub AcceptsResponseAfter : List ℕ → DecryptedResponse → Type 0
-AcceptsResponseAfter new x = (s : SecurityContext) (n : ℕ) (old : List ℕ) → DecryptsResponse (responses s n) old x new
-    → (own : Option ℕ) × (m : InnerParts) × ProtectsResponse s n own m old
+AcceptsResponseAfter new x = (s : SecurityContext) (r : Bool) (n : ℕ) (old : List ℕ) → DecryptsResponse (responses_to s r n) old x new
+    → (own : Option ℕ) × (m : InnerParts) × Protects (responses_to s r n) own m old
 
 -- each datagram that was decrypted to this one as a response protects a bad plaintext (RFC 8613, 8.4)
 abbrev pub RefusesResponseAfter : List ℕ → DecryptedResponse → Type 0
-RefusesResponseAfter new x = (s : SecurityContext) (n : ℕ) (old : List ℕ) → DecryptsResponse (responses s n) old x new → RefusesPlaintext (responses s n) old
+RefusesResponseAfter new x = (s : SecurityContext) (r : Bool) (n : ℕ) (old : List ℕ) → DecryptsResponse (responses_to s r n) old x new → RefusesPlaintext (responses_to s r n) old
 
 -- the value was read from the datagram, which holds the good plaintext of the decrypted request (how the code is seen)
 abbrev pub CanLendRequest : List ℕ → DecryptedRequest → ReadRequest → Type 0

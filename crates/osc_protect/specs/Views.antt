@@ -1,5 +1,5 @@
 -- How the code is seen: heads, opened messages and ciphers as numbers and lists, without saying where the bytes lie.
-use Rattle.std.specs.Prelude.{ℕ, List, Option}
+use Rattle.std.specs.Prelude.{ℕ, List, Option, Bool}
 use Rattle.std.specs.Option.{option_map}
 use Rattle.std.specs.Borrow.{Bor}
 use Rattle.osc_coap.specs.Views.{options_left}
@@ -9,7 +9,7 @@ use Rattle.osc_context.specs.declared.context.Context.{Context}
 use Rattle.osc_protect.specs.ContextCipher.{key_under}
 use Rattle.osc_ccm.specs.Ccm.{ccm}
 use Rattle.osc_protect.specs.Head.{Head}
-use Rattle.osc_protect.specs.Protection.{Protection, requests, responses}
+use Rattle.osc_protect.specs.Protection.{Protection, requests, responses_to}
 use Rattle.osc_protect.specs.Usage.{value_of_request, value_of_response}
 use Rattle.osc_protect.specs.declared.aead.Aead.{Aead}
 use Rattle.osc_protect.specs.declared.keyed_context.KeyedContext.{KeyedContext}
@@ -39,6 +39,10 @@ seen_response_head h = record { kind = h.kind; message_id = h.message_id; token 
 abbrev pub request_number : RequestRef → ℕ
 request_number r = number_of r.number
 
+-- the named request registers an observation (how the code is seen)
+abbrev pub registers : RequestRef → Bool
+registers r = r.registers
+
 -- the cipher of one message, from a plaintext to what protects it (RFC 8613, 5)
 unfoldable pub cipher_of : Aead → List ℕ → List ℕ
 cipher_of a plaintext = ccm (key_under a.cipher) a.nonce a.additional_data.items plaintext
@@ -57,11 +61,11 @@ opened_requests c = requests (as_server c)
 
 -- the responses that this end seals, to a request of the other end (RFC 8613, 8.3)
 abbrev pub sealed_responses : Context → RequestRef → Protection (Option ℕ)
-sealed_responses c r = responses (as_server c) (request_number r)
+sealed_responses c r = responses_to (as_server c) (registers r) (request_number r)
 
 -- the responses that this end opens, to a request of its own (RFC 8613, 8.4)
 abbrev pub opened_responses : Context → RequestRef → Protection (Option ℕ)
-opened_responses c r = responses (as_client c) (request_number r)
+opened_responses c r = responses_to (as_client c) (registers r) (request_number r)
 
 -- the message that was opened: its code, inner options and payload (how the code is seen)
 abbrev pub message_of : Opened → InnerParts

@@ -12,8 +12,8 @@ use osc_coap::{Message, options_ascend};
 use osc_context::Features;
 
 /// Checks whether a context with these features can seal a message as a request, whatever its length. It must be CON or NON with a request
-/// code, and must have none of the options 6, 9, 35 and 39, nor 23 and 27 unless the context has `blocks`. A refusal names the lowest of
-/// these options (RFC 8613, 8.1; own rule: the options).
+/// code, and must have none of the options 9, 35 and 39, nor 6 unless the context has `observe`, nor 23 and 27 unless it has `blocks`. A
+/// refusal names the lowest of these options (RFC 8613, 8.1; own rule: the options).
 pub fn check_request(plain: &Message<'_>, features: Features) -> Result<(), ProtectError>
     ensures accepted { IsOk result → IsPlainRequest features (parts_of plain.now) }
     ensures accepts { IsPlainRequest features (parts_of plain.now) → IsOk result }
@@ -24,7 +24,8 @@ pub fn check_request(plain: &Message<'_>, features: Features) -> Result<(), Prot
 }
 
 /// Checks whether a context with these features can seal a message as a response, whatever its length. It must be CON, NON or ACK with a
-/// response code, and must have none of the options that a request may not have (RFC 8613, 8.3; own rule: the options).
+/// response code, and must have none of the options that a request may not have. For a response to a request that registers no observation,
+/// pass the features without Observe, as [`Features::unobserved`] returns them (RFC 8613, 4.1.3.5 and 8.3; own rule: the options).
 pub fn check_response(plain: &Message<'_>, features: Features) -> Result<(), ProtectError>
     ensures accepted { IsOk result → IsPlainResponse features (parts_of plain.now) }
     ensures accepts { IsPlainResponse features (parts_of plain.now) → IsOk result }

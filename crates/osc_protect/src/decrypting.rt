@@ -103,7 +103,7 @@ pub(crate) fn decrypt_response_forward(
     );
     match aead.open_payload(datagram, sealed.len) {
         Some(len) => Ok(DecryptedResponse {
-            features: context.features(),
+            features: request.features(context),
             number,
             len,
         }),

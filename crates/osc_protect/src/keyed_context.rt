@@ -43,11 +43,11 @@ struct Schedules {
 
 impl KeyedContext {
     ghost use Rattle.osc_protect.specs.Opening.{Opens};
-    ghost use Rattle.osc_protect.specs.Protection.{ProtectsRequest, ProtectsResponse};
+    ghost use Rattle.osc_protect.specs.Protection.{Protects, ProtectsRequest};
     ghost use Rattle.osc_protect.specs.Refusals.{RefusesToOpen};
-    ghost use Rattle.osc_protect.specs.Sealed.{SealsRequest, SealsResponse};
+    ghost use Rattle.osc_protect.specs.Sealed.{IsSealed, SealsRequest};
     ghost use Rattle.osc_protect.specs.SealRefusals.{FitsToSeal, RefusesToSeal};
-    ghost use Rattle.osc_protect.specs.Views.{context_of, message_of, opened_number, opened_requests, opened_responses, request_number, sealed_requests, sealed_responses};
+    ghost use Rattle.osc_protect.specs.Views.{context_of, message_of, opened_number, opened_requests, opened_responses, sealed_requests, sealed_responses};
 
     /// Makes both schedules, and keeps them.
     #[must_use]
@@ -131,7 +131,7 @@ impl KeyedContext {
         plain: &Message<'_>,
         out: &mut [u8],
     ) -> Result<usize, ProtectError>
-        ensures sealed { IfOk result (λ n. SealsResponse (as_server (context_of self.now)) (request_number request.now) (option_map number_of own) (parts_of plain.now) (take n out.new)) }
+        ensures sealed { IfOk result (λ n. IsSealed (sealed_responses (context_of self.now) request.now) (option_map number_of own) (parts_of plain.now) (take n out.new)) }
         ensures within { IfOk result (λ n. n ≤ length out.new) }
         ensures behind { IfOk result (λ n. drop n out.new ≡ drop n out.old) }
         ensures accepts { FitsToSeal (sealed_responses (context_of self.now) request.now) (option_map number_of own) (parts_of plain.now) (length out.old)
@@ -164,8 +164,7 @@ impl KeyedContext {
         datagram: &'b mut [u8],
     ) -> Result<Opened<'b>, UnprotectError>
         ensures opened { IfOk result (λ o. Opens (opened_responses (context_of self.now) request.now) datagram.old o) }
-        ensures accepts { (own : Option ℕ) (m : InnerParts)
-            → ProtectsResponse (as_client (context_of self.now)) (request_number request.now) own m datagram.old
+        ensures accepts { (own : Option ℕ) (m : InnerParts) → Protects (opened_responses (context_of self.now) request.now) own m datagram.old
             → IsOkAnd result (λ o. (opened_number o ≡ own) × (message_of o ≡ m)) }
         ensures refused { IfErr result (λ e. RefusesToOpen (opened_responses (context_of self.now) request.now) datagram.old e) }
         ensures refuses { (e : UnprotectError) → RefusesToOpen (opened_responses (context_of self.now) request.now) datagram.old e → IsErrOf result e }

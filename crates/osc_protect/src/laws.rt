@@ -2,7 +2,7 @@
 //! caller.
 
 ghost use Rattle.osc_protect.specs.CipherLaws.{OneRequestInput, OneResponseInput};
-ghost use Rattle.osc_protect.specs.Laws.{LeavesOut, NamedRequestRefusals, NamedResponseRefusals, NamesOneClient, OneRequest, OneRequestHead, OneRequestReading, OneResponse, OneResponseHead, OneResponseReading, OneSealed, RequestsShowHeads, ResponsesShowHeads, SealedOpens};
+ghost use Rattle.osc_protect.specs.Laws.{LeavesOut, NamedNotificationRefusals, NamedRequestRefusals, NamedResponseRefusals, NamesOneClient, NotificationsShowHeads, OneNotification, OneNotificationReading, OneRequest, OneRequestHead, OneRequestReading, OneResponse, OneResponseHead, OneResponseReading, OneSealed, RequestsShowHeads, ResponsesShowHeads, SealedOpens};
 ghost use Rattle.osc_protect.specs.Layers.{LayerLaws};
 
 use osc_ccm::{one_plaintext, protection_length};
@@ -29,8 +29,9 @@ pub fn one_head()
     layer_laws();
 }
 
-/// States which options are left out: by a context without features Observe, Block2 and Block1, and by one with blocks Observe alone
-/// (own rule).
+/// States which options are left out: by a context without features Observe, Block2 and Block1, by one with blocks Observe alone, and by one
+/// with Observe Block2 and Block1. Without Observe, a sealed message has outside the options of class U alone, and the code 0.02 or 2.04
+/// (own rule; RFC 8613, 4.1.2 and 4.2).
 pub fn options_left_out()
     ensures { LeavesOut }
 {}
@@ -40,11 +41,12 @@ pub fn one_client()
     ensures { NamesOneClient }
 {}
 
-/// States that a protected request or response has a head that says what the context says under the message's number. If the datagram was
-/// sealed, this head has the Type, Message ID and token of the plain message (RFC 8613, 8.1 and 8.3).
+/// States that a protected request or response, notification or not, has a head that says what the context says under the message's number.
+/// If the datagram was sealed, this head has the Type, Message ID and token of the plain message (RFC 8613, 8.1 and 8.3).
 pub fn protections_show_heads()
     ensures request { RequestsShowHeads }
     ensures response { ResponsesShowHeads }
+    ensures notification { NotificationsShowHeads }
 {
     layer_laws();
 }
@@ -53,6 +55,7 @@ pub fn protections_show_heads()
 pub fn named_refusals()
     ensures request { NamedRequestRefusals }
     ensures response { NamedResponseRefusals }
+    ensures notification { NamedNotificationRefusals }
 {
     one_head();
 }
@@ -72,27 +75,38 @@ pub fn one_response()
     layer_laws();
 }
 
+/// States the same of the responses to a request that registers an observation: a datagram protects at most one of them, under one own
+/// number or none, or has at most one refusal, never both (RFC 8613, 8.4).
+pub fn one_notification()
+    ensures { OneNotification }
+{
+    layer_laws();
+}
+
 /// States that everyone who reads a datagram reads the same. If its head names one context and it protects a message under another, both
 /// contexts say the same in the OSCORE option. A datagram that opens has one head, one number, one pair of Uri-Host and Uri-Port, and one
 /// message (RFC 8613, 8.2 and 8.4).
 pub fn one_reading()
     ensures request { OneRequestReading }
     ensures response { OneResponseReading }
+    ensures notification { OneNotificationReading }
 {
     layer_laws();
 }
 
 /// States that what one end seals, a request or a response to it, opens at the other end as the plain message's code, inner options and
-/// payload, and as no other message (RFC 8613, 8.1 to 8.4).
+/// payload, and as no other message. Of a response to a request that registers an observation, the Observe option opens empty (RFC 8613,
+/// 4.1.3.5.2 and 8.1 to 8.4).
 pub fn sealed_opens()
     ensures { SealedOpens }
 {
     one_request();
     one_response();
+    one_notification();
 }
 
 /// States that a plain request has at most one sealed form under one number and at most one refusal, and never both if there is room for
-/// that form. It states the same for a plain response (RFC 8613, 8.1 and 8.3).
+/// that form. It states the same for a plain response, notification or not (RFC 8613, 8.1 and 8.3).
 pub fn one_sealed()
     ensures { OneSealed }
 {

@@ -9,6 +9,8 @@
 //! let len = context.seal_response(&RequestRef::new(number), None, &plain, &mut out)?;
 //! ```
 //!
+//! If the request registers an observation, `RequestRef::registering(number)` names it, and a response to it may have Observe (4.1.3.5).
+//!
 //! `open_request`, for example, is a call. `open_request_by` does the same over the end whose key it takes, for a `Context` and a
 //! `KeyedContext` alike. `open_request_forward` does the work. Its clauses lead from its result to what holds, and the call adds their
 //! converses by a law. Other calls have such workers with the same endings of names, if a proof needs them.
@@ -19,6 +21,7 @@ mod checks;
 mod context_cipher;
 mod decrypting;
 mod ends;
+mod family;
 mod head_error;
 mod keyed_context;
 mod laws;
@@ -45,8 +48,8 @@ pub use decrypting::{decrypt_request, decrypt_response};
 pub use head_error::{HeadError, NoHead};
 pub use keyed_context::KeyedContext;
 pub use laws::{
-    named_refusals, one_cipher_input, one_client, one_head, one_reading, one_request, one_response,
-    one_sealed, options_left_out, protections_show_heads, sealed_opens,
+    named_refusals, one_cipher_input, one_client, one_head, one_notification, one_reading,
+    one_request, one_response, one_sealed, options_left_out, protections_show_heads, sealed_opens,
 };
 pub use opened::Opened;
 pub use opening::{open_request, open_response};

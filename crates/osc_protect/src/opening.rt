@@ -1,21 +1,21 @@
 //! Opens a request or a response in the datagram that carries it (RFC 8613, 8.2 and 8.4). Each call runs the stages one after the other
 //! over a context, and makes the schedule of one of its keys.
 
-ghost use Rattle.std.specs.Prelude.{◌≡◌, ◌≢◌, ℕ, List, Option, Some, IfOk, IfErr, IsOkAnd, IsErrOf};
+ghost use Rattle.std.specs.Prelude.{◌≡◌, ◌≢◌, ℕ, Bool, List, Option, Some, IfOk, IfErr, IsOkAnd, IsErrOf};
 ghost use Rattle.osc_coap.specs.Inner.{InnerParts};
 ghost use Rattle.osc_context.specs.SecurityContext.{SecurityContext};
-ghost use Rattle.osc_context.specs.Views.{as_client, as_server};
+ghost use Rattle.osc_context.specs.Views.{as_server};
 ghost use Rattle.osc_protect.specs.Opening.{Opens};
-ghost use Rattle.osc_protect.specs.Protection.{ProtectsRequest, ProtectsResponse, responses};
+ghost use Rattle.osc_protect.specs.Protection.{Protects, ProtectsRequest, responses_to};
 ghost use Rattle.osc_protect.specs.Refusals.{RefusesToOpen};
 ghost use Rattle.osc_protect.specs.StageViews.{IsSealedRequest, IsSealedResponse};
-ghost use Rattle.osc_protect.specs.Views.{message_of, opened_number, opened_requests, opened_responses, request_number};
+ghost use Rattle.osc_protect.specs.Views.{message_of, opened_number, opened_requests, opened_responses};
 ghost use Rattle.osc_protect.specs.declared.unprotect_error.UnprotectError.{UnprotectError};
 ghost use Rattle.osc_protect.specs.declared.unprotect_error.UnprotectError.TheVariants.{WrongContext};
 
 use crate::decrypting::{decrypt_request_forward, decrypt_response_forward};
 use crate::ends::Recipient;
-use crate::laws::{one_request, one_response};
+use crate::laws::{one_notification, one_request, one_response};
 use crate::opened::Opened;
 use crate::reading::{read_request, read_response};
 use crate::request_head::head_of_request;
@@ -50,8 +50,7 @@ pub fn open_response<'b>(
 ) -> Result<Opened<'b>, UnprotectError>
     ensures opened { IfOk result (λ o. Opens (opened_responses context.now request.now) datagram.old o) }
     // Whatever message the datagram protects, that message opens.
-    ensures accepts { (own : Option ℕ) (m : InnerParts)
-        → ProtectsResponse (as_client context.now) (request_number request.now) own m datagram.old
+    ensures accepts { (own : Option ℕ) (m : InnerParts) → Protects (opened_responses context.now request.now) own m datagram.old
         → IsOkAnd result (λ o. (opened_number o ≡ own) × (message_of o ≡ m)) }
     ensures refused { IfErr result (λ e. RefusesToOpen (opened_responses context.now request.now) datagram.old e) }
     ensures refuses { (e : UnprotectError) → RefusesToOpen (opened_responses context.now request.now) datagram.old e → IsErrOf result e }
@@ -82,14 +81,14 @@ pub(crate) fn open_response_by<'b>(
     datagram: &'b mut [u8],
 ) -> Result<Opened<'b>, UnprotectError>
     ensures opened { IfOk result (λ o. Opens (opened_responses recipient.entry.context.now request.now) datagram.old o) }
-    ensures accepts { (own : Option ℕ) (m : InnerParts)
-        → ProtectsResponse (as_client recipient.entry.context.now) (request_number request.now) own m datagram.old
+    ensures accepts { (own : Option ℕ) (m : InnerParts) → Protects (opened_responses recipient.entry.context.now request.now) own m datagram.old
         → IsOkAnd result (λ o. (opened_number o ≡ own) × (message_of o ≡ m)) }
     ensures refused { IfErr result (λ e. RefusesToOpen (opened_responses recipient.entry.context.now request.now) datagram.old e) }
     ensures refuses { (e : UnprotectError) → RefusesToOpen (opened_responses recipient.entry.context.now request.now) datagram.old e → IsErrOf result e }
     ensures no_wrong_context { IfErr result (λ e. e ≢ WrongContext) }
 {
     one_response();
+    one_notification();
     open_response_forward(recipient, request, datagram)
 }
 
@@ -149,8 +148,8 @@ fn find_request(context: &Context, datagram: &[u8]) -> Result<SealedRequest, Unp
 
 /// Reads the head of a response, which names no context.
 fn find_response(datagram: &[u8]) -> Result<SealedResponse, UnprotectError>
-    ensures found { IfOk result (λ x. (s : SecurityContext) (n : ℕ) → IsSealedResponse (responses s n) datagram.now x) }
-    ensures refused { IfErr result (λ e. (s : SecurityContext) (n : ℕ) → RefusesToOpen (responses s n) datagram.now e) }
+    ensures found { IfOk result (λ x. (s : SecurityContext) (r : Bool) (n : ℕ) → IsSealedResponse (responses_to s r n) datagram.now x) }
+    ensures refused { IfErr result (λ e. (s : SecurityContext) (r : Bool) (n : ℕ) → RefusesToOpen (responses_to s r n) datagram.now e) }
     ensures no_wrong_context { IfErr result (λ e. e ≢ WrongContext) }
 {
     match head_of_response(datagram) {

@@ -1,19 +1,19 @@
 //! The last stage of opening: it reads the plaintext of a decrypted datagram, and lends slices of the datagram (RFC 8613, 8.2 and 8.4). The
 //! only refusal is a bad plaintext.
 
-ghost use Rattle.std.specs.Prelude.{◌≡◌, ℕ, List, Option, Some, IfOk, IsErr, IsOk, IsOkAnd, OnErr, OnOk};
+ghost use Rattle.std.specs.Prelude.{◌≡◌, ℕ, Bool, List, Option, Some, IfOk, IsErr, IsOk, IsOkAnd, OnErr, OnOk};
 ghost use Rattle.osc_coap.specs.Inner.{InnerParts};
 ghost use Rattle.osc_context.specs.SecurityContext.{SecurityContext};
 ghost use Rattle.osc_context.specs.Views.{number_of};
 ghost use Rattle.osc_context.specs.declared.features.Features.{Features};
 ghost use Rattle.osc_protect.specs.Halves.{ReadsInner, RefusesInner};
-ghost use Rattle.osc_protect.specs.Protection.{ProtectsRequest, ProtectsResponse, requests, responses};
+ghost use Rattle.osc_protect.specs.Protection.{Protects, ProtectsRequest, requests, responses_to};
 ghost use Rattle.osc_protect.specs.Refusals.{RefusesPlaintext};
 ghost use Rattle.osc_protect.specs.Stages.{HasPayloadOf, HasPlaintext};
 ghost use Rattle.osc_protect.specs.StageViews.{AcceptsRequestAfter, AcceptsResponseAfter, DecryptsRequest, DecryptsResponse, FitsRequest, FitsResponse, OpensRequestAfter, OpensResponseAfter, RefusesRequestAfter, RefusesResponseAfter, CanLendRequest, CanLendResponse};
 ghost use Rattle.osc_protect.specs.Views.{message_of, opened_number};
 
-use crate::laws::{one_request, one_response};
+use crate::laws::{one_notification, one_request, one_response};
 use crate::opened::Opened;
 use crate::option_search::{OuterUri, has_barred};
 use crate::stage_error::BadInner;
@@ -115,13 +115,14 @@ pub fn inspect_response(
     requires { FitsResponse datagram.now decrypted }
     ensures placed { IfOk result (λ x. CanLendResponse datagram.now decrypted x) }
     ensures accepted { OnOk result (AcceptsResponseAfter datagram.now decrypted) }
-    ensures accepts { (s : SecurityContext) (n : ℕ) (old : List ℕ) (own : Option ℕ) (m : InnerParts) → DecryptsResponse (responses s n) old decrypted datagram.now
-        → ProtectsResponse s n own m old → IsOk result }
+    ensures accepts { (s : SecurityContext) (r : Bool) (n : ℕ) (old : List ℕ) (own : Option ℕ) (m : InnerParts)
+        → DecryptsResponse (responses_to s r n) old decrypted datagram.now → Protects (responses_to s r n) own m old → IsOk result }
     ensures refused { OnErr result (RefusesResponseAfter datagram.now decrypted) }
-    ensures refuses { (s : SecurityContext) (n : ℕ) (old : List ℕ) → DecryptsResponse (responses s n) old decrypted datagram.now
-        → RefusesPlaintext (responses s n) old → IsErr result }
+    ensures refuses { (s : SecurityContext) (r : Bool) (n : ℕ) (old : List ℕ) → DecryptsResponse (responses_to s r n) old decrypted datagram.now
+        → RefusesPlaintext (responses_to s r n) old → IsErr result }
 {
     one_response();
+    one_notification();
     inspect_response_forward(datagram, decrypted)
 }
 
@@ -170,13 +171,14 @@ impl ReadResponse {
 pub fn read_response(datagram: &[u8], decrypted: DecryptedResponse) -> Result<Opened<'_>, BadInner>
     requires { FitsResponse datagram.now decrypted }
     ensures opened { IfOk result (λ o. OpensResponseAfter datagram.now decrypted o) }
-    ensures accepts { (s : SecurityContext) (n : ℕ) (old : List ℕ) (own : Option ℕ) (m : InnerParts) → DecryptsResponse (responses s n) old decrypted datagram.now
-        → ProtectsResponse s n own m old → IsOkAnd result (λ o. (opened_number o ≡ own) × (message_of o ≡ m)) }
+    ensures accepts { (s : SecurityContext) (r : Bool) (n : ℕ) (old : List ℕ) (own : Option ℕ) (m : InnerParts)
+        → DecryptsResponse (responses_to s r n) old decrypted datagram.now → Protects (responses_to s r n) own m old → IsOkAnd result (λ o. (opened_number o ≡ own) × (message_of o ≡ m)) }
     ensures refused { OnErr result (RefusesResponseAfter datagram.now decrypted) }
-    ensures refuses { (s : SecurityContext) (n : ℕ) (old : List ℕ) → DecryptsResponse (responses s n) old decrypted datagram.now
-        → RefusesPlaintext (responses s n) old → IsErr result }
+    ensures refuses { (s : SecurityContext) (r : Bool) (n : ℕ) (old : List ℕ) → DecryptsResponse (responses_to s r n) old decrypted datagram.now
+        → RefusesPlaintext (responses_to s r n) old → IsErr result }
 {
     one_response();
+    one_notification();
     read_response_forward(datagram, decrypted)
 }
 

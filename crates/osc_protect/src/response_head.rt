@@ -1,6 +1,6 @@
 //! What a protected response shows to a reader without the key (RFC 8613, 8.4, steps 1 and 2).
 
-ghost use Rattle.std.specs.Prelude.{IfOk, IfErr, IsOkAnd, IsErrOf, List, ℕ, ◌≡◌, true};
+ghost use Rattle.std.specs.Prelude.{IfOk, IfErr, IsOkAnd, IsErrOf, Bool, List, ℕ, ◌≡◌, true};
 ghost use Rattle.osc_coap.specs.Views.{parts_of};
 ghost use Rattle.osc_context.specs.Views.{oscore_parts_of};
 ghost use Rattle.osc_protect.specs.declared.head_error.NoHead.{NoHead};
@@ -31,7 +31,7 @@ ghost use Rattle.osc_protect.specs.Views.{head_of, seen_response_head};
 
 impl<'a> ResponseHead<'a> {
     ghost use Rattle.osc_context.specs.SecurityContext.{SecurityContext};
-    ghost use Rattle.osc_protect.specs.Protection.{responses};
+    ghost use Rattle.osc_protect.specs.Protection.{responses_to};
     ghost use Rattle.osc_protect.specs.StageViews.{IsSealedResponse};
 
     /// Reads what a message, as a protected response, shows to a reader without the key. Returns the first refusal in the order of `NoHead`
@@ -60,7 +60,7 @@ impl<'a> ResponseHead<'a> {
     /// Returns what `decrypt_response` needs from the head: where the ciphertext lies, and the Partial IV if there is one.
     #[must_use]
     pub fn sealed(&self) -> SealedResponse
-        ensures { (s : SecurityContext) (n : ℕ) (d : List ℕ) → HasResponseHead d (seen_response_head self.now) → IsSealedResponse (responses s n) d result }
+        ensures { (s : SecurityContext) (r : Bool) (n : ℕ) (d : List ℕ) → HasResponseHead d (seen_response_head self.now) → IsSealedResponse (responses_to s r n) d result }
     {
         SealedResponse {
             number: self.number,

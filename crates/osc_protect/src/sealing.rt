@@ -1,7 +1,7 @@
 //! Seals a request or a response into the caller's buffer (RFC 8613, 8.1 and 8.3). The length of the sealed message is known before a
 //! byte is written.
 //!
-//!     head, outer code | token | options of class U | OSCORE option | ff | plaintext, sealed in place | tag
+//!     head, outer code | token | options of class U and Observe | OSCORE option | ff | plaintext, sealed in place | tag
 
 ghost use Rattle.std.specs.Prelude.{◌≡◌, ◌≢◌, ◌≤◌, ◌+◌, [], ℕ, List, length, take, drop, IfOk, IfErr, IsErrOf, IsOk, OnErr, false};
 ghost use Rattle.std.specs.Option.{option_map};
@@ -14,17 +14,18 @@ ghost use Rattle.osc_context.specs.Views.{as_client, as_server, number_of, oscor
 ghost use Rattle.osc_context.specs.declared.features.Features.{Features};
 ghost use Rattle.osc_coap.specs.Search.{has_number};
 ghost use Rattle.osc_protect.specs.OptionSets.{is_unsupported};
-ghost use Rattle.osc_protect.specs.Protection.{requests, responses};
-ghost use Rattle.osc_protect.specs.Sealed.{HoldsSealed, SealsRequest, SealsResponse, inside, outside, sealed_length};
+ghost use Rattle.osc_protect.specs.Sealed.{HoldsSealed, IsSealed, SealsRequest, inside, outside, sealed_length};
 ghost use Rattle.osc_protect.specs.SealRefusals.{FitsToSeal, RefusesSize, RefusesToSeal};
 ghost use Rattle.osc_protect.specs.Halves.{Makes};
+ghost use Rattle.osc_protect.specs.Split.{said};
 ghost use Rattle.osc_protect.specs.Usage.{outer_code_of, value_of_response};
-ghost use Rattle.osc_protect.specs.Views.{cipher_of, request_number, sealed_requests, sealed_responses};
+ghost use Rattle.osc_protect.specs.Views.{cipher_of, sealed_requests, sealed_responses};
 ghost use Rattle.osc_protect.specs.declared.protect_error.ProtectError.{ProtectError};
 
 use crate::aead::Aead;
 use crate::checks::{check_request, check_response};
 use crate::ends::Sender;
+use crate::family::Family;
 use crate::lengths::judge_length;
 use crate::protect_error::ProtectError;
 use crate::request_ref::RequestRef;
@@ -34,44 +35,50 @@ use arrayvec::ArrayVec;
 use osc_ccm::protection_length;
 use osc_coap::option_numbers::OSCORE;
 use osc_coap::{Message, Writer, options_ascend, payload_stands_last};
-use osc_context::{Context, OscoreOption, Piv, one_option_value};
+use osc_context::{Context, Features, OscoreOption, Piv, one_option_value};
 
 /// The byte in front of a payload.
 const MARKER: u8 = 0xff;
 
 /// Writes what stands outside the protection, and returns its length.
-fn write_outside(plain: &Message<'_>, code: u8, value: &[u8], out: &mut [u8]) -> usize
+fn write_outside(
+    features: Features,
+    plain: &Message<'_>,
+    code: u8,
+    value: &[u8],
+    out: &mut [u8],
+) -> usize
     requires code { code ≢ 0 }
-    requires supported { (x : Features) × (has_number (is_unsupported x) (parts_of plain.now).options ≡ false) }
+    requires supported { has_number (is_unsupported features) (parts_of plain.now).options ≡ false }
     requires value { length value.now ≤ 255 }
-    requires room { datagram_length (outside (parts_of plain.now) code value.now []) ≤ length out.old }
-    requires fits { datagram_length (outside (parts_of plain.now) code value.now []) ≤ 65535 }
-    ensures written { IsDatagram (outside (parts_of plain.now) code value.now []) (take result out.new) }
+    requires room { datagram_length (outside features (parts_of plain.now) code value.now []) ≤ length out.old }
+    requires fits { datagram_length (outside features (parts_of plain.now) code value.now []) ≤ 65535 }
+    ensures written { IsDatagram (outside features (parts_of plain.now) code value.now []) (take result out.new) }
     ensures behind { drop result out.new ≡ drop result out.old }
-    ensures length { result ≡ datagram_length (outside (parts_of plain.now) code value.now []) }
+    ensures length { result ≡ datagram_length (outside features (parts_of plain.now) code value.now []) }
     ensures same_length { length out.new ≡ length out.old }
 {
     options_ascend();
     let mut writer = Writer::begin(out, plain.kind, code, plain.message_id, &plain.token);
-    write_side(&mut writer, plain.options(), Side::Outside);
+    write_side(&mut writer, plain.options(), Side::Outside(features));
     let Ok(()) = writer.option(OSCORE, value) else {
         unreachable!()
     };
     writer.finish()
 }
 
-/// Writes the plaintext, and returns its length.
-fn write_inside(plain: &Message<'_>, buf: &mut [u8]) -> usize
-    requires room { inner_length (inside (parts_of plain.now)) ≤ length buf.old }
-    requires fits { inner_length (inside (parts_of plain.now)) ≤ 65535 }
-    ensures written { IsInner (inside (parts_of plain.now)) (take result buf.new) }
+/// Writes the plaintext, of a notification or of another message, and returns its length.
+fn write_inside(notifies: bool, plain: &Message<'_>, buf: &mut [u8]) -> usize
+    requires room { inner_length (inside (said notifies (parts_of plain.now))) ≤ length buf.old }
+    requires fits { inner_length (inside (said notifies (parts_of plain.now))) ≤ 65535 }
+    ensures written { IsInner (inside (said notifies (parts_of plain.now))) (take result buf.new) }
     ensures behind { drop result buf.new ≡ drop result buf.old }
-    ensures length { result ≡ inner_length (inside (parts_of plain.now)) }
+    ensures length { result ≡ inner_length (inside (said notifies (parts_of plain.now))) }
     ensures same_length { length buf.new ≡ length buf.old }
 {
     options_ascend();
     let mut writer = Writer::begin_inner(buf, plain.code);
-    write_side(&mut writer, plain.options(), Side::Inside);
+    write_side(&mut writer, plain.options(), Side::Inside(notifies));
     let Ok(()) = writer.payload(plain.payload()) else {
         unreachable!()
     };
@@ -134,52 +141,53 @@ fn write_response_value(own: Option<Piv>, value: &mut ArrayVec<u8, 255>)
 
 /// Seals a message that passed the checks: there is room for it.
 fn seal_judged(
-    usage: Usage,
+    family: Family,
     value: &[u8],
     aead: &Aead<'_>,
     plain: &Message<'_>,
     out: &mut [u8],
 ) -> usize
-    requires supported { (x : Features) × (has_number (is_unsupported x) (parts_of plain.now).options ≡ false) }
+    requires supported { has_number (is_unsupported family.features) (parts_of plain.now).options ≡ false }
     requires short { length value.now ≤ 255 }
-    requires fits { sealed_length (parts_of plain.now) value.now ≤ 65535 }
-    requires room { sealed_length (parts_of plain.now) value.now ≤ length out.old }
-    ensures sealed { HoldsSealed (parts_of plain.now) (outer_code_of usage) value.now (cipher_of aead.now) (take result out.new) }
-    ensures length { result ≡ sealed_length (parts_of plain.now) value.now }
+    requires fits { sealed_length family.features (said family.notifies) (parts_of plain.now) value.now ≤ 65535 }
+    requires room { sealed_length family.features (said family.notifies) (parts_of plain.now) value.now ≤ length out.old }
+    ensures sealed { HoldsSealed family.features (said family.notifies) (parts_of plain.now) (outer_code_of family.usage family.features (parts_of plain.now).options) value.now (cipher_of aead.now) (take result out.new) }
+    ensures length { result ≡ sealed_length family.features (said family.notifies) (parts_of plain.now) value.now }
     ensures behind { drop result out.new ≡ drop result out.old }
 {
-    let at = write_outside(plain, outer_code(usage), value, out);
-    let len = write_inside(plain, &mut out[at + 1..]);
+    let code = outer_code(family.usage, family.features, plain);
+    let at = write_outside(family.features, plain, code, value, out);
+    let len = write_inside(family.notifies, plain, &mut out[at + 1..]);
     seal_behind(aead, out, at, len)
 }
 
 /// Checks the length of a message that can be sealed, then seals it.
 fn seal_in_room(
-    usage: Usage,
+    family: Family,
     value: &[u8],
     aead: &Aead<'_>,
     plain: &Message<'_>,
     out: &mut [u8],
 ) -> Result<usize, ProtectError>
-    requires supported { (x : Features) × (has_number (is_unsupported x) (parts_of plain.now).options ≡ false) }
+    requires supported { has_number (is_unsupported family.features) (parts_of plain.now).options ≡ false }
     requires short { length value.now ≤ 255 }
-    ensures sealed { IfOk result (λ n. HoldsSealed (parts_of plain.now) (outer_code_of usage) value.now (cipher_of aead.now) (take n out.new)) }
-    ensures length { IfOk result (λ n. n ≡ sealed_length (parts_of plain.now) value.now) }
+    ensures sealed { IfOk result (λ n. HoldsSealed family.features (said family.notifies) (parts_of plain.now) (outer_code_of family.usage family.features (parts_of plain.now).options) value.now (cipher_of aead.now) (take n out.new)) }
+    ensures length { IfOk result (λ n. n ≡ sealed_length family.features (said family.notifies) (parts_of plain.now) value.now) }
     ensures fits { IfOk result (λ n. n ≤ 65535) }
     ensures room { IfOk result (λ n. n ≤ length out.old) }
     ensures within { IfOk result (λ n. n ≤ length out.new) }
     ensures behind { IfOk result (λ n. drop n out.new ≡ drop n out.old) }
-    ensures refused { IfErr result (λ e. RefusesSize (sealed_length (parts_of plain.now) value.now) (length out.old) e) }
+    ensures refused { IfErr result (λ e. RefusesSize (sealed_length family.features (said family.notifies) (parts_of plain.now) value.now) (length out.old) e) }
     ensures unchanged { OnErr result (out.new ≡ out.old) }
 {
-    judge_length(plain, value, out.len())?;
-    Ok(seal_judged(usage, value, aead, plain, out))
+    judge_length(family, plain, value, out.len())?;
+    Ok(seal_judged(family, value, aead, plain, out))
 }
 
 /// Seals a request with the sender's next Sender Sequence Number, and returns how many bytes it takes at the front of `out`. The bytes
-/// after them stay unchanged. Type, Message ID and token are the plain message's; the outer code is 0.02. Returns the first refusal in the
-/// order of `ProtectError`. A refusal leaves `out` unchanged. The caller keeps the number fresh: no two messages may be sealed with the
-/// same one (RFC 8613, 8.1).
+/// after them stay unchanged. Type, Message ID and token are the plain message's; the outer code is 0.02, or 0.05 if the message has
+/// Observe. Returns the first refusal in the order of `ProtectError`. A refusal leaves `out` unchanged. The caller keeps the number fresh:
+/// no two messages may be sealed with the same one (RFC 8613, 8.1).
 pub fn seal_request(
     context: &Context,
     number: Piv,
@@ -199,9 +207,10 @@ pub fn seal_request(
 }
 
 /// Seals a response to a request, with the server's own Partial IV or else with the request's nonce. Returns how many bytes it takes at
-/// the front of `out`; the bytes after them stay unchanged. Type, Message ID and token are the plain message's; the outer code is 2.04.
-/// Returns the first refusal in the order of `ProtectError`. A refusal leaves `out` unchanged. The caller keeps the own number fresh, and
-/// seals at most one response without one to each request (RFC 8613, 8.3).
+/// the front of `out`; the bytes after them stay unchanged. Type, Message ID and token are the plain message's; the outer code is 2.04, or
+/// 2.05 if the message has Observe. A response may have Observe only if the request registers an observation; its value then stands
+/// outside alone. Returns the first refusal in the order of `ProtectError`. A refusal leaves `out` unchanged. The caller keeps the own
+/// number fresh, and seals at most one response without one to each request (RFC 8613, 4.1.3.5.2 and 8.3).
 pub fn seal_response(
     context: &Context,
     request: &RequestRef,
@@ -209,7 +218,7 @@ pub fn seal_response(
     plain: &Message<'_>,
     out: &mut [u8],
 ) -> Result<usize, ProtectError>
-    ensures sealed { IfOk result (λ n. SealsResponse (as_server context.now) (request_number request.now) (option_map number_of own) (parts_of plain.now) (take n out.new)) }
+    ensures sealed { IfOk result (λ n. IsSealed (sealed_responses context.now request.now) (option_map number_of own) (parts_of plain.now) (take n out.new)) }
     ensures within { IfOk result (λ n. n ≤ length out.new) }
     ensures behind { IfOk result (λ n. drop n out.new ≡ drop n out.old) }
     ensures accepts { FitsToSeal (sealed_responses context.now request.now) (option_map number_of own) (parts_of plain.now) (length out.old) → IsOk result }
@@ -250,7 +259,7 @@ pub(crate) fn seal_response_by(
     plain: &Message<'_>,
     out: &mut [u8],
 ) -> Result<usize, ProtectError>
-    ensures sealed { IfOk result (λ n. SealsResponse (as_server sender.entry.context.now) (request_number request.now) (option_map number_of own) (parts_of plain.now) (take n out.new)) }
+    ensures sealed { IfOk result (λ n. IsSealed (sealed_responses sender.entry.context.now request.now) (option_map number_of own) (parts_of plain.now) (take n out.new)) }
     ensures within { IfOk result (λ n. n ≤ length out.new) }
     ensures behind { IfOk result (λ n. drop n out.new ≡ drop n out.old) }
     ensures accepts { FitsToSeal (sealed_responses sender.entry.context.now request.now) (option_map number_of own) (parts_of plain.now) (length out.old) → IsOk result }
@@ -279,11 +288,16 @@ fn seal_request_forward(
     ensures unchanged { OnErr result (out.new ≡ out.old) }
 {
     let context = sender.context;
-    check_request(plain, context.features())?;
+    let family = Family {
+        usage: Usage::Request,
+        features: context.features(),
+        notifies: false,
+    };
+    check_request(plain, family.features)?;
     let mut value = ArrayVec::new();
     write_request_value(context, number, &mut value);
     let aead = Aead::of_request(sender.end(), context.common_iv(), number);
-    seal_in_room(Usage::Request, value.as_slice(), &aead, plain, out)
+    seal_in_room(family, value.as_slice(), &aead, plain, out)
 }
 
 /// Checks a response, then its length, then seals it.
@@ -294,7 +308,7 @@ fn seal_response_forward(
     plain: &Message<'_>,
     out: &mut [u8],
 ) -> Result<usize, ProtectError>
-    ensures sealed { IfOk result (λ n. SealsResponse (as_server sender.entry.context.now) (request_number request.now) (option_map number_of own) (parts_of plain.now) (take n out.new)) }
+    ensures sealed { IfOk result (λ n. IsSealed (sealed_responses sender.entry.context.now request.now) (option_map number_of own) (parts_of plain.now) (take n out.new)) }
     ensures made { IfOk result (λ n. Makes (sealed_responses sender.entry.context.now request.now) (option_map number_of own) (parts_of plain.now) (length out.old) n) }
     ensures within { IfOk result (λ n. n ≤ length out.new) }
     ensures behind { IfOk result (λ n. drop n out.new ≡ drop n out.old) }
@@ -303,7 +317,12 @@ fn seal_response_forward(
     ensures unchanged { OnErr result (out.new ≡ out.old) }
 {
     let context = sender.context;
-    check_response(plain, context.features())?;
+    let family = Family {
+        usage: Usage::Response,
+        features: request.features(context),
+        notifies: request.registers,
+    };
+    check_response(plain, family.features)?;
     let client = context.recipient();
     let mut value = ArrayVec::new();
     write_response_value(own, &mut value);
@@ -314,5 +333,5 @@ fn seal_response_forward(
         request.number,
         own,
     );
-    seal_in_room(Usage::Response, value.as_slice(), &aead, plain, out)
+    seal_in_room(family, value.as_slice(), &aead, plain, out)
 }

@@ -1,16 +1,24 @@
 //! What tells a request from a response.
 
 ghost use Rattle.std.specs.Prelude.{◌≡◌};
+ghost use Rattle.osc_coap.specs.Views.{parts_of};
 ghost use Rattle.osc_context.specs.Views.{oscore_parts_of};
 
+use crate::option_search::has_observe;
 use osc_coap::{Message, is_request_code, is_response_code};
-use osc_context::OscoreOption;
+use osc_context::{Features, OscoreOption};
 
 /// The outer code of a sealed request: 0.02, POST (RFC 8613, 4.2).
 const OUTER_REQUEST_CODE: u8 = 0x02;
 
 /// The outer code of a sealed response: 2.04, Changed (RFC 8613, 4.2).
 const OUTER_RESPONSE_CODE: u8 = 0x44;
+
+/// The outer code of a sealed request with Observe: 0.05, FETCH (RFC 8613, 4.1.3.5).
+const OBSERVING_REQUEST_CODE: u8 = 0x05;
+
+/// The outer code of a sealed response with Observe: 2.05, Content (RFC 8613, 4.1.3.5).
+const OBSERVING_RESPONSE_CODE: u8 = 0x45;
 
 /// What a message is in an exchange: a request or a response.
 #[derive(Clone, Copy, Debug)]
@@ -41,13 +49,15 @@ pub(crate) fn is_used(usage: Usage, message: &Message<'_>) -> bool
     }
 }
 
-/// Returns the outer code of a sealed message.
-pub(crate) fn outer_code(usage: Usage) -> u8
-    ensures { result ≡ outer_code_of usage }
+/// Returns the outer code of a sealed message. Observe is looked for only if the features have it.
+pub(crate) fn outer_code(usage: Usage, features: Features, message: &Message<'_>) -> u8
+    ensures { result ≡ outer_code_of usage features (parts_of message.now).options }
 {
-    match usage {
-        Usage::Request => OUTER_REQUEST_CODE,
-        Usage::Response => OUTER_RESPONSE_CODE,
+    match (usage, features.observe && has_observe(message.options())) {
+        (Usage::Request, false) => OUTER_REQUEST_CODE,
+        (Usage::Response, false) => OUTER_RESPONSE_CODE,
+        (Usage::Request, true) => OBSERVING_REQUEST_CODE,
+        (Usage::Response, true) => OBSERVING_RESPONSE_CODE,
     }
 }
 

@@ -1,12 +1,12 @@
 -- A datagram has one text.
-use Rattle.std.proofs.Common.{◌≡◌, ℕ, List, [], ◌∷◌, refl, sym, ap, ◌∙◌, inl, inr, Result, Ok, Err, IfOk, IfErr}
+use Rattle.std.proofs.Common.{◌≡◌, ℕ, Bool, true, false, List, [], ◌∷◌, refl, sym, ap, ◌∙◌, inl, inr, Result, Ok, Err, IfOk, IfErr}
 use Rattle.osc_coap.specs.Laws.{DatagramIsOneMessage}
-use Rattle.osc_protect.specs.Laws.{OneMessage, OneRequest, OneResponse}
+use Rattle.osc_protect.specs.Laws.{OneMessage, OneNotification, OneRequest, OneResponse}
 use Rattle.osc_protect.specs.Opening.{Opens}
 use Rattle.osc_context.specs.SecurityContext.{SecurityContext}
-use Rattle.osc_protect.specs.Protection.{Protection, requests, responses}
+use Rattle.osc_protect.specs.Protection.{Protection, requests, responses_to}
 use Rattle.osc_protect.specs.Refusals.{RefusesToOpen}
-use Rattle.osc_protect.specs.Views.{message_of, request_number}
+use Rattle.osc_protect.specs.Views.{message_of, registers, request_number}
 use Rattle.osc_protect.specs.declared.opened.Opened.{Opened}
 use Rattle.osc_protect.specs.declared.unprotect_error.UnprotectError.{UnprotectError}
 use Rattle.osc_protect.specs.Text.{unprotect_error_text}
@@ -37,10 +37,15 @@ one_datagram_text f one law d xs ys a b (refused e refuses text status) (opened 
 one_datagram_text f one law d xs ys a b (refused e refuses text status) (refused g refuses_too text_too status_too) =
     (text ∙ ap (λ (r : UnprotectError). refused_line (unprotect_error_text r) ∷ []) (law.refusal d e g refuses refuses_too) ∙ sym text_too, status ∙ sym status_too)
 
+-- a datagram is at most one response, whether the request registers an observation or not
+response_law : OneResponse → OneNotification → (s : SecurityContext) (r : Bool) (n : ℕ) → OneMessage (responses_to s r n)
+response_law response notification s true n = notification s n
+response_law response notification s false n = response s n
+
 -- and one by what is asked
-pub one_opening_text : DatagramIsOneMessage → OneRequest → OneResponse → (client server : SecurityContext) (what : Opening) (d : List ℕ) → TellsOnce (OpeningText client server what d)
-one_opening_text one request response client server Request d = one_datagram_text (requests server) one (request server) d
-one_opening_text one request response client server (Response r) d = one_datagram_text (responses client (request_number r)) one (response client (request_number r)) d
+pub one_opening_text : DatagramIsOneMessage → OneRequest → OneResponse → OneNotification → (client server : SecurityContext) (what : Opening) (d : List ℕ) → TellsOnce (OpeningText client server what d)
+one_opening_text one request response notification client server Request d = one_datagram_text (requests server) one (request server) d
+one_opening_text one request response notification client server (Response r) d = one_datagram_text (responses_to client (registers r) (request_number r)) one (response_law response notification client (registers r) (request_number r)) d
 
 -- a text comes with status 0 or 2
 datagram_status : {I : Type 0} (f : Protection I) (d : List ℕ) → TellsStatus (DatagramText f d)
@@ -50,4 +55,4 @@ datagram_status f d lines n (refused e refuses text status) = inr status
 -- by what is asked too
 pub opening_status : (client server : SecurityContext) (what : Opening) (d : List ℕ) → TellsStatus (OpeningText client server what d)
 opening_status client server Request d = datagram_status (requests server) d
-opening_status client server (Response r) d = datagram_status (responses client (request_number r)) d
+opening_status client server (Response r) d = datagram_status (responses_to client (registers r) (request_number r)) d

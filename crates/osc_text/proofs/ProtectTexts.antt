@@ -1,5 +1,5 @@
 -- A plain datagram has one text by what is asked.
-use Rattle.std.proofs.Common.{◌≡◌, ◌≤◌, ℕ, List, [], ◌∷◌, length, take, refl, sym, ap, subst, ◌∙◌, inl, inr, option_map, Result, Ok, Err, IfOk, IfErr}
+use Rattle.std.proofs.Common.{◌≡◌, ◌≤◌, ℕ, Bool, true, false, List, [], ◌∷◌, length, take, refl, sym, ap, subst, ◌∙◌, inl, inr, option_map, Result, Ok, Err, IfOk, IfErr}
 use Rattle.osc_coap.specs.Datagram.{Parts}
 use Rattle.osc_coap.specs.Laws.{DatagramIsOneMessage, DatagramHasOneFault, DatagramHasNoFault}
 use Rattle.osc_coap.specs.Text.{error_text}
@@ -7,11 +7,11 @@ use Rattle.osc_coap.specs.declared.format_error.FormatError.{FormatError}
 use Rattle.osc_context.specs.SecurityContext.{SecurityContext}
 use Rattle.osc_context.specs.Views.{number_of}
 use Rattle.osc_protect.specs.Laws.{OneForm, OneSealed}
-use Rattle.osc_protect.specs.Protection.{Protection, requests, responses}
+use Rattle.osc_protect.specs.Protection.{Protection, requests, responses_to}
 use Rattle.osc_protect.specs.Sealed.{IsSealed}
 use Rattle.osc_protect.specs.SealRefusals.{RefusesToSeal}
 use Rattle.osc_protect.specs.Text.{protect_error_text}
-use Rattle.osc_protect.specs.Views.{request_number}
+use Rattle.osc_protect.specs.Views.{registers, request_number}
 use Rattle.osc_protect.specs.declared.protect_error.ProtectError.{ProtectError}
 use Rattle.osc_text.specs.Contexts.{Told}
 use Rattle.osc_text.specs.declared.protection.Sealing.{Sealing}
@@ -41,10 +41,15 @@ one_sealed_text f law i p xs ys a b (refused e refuses text status) (sealed d is
 one_sealed_text f law i p xs ys a b (refused e refuses text status) (refused g refuses_too text_too status_too) =
     (text ∙ ap (λ (r : ProtectError). refused_line (protect_error_text r) ∷ []) (law.refusal i p most_room e g refuses refuses_too) ∙ sym text_too, status ∙ sym status_too)
 
+-- a response has at most one sealed form, whether the request registers an observation or not
+response_form : OneSealed → (s : SecurityContext) (r : Bool) (n : ℕ) → OneForm (responses_to s r n)
+response_form law s true n = law.notification s n
+response_form law s false n = law.response s n
+
 -- and one by what is asked
 pub one_sealing_text : OneSealed → (client server : SecurityContext) (what : Sealing) (p : Parts) → TellsOnce (SealingText client server what p)
 one_sealing_text law client server (Request number) p = one_sealed_text (requests client) (law.request client) (number_of number) p
-one_sealing_text law client server (Response r own) p = one_sealed_text (responses server (request_number r)) (law.response server (request_number r)) (option_map number_of own) p
+one_sealing_text law client server (Response r own) p = one_sealed_text (responses_to server (registers r) (request_number r)) (response_form law server (registers r) (request_number r)) (option_map number_of own) p
 
 -- the line of a fault is that of its name and its place
 same_line : (e f : FormatError) → e.fault ≡ f.fault → e.place ≡ f.place → refused_line (error_text e) ≡ refused_line (error_text f)
@@ -68,7 +73,7 @@ sealed_status f i p lines k (refused e refuses text status) = inr status
 -- by what is asked too
 pub sealing_status : (client server : SecurityContext) (what : Sealing) (p : Parts) → TellsStatus (SealingText client server what p)
 sealing_status client server (Request number) p = sealed_status (requests client) (number_of number) p
-sealing_status client server (Response r own) p = sealed_status (responses server (request_number r)) (option_map number_of own) p
+sealing_status client server (Response r own) p = sealed_status (responses_to server (registers r) (request_number r)) (option_map number_of own) p
 
 -- and a plain datagram's, where its message's does
 pub plain_status : (told : Parts → Told) → ((p : Parts) → TellsStatus (told p)) → (d : List ℕ) → TellsStatus (PlainText told d)

@@ -10,10 +10,10 @@ use Rattle.osc_coap.specs.Search.{values_at, first_of}
 use Rattle.osc_coap.specs.OptionNumbers.{uri_host, uri_port}
 use Rattle.osc_context.specs.SecurityContext.{SecurityContext}
 use Rattle.osc_text.specs.declared.agreed.Agreed.{Agreed}
-use Rattle.osc_protect.specs.Protection.{Protection, Protects, requests, responses}
+use Rattle.osc_protect.specs.Protection.{Protection, Protects, requests, responses_to}
 use Rattle.osc_protect.specs.Text.{unprotect_error_text}
 use Rattle.osc_protect.specs.Refusals.{RefusesToOpen}
-use Rattle.osc_protect.specs.Views.{request_number}
+use Rattle.osc_protect.specs.Views.{registers, request_number}
 use Rattle.osc_protect.specs.declared.unprotect_error.UnprotectError.{UnprotectError}
 use Rattle.osc_text.specs.Contexts.{agreed_client, agreed_server, InContext, Told}
 use Rattle.osc_text.specs.declared.opening.Opening.{Opening}
@@ -48,7 +48,7 @@ pub data DatagramText {I : Type 0} (f : Protection I) (d : List ℕ) (lines : Li
 -- the same, by what is asked for: this end opens a request as the server, and a response as the client (RFC 8613, 8.2 and 8.4)
 abbrev pub OpeningText : (client server : SecurityContext) → Opening → List ℕ → Told
 OpeningText client server Request d = DatagramText (requests server) d
-OpeningText client server (Response request) d = DatagramText (responses client (request_number request)) d
+OpeningText client server (Response request) d = DatagramText (responses_to client (registers request) (request_number request)) d
 
 -- what `open` prints for a datagram (RFC 8613, 8.2 and 8.4)
 abbrev pub OpenText : Agreed → Opening → List ℕ → Told

@@ -10,11 +10,11 @@ use Rattle.osc_coap.specs.declared.format_error.FormatError.{FormatError}
 use Rattle.osc_context.specs.SecurityContext.{SecurityContext}
 use Rattle.osc_context.specs.Views.{number_of}
 use Rattle.osc_text.specs.declared.agreed.Agreed.{Agreed}
-use Rattle.osc_protect.specs.Protection.{Protection, requests, responses}
+use Rattle.osc_protect.specs.Protection.{Protection, requests, responses_to}
 use Rattle.osc_protect.specs.Sealed.{IsSealed}
 use Rattle.osc_protect.specs.SealRefusals.{RefusesToSeal}
 use Rattle.osc_protect.specs.Text.{protect_error_text}
-use Rattle.osc_protect.specs.Views.{request_number}
+use Rattle.osc_protect.specs.Views.{registers, request_number}
 use Rattle.osc_protect.specs.declared.protect_error.ProtectError.{ProtectError}
 use Rattle.osc_text.specs.Contexts.{agreed_client, agreed_server, InContext, Told}
 use Rattle.osc_text.specs.declared.protection.Sealing.{Sealing}
@@ -33,7 +33,7 @@ pub data SealedText {I : Type 0} (f : Protection I) (i : I) (p : Parts) (lines :
 -- the same, by what is asked for: this end seals a request as the client, and a response as the server (RFC 8613, 8.1 and 8.3)
 abbrev pub SealingText : (client server : SecurityContext) → Sealing → Parts → Told
 SealingText client server (Request number) p = SealedText (requests client) (number_of number) p
-SealingText client server (Response request own) p = SealedText (responses server (request_number request)) (option_map number_of own) p
+SealingText client server (Response request own) p = SealedText (responses_to server (registers request) (request_number request)) (option_map number_of own) p
 
 -- what is told of a plain datagram's parts; a datagram with a fault is refused for that fault, with its place (RFC 7252, 3)
 pub data PlainText (told : Parts → Told) (d : List ℕ) (lines : List (List ℕ)) (status : ℕ) : Type 0 where

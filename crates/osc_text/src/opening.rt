@@ -9,7 +9,8 @@ use crate::lines::{put_opened, put_refused};
 use osc_coap::one_datagram;
 use osc_context::{Context, one_context_refusal};
 use osc_protect::{
-    Opened, RequestRef, UnprotectError, one_request, one_response, open_request, open_response,
+    Opened, RequestRef, UnprotectError, one_notification, one_request, one_response, open_request,
+    open_response,
 };
 use std::alloc::Global;
 use std::io::Write;
@@ -49,6 +50,7 @@ pub fn open_text<W: Write>(
     one_context_refusal();
     one_request();
     one_response();
+    one_notification();
     one_datagram();
     write_opening(alloc, agreed, what, datagram, out)
 }

@@ -34,7 +34,7 @@ static inline bool read_context(FILE *from, context_line *to) {
 static inline oscore_status derive_end(const context_line *of, bool client, oscore_context *to) {
     return oscore_derive(to, of->secret, of->secret_len, of->salt, of->salt_len, of->id_context_len > 0, of->id_context, of->id_context_len,
                          client ? of->client : of->server, client ? of->client_len : of->server_len, client ? of->server : of->client,
-                         client ? of->server_len : of->client_len, false, false);
+                         client ? of->server_len : of->client_len, false, false, false);
 }
 
 static inline FILE *open_lines(const char *file) {

@@ -26,7 +26,7 @@ static oscore_context make_context(size_t own_len, size_t their_len, size_t id_l
     static const uint8_t SECRET[] = "a secret of this test", OWN[] = "SERVERS", THEIR[] = "clients", ID[] = "an identity context of 32 bytes!";
     oscore_context context = OSCORE_ZERO;
     CHECK(!oscore_derive(&context, SECRET, sizeof SECRET, NULL, 0, id_len > 0, ID, id_len, client ? THEIR : OWN, client ? their_len : own_len,
-                         client ? OWN : THEIR, client ? own_len : their_len, false, false));
+                         client ? OWN : THEIR, client ? own_len : their_len, false, false, false));
     return context;
 }
 
@@ -81,6 +81,30 @@ static void names_and_replies(void) {
                 }
             }
     CHECK(inside > 0 && beside > 0);
+}
+
+/* The features byte stands behind the format, the numbers and the keys. A row of before has no bit of Observe, and reads without it; each
+   bit alone comes back as the one field. */
+static void features(void) {
+    enum { FEATURES = 1 + 67 + 45 };
+    static row made, read;
+    static row_bytes bytes;
+    row_key key;
+    oscore_context context = make_context(1, 4, 8, false);
+    row_key_of_context(&key, &context);
+    for (uint8_t bits = 0; bits < 8; bits++) {
+        context.constant_time = bits & 1, context.blocks = (bits & 2) != 0, context.observe = (bits & 4) != 0;
+        memset(&made, 0, sizeof made);
+        CHECK(!oscore_server1_begin(&made.handle, &context, false, 0, 64));
+        row_write(&made, &key, &bytes);
+        CHECK(bytes.state[FEATURES] == bits);
+        bytes.state[FEATURES] &= 3;
+        CHECK(row_read(&read, &key, &bytes));
+        const oscore_context *back = &read.handle.context.context;
+        CHECK(back->constant_time == context.constant_time && back->blocks == context.blocks && back->observe == 0);
+        through(&made, &key);
+        CHECK(made.handle.context.context.observe == context.observe);
+    }
 }
 
 /* A client, a server whose bytes go through a row, and one that is left alone. */
@@ -225,6 +249,7 @@ static void eras(void) {
 
 int main(void) {
     names_and_replies();
+    features();
     one_history();
     spoilt_bytes();
     fingerprints();

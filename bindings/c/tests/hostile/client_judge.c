@@ -27,7 +27,8 @@ static const struct pending *under(const struct client_judge *judge, struct byte
 static uint32_t refuses(const struct client_judge *judge, struct judged *judged) {
     const struct seen *plain = &judged->seen;
     if (!is_request(plain->head)) return OSCORE_NOT_THAT_KIND;
-    judged->detail = left_out_of(&plain->body, AGREED[0].blocks);
+    /* A client takes no notifications, so it asks for none. */
+    judged->detail = left_out_of(&plain->body, (struct allowed){.blocks = AGREED[0].allowed.blocks});
     if (judged->detail) return OSCORE_UNSUPPORTED;
     if (under(judge, plain->head.token)) return OSCORE_TOKEN_IN_USE;
     if (judge->count >= MOST_PENDING) return OSCORE_PENDING_FULL;
@@ -80,7 +81,7 @@ void judge_response(struct client_judge *judge, uint64_t now, struct bytes datag
     judged->status = open_response(judge, datagram, judged);
     if (judged->status) return;
     /* What may not stand inside ends no request. */
-    if (!read_inner(bytes_of(&judged->opened->plaintext), AGREED[0].blocks, &code, &inner) || !is_response_code(code)) {
+    if (!read_inner(bytes_of(&judged->opened->plaintext), allowed_as(judged->opened->as), &code, &inner) || !is_response_code(code)) {
         judged->status = OSCORE_INNER;
         return;
     }

@@ -145,7 +145,6 @@ static void ask(void) {
     struct text token = draw_token();
     bool is_cut = one_in(10);
     struct plain plain = draw_plain(kind, code, bytes_of(&token));
-    plain.has_observe = one_in(20);
     add_echoes(requester_of_clients(), &plain);
     struct text datagram = spell_plain(&plain);
     if (is_cut) datagram.len = below(datagram.len);

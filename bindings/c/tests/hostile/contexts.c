@@ -1,4 +1,4 @@
-/* The contexts of RFC 8613, C.1 to C.3, of which the first allows block-wise options inside. */
+/* The contexts of RFC 8613, C.1 to C.3, of which the first allows block-wise options inside, and the first two allow Observe. */
 #include "sealing.h"
 #include <string.h>
 
@@ -8,9 +8,9 @@ static const uint8_t ID_CONTEXT[8] = {0x37, 0xcb, 0xf3, 0x21, 0x00, 0x17, 0xa2, 
 static const uint8_t CLIENT_OF_C2[1] = {0}, SERVER[1] = {1};
 
 const struct agreed AGREED[CONTEXTS] = {
-    {{NULL, 0}, {NULL, 0}, true, 32, true},
-    {{CLIENT_OF_C2, 1}, {NULL, 0}, false, 32, false},
-    {{NULL, 0}, {ID_CONTEXT, 8}, true, 64, false},
+    {{NULL, 0}, {NULL, 0}, true, 32, {true, true}},
+    {{CLIENT_OF_C2, 1}, {NULL, 0}, false, 32, {false, true}},
+    {{NULL, 0}, {ID_CONTEXT, 8}, true, 64, {false, false}},
 };
 
 /* Sender Key and Recipient Key of the client, and Common IV, as RFC 8613, C.1.1, C.2.1 and C.3.1 print them. */
@@ -32,7 +32,7 @@ void derive(size_t place, bool of_server, bool constant_time, oscore_context *co
     memset(context, 0, sizeof *context);
     NEEDS(!oscore_derive(context, SECRET, sizeof SECRET, SALT, agreed->has_salt ? sizeof SALT : 0, agreed->id_context.len > 0,
                          agreed->id_context.at, agreed->id_context.len, own.at, own.len, other.at, other.len, constant_time,
-                         agreed->blocks));
+                         agreed->allowed.blocks, agreed->allowed.observe));
     const uint8_t *of_client = of_server ? context->recipient_key : context->sender_key;
     const uint8_t *of_other = of_server ? context->sender_key : context->recipient_key;
     NEEDS(!memcmp(of_client, PRINTED[place], 16) && !memcmp(of_other, PRINTED[place] + 16, 16));

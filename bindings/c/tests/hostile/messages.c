@@ -7,6 +7,8 @@ struct plain draw_plain(uint8_t kind, uint8_t code, struct bytes token) {
     plain.message_id = (uint16_t)below(1 << 16);
     add_bytes(&plain.token, token);
     plain.has_host = one_in(3);
+    plain.has_observe = one_in(10);
+    plain.observe = draw_text(4);
     plain.has_block = one_in(10);
     plain.payload = draw_text(9);
     return plain;
@@ -19,7 +21,7 @@ struct head head_of(const struct plain *plain, uint8_t code) {
 struct text spell_plain(const struct plain *plain) {
     struct spelling spelling = spell_datagram(head_of(plain, plain->code));
     if (plain->has_host) spell_option(&spelling, URI_HOST, (struct bytes){(const uint8_t *)"localhost", 9});
-    if (plain->has_observe) spell_option(&spelling, OBSERVE, BYTES(0));
+    if (plain->has_observe) spell_option(&spelling, OBSERVE, bytes_of(&plain->observe));
     spell_option(&spelling, URI_PATH, (struct bytes){(const uint8_t *)"tv1", 3});
     if (plain->has_block) spell_option(&spelling, BLOCK1, BYTES(0x06));
     for (size_t i = 0; i < plain->echo_count; i++) spell_option(&spelling, ECHO, plain->echoes[i]);
@@ -44,7 +46,7 @@ static struct text draw_flawed(uint8_t code, uint8_t other_code) {
 }
 
 void seal_by_chance(struct sealed_as as, const struct plain *plain, uint8_t other_code, struct sealed *sealed) {
-    struct head head = head_of(plain, as.is_response ? OUTER_RESPONSE : OUTER_REQUEST);
+    struct head head = head_of(plain, outer_code(as, plain->has_observe));
     struct text datagram = spell_plain(plain);
     if (!one_in(4)) {
         seal_plain(as, head, bytes_of(&datagram), sealed);

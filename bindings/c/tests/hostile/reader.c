@@ -72,9 +72,10 @@ bool is_outer(uint32_t number) {
     return false;
 }
 
-uint32_t left_out_of(const struct body *body, bool blocks) {
+uint32_t left_out_of(const struct body *body, struct allowed allowed) {
     for (struct option option = begun(body); next_of(&option);)
-        if (option.number == OBSERVE || (!blocks && (option.number == BLOCK2 || option.number == BLOCK1))) return option.number;
+        if ((option.number == OBSERVE && !allowed.observe) || ((option.number == BLOCK2 || option.number == BLOCK1) && !allowed.blocks))
+            return option.number;
     return 0;
 }
 
@@ -111,13 +112,13 @@ uint32_t read_datagram(struct bytes datagram, struct seen *seen, size_t *place) 
     return fault;
 }
 
-bool read_inner(struct bytes plaintext, bool blocks, uint8_t *code, struct body *body) {
+bool read_inner(struct bytes plaintext, struct allowed allowed, uint8_t *code, struct body *body) {
     size_t place;
     if (!plaintext.len || read_body(behind(plaintext, 1), body, &place)) return false;
     *code = plaintext.at[0];
     for (struct option option = begun(body); next_of(&option);)
         if (is_outer(option.number)) return false;
-    return !left_out_of(body, blocks);
+    return !left_out_of(body, allowed);
 }
 
 /* Cuts so many bytes from the front of the rest. */

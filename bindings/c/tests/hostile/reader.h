@@ -7,14 +7,19 @@
 
 enum { CON, NON, ACK, RST };
 enum { URI_HOST = 3, OBSERVE = 6, URI_PORT = 7, OSCORE = 9, URI_PATH = 11, MAX_AGE = 14, BLOCK2 = 23, BLOCK1 = 27, PROXY_URI = 35, PROXY_SCHEME = 39, ECHO = 252 };
-/* The codes that a sealed request and a sealed response have outside: 0.02 and 2.04 (RFC 8613, 4.2). */
-enum { OUTER_REQUEST = 0x02, OUTER_RESPONSE = 0x44 };
+/* The codes that a sealed request, one with Observe, and a sealed response have outside: 0.02, 0.05 and 2.04 (RFC 8613, 4.2). */
+enum { OUTER_REQUEST = 0x02, OUTER_FETCH = 0x05, OUTER_RESPONSE = 0x44 };
 
 /* What stands in front of the options of a datagram. */
 struct head {
     uint8_t kind, code;
     uint16_t message_id;
     struct bytes token;
+};
+
+/* Whether Block1 and Block2, and whether Observe, may be protected. */
+struct allowed {
+    bool blocks, observe;
 };
 
 /* Options, as they were spelled, and the payload. */
@@ -48,8 +53,8 @@ bool is_response_code(uint8_t code);
 
 /* 0, or the first fault of what is no datagram, and its place. */
 uint32_t read_datagram(struct bytes datagram, struct seen *seen, size_t *place);
-/* Whether the bytes are a code, options that may stand inside, and a payload; Block1 and Block2 may if `blocks` says so. */
-bool read_inner(struct bytes plaintext, bool blocks, uint8_t *code, struct body *body);
+/* Whether the bytes are a code, options that may stand inside, and a payload. */
+bool read_inner(struct bytes plaintext, struct allowed allowed, uint8_t *code, struct body *body);
 bool read_value(struct bytes bytes, struct value *value);
 /* The one OSCORE value of a message that has a payload and no option for proxies, where it can be read. */
 bool usable_value(const struct body *body, struct value *value);
@@ -62,8 +67,8 @@ size_t count_of(const struct body *body, uint32_t number);
 bool first_of(const struct body *body, uint32_t number, struct bytes *value);
 /* Whether options of this number stand outside the protection (RFC 8613, 4.1.2). */
 bool is_outer(uint32_t number);
-/* The first option that no message of a context may have, which allows Block1 and Block2 or doesn't; 0 if there is none. */
-uint32_t left_out_of(const struct body *body, bool blocks);
+/* The first option that a message may not have which is allowed these; 0 if there is none. */
+uint32_t left_out_of(const struct body *body, struct allowed allowed);
 
 /* A datagram, or a plaintext, that is written, and its last option's number. */
 struct spelling {

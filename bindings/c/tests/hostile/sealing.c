@@ -59,6 +59,21 @@ static struct text oscore_value(struct sealed_as as) {
     return spell_value(&value);
 }
 
+struct allowed allowed_as(struct sealed_as as) {
+    struct allowed allowed = AGREED[as.context].allowed;
+    allowed.observe = allowed.observe && !as.is_response;
+    return allowed;
+}
+
+uint8_t outer_code(struct sealed_as as, bool has_observe) {
+    return as.is_response ? OUTER_RESPONSE : has_observe && allowed_as(as).observe ? OUTER_FETCH : OUTER_REQUEST;
+}
+
+/* Whether an option stands outside; Observe that is allowed stands there too (RFC 8613, 4.1.3.5). */
+static bool stands_outside(struct sealed_as as, uint32_t number) {
+    return is_outer(number) || (number == OBSERVE && allowed_as(as).observe);
+}
+
 /* The plaintext of a message: its code, its options but the outer ones, its payload (RFC 8613, 5.3). */
 static struct text plaintext_of(const struct seen *plain) {
     struct spelling spelling = spell_plaintext(plain->head.code);
@@ -74,7 +89,7 @@ void seal_other(struct sealed_as as, struct head head, struct bytes plain, struc
     size_t place;
     NEEDS(!read_datagram(plain, &seen, &place));
     for (struct option option = begun(&seen.body); next_of(&option);)
-        if (is_outer(option.number)) spell_option(&spelling, option.number, option.value);
+        if (stands_outside(as, option.number)) spell_option(&spelling, option.number, option.value);
     spell_option(&spelling, OSCORE, bytes_of(&value));
     *sealed = (struct sealed){.as = as, .datagram = spell_end(&spelling, bytes_of(&ciphertext))};
     add_bytes(&sealed->plaintext, plaintext);

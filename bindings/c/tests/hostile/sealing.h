@@ -8,12 +8,12 @@
 
 enum { CONTEXTS = 3 };
 
-/* What tells one of the contexts from the others, the places of its window at the server, and whether it allows blocks. */
+/* What tells one of the contexts from the others, the places of its window at the server, and what it allows. */
 struct agreed {
     struct bytes client, id_context;
     bool has_salt;
     uint8_t window_places;
-    bool blocks;
+    struct allowed allowed;
 };
 
 /* C.1 to C.3, in the server's order. The client has the first. C.1 and C.3 share all but the ID Context. */
@@ -37,6 +37,10 @@ struct sealed {
 
 /* Derives all contexts, for the sealing of both ends, and compares keys and messages with those that the RFC prints. */
 void begin_sealing(void);
+/* What a message sealed as this may have: Observe in requests alone, since neither end notifies yet. */
+struct allowed allowed_as(struct sealed_as as);
+/* The code that it has outside: 0.05 where Observe stands outside too (RFC 8613, 4.2). */
+uint8_t outer_code(struct sealed_as as, bool has_observe);
 /* Seals a message, as an end of a context does. The head is that of the sealed one; of the plain one code, options and payload are used. */
 void seal_plain(struct sealed_as as, struct head head, struct bytes plain, struct sealed *sealed);
 /* The same with another plaintext in the place of the message's. */

@@ -74,7 +74,7 @@ static uint32_t admit(struct life *life, uint64_t clock, const struct handed *ha
     struct body inner;
     struct bytes echo = {NULL, 0};
     judged->request = judged->opened->as.request;
-    if (!read_inner(bytes_of(&judged->opened->plaintext), life->agreed->blocks, &code, &inner) || !is_request_code(code)) {
+    if (!read_inner(bytes_of(&judged->opened->plaintext), allowed_as(judged->opened->as), &code, &inner) || !is_request_code(code)) {
         spend(life, judged->request);
         return OSCORE_INNER;
     }
@@ -108,7 +108,7 @@ static uint32_t refuses(const struct server_judge *judge, const struct answer *a
     if (!is_waiting(life, ticket->number)) return OSCORE_TICKET_SPENT;
     /* Of the plain head the code alone is used. */
     if (!is_response_code(plain->head.code)) return OSCORE_NOT_THAT_KIND;
-    judged->detail = left_out_of(&plain->body, life->agreed->blocks);
+    judged->detail = left_out_of(&plain->body, allowed_as((struct sealed_as){.is_response = true, .context = ticket->context}));
     if (judged->detail) return OSCORE_UNSUPPORTED;
     return answer->own && life->next >= NUMBER_LIMIT ? OSCORE_SEQUENCE_EXHAUSTED : OSCORE_DONE;
 }

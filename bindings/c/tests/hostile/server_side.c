@@ -170,7 +170,6 @@ static void ask_for_answer(void) {
     bool is_of_request = one_in(12), is_cut = one_in(10);
     struct text token = draw_text(9);
     struct plain plain = draw_plain(kind, is_of_request ? 0x01 : code, bytes_of(&token));
-    plain.has_observe = one_in(20);
     struct text datagram = spell_plain(&plain);
     if (is_cut) datagram.len = below(datagram.len);
     struct answer answer = {.ticket = draw_ticket(), .plain = bytes_of(&datagram), .room = OUT_ROOM};

@@ -63,7 +63,7 @@ bool is_shown(const struct shown *shown, struct bytes left, const struct judged 
     uint64_t number = as.is_response ? as.own : as.request;
     struct body inner;
     uint8_t code;
-    NEEDS(read_inner(bytes_of(&judged->opened->plaintext), AGREED[as.context].blocks, &code, &inner));
+    NEEDS(read_inner(bytes_of(&judged->opened->plaintext), allowed_as(as), &code, &inner));
     return opened->kind == head.kind && opened->code == code && opened->message_id == head.message_id
         && is_same((struct bytes){opened->token, opened->token_len}, head.token)
         && opened->has_number == (!as.is_response || as.has_own) && (!opened->has_number || opened->number == number)

@@ -54,7 +54,8 @@ static void spell_far_option(struct spelling *spelling, uint32_t number) {
     add_byte(&spelling->text, (uint8_t)delta);
 }
 
-/* A datagram that is spelled again with another part: its kind, its code, its payload, an option more, or its OSCORE values. */
+/* A datagram that is spelled again without what stands outside beside OSCORE, and with another part: its kind, its code, its payload, an
+   option more, or its OSCORE values. */
 static struct text respell(struct bytes datagram) {
     static const uint8_t codes[8] = {0, 1, 2, 31, 0x20, 0x45, 0x84, 0xa0};
     struct seen seen;
@@ -69,12 +70,13 @@ static struct text respell(struct bytes datagram) {
     struct text changed = spell_value(&value);
     uint8_t code = codes[below(8)], kind = (uint8_t)below(4);
     uint32_t far = 65534 + (uint32_t)below(4);
-    uint64_t choice = below(12);
+    uint64_t choice = below(13);
     if (choice == 0) seen.head.code = code;
     if (choice == 6) seen.head.kind = kind;
     if (choice == 3 || choice == 4) times = choice == 3 ? 0 : 2;
-    if (choice > 6) bytes = choice < 9 ? other : bytes_of(&changed);
+    if (choice > 6 && choice < 12) bytes = choice < 9 ? other : bytes_of(&changed);
     struct spelling spelling = spell_datagram(seen.head);
+    if (choice == 12) spell_option(&spelling, OBSERVE, none);
     if (times > 0) spell_option(&spelling, OSCORE, bytes);
     if (times > 1) spell_option(&spelling, OSCORE, other);
     if (choice == 2) spell_option(&spelling, PROXY_SCHEME, (struct bytes){(const uint8_t *)"coap", 4});

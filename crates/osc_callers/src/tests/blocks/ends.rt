@@ -39,7 +39,10 @@ fn context<'x>(rt: &impl Abort, sender: &'x [u8], recipient: &'x [u8]) -> Contex
         recipient,
     };
     let context = Context::derive(params).expect(rt, "a context");
-    context.with_features(Features { blocks: true })
+    context.with_features(Features {
+        observe: false,
+        blocks: true,
+    })
 }
 
 /// Writes a plain message. Returns how many bytes it takes at the front of `out`.

@@ -10,4 +10,4 @@ returns c =
     let with_sender = adds_local _ _ _ c.in_ok-arg-3.ensures with_salt c.hex_option-sender.ensures in
     let with_recipient = adds_local _ _ _ c.in_ok-arg-4.ensures with_sender c.hex_option-recipient.ensures in
     let with_id_context = adds_local _ _ _ c.in_ok-arg-5.ensures with_recipient c.hex_option-id_context.ensures in
-    may_add_local _ _ c.arg-6.result c.arg-6.ensures with_id_context c.choice_option-allow.ensures
+    may_add_local _ _ c.arg-6.result c.arg-6.ensures with_id_context c.allow_option.ensures

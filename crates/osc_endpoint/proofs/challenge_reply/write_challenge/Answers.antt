@@ -8,6 +8,7 @@ use Rattle.osc_protect.specs.SealRefusals.{FitsToSeal}
 use Rattle.osc_protect.specs.Views.{context_of}
 use Rattle.osc_endpoint.specs.Replies.{as_reply, challenge_message}
 use Rattle.osc_endpoint.proofs.ChallengeLengths.{challenge_fits, not_err}
+use Rattle.osc_endpoint.proofs.SealedReplies.{named_fits, plainly_sealed}
 use Rattle.osc_endpoint.proofs.challenge_reply.write_challenge.Goals as goal
 
 pub unreachable-requires : goal.unreachable-requires
@@ -18,9 +19,10 @@ unreachable-requires-in-Err c =
     let a = c.args.asker.now in
     let p = as_reply a.kind a.message_id a.token.items c.args.mid (challenge_message c.args.echo.now) in
     let same : p ≡ parts_of c.in-Ok.message = c.one_datagram.ensures.one _ _ _ c.write_plain-len.ensures.written c.in-Ok.ensures.accepted in
-    let fits = challenge_fits (as_server (context_of c.args.context.now)) (number_of c.args.request) (number_of c.args.own) a.kind a.message_id c.args.mid a.token.items c.args.echo.now (length c.args.out.now)
+    let s = as_server (context_of c.args.context.now) in
+    let fits = challenge_fits s (number_of c.args.request) (number_of c.args.own) a.kind a.message_id c.args.mid a.token.items c.args.echo.now (length c.args.out.now)
     (omega (arith, c.head_len.ensures.most, c.head_len.ensures.value)) c.told-echo c.told-out (λ value reads. c.one_option_value.ensures.most _ value reads) in
-    not_err c.seal_response.result c.in-Err.field-0 c.in-Err.is (c.seal_response.ensures.accepts (subst (λ (q : Parts). FitsToSeal (responses (as_server (context_of c.args.context.now)) (number_of c.args.request)) (Some (number_of c.args.own)) q (length c.args.out.now)) same fits))
+    not_err c.seal_response.result c.in-Err.field-0 c.in-Err.is (c.seal_response.ensures.accepts (named_fits s c.new-request.result (number_of c.args.request) (Some (number_of c.args.own)) _ _ c.new-request.ensures.plain c.new-request.ensures.number (subst (λ (q : Parts). FitsToSeal (responses s (number_of c.args.request)) (Some (number_of c.args.own)) q (length c.args.out.now)) same fits)))
 
 pub returns-clause-sealed : goal.returns-clause-sealed
 returns-clause-sealed c =
@@ -28,5 +30,6 @@ returns-clause-sealed c =
     let p = as_reply a.kind a.message_id a.token.items c.args.mid (challenge_message c.args.echo.now) in
     let same : p ≡ parts_of c.in-Ok.message = c.one_datagram.ensures.one _ _ _ c.write_plain-len.ensures.written c.in-Ok.ensures.accepted in
     let bytes = take c.in-Ok-seal_response.len c.seal_response.new.out in
-    let named = subst (λ n. SealsResponse (as_server (context_of c.args.context.now)) n (Some (number_of c.args.own)) (parts_of c.in-Ok.message) bytes) c.new-request.ensures c.in-Ok-seal_response.ensures.sealed in
-    subst (λ (q : Parts). SealsResponse (as_server (context_of c.args.context.now)) (number_of c.args.request) (Some (number_of c.args.own)) q bytes) (sym same) named
+    let s = as_server (context_of c.args.context.now) in
+    let named = plainly_sealed s c.new-request.result (number_of c.args.request) (Some (number_of c.args.own)) _ bytes c.new-request.ensures.plain c.new-request.ensures.number c.in-Ok-seal_response.ensures.sealed in
+    subst (λ (q : Parts). SealsResponse s (number_of c.args.request) (Some (number_of c.args.own)) q bytes) (sym same) named

@@ -1,4 +1,5 @@
-use Rattle.osc_protect.specs.Protection.{requests, responses}
+use Rattle.std.proofs.Common.{true, false}
+use Rattle.osc_protect.specs.Protection.{notifications, requests, responses}
 use Rattle.osc_protect.proofs.Protections.{requests_sound, responses_sound}
 use Rattle.osc_protect.proofs.SealedForms.{form_law}
 use Rattle.osc_protect.proofs.laws.one_sealed.Goals as goal
@@ -12,5 +13,6 @@ returns c =
     let long = c.protection_length.ensures in
     record {
       request = λ s. form_law (requests s) (requests_sound one long s) spelling text.inner text.datagram lengths.datagram lengths.inner;
-      response = λ s n. form_law (responses s n) (responses_sound one long s n) spelling text.inner text.datagram lengths.datagram lengths.inner;
+      response = λ s n. form_law (responses s n) (responses_sound one long s false n) spelling text.inner text.datagram lengths.datagram lengths.inner;
+      notification = λ s n. form_law (notifications s n) (responses_sound one long s true n) spelling text.inner text.datagram lengths.datagram lengths.inner;
     }

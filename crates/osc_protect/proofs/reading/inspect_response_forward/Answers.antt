@@ -1,6 +1,6 @@
 use Rattle.std.proofs.Common.{option_map, refl, subst}
 use Rattle.osc_context.specs.Views.{number_of}
-use Rattle.osc_protect.specs.Protection.{responses}
+use Rattle.osc_protect.specs.Protection.{responses_to}
 use Rattle.osc_context.specs.declared.features.Features.{Features}
 use Rattle.osc_protect.specs.Halves.{RefusesInner}
 use Rattle.osc_protect.specs.Stages.{HasPlaintext}
@@ -9,10 +9,10 @@ use Rattle.osc_protect.proofs.Staged.{holds_protected, refuses_open}
 use Rattle.osc_protect.proofs.reading.inspect_response_forward.Goals as goal
 
 pub returns-in-Err-clause-refused : goal.returns-in-Err-clause-refused
-returns-in-Err-clause-refused c = λ s n old it. refuses_open c.one_datagram.ensures.one (responses s n) old c.args.datagram.now (option_map number_of c.args.decrypted.number) c.args.decrypted.len it.1 (subst (λ (x : Features). RefusesInner Response x c.args.datagram.now c.args.decrypted.len) it.0 c.in-Err.ensures.refused)
+returns-in-Err-clause-refused c = λ s r n old it. refuses_open c.one_datagram.ensures.one (responses_to s r n) old c.args.datagram.now (option_map number_of c.args.decrypted.number) c.args.decrypted.len it.1 (subst (λ (x : Features). RefusesInner Response x c.args.datagram.now c.args.decrypted.len) it.0 c.in-Err.ensures.refused)
 
 pub returns-in-Ok-clause-accepted : goal.returns-in-Ok-clause-accepted
-returns-in-Ok-clause-accepted c = λ s n old it.
+returns-in-Ok-clause-accepted c = λ s r n old it.
     let h = subst (λ (x : Features). HasPlaintext Response x c.args.datagram.now c.args.decrypted.len c.in-Ok.payload_len) it.0 c.in-Ok.ensures.accepted in
     let i = (option_map number_of c.args.decrypted.number) in
-    (i, h.inner, holds_protected c.one_datagram.ensures.one (responses s n) old c.args.datagram.now i c.args.decrypted.len it.1 c.args.decrypted.len c.in-Ok.payload_len refl h)
+    (i, h.inner, holds_protected c.one_datagram.ensures.one (responses_to s r n) old c.args.datagram.now i c.args.decrypted.len it.1 c.args.decrypted.len c.in-Ok.payload_len refl h)

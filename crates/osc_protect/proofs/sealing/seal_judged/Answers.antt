@@ -11,7 +11,8 @@ use Rattle.osc_protect.proofs.sealing.seal_judged.Goals as goal
 pub returns-clause-sealed : goal.returns-clause-sealed
 returns-clause-sealed c =
     let p = parts_of c.args.plain.now in
-    let code = outer_code_of c.args.usage in
+    let x = c.args.family.features in
+    let code = outer_code_of c.args.family.usage x p.options in
     let value = c.args.value.now in
     let out = c.write_outside-at.new.out in
     let at = c.write_outside-at.result in
@@ -22,13 +23,13 @@ returns-clause-sealed c =
     let same_len = c.write_outside-at.ensures.same_length in
     let inside : at < length out = omega (arith, room, at_is, same_len) in
     let both = kept at out buf inside in
-    let written : IsDatagram (outside p code value []) (take at out) = subst (λ (k : ℕ). IsDatagram (outside p k value []) (take at out)) c.outer_code.ensures c.write_outside-at.ensures.written in
-    let front : IsDatagram (outside p code value []) _ = subst (λ (z : List ℕ). IsDatagram (outside p code value []) z) (sym both.0) written in
-    let sealed = c.seal_behind.ensures.sealed (outside p code value []) front refl (outer_code_some c.args.usage) in (
+    let written : IsDatagram (outside x p code value []) (take at out) = subst (λ (k : ℕ). IsDatagram (outside x p k value []) (take at out)) c.outer_code-code.ensures c.write_outside-at.ensures.written in
+    let front : IsDatagram (outside x p code value []) _ = subst (λ (z : List ℕ). IsDatagram (outside x p code value []) z) (sym both.0) written in
+    let sealed = c.seal_behind.ensures.sealed (outside x p code value []) front refl (outer_code_some c.args.family.usage x p.options) in (
       take len buf,
       c.write_inside-len.ensures.written,
-      subst (λ (z : ℕ). IsDatagram (outside p code value (cipher_of c.args.aead.now (take len buf))) (take z c.seal_behind.new.out)) (sym c.seal_behind.ensures.end)
-          (subst (λ (z : List ℕ). IsDatagram (outside p code value (cipher_of c.args.aead.now (take len z))) (take (at + 9 + len) c.seal_behind.new.out)) both.1 sealed),
+      subst (λ (z : ℕ). IsDatagram (outside x p code value (cipher_of c.args.aead.now (take len buf))) (take z c.seal_behind.new.out)) (sym c.seal_behind.ensures.end)
+          (subst (λ (z : List ℕ). IsDatagram (outside x p code value (cipher_of c.args.aead.now (take len z))) (take (at + 9 + len) c.seal_behind.new.out)) both.1 sealed),
     )
 
 pub returns-clause-behind : goal.returns-clause-behind

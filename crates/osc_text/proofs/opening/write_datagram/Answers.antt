@@ -1,7 +1,7 @@
 use Rattle.std.proofs.Common.{subst, sym}
 use Rattle.osc_context.specs.Views.{as_client, as_server}
-use Rattle.osc_protect.specs.Protection.{requests, responses}
-use Rattle.osc_protect.specs.Views.{request_number}
+use Rattle.osc_protect.specs.Protection.{requests}
+use Rattle.osc_protect.specs.Views.{opened_responses}
 use Rattle.osc_text.specs.declared.opening.Opening.{Opening}
 use Rattle.osc_text.specs.Opening.{OpeningText}
 use Rattle.osc_text.specs.Outcomes.{open_lines, open_status}
@@ -22,6 +22,6 @@ returns-in-Response g c =
     let r = c.open_response.result in
     let s = c.args.context.now in
     let d = c.args.datagram.now in
-    let text = text_of_outcome (responses (as_client s) (request_number c.in-Response.request)) d r c.open_response.ensures.opened c.open_response.ensures.refused in
+    let text = text_of_outcome (opened_responses s c.in-Response.request) d r c.open_response.ensures.opened c.open_response.ensures.refused in
     let asked = subst (λ (what : Opening). OpeningText (as_client s) (as_server s) what d (open_lines r) (open_status r)) (sym c.in-Response.is) text in
     (open_lines r, open_status r, asked, c.write_outcome-in-Response.ensures.written, c.write_outcome-in-Response.ensures.status)

@@ -1,4 +1,4 @@
-use Rattle.std.proofs.Common.{refl}
+use Rattle.std.proofs.Common.{refl, false}
 use Rattle.osc_endpoint.specs.ClientHistory.{BadInner, context}
 use Rattle.osc_endpoint.proofs.Asking.{differ_removed, moved}
 use Rattle.osc_endpoint.proofs.ClientDecisions.{delivered}
@@ -9,7 +9,7 @@ returns-in_default-clause-answered g c = λ h a.
     let was = c.in-Ok.ensures.answers h a in
     record {
       answer = BadInner;
-      row = (was.to, was.answers, c.in_default.ensures.refused (context h) was.to.number c.args.datagram.now was.decrypts);
+      row = (was.to, was.answers, c.in_default.ensures.refused (context h) false was.to.number c.args.datagram.now was.decrypts);
       decides = tt;
       agrees = moved _ h c.args.now _ _ refl refl refl was.agrees;
     }

@@ -5,7 +5,7 @@ use Rattle.osc_context.specs.Views.{as_client, number_of}
 use Rattle.osc_protect.specs.Head.{ShowsNoResponseHead}
 use Rattle.osc_protect.specs.Refusals.{RefusesTag}
 use Rattle.osc_protect.specs.StageViews.{DecryptsResponse}
-use Rattle.osc_protect.specs.Views.{context_of, request_number}
+use Rattle.osc_protect.specs.Views.{context_of, registers, request_number}
 use Rattle.osc_endpoint.specs.ClientHistory.{Malformed, NotResponse, UnknownToken, Unprotected, Undecodable, BadTag, context}
 use Rattle.osc_endpoint.specs.Views.{asked_of}
 use Rattle.osc_endpoint.proofs.Asking.{advanced, contains_at, differ_alive, moved}
@@ -13,7 +13,7 @@ use Rattle.osc_endpoint.proofs.ClientDecisions.{answers, in_history, not_there, 
 use Rattle.osc_endpoint.proofs.client.Client.decrypt.Goals as goal
 
 pub decrypt_response-requires : goal.decrypt_response-requires
-decrypt_response-requires g c = c.sealed-sealed.ensures (as_client (context_of c.args.self.now.context)) (request_number c.new-request.result) c.args.datagram.now (parts_of c.in-Ok.message, c.in-Ok.ensures.accepted, c.in-Ok-read.ensures.head)
+decrypt_response-requires g c = c.sealed-sealed.ensures (as_client (context_of c.args.self.now.context)) (registers c.new-request.result) (request_number c.new-request.result) c.args.datagram.now (parts_of c.in-Ok.message, c.in-Ok.ensures.accepted, c.in-Ok-read.ensures.head)
 
 pub returns-in-Err-clause-refused : goal.returns-in-Err-clause-refused
 returns-in-Err-clause-refused g c = λ h a.
@@ -87,7 +87,7 @@ returns-in_default-decrypt_response-clause-refused g c = λ h a.
     let b = advanced c.args.self.now _ h c.args.now a refl refl refl c.max-self.ensures c.drop_expired.ensures in
     let p = parts_of c.in-Ok.message in
     let (r, has, token, number) = there c.as_slice.result.now c.drop_expired.new.pending.items _ _ c.as_slice-2.result.now p.token c.as_slice.ensures.value c.as_slice-2.ensures.value c.in-Some.ensures.found in
-    let refused = in_history (λ f. RefusesTag f c.args.datagram.now) (as_client (context_of c.args.self.now.context)) (context h) (request_number c.new-request.result) (number_of c.in-Some.found.number) r.number a.context_is c.new-request.ensures number c.in_default-decrypt_response.ensures.refused in
+    let refused = in_history (λ f. RefusesTag f c.args.datagram.now) (as_client (context_of c.args.self.now.context)) (context h) (registers c.new-request.result) (request_number c.new-request.result) (number_of c.in-Some.found.number) r.number a.context_is c.new-request.ensures.plain c.new-request.ensures.number number c.in_default-decrypt_response.ensures.refused in
     record {
       answer = BadTag;
       row = (r, answers _ h c.args.now c.args.datagram.now p r b c.in-Ok.ensures.accepted (search rules) token has, refused);
@@ -108,14 +108,14 @@ returns-clause-answers g c = λ h a.
       at_place = placed;
       number_is = number;
       answers = answers _ h c.args.now c.args.datagram.now p r b c.in-Ok.ensures.accepted (search rules) (named ∙ c.as_slice-2.ensures.value) has;
-      decrypts = in_history (λ f. DecryptsResponse f c.args.datagram.now c.in-Ok-decrypt_response.decrypted c.decrypt_response.new.datagram) (as_client (context_of c.args.self.now.context)) (context h) (request_number c.new-request.result) (number_of c.in-Some.found.number) r.number a.context_is c.new-request.ensures number c.in-Ok-decrypt_response.ensures.decrypted;
+      decrypts = in_history (λ f. DecryptsResponse f c.args.datagram.now c.in-Ok-decrypt_response.decrypted c.decrypt_response.new.datagram) (as_client (context_of c.args.self.now.context)) (context h) (registers c.new-request.result) (request_number c.new-request.result) (number_of c.in-Some.found.number) r.number a.context_is c.new-request.ensures.plain c.new-request.ensures.number number c.in-Ok-decrypt_response.ensures.decrypted;
     }
 
 pub returns-clause-opened : goal.returns-clause-opened
 returns-clause-opened g c =
     let (r, has, token, number) = there c.as_slice.result.now c.drop_expired.new.pending.items _ _ c.as_slice-2.result.now _ c.as_slice.ensures.value c.as_slice-2.ensures.value c.in-Some.ensures.found in
-    opened_by c.args.self.now c.max-self.result (request_number c.new-request.result) c.in-Some.found.number _ c.args.datagram.now c.decrypt_response.new.datagram r c.in-Ok-decrypt_response.decrypted
-    c.drop_expired.ensures has number c.new-request.ensures c.in-Ok-decrypt_response.ensures.decrypted
+    opened_by c.args.self.now c.max-self.result (request_number c.new-request.result) (registers c.new-request.result) c.in-Some.found.number _ c.args.datagram.now c.decrypt_response.new.datagram r c.in-Ok-decrypt_response.decrypted
+    c.drop_expired.ensures has number c.new-request.ensures.plain c.new-request.ensures.number c.in-Ok-decrypt_response.ensures.decrypted
 
 pub returns-in-Err-clause-apart : goal.returns-in-Err-clause-apart
 returns-in-Err-clause-apart g c = λ d. differ_alive _ _ _ _ c.drop_expired.ensures d
