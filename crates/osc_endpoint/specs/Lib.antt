@@ -1,6 +1,7 @@
 -- to be believed, in reading order
 pub mod Received
 pub mod Replies
+pub mod Observing
 pub mod Life
 pub mod ServerHistory
 pub mod ServerAnswer

@@ -17,6 +17,7 @@ mod error_reply;
 mod headlines;
 mod judging;
 mod laws;
+mod observing;
 mod outcome;
 mod pending;
 mod replying;
