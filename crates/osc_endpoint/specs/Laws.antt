@@ -11,7 +11,7 @@ use Rattle.osc_protect.specs.Protection.{response_nonce}
 use Rattle.osc_protect.specs.Usage.{value_of_response}
 use Rattle.osc_endpoint.specs.Life.{Life}
 use Rattle.osc_endpoint.specs.ServerAnswer.{ServerAnswer, own_number}
-use Rattle.osc_endpoint.specs.ServerHistory.{History, Begin, Then, Event, Entry, TicketValues, Reply, Challenge, Deliver, Took, Replied, life}
+use Rattle.osc_endpoint.specs.ServerHistory.{History, Begin, Then, Event, Entry, TicketValues, Reply, Notify, Challenge, Deliver, Took, Replied, life}
 
 -- each entry is the server's answer to its event (own rule)
 abbrev pub AllAnswers : History → Type 0
@@ -55,11 +55,12 @@ abbrev pub text_in : Option Life → ℕ → ℕ → Bool → List ℕ → List 
 text_in None i n own bytes = []
 text_in (Some of) i n own bytes = record { context = i; life = of.count; keys = of.context; request = n; own = own_number own of; bytes = bytes } ∷ []
 
--- the texts that a server sealed: challenges and replies (RFC 8613, 8.3)
+-- the texts that a server sealed: challenges, replies and notifications (RFC 8613, 8.3)
 abbrev pub texts : History → List Text
 texts Begin = []
 texts (Then h event (Took (Challenge i n echo issued) reply)) = text_in (life h i) i n true reply ++ texts h
 texts (Then h (Reply ticket own mid plain room) (Replied bytes)) = text_in (life h ticket.context) ticket.context ticket.number own bytes ++ texts h
+texts (Then h (Notify ticket plain room) (Replied bytes)) = text_in (life h ticket.context) ticket.context ticket.number true bytes ++ texts h
 texts (Then h event entry) = texts h
 
 -- the texts of one life of a context that have an own number (RFC 8613, 5)

@@ -1,25 +1,20 @@
--- For the proofs: what a context of a server answers to a reply by a ticket.
+-- For the proofs: what a context of a server answers to a reply and to a notification by a ticket.
 use Rattle.std.specs.Prelude.{◌≡◌, ℕ, List, take, Bool, Option, Some, None, Result, Ok, Err, if◌then◌else◌}
 use Rattle.osc_coap.specs.Datagram.{Parts}
 use Rattle.osc_protect.specs.declared.protect_error.ProtectError.{ProtectError}
 use Rattle.osc_protect.specs.declared.protect_error.ProtectError.TheVariants as protects
 use Rattle.osc_endpoint.specs.declared.server_error.ReplyError.{ReplyError}
-use Rattle.osc_endpoint.specs.declared.server_error.ReplyError.TheVariants.{StaleTicket, NotThatKind, Unsupported, TooLong, NoRoom}
+use Rattle.osc_endpoint.specs.declared.server_error.ReplyError.TheVariants.{StaleTicket, NotObserving, NotThatKind, Unsupported, TooLong, NoRoom}
 use Rattle.osc_endpoint.specs.Life.{Life, Mark, Answered}
-use Rattle.osc_endpoint.specs.ServerAnswer.{LifeReply}
+use Rattle.osc_endpoint.specs.ServerAnswer.{LifeNotify, LifeReply}
 use Rattle.osc_endpoint.specs.ServerHistory.{Entry, Replied, NotReplied, TicketValues, reply_mark_at}
 
--- the refusal of a reply that follows from a refusal to seal (own rule)
+-- the refusal of a reply or a notification that follows from a refusal to seal (own rule)
 abbrev pub lifted : ProtectError → ReplyError
 lifted protects.NotThatKind = NotThatKind
 lifted (protects.Unsupported n) = Unsupported n
 lifted protects.TooLong = TooLong
 lifted protects.NoRoom = NoRoom
-
--- the entry of a reply whose text stands at the front of the buffer (how the code is seen)
-abbrev pub reply_entry : Result ℕ ReplyError → List ℕ → Entry
-reply_entry (Ok n) out = Replied (take n out)
-reply_entry (Err e) out = NotReplied e
 
 -- what a reply leaves in its life (RFC 8613, 7.2.1)
 abbrev pub reply_mark : Result ℕ ReplyError → Bool → Option Mark
@@ -44,3 +39,15 @@ PlaceReply of t own p room entry = (t.life ≡ of.count) × LifeReply of t.numbe
 abbrev pub TableReply : (ℕ → Option Life) → TicketValues → Bool → Parts → ℕ → Entry → Type 0
 TableReply lives t own p room (NotReplied StaleTicket) = (of : Life) → IsPresentIn lives t of → ⊥
 TableReply lives t own p room entry = (of : Life) × IsPresentIn lives t of × LifeReply of t.number own p room entry
+
+-- the life's answer to a notification by a ticket with these values: a stale ticket, one that observes nothing, or what the life answers (how the code is seen)
+abbrev pub PlaceNotify : Life → TicketValues → Parts → ℕ → Entry → Type 0
+PlaceNotify of t p room (NotReplied StaleTicket) = t.life ≡ of.count → ⊥
+PlaceNotify of t p room (NotReplied NotObserving) = (t.life ≡ of.count) × (t.observes ≡ false)
+PlaceNotify of t p room entry = (t.life ≡ of.count) × (t.observes ≡ true) × LifeNotify of t.number p room entry
+
+-- the table's answer to a notification by a ticket with these values: a stale ticket, one that observes nothing, or what the ticket's life answers (how the code is seen)
+abbrev pub TableNotify : (ℕ → Option Life) → TicketValues → Parts → ℕ → Entry → Type 0
+TableNotify lives t p room (NotReplied StaleTicket) = (of : Life) → IsPresentIn lives t of → ⊥
+TableNotify lives t p room (NotReplied NotObserving) = (of : Life) × IsPresentIn lives t of × (t.observes ≡ false)
+TableNotify lives t p room entry = (t.observes ≡ true) × ((of : Life) × IsPresentIn lives t of × LifeNotify of t.number p room entry)

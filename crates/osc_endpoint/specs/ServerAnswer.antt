@@ -2,26 +2,27 @@
 -- in the order in which they are checked; the condition of each row includes that no earlier row's condition holds. h is a history, d a
 -- datagram, i the index of a context, n the number of a request, `of` the present life of that context, m a message, clock the clock after
 -- the event's own moment, mid and echo the fresh values that were passed in.
-use Rattle.std.specs.Prelude.{◌≡◌, ◌≢◌, ℕ, ◌+◌, ◌<◌, ◌≤◌, ◌^◌, List, [], length, Bool, true, false, Option, Some, None, unwrap_or, max, if◌then◌else◌}
+use Rattle.std.specs.Prelude.{◌≡◌, ◌≢◌, ℕ, ◌+◌, ◌<◌, ◌≤◌, ◌^◌, ◌||◌, List, [], length, Bool, true, false, Option, Some, None, unwrap_or, max, if◌then◌else◌}
 use Rattle.osc_coap.specs.Datagram.{Parts, IsDatagram}
 use Rattle.osc_coap.specs.Fault.{HasFault}
 use Rattle.osc_coap.specs.Inner.{InnerParts}
 use Rattle.osc_context.specs.Features.{unobserved}
 use Rattle.osc_context.specs.SecurityContext.{SecurityContext}
 use Rattle.osc_protect.specs.Head.{Head, HasRequestHead, HasNoRequestHead}
-use Rattle.osc_protect.specs.Protection.{ProtectsRequest, requests, responses}
+use Rattle.osc_protect.specs.Protection.{ProtectsRequest, notifications, requests, responses}
 use Rattle.osc_protect.specs.Refusals.{Names, RefusesPlaintext, RefusesTag}
-use Rattle.osc_protect.specs.Sealed.{SealsResponse}
+use Rattle.osc_protect.specs.Sealed.{SealsNotification, SealsResponse}
 use Rattle.osc_protect.specs.SealRefusals.{IsPlainResponse, RefusesPlainResponse, RefusesToSeal}
 use Rattle.osc_protect.specs.declared.head_error.HeadError.TheVariants as heads
 use Rattle.osc_protect.specs.declared.protect_error.ProtectError.TheVariants as seals
 use Rattle.osc_endpoint.specs.declared.server_error.AddError.TheVariants.{Full, SameLookup}
-use Rattle.osc_endpoint.specs.declared.server_error.ReplyError.TheVariants.{StaleTicket, NotThatKind, Unsupported, SequenceExhausted as NoOwnLeft, TooLong, NoRoom}
+use Rattle.osc_endpoint.specs.declared.server_error.ReplyError.TheVariants.{StaleTicket, NotObserving, NotThatKind, Unsupported, NotNotification, SequenceExhausted as NoOwnLeft, TooLong, NoRoom}
 use Rattle.osc_endpoint.specs.declared.server_error.RestartError.TheVariants.{NoSuchContext, LivesExhausted}
+use Rattle.osc_endpoint.specs.Observing.{is_notification, registers}
 use Rattle.osc_endpoint.specs.Received.{Receives}
 use Rattle.osc_endpoint.specs.Replies.{SaysError, as_reply, challenge_message, undecodable, no_context, replay, bad_tag}
 use Rattle.osc_endpoint.specs.Life.{Life, Passes, Admits, Carries, HasOwn, IsNewIn, is_open, in_force, next_own}
-use Rattle.osc_endpoint.specs.ServerHistory.{History, Event, Entry, Answer, TicketValues, Add, Datagram, Reply, Restart, Advance, Malformed, NotRequest, Plain, Undecodable, NoContext, Replay, BadTag, BadInner, Challenge, SequenceExhausted, Deliver, Added, NotAdded, Took, Replied, NotReplied, Restarted, NotRestarted, Advanced, clock, added, life}
+use Rattle.osc_endpoint.specs.ServerHistory.{History, Event, Entry, Answer, TicketValues, Add, Datagram, Reply, Notify, Restart, Advance, Malformed, NotRequest, Plain, Undecodable, NoContext, Replay, BadTag, BadInner, Challenge, SequenceExhausted, Deliver, Added, NotAdded, Took, Replied, NotReplied, Restarted, NotRestarted, Advanced, clock, added, life}
 
 -- the context's identifiers are short enough for a nonce, and differ (RFC 8613, 3.3)
 pub record IsContext (s : SecurityContext) : Type 0 where
@@ -94,7 +95,7 @@ MeetsLifeRow of i n a (Challenge j k given issued) =
 MeetsLifeRow of i n a SequenceExhausted = WantsEcho of n a.clock a.bytes × (HasOwn of → ⊥)
 MeetsLifeRow of i n a (Deliver received ticket) =
     Receives (requests of.context) n a.bytes received × Admits of a.clock n received.message
-    × (ticket ≡ record { context = i; life = of.count; number = n; kind = received.kind; message_id = received.message_id; token = received.token })
+    × (ticket ≡ record { context = i; life = of.count; number = n; kind = received.kind; message_id = received.message_id; token = received.token; observes = registers of.context.features received.message.code received.message.options })
 MeetsLifeRow of i n a answer = ⊥
 
 -- a row of the life that the head names (RFC 8613, 8.2)
@@ -154,6 +155,31 @@ abbrev pub ReplyAnswer : History → TicketValues → Bool → Parts → ℕ →
 ReplyAnswer h t own p room (NotReplied StaleTicket) = (of : Life) → IsPresent h t of → ⊥
 ReplyAnswer h t own p room entry = OfTicket h t (λ of. LifeReply of t.number own p room entry)
 
+-- a reply by this ticket has an own number: one is asked for, or the ticket's request registers an observation (RFC 8613, 4.1.3.5)
+abbrev pub asks_own : TicketValues → Bool → Bool
+asks_own t own = t.observes || own
+
+-- the message with the head of a notification: the token is the registration's, the Type and the Message ID are its own (RFC 7641, 4.2 and 4.5)
+abbrev pub as_notification : List ℕ → Parts → Parts
+as_notification token plain = record plain { token = token }
+
+-- the answer of the ticket's life to Notify, row by row; p is the message with the notification's head (RFC 8613, 8.3.1; own rule: the order)
+abbrev pub LifeNotify : Life → ℕ → Parts → ℕ → Entry → Type 0
+LifeNotify of n p room (NotReplied NotThatKind) = RefusesPlainResponse of.context.features p seals.NotThatKind
+LifeNotify of n p room (NotReplied (Unsupported k)) = RefusesPlainResponse of.context.features p (seals.Unsupported k)
+LifeNotify of n p room (NotReplied NotNotification) = IsPlainResponse of.context.features p × (is_notification p.code p.options ≡ false)
+LifeNotify of n p room (NotReplied NoOwnLeft) = IsPlainResponse of.context.features p × (is_notification p.code p.options ≡ true) × (HasOwn of → ⊥)
+LifeNotify of n p room (NotReplied TooLong) = (is_notification p.code p.options ≡ true) × HasOwn of × RefusesToSeal (notifications of.context n) (Some (next_own of)) p room seals.TooLong
+LifeNotify of n p room (NotReplied NoRoom) = (is_notification p.code p.options ≡ true) × HasOwn of × RefusesToSeal (notifications of.context n) (Some (next_own of)) p room seals.NoRoom
+LifeNotify of n p room (Replied bytes) = (is_notification p.code p.options ≡ true) × HasOwn of × SealsNotification of.context n (Some (next_own of)) p bytes × (length bytes ≤ room)
+LifeNotify of n p room entry = ⊥
+
+-- the answer to Notify: first a stale ticket, then one whose request registers nothing (RFC 8613, 8.3.1; own rule: the order)
+abbrev pub NotifyAnswer : History → TicketValues → Parts → ℕ → Entry → Type 0
+NotifyAnswer h t p room (NotReplied StaleTicket) = (of : Life) → IsPresent h t of → ⊥
+NotifyAnswer h t p room (NotReplied NotObserving) = OfTicket h t (λ of. t.observes ≡ false)
+NotifyAnswer h t p room entry = (t.observes ≡ true) × OfTicket h t (λ of. LifeNotify of t.number p room entry)
+
 -- the answer to Restart, from the present life of the context, if it is there (own rule: 2 ^ 64 - 1 restarts)
 abbrev pub LifeRestart : Option Life → Entry → Type 0
 LifeRestart None (NotRestarted NoSuchContext) = Unit {0}
@@ -166,6 +192,7 @@ abbrev pub ServerAnswer : History → Event → Entry → Type 0
 ServerAnswer h (Add s start size) entry = IsContext s × AddAnswer h s entry
 ServerAnswer h (Datagram now echo mid d) (Took answer reply) = TakeAnswer h (arrival h now echo mid d) answer reply
 ServerAnswer h (Reply t own mid plain room) entry = ReplyAnswer h t own (as_reply t.kind t.message_id t.token mid plain) room entry
+ServerAnswer h (Notify t plain room) entry = NotifyAnswer h t (as_notification t.token plain) room entry
 ServerAnswer h (Restart i next) entry = LifeRestart (life h i) entry
 ServerAnswer h (Advance now) Advanced = Unit {0}
 ServerAnswer h event entry = ⊥

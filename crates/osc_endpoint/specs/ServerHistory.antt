@@ -1,6 +1,6 @@
 -- To be believed: the history of a server: what happened to it, each event with its entry. h is a history, i the index of a context, d a
 -- datagram. Moments are in milliseconds.
-use Rattle.std.specs.Prelude.{ℕ, ◌+◌, ◌==◌, ◌&&◌, List, Bool, Option, Some, None, max, if◌then◌else◌}
+use Rattle.std.specs.Prelude.{ℕ, ◌+◌, ◌==◌, ◌&&◌, List, Bool, true, Option, Some, None, max, if◌then◌else◌}
 use Rattle.std.specs.Option.{option_map}
 use Rattle.osc_coap.specs.declared.message.Kind.{Kind}
 use Rattle.osc_coap.specs.declared.format_error.Fault.{Fault}
@@ -14,7 +14,7 @@ use Rattle.osc_endpoint.specs.declared.server_error.RestartError.{RestartError}
 use Rattle.osc_endpoint.specs.Received.{Received}
 use Rattle.osc_endpoint.specs.Life.{Life, Mark, Delivered, Spoiled, Challenged, Answered, marked, born, renewed}
 
--- what a ticket holds: the context, which of its lives, the request's number and head (own rule)
+-- what a ticket holds: the context, which of its lives, the request's number and head, and whether it registers an observation (own rule)
 pub record TicketValues : Type 0 where
   pub context : ℕ
   pub life : ℕ
@@ -22,12 +22,14 @@ pub record TicketValues : Type 0 where
   pub kind : Kind
   pub message_id : ℕ
   pub token : List ℕ
+  pub observes : Bool
 
--- what happens to a server; room is the length of the buffer for a reply, Advance only moves the clock (own rule)
+-- what happens to a server; room is the length of the buffer for a reply or a notification, Advance only moves the clock (own rule)
 pub data Event : Type 0 where
   Add : (context : SecurityContext) (start : Start) (size : WindowSize) → Event
   Datagram : (now : ℕ) (echo : List ℕ) (mid : ℕ) (bytes : List ℕ) → Event
   Reply : (ticket : TicketValues) (own : Bool) (mid : ℕ) (plain : Parts) (room : ℕ) → Event
+  Notify : (ticket : TicketValues) (plain : Parts) (room : ℕ) → Event
   Restart : (context next : ℕ) → Event
   Advance : (now : ℕ) → Event
 
@@ -66,6 +68,7 @@ abbrev pub clock_by : Event → ℕ → ℕ
 clock_by (Add context start size) before = before
 clock_by (Datagram now echo mid bytes) before = max before now
 clock_by (Reply ticket own mid plain room) before = before
+clock_by (Notify ticket plain room) before = before
 clock_by (Restart context next) before = before
 clock_by (Advance now) before = max before now
 
@@ -87,7 +90,7 @@ mark_at i (Challenge context number echo issued) = if i == context then Some (Ch
 mark_at i (Deliver received ticket) = if i == ticket.context then Some (Delivered ticket.number) else None
 mark_at i answer = None
 
--- what an accepted reply leaves there: if it has an own number, that number is used (RFC 8613, 7.2.1)
+-- what an accepted reply or notification leaves there: if it has an own number, that number is used (RFC 8613, 7.2.1)
 abbrev pub reply_mark_at : ℕ → TicketValues → Bool → Option Mark
 reply_mark_at i ticket own = if own && (i == ticket.context) then Some Answered else None
 
@@ -97,5 +100,6 @@ life Begin i = None
 life (Then h (Add context start size) (Added index)) i = if i == index then Some (born context start size) else life h i
 life (Then h (Datagram now echo mid d) (Took answer reply)) i = option_map (marked (mark_at i answer)) (life h i)
 life (Then h (Reply ticket own mid plain room) (Replied bytes)) i = option_map (marked (reply_mark_at i ticket own)) (life h i)
+life (Then h (Notify ticket plain room) (Replied bytes)) i = option_map (marked (reply_mark_at i ticket true)) (life h i)
 life (Then h (Restart context next) Restarted) i = if i == context then option_map (renewed next) (life h i) else life h i
 life (Then h event entry) i = life h i

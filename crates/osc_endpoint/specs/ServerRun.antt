@@ -1,6 +1,6 @@
 -- To be believed: a run of a server: the log of its events, and the history that they add to. h and g are the histories before and after,
 -- ts and us the tickets that the run has before and after, one place for each event.
-use Rattle.std.specs.Prelude.{◌≡◌, ◌++◌, ◌∷◌, [], ℕ, List, Bool, Option, Some, None, Ok, Err, map, length, slice_get, slice_set}
+use Rattle.std.specs.Prelude.{◌≡◌, ◌++◌, ◌∷◌, [], ℕ, List, Bool, Option, Some, None, Ok, Err, map, length, is_some, slice_get, slice_set}
 use Rattle.std.specs.Option.{option_and_then, option_map}
 use Rattle.osc_coap.specs.Datagram.{Parts, IsDatagram}
 use Rattle.osc_coap.specs.Fault.{HasFault}
@@ -11,8 +11,8 @@ use Rattle.osc_endpoint.specs.declared.server_event.ServerEvent.{ServerEvent}
 use Rattle.osc_endpoint.specs.declared.server_event.ServerEvent.TheVariants as events
 use Rattle.osc_endpoint.specs.declared.server_event.ServerEntry.{ServerEntry}
 use Rattle.osc_endpoint.specs.declared.server_event.ServerEntry.TheVariants as entries
-use Rattle.osc_endpoint.specs.ServerHistory.{History, Then, Event, Entry, Answer, TicketValues, Datagram, Reply, Restart, Malformed, NotRequest, Plain, Undecodable, NoContext, Replay, BadTag, BadInner, Challenge, SequenceExhausted, Deliver, Took, Replied, NotReplied, Restarted, NotRestarted}
-use Rattle.osc_endpoint.specs.ServerAnswer.{ServerAnswer}
+use Rattle.osc_endpoint.specs.ServerHistory.{History, Then, Event, Entry, Answer, TicketValues, Datagram, Reply, Notify, Restart, Malformed, NotRequest, Plain, Undecodable, NoContext, Replay, BadTag, BadInner, Challenge, SequenceExhausted, Deliver, Took, Replied, NotReplied, Restarted, NotRestarted}
+use Rattle.osc_endpoint.specs.ServerAnswer.{ServerAnswer, asks_own}
 use Rattle.osc_endpoint.specs.Views.{received_of, values_of}
 use Rattle.osc_endpoint.specs.declared.ticket.Ticket.{Ticket}
 
@@ -44,18 +44,33 @@ ticket_at ts i = option_and_then (λ t. t) (slice_get ts i)
 abbrev pub GoesOn : History → Event → Entry → History → Type 0
 GoesOn h event entry g = ServerAnswer h event entry × (g ≡ Then h event entry)
 
--- a reply by the ticket at this place; an accepted reply takes the ticket (own rule)
+-- a reply by the ticket at this place; an accepted reply takes the ticket, and has an own number if the ticket's request registers an observation (own rule; RFC 8613, 4.1.3.5)
 abbrev pub ReplyStep : History → List (Option TicketValues) → ℕ → Bool → ℕ → List ℕ → ℕ → ServerEntry → History → List (Option TicketValues) → Type 0
 ReplyStep h ts of own mid plain room entries.NoTicket g us = (ticket_at ts of ≡ None) × (g ≡ h) × (us ≡ ts)
 ReplyStep h ts of own mid plain room (entries.BadPlain e) g us =
     (t : TicketValues) × (ticket_at ts of ≡ Some t) × HasFault plain e.fault e.place × (g ≡ h) × (us ≡ ts)
 ReplyStep h ts of own mid plain room (entries.Replied (Ok text)) g us =
     (t : TicketValues) × (ticket_at ts of ≡ Some t) × (p : Parts) × IsDatagram p plain
-    × GoesOn h (Reply t own mid p room) (Replied text.now) g × (us ≡ slice_set ts of None)
+    × GoesOn h (Reply t (asks_own t own) mid p room) (Replied text.now) g × (us ≡ slice_set ts of None)
 ReplyStep h ts of own mid plain room (entries.Replied (Err e)) g us =
     (t : TicketValues) × (ticket_at ts of ≡ Some t) × (p : Parts) × IsDatagram p plain
-    × GoesOn h (Reply t own mid p room) (NotReplied e) g × (us ≡ ts)
+    × GoesOn h (Reply t (asks_own t own) mid p room) (NotReplied e) g × (us ≡ ts)
 ReplyStep h ts of own mid plain room entry g us = ⊥
+
+-- a notification by the ticket at this place, which stays (own rule)
+abbrev pub NotifyStep : History → List (Option TicketValues) → ℕ → List ℕ → ℕ → ServerEntry → History → Type 0
+NotifyStep h ts of plain room entries.NoTicket g = (ticket_at ts of ≡ None) × (g ≡ h)
+NotifyStep h ts of plain room (entries.BadPlain e) g = (t : TicketValues) × (ticket_at ts of ≡ Some t) × HasFault plain e.fault e.place × (g ≡ h)
+NotifyStep h ts of plain room (entries.Replied (Ok text)) g =
+    (t : TicketValues) × (ticket_at ts of ≡ Some t) × (p : Parts) × IsDatagram p plain × GoesOn h (Notify t p room) (Replied text.now) g
+NotifyStep h ts of plain room (entries.Replied (Err e)) g =
+    (t : TicketValues) × (ticket_at ts of ≡ Some t) × (p : Parts) × IsDatagram p plain × GoesOn h (Notify t p room) (NotReplied e) g
+NotifyStep h ts of plain room entry g = ⊥
+
+-- the ticket at this place is dropped, if one is left; the server isn't told (own rule)
+abbrev pub DropStep : History → List (Option TicketValues) → ℕ → ServerEntry → History → List (Option TicketValues) → Type 0
+DropStep h ts of (entries.Dropped there) g us = (there ≡ is_some (ticket_at ts of)) × (g ≡ h) × (us ≡ slice_set ts of None)
+DropStep h ts of entry g us = ⊥
 
 -- one event, its entry, the history after it, and the tickets, with one more place (own rule)
 abbrev pub ServerRunStep : History → List (Option TicketValues) → ServerEvent → ServerEntry → History → List (Option TicketValues) → Type 0
@@ -64,6 +79,8 @@ ServerRunStep h ts (events.Datagram a) (entries.Took x reply) g us =
     × GoesOn h (Datagram a.now a.fresh.echo a.fresh.mid a.bytes.items) (Took answer reply.now) g × (us ≡ ts ++ ticket_of answer ∷ [])
 ServerRunStep h ts (events.Reply r) entry g us =
     (left : List (Option TicketValues)) × ReplyStep h ts r.of r.own r.mid r.plain.items (length r.out.items) entry g left × (us ≡ left ++ None ∷ [])
+ServerRunStep h ts (events.Notify r) entry g us = NotifyStep h ts r.of r.plain.items (length r.out.items) entry g × (us ≡ ts ++ None ∷ [])
+ServerRunStep h ts (events.Drop of) entry g us = (left : List (Option TicketValues)) × DropStep h ts of entry g left × (us ≡ left ++ None ∷ [])
 ServerRunStep h ts (events.Restart context next) (entries.Restarted (Ok x)) g us = GoesOn h (Restart context (number_of next)) Restarted g × (us ≡ ts ++ None ∷ [])
 ServerRunStep h ts (events.Restart context next) (entries.Restarted (Err e)) g us = GoesOn h (Restart context (number_of next)) (NotRestarted e) g × (us ≡ ts ++ None ∷ [])
 ServerRunStep h ts event entry g us = ⊥

@@ -6,7 +6,7 @@ use Rattle.osc_endpoint.specs.declared.server_error.AddError.TheVariants.{Full, 
 use Rattle.osc_endpoint.specs.declared.server_error.RestartError.{RestartError}
 use Rattle.osc_endpoint.specs.declared.server_error.RestartError.TheVariants.{NoSuchContext, LivesExhausted}
 use Rattle.osc_endpoint.specs.declared.server_error.ReplyError.{ReplyError}
-use Rattle.osc_endpoint.specs.declared.server_error.ReplyError.TheVariants.{KeeperFailed, StaleTicket, NotThatKind, Unsupported, SequenceExhausted, TooLong, NoRoom}
+use Rattle.osc_endpoint.specs.declared.server_error.ReplyError.TheVariants.{KeeperFailed, StaleTicket, NotObserving, NotThatKind, Unsupported, NotNotification, SequenceExhausted, TooLong, NoRoom}
 use Rattle.osc_endpoint.specs.declared.client_outcome.RequestError.{RequestError}
 use Rattle.osc_endpoint.specs.declared.client_outcome.RequestError.TheVariants as requests
 
@@ -20,12 +20,14 @@ abbrev pub restart_error_text : RestartError → List ℕ
 restart_error_text NoSuchContext = codes "NoSuchContext"
 restart_error_text LivesExhausted = codes "LivesExhausted"
 
--- how a refusal to reply prints, an unsupported option with its number (own rule)
+-- how a refusal to reply or to notify prints, an unsupported option with its number (own rule)
 abbrev pub reply_error_text : ReplyError → List ℕ
 reply_error_text KeeperFailed = codes "KeeperFailed"
 reply_error_text StaleTicket = codes "StaleTicket"
+reply_error_text NotObserving = codes "NotObserving"
 reply_error_text NotThatKind = codes "NotThatKind"
 reply_error_text (Unsupported n) = codes "Unsupported " ++ decimal n
+reply_error_text NotNotification = codes "NotNotification"
 reply_error_text SequenceExhausted = codes "SequenceExhausted"
 reply_error_text TooLong = codes "TooLong"
 reply_error_text NoRoom = codes "NoRoom"

@@ -22,7 +22,7 @@ use Rattle.osc_endpoint.specs.ClientHistory as client
 
 -- what a ticket holds (how the code is seen)
 abbrev pub values_of : Ticket → server.TicketValues
-values_of t = record { context = t.context; life = t.life; number = number_of t.number; kind = t.asker.kind; message_id = t.asker.message_id; token = t.asker.token.items }
+values_of t = record { context = t.context; life = t.life; number = number_of t.number; kind = t.asker.kind; message_id = t.asker.message_id; token = t.asker.token.items; observes = t.observes }
 
 -- what an opened message says (how the code is seen)
 abbrev pub received_of : Opened → Received
@@ -62,6 +62,11 @@ added_entry (Err e) = server.NotAdded e
 abbrev pub restarted_entry : Result Unit RestartError → server.Entry
 restarted_entry (Ok x) = server.Restarted
 restarted_entry (Err e) = server.NotRestarted e
+
+-- the entry of a reply or a notification whose text stands at the front of the buffer (how the code is seen)
+abbrev pub reply_entry : Result ℕ ReplyError → List ℕ → server.Entry
+reply_entry (Ok n) out = server.Replied (take n out)
+reply_entry (Err e) out = server.NotReplied e
 
 -- the entry of a reply by the server, which returns the ticket of a refused reply (how the code is seen)
 abbrev pub server_entry : Result ℕ (ReplyError × Ticket) → List ℕ → server.Entry

@@ -5,6 +5,7 @@ ghost use Rattle.osc_endpoint.specs.Agrees.{SlotAgrees};
 ghost use Rattle.osc_endpoint.specs.Deciding.{CanShow, Leaves};
 ghost use Rattle.osc_endpoint.specs.Judging.{GatePasses, GateRefuses, IsAskerOf, JudgesTo, OfWhatWasRead};
 ghost use Rattle.osc_endpoint.specs.Life.{Carries, Life, in_force, is_open};
+ghost use Rattle.osc_endpoint.specs.Observing.{registers as registering};
 ghost use Rattle.osc_endpoint.specs.declared.slot.Slot.{Slot};
 ghost use Rattle.osc_context.specs.Views.{as_server, number_of};
 ghost use Rattle.osc_window.specs.Views.{is_open as is_open_gate};
@@ -16,11 +17,12 @@ use crate::asker::Asker;
 use crate::challenge_reply::write_challenge;
 use crate::decision::{Decided, Decision};
 use crate::error_reply::{ErrorReply, write_error};
+use crate::observing::registers;
 use crate::slot::Slot;
 use crate::start::Fresh;
 use crate::ticket::Ticket;
 use osc_coap::one_datagram;
-use osc_context::Piv;
+use osc_context::{Features, Piv};
 use osc_protect::{
     DecryptedRequest, ReadRequest, SealedRequest, decrypt_request, inspect_request, one_reading,
     one_request,
@@ -65,6 +67,16 @@ pub fn refuse_replay(request: &Named, out: &mut [u8; 64]) -> Decided
         decision: Decision::Replay,
         reply,
     }
+}
+
+/// Returns whether the request that was read registers an observation, under a context with these features.
+fn registers_read(features: Features, datagram: &[u8], read: ReadRequest) -> bool
+    requires { (x : DecryptedRequest) × CanLendRequest datagram.now x read }
+    ensures { OfWhatWasRead datagram.now read (λ m. result ≡ registering features m.code m.options) }
+{
+    one_request();
+    let opened = read.opened(datagram);
+    registers(features, opened.code, &opened.inner())
 }
 
 impl Slot {
@@ -158,12 +170,14 @@ impl Slot {
         if !self.admits_read(request.clock, datagram, read) {
             return self.demand(&request, out);
         }
+        let observes = registers_read(self.context.context().features(), datagram, read);
         self.deliver(request.number);
         let ticket = Ticket {
             context: request.index,
             life: self.life,
             number: request.number,
             asker: request.asker,
+            observes,
         };
         Decided {
             decision: Decision::Deliver(read, ticket),

@@ -15,7 +15,7 @@ use osc_context::Piv;
 use osc_protect::{ProtectError, RequestRef, check_response};
 
 /// Turns a refusal to seal into the refusal of a reply.
-fn lift(error: ProtectError) -> ReplyError
+pub(crate) fn lift(error: ProtectError) -> ReplyError
     ensures value { result ≡ lifted error }
     ensures no_keeper_failed { result ≢ KeeperFailed }
 {
@@ -31,7 +31,8 @@ impl Slot {
     ghost use Rattle.osc_endpoint.specs.Agrees.{SlotAgrees};
     ghost use Rattle.osc_endpoint.specs.Life.{Life, marked};
     ghost use Rattle.osc_endpoint.specs.Replies.{as_reply};
-    ghost use Rattle.osc_endpoint.specs.Replying.{reply_entry, reply_mark};
+    ghost use Rattle.osc_endpoint.specs.Replying.{reply_mark};
+    ghost use Rattle.osc_endpoint.specs.Views.{reply_entry};
     ghost use Rattle.osc_endpoint.specs.ServerAnswer.{LifeReply, HasAsked, own_number};
 
     /// Returns the next own Sender Sequence Number if one is asked for, and `None` if one is asked for and none is left.
@@ -51,7 +52,7 @@ impl Slot {
     }
 
     /// Counts an own Sender Sequence Number if one was used.
-    fn count(&mut self, own: bool)
+    pub(crate) fn count(&mut self, own: bool)
         requires { own ≡ true → self.old.next < 2 ^ 40 }
         ensures context { self.new.context ≡ self.old.context }
         ensures kept { (l : Life) (n : ℕ) → SlotAgrees self.old l → SlotAgrees self.new (marked (reply_mark (Ok n) own) l) }

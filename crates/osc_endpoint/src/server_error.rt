@@ -53,19 +53,23 @@ impl fmt::Display for RestartError {
 
 impl Error for RestartError {}
 
-/// Why a reply isn't sealed. The variants stand in the order in which they are checked.
+/// Why a reply or a notification isn't sealed. The variants stand in the order in which they are checked.
 #[derive(Clone, Copy, Debug, PartialEq, Eq)]
 pub enum ReplyError {
     /// The keeper of the own Sender Sequence Numbers failed. A `Server` never returns this.
     KeeperFailed,
     /// The ticket's context isn't there, or has begun a new life.
     StaleTicket,
+    /// The ticket's request registers no observation. A reply is never refused for this.
+    NotObserving,
     /// The message has no response code.
     NotThatKind,
-    /// The message has an option that can't be sealed. Observe is one, even if the context takes part in it. The value is the lowest number
-    /// of such an option; own rule.
+    /// The message has an option that can't be sealed. In a reply, Observe is one, even if the context takes part in it. The value is the
+    /// lowest number of such an option; own rule.
     Unsupported(u16),
-    /// An own Sender Sequence Number is asked for, and none is left.
+    /// The message isn't of class 2, or has no Observe. A reply is never refused for this.
+    NotNotification,
+    /// An own Sender Sequence Number is asked for, and none is left. A notification always asks for one.
     SequenceExhausted,
     /// The reply would have more than 65,535 bytes; own rule.
     TooLong,
@@ -83,8 +87,10 @@ impl fmt::Display for ReplyError {
         match self {
             ReplyError::KeeperFailed => f.write_str("KeeperFailed"),
             ReplyError::StaleTicket => f.write_str("StaleTicket"),
+            ReplyError::NotObserving => f.write_str("NotObserving"),
             ReplyError::NotThatKind => f.write_str("NotThatKind"),
             ReplyError::Unsupported(number) => write!(f, "Unsupported {number}"),
+            ReplyError::NotNotification => f.write_str("NotNotification"),
             ReplyError::SequenceExhausted => f.write_str("SequenceExhausted"),
             ReplyError::TooLong => f.write_str("TooLong"),
             ReplyError::NoRoom => f.write_str("NoRoom"),

@@ -26,6 +26,14 @@ pub struct Answering {
     pub out: Vec<u8>,
 }
 
+/// A notification to the request of the event at an index: the plain message, and room for the notification.
+#[derive(Drop)]
+pub struct Notifying {
+    pub of: usize,
+    pub plain: Vec<u8>,
+    pub out: Vec<u8>,
+}
+
 /// One event of a server's run.
 #[derive(Drop)]
 pub enum ServerEvent {
@@ -33,6 +41,10 @@ pub enum ServerEvent {
     Datagram(Arrival),
     /// The application answers a request.
     Reply(Answering),
+    /// The application notifies a request that registers an observation.
+    Notify(Notifying),
+    /// The application drops the ticket of the event at an index: an observation is over.
+    Drop { of: usize },
     /// A context begins a new life.
     Restart { context: usize, next: Piv },
 }
@@ -66,12 +78,14 @@ pub enum Seen<'a> {
 pub enum ServerEntry<'a> {
     /// What the server made of a datagram, and the reply, which has no bytes if there is none.
     Took { seen: Seen<'a>, reply: &'a [u8] },
-    /// The reply that was sealed, or why none was sealed.
+    /// The reply or the notification that was sealed, or why none was sealed.
     Replied(Result<&'a [u8], ReplyError>),
     /// No event at that index has a ticket left.
     NoTicket,
     /// The application's answer isn't a CoAP message.
     BadPlain(FormatError),
+    /// Whether there was a ticket to drop.
+    Dropped(bool),
     /// Whether the context was restarted.
     Restarted(Result<(), RestartError>),
 }

@@ -11,13 +11,14 @@ use osc_coap::Message;
 
 impl Server {
     ghost use Rattle.osc_endpoint.specs.Agrees.{Agrees};
-    ghost use Rattle.osc_endpoint.specs.ServerAnswer.{ServerAnswer};
+    ghost use Rattle.osc_endpoint.specs.ServerAnswer.{ServerAnswer, asks_own};
     ghost use Rattle.osc_endpoint.specs.ServerHistory.{History, Then, Reply};
     ghost use Rattle.osc_endpoint.specs.Views.{server_entry, values_of};
     ghost use Rattle.osc_endpoint.specs.declared.server_error.ReplyError.TheVariants.{KeeperFailed};
 
     /// Seals a reply to the request of a ticket into `out`, and returns how many bytes it takes at the front of `out` (RFC 8613, 8.3). It
-    /// uses the code, options and payload of the plain message. Returns the first refusal in the order of `ReplyError`. A refusal changes
+    /// uses the code, options and payload of the plain message. If the ticket's request registers an observation, the reply has an own number
+    /// in any case, and ends the observation (RFC 8613, 4.1.3.5). Returns the first refusal in the order of `ReplyError`. A refusal changes
     /// nothing, leaves `out` unchanged, and returns the ticket.
     pub fn reply(
         &mut self,
@@ -28,15 +29,16 @@ impl Server {
         out: &mut [u8],
     ) -> Result<usize, (ReplyError, Ticket)>
         ensures answered { (h : History) → Agrees self.old h
-            → ServerAnswer h (Reply (values_of ticket) own mid (parts_of plain.now) (length out.old)) (server_entry result out.new) }
+            → ServerAnswer h (Reply (values_of ticket) (asks_own (values_of ticket) own) mid (parts_of plain.now) (length out.old)) (server_entry result out.new) }
         ensures follows { (h : History) → Agrees self.old h → Agrees self.new
-            (Then h (Reply (values_of ticket) own mid (parts_of plain.now) (length out.old)) (server_entry result out.new)) }
+            (Then h (Reply (values_of ticket) (asks_own (values_of ticket) own) mid (parts_of plain.now) (length out.old)) (server_entry result out.new)) }
         ensures back { IfErr result (λ e. e.1 ≡ ticket) }
         ensures within { IfOk result (λ n. n ≤ length out.new) }
         ensures behind { IfOk result (λ n. drop n out.new ≡ drop n out.old) }
         ensures unchanged { OnErr result ((out.new ≡ out.old) × (self.new ≡ self.old)) }
         ensures no_keeper_failed { IfErr result (λ e. e.0 ≢ KeeperFailed) }
     {
+        let own = ticket.asks_own(own);
         match reply_at(self.slots.as_mut_slice(), &ticket, own, mid, plain, out) {
             Ok(len) => Ok(len),
             Err(error) => Err((error, ticket)),

@@ -5,15 +5,15 @@ ghost use Rattle.std.specs.Option.{option_map};
 ghost use Rattle.osc_endpoint.specs.Agrees.{Agrees};
 ghost use Rattle.osc_endpoint.specs.Laws.{TakesTickets};
 ghost use Rattle.osc_endpoint.specs.ServerHistory.{History, TicketValues};
-ghost use Rattle.osc_endpoint.specs.ServerRun.{Run, ReplyStep, values_in};
+ghost use Rattle.osc_endpoint.specs.ServerRun.{DropStep, NotifyStep, ReplyStep, Run, values_in};
 ghost use Rattle.osc_endpoint.specs.Serving.{Serves};
 ghost use Rattle.osc_endpoint.specs.Views.{values_of};
 
 use crate::outcome::Taken;
 use crate::server::Server;
-use crate::server_event::{Answering, Arrival, ServerEntry, ServerEvent};
+use crate::server_event::{Answering, Arrival, Notifying, ServerEntry, ServerEvent};
 use crate::ticket::Ticket;
-use crate::ticket_places::{make_places, put_back, take_out};
+use crate::ticket_places::{make_places, put_back, take_out, ticket_at};
 use osc_coap::parse;
 use osc_context::Piv;
 use std::alloc::{AllocError, Global};
@@ -96,6 +96,51 @@ fn serve_answering<'a>(
     serve_reply(server, tickets, *of, *own, *mid, plain, out)
 }
 
+/// Runs a notification by the ticket at an index, which stays there. The entry borrows from the room for the notification.
+fn serve_notify<'a>(
+    server: &mut Server,
+    tickets: &[Option<Ticket>],
+    of: usize,
+    plain: &[u8],
+    out: &'a mut [u8],
+) -> ServerEntry<'a>
+    ensures { (h : History) → Agrees server.old h
+        → (g : History) × NotifyStep h (values_in tickets.now) of plain.now (length out.old) result g × Agrees server.new g }
+{
+    let Some(ticket) = ticket_at(tickets, of) else {
+        return ServerEntry::NoTicket;
+    };
+    let message = match parse(plain) {
+        Ok(message) => message,
+        Err(error) => return ServerEntry::BadPlain(error),
+    };
+    match server.notify(ticket, &message, out) {
+        Ok(len) => ServerEntry::Replied(Ok(&out[..len])),
+        Err(error) => ServerEntry::Replied(Err(error)),
+    }
+}
+
+/// Runs a notification, whose entry borrows from the room for it.
+fn serve_notifying<'a>(
+    server: &mut Server,
+    notifying: &'a mut Notifying,
+    tickets: &[Option<Ticket>],
+) -> ServerEntry<'a>
+    ensures { (h : History) → Agrees server.old h
+        → (g : History) × Serves h (values_in tickets.now) (ServerEvent.Notify notifying.old) result None g (values_in tickets.now)
+        × Agrees server.new g }
+{
+    let Notifying { of, plain, out } = notifying;
+    serve_notify(server, tickets, *of, plain, out)
+}
+
+/// Drops the ticket at an index. The entry borrows nothing.
+fn drop_ticket<'a>(tickets: &mut [Option<Ticket>], of: usize) -> ServerEntry<'a>
+    ensures { (h : History) → DropStep h (values_in tickets.old) of result h (values_in tickets.new) }
+{
+    ServerEntry::Dropped(take_out(tickets, of).is_some())
+}
+
 /// Runs a restart, whose entry borrows nothing.
 fn serve_restart<'a>(server: &mut Server, context: usize, next: Piv) -> ServerEntry<'a>
     ensures { (h : History) (ts : List (Option TicketValues)) → Agrees server.old h
@@ -117,6 +162,8 @@ fn serve<'a>(
     match event {
         ServerEvent::Datagram(arrival) => serve_datagram(server, arrival),
         ServerEvent::Reply(answering) => (serve_answering(server, answering, tickets), None),
+        ServerEvent::Notify(notifying) => (serve_notifying(server, notifying, tickets), None),
+        ServerEvent::Drop { of } => (drop_ticket(tickets, *of), None),
         ServerEvent::Restart { context, next } => (serve_restart(server, *context, *next), None),
     }
 }

@@ -10,8 +10,9 @@ ghost use Rattle.std.specs.Option.{option_map};
 ghost use Rattle.osc_coap.specs.Views.{parts_of};
 ghost use Rattle.osc_endpoint.specs.Life.{Life, is_open, is_open_life, marked};
 ghost use Rattle.osc_endpoint.specs.Replies.{as_reply};
-ghost use Rattle.osc_endpoint.specs.Replying.{PlaceReply, TableReply, reply_entry, reply_mark, marks_at};
-ghost use Rattle.osc_endpoint.specs.Views.{values_of};
+ghost use Rattle.osc_endpoint.specs.Replying.{PlaceNotify, PlaceReply, TableNotify, TableReply, reply_mark, marks_at};
+ghost use Rattle.osc_endpoint.specs.Views.{reply_entry, values_of};
+ghost use Rattle.osc_endpoint.specs.ServerAnswer.{as_notification};
 ghost use Rattle.osc_endpoint.specs.Table.{LooksUp, TableJudges};
 ghost use Rattle.osc_endpoint.specs.declared.server_error.ReplyError.TheVariants.{KeeperFailed, StaleTicket};
 ghost use Rattle.osc_endpoint.specs.declared.slot.Slot.{Slot};
@@ -152,6 +153,63 @@ pub(crate) fn reply_at(
         return Err(ReplyError::StaleTicket);
     }
     reply_place(&mut slots[index], ticket, own, mid, plain, out)
+}
+
+/// Seals a notification by a ticket of the context in a place.
+fn notify_place(
+    place: &mut Option<Slot>,
+    ticket: &Ticket,
+    plain: &Message<'_>,
+    out: &mut [u8],
+) -> Result<usize, ReplyError>
+    ensures kept { (l : Life) → HoldsLife place.old l
+        → PlaceNotify l (values_of ticket.now) (as_notification ticket.now.asker.token.items (parts_of plain.now)) (length out.old)
+        (reply_entry result out.new)
+        × HoldsLife place.new (marked (reply_mark result true) l) }
+    ensures within { IfOk result (λ n. n ≤ length out.new) }
+    ensures behind { IfOk result (λ n. drop n out.new ≡ drop n out.old) }
+    ensures unchanged { OnErr result (out.new ≡ out.old) }
+    ensures same { OnErr result (place.new ≡ place.old) }
+    ensures no_keeper_failed { IfErr result (λ e. e ≢ KeeperFailed) }
+    ensures none { IfNone place.old (result ≡ Err StaleTicket) }
+{
+    match place {
+        Some(slot) => {
+            if slot.life != ticket.life {
+                return Err(ReplyError::StaleTicket);
+            }
+            if !ticket.observes {
+                return Err(ReplyError::NotObserving);
+            }
+            slot.notify_to(ticket.number, &ticket.asker.token, plain, out)
+        }
+        None => Err(ReplyError::StaleTicket),
+    }
+}
+
+/// Seals a notification by a ticket.
+pub(crate) fn notify_at(
+    slots: &mut [Option<Slot>],
+    ticket: &Ticket,
+    plain: &Message<'_>,
+    out: &mut [u8],
+) -> Result<usize, ReplyError>
+    ensures answer { (lives : ℕ → Option Life) → TableAgrees slots.old lives
+        → TableNotify lives (values_of ticket.now) (as_notification ticket.now.asker.token.items (parts_of plain.now)) (length out.old)
+        (reply_entry result out.new) }
+    ensures agrees { (lives : ℕ → Option Life) → TableAgrees slots.old lives
+        → TableAgrees slots.new (λ i. option_map (marked (marks_at result i (values_of ticket.now) true)) (lives i)) }
+    ensures within { IfOk result (λ n. n ≤ length out.new) }
+    ensures behind { IfOk result (λ n. drop n out.new ≡ drop n out.old) }
+    ensures unchanged { OnErr result (out.new ≡ out.old) }
+    ensures same { OnErr result (slots.new ≡ slots.old) }
+    ensures no_keeper_failed { IfErr result (λ e. e ≢ KeeperFailed) }
+{
+    let index = ticket.context;
+    if index >= slots.len() {
+        return Err(ReplyError::StaleTicket);
+    }
+    notify_place(&mut slots[index], ticket, plain, out)
 }
 
 /// Returns whether the context in a place is open.

@@ -3,7 +3,8 @@
 use crate::asker::Asker;
 use osc_context::Piv;
 
-/// The right to reply once to a request that was delivered. It can't be cloned: only a delivery makes one, and a sealed reply uses it up.
+/// The right to reply once to a request that was delivered. If the request registers an observation, it is the right to notify as well. It
+/// can't be cloned: only a delivery makes one, and a sealed reply uses it up.
 #[derive(Debug, Drop)]
 pub struct Ticket {
     pub(crate) context: usize,
@@ -11,11 +12,14 @@ pub struct Ticket {
     pub(crate) life: u64,
     pub(crate) number: Piv,
     pub(crate) asker: Asker,
+    // Whether the request registers an observation.
+    pub(crate) observes: bool,
 }
 
 impl Ticket {
     ghost use Rattle.std.specs.Prelude.{◌≡◌};
     ghost use Rattle.osc_context.specs.Views.{number_of};
+    ghost use Rattle.osc_endpoint.specs.ServerAnswer.{asks_own};
     ghost use Rattle.osc_endpoint.specs.Views.{values_of};
 
     /// Returns the request's number.
@@ -50,5 +54,21 @@ impl Ticket {
         ensures token { result.now.token.items ≡ (values_of self.now).token }
     {
         &self.asker
+    }
+
+    /// Returns whether the request registers an observation, so that `Server::notify` may answer it (RFC 8613, 4.1.3.5.1).
+    #[must_use]
+    pub fn observes(&self) -> bool
+        ensures { result ≡ (values_of self.now).observes }
+    {
+        self.observes
+    }
+
+    /// Returns whether a reply has an own number: it does if you ask for one, or if the request registers an observation (RFC 8613, 4.1.3.5).
+    #[must_use]
+    pub fn asks_own(&self, own: bool) -> bool
+        ensures { result ≡ asks_own (values_of self.now) own }
+    {
+        self.observes || own
     }
 }

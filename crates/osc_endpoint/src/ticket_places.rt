@@ -1,7 +1,7 @@
 //! The tickets of a run. Each event has one place, which holds the ticket that its delivery gave until a reply takes it.
 
 ghost use Rattle.std.specs.Prelude.{◌≡◌, ◌+◌, ◌<◌, Some, None, slice_get, slice_set, vec_capacity, vec_len, OnOk};
-ghost use Rattle.std.specs.Option.{option_and_then};
+ghost use Rattle.std.specs.Option.{option_and_then, option_copied};
 
 use crate::ticket::Ticket;
 use std::alloc::AllocError;
@@ -22,6 +22,18 @@ pub fn put_back(tickets: &mut [Option<Ticket>], of: usize, ticket: Ticket)
 {
     if of < tickets.len() {
         tickets[of] = Some(ticket);
+    }
+}
+
+/// Returns the ticket at an index, if one is left.
+#[must_use]
+pub fn ticket_at(tickets: &[Option<Ticket>], of: usize) -> Option<&Ticket>
+    ensures { option_copied result ≡ option_and_then (λ t. t) (slice_get tickets.now of) }
+{
+    if of < tickets.len() {
+        tickets[of].as_ref()
+    } else {
+        None
     }
 }
 
