@@ -1,5 +1,5 @@
 -- What a server decides of a datagram, after a history.
-use Rattle.std.proofs.Common.{◌≡◌, ℕ, ◌∙◌, sym, ap, subst, refl, Bool, Option, Some, None, List, [], ◌++◌, length, take, drop}
+use Rattle.std.proofs.Common.{◌≡◌, ℕ, ◌∙◌, sym, ap, subst, refl, Bool, true, Option, Some, None, Result, Ok, Err, List, [], ◌++◌, length, take, drop}
 use Rattle.std.specs.Prelude.{slice_get, max, unwrap_or}
 use Rattle.std.specs.List.{refill}
 use Rattle.std.specs.Option.{option_map}
@@ -30,11 +30,14 @@ use Rattle.osc_endpoint.specs.Agrees.{Agrees, HoldsLife, PlaceAgrees, TableAgree
 use Rattle.osc_endpoint.specs.Deciding.{Decides, DecidesTo}
 use Rattle.osc_endpoint.specs.Heads.{head_answer, HeadReply}
 use Rattle.osc_endpoint.specs.Judging.{IsAskerOf, IsNamed, IsNamedAt, NamedAnswer}
-use Rattle.osc_endpoint.specs.Life.{Life, marked}
+use Rattle.osc_endpoint.specs.Life.{Life, Mark, marked}
+use Rattle.osc_endpoint.specs.declared.server_error.ReplyError.{ReplyError}
 use Rattle.osc_endpoint.specs.Replies.{as_reply, error_message, no_context}
+use Rattle.osc_endpoint.specs.Replying.{marks_at}
 use Rattle.osc_endpoint.specs.ServerAnswer.{Arrival, TakeAnswer, arrival}
 use Rattle.osc_endpoint.specs.ServerHistory as server
 use Rattle.osc_endpoint.specs.Table.{LooksUp, TableJudges}
+use Rattle.osc_endpoint.specs.Views.{reply_entry}
 use Rattle.osc_endpoint.proofs.Judgments.{says_error}
 use Rattle.osc_endpoint.proofs.KeptContexts.{one_marked}
 use Rattle.osc_endpoint.proofs.Places.{same_life, slot_at}
@@ -193,15 +196,34 @@ judged old new h now fresh d after reply result r slots s a clock moment same_fr
           (subst (λ xs. TableAgrees xs (λ i. option_map (marked (server.mark_at i j.answer)) (server.life h i))) (sym items) j.agrees);
     }
 
+-- the server after an answer that leaves a mark in each life, or none
+agrees_marked : (old new : Server) (h g : server.History) (m : ℕ → Option Mark) → Agrees old h → new.clock ≡ old.clock → length new.slots.items ≡ length old.slots.items
+    → server.clock g ≡ server.clock h → server.added g ≡ server.added h → ((i : ℕ) → server.life g i ≡ option_map (marked (m i)) (server.life h i))
+    → TableAgrees new.slots.items (server.life g) → Agrees new g
+agrees_marked old new h g m a clock len moment count lives table =
+    record {
+      clock_is = clock ∙ a.clock_is ∙ sym moment;
+      contexts = len ∙ a.contexts ∙ sym count;
+      places = table;
+      one_each = one_marked h g m lives a.one_each;
+    }
+
 -- the server after a reply
 pub agrees_replied : (old new : Server) (h : server.History) (t : server.TicketValues) (own : Bool) (mid room : ℕ) (plain : Parts) (bytes : List ℕ)
     → Agrees old h → new.clock ≡ old.clock → length new.slots.items ≡ length old.slots.items
     → TableAgrees new.slots.items (λ i. option_map (marked (server.reply_mark_at i t own)) (server.life h i))
     → Agrees new (server.Then h (server.Reply t own mid plain room) (server.Replied bytes))
 agrees_replied old new h t own mid room plain bytes a clock len table =
-    record {
-      clock_is = clock ∙ a.clock_is;
-      contexts = len ∙ a.contexts;
-      places = table;
-      one_each = one_marked h (server.Then h (server.Reply t own mid plain room) (server.Replied bytes)) (λ i. server.reply_mark_at i t own) (λ i. refl) a.one_each;
-    }
+    agrees_marked old new h (server.Then h (server.Reply t own mid plain room) (server.Replied bytes)) (λ i. server.reply_mark_at i t own) a clock len refl refl (λ i. refl) table
+
+-- the server after a notification, or after one that is refused
+pub agrees_notified : (old new : Server) (h : server.History) (t : server.TicketValues) (room : ℕ) (plain : Parts) (result : Result ℕ ReplyError) (out : List ℕ)
+    → Agrees old h → new.clock ≡ old.clock → length new.slots.items ≡ length old.slots.items
+    → TableAgrees new.slots.items (λ i. option_map (marked (marks_at result i t true)) (server.life h i))
+    → Agrees new (server.Then h (server.Notify t plain room) (reply_entry result out))
+agrees_notified old new h t room plain (Ok n) out a clock len table =
+    agrees_marked old new h (server.Then h (server.Notify t plain room) (server.Replied (take n out))) (λ i. server.reply_mark_at i t true) a clock len refl refl (λ i. refl) table
+agrees_notified old new h t room plain (Err e) out a clock len table =
+    let same : (i : ℕ) → option_map (marked None) (server.life h i) ≡ server.life h i = λ i. same_life (server.life h i) None refl in
+    agrees_marked old new h (server.Then h (server.Notify t plain room) (server.NotReplied e)) (λ i. None) a clock len refl refl (λ i. sym (same i))
+    (record { at = λ i. subst (λ (o : Option Life). PlaceAgrees (slice_get new.slots.items i) o) (same i) (table.at i) })

@@ -10,7 +10,7 @@ use Rattle.osc_endpoint.specs.Laws.{AllAnswers, AreApart, DeliveredOnce, Pairwis
 use Rattle.osc_endpoint.specs.Life.{Admits, Answered, Challenged, Delivered, Life, Mark, Spoiled, born, is_open, marked, opened, renewed, spent}
 use Rattle.osc_endpoint.specs.Received.{Received}
 use Rattle.osc_endpoint.specs.ServerAnswer.{LifeRestart, ServerAnswer}
-use Rattle.osc_endpoint.specs.ServerHistory.{Add, Added, Advance, Answer, Begin, Datagram, Deliver, Entry, Event, History, Replied, Reply, Restart, Restarted, Then, TicketValues, Took, added, clock, life, mark_at, reply_mark_at}
+use Rattle.osc_endpoint.specs.ServerHistory.{Add, Added, Advance, Answer, Begin, Datagram, Deliver, Entry, Event, History, Notify, Replied, Reply, Restart, Restarted, Then, TicketValues, Took, added, clock, life, mark_at, reply_mark_at}
 use Rattle.osc_endpoint.proofs.Lives.{closed_bare}
 
 -- ---- numbers that are spent
@@ -79,6 +79,7 @@ none_after h (Add s start size) (Added index) row none i beyond =
     cond-false (i == index) (Some (born s start size)) (life h i) (ne_eqb i index (λ e. omega (arith, later, index_is, e))) ∙ none i (omega (arith, later))
 none_after h (Datagram now echo mid d) (Took answer reply) row none i beyond = ap (option_map (marked (mark_at i answer))) (none i beyond)
 none_after h (Reply ticket own mid plain room) (Replied bytes) row none i beyond = ap (option_map (marked (reply_mark_at i ticket own))) (none i beyond)
+none_after h (Notify ticket plain room) (Replied bytes) row none i beyond = ap (option_map (marked (reply_mark_at i ticket true))) (none i beyond)
 none_after h (Restart context next) Restarted row none i beyond =
     cond_both (i == context) (option_map (renewed next) (life h i)) (life h i) (λ o. o ≡ None) (λ e. ap (option_map (renewed next)) (none i beyond)) (λ e. none i beyond)
 none_after h event (Added index) row none i beyond = let later : added h + 1 ≤ i = beyond in none i (omega (arith, later))
@@ -99,6 +100,7 @@ still_spent h (Add s start size) (Added index) row none t before =
     (λ e. absurd (no_ticket (life h t.context) t (none t.context (omega (arith, eqb-true t.context index e, index_is))) before)) (λ e. before)
 still_spent h (Datagram now echo mid d) (Took answer reply) row none t before = spent_marked (life h t.context) (mark_at t.context answer) t before
 still_spent h (Reply ticket own mid plain room) (Replied bytes) row none t before = spent_marked (life h t.context) (reply_mark_at t.context ticket own) t before
+still_spent h (Notify ticket plain room) (Replied bytes) row none t before = spent_marked (life h t.context) (reply_mark_at t.context ticket true) t before
 still_spent h (Restart context next) Restarted row none t before =
     cond_both (t.context == context) (option_map (renewed next) (life h t.context)) (life h t.context) (λ o. IsSpentIn o t)
     (λ e. spent_renewed (life h t.context) next t before) (λ e. before)
@@ -133,6 +135,7 @@ first_delivery h (Datagram now echo mid d) received ticket reply ((i, n, of, req
     }
 first_delivery h (Add s start size) received ticket reply row = absurd row.1
 first_delivery h (Reply t own mid plain room) received ticket reply row = absurd row.2
+first_delivery h (Notify t plain room) received ticket reply row = absurd row.1.2
 first_delivery h (Restart i next) received ticket reply row = absurd (restart_takes_none (life h i) (Deliver received ticket) reply row)
 first_delivery h (Advance now) received ticket reply row = absurd row
 

@@ -16,7 +16,7 @@ use Rattle.osc_endpoint.specs.Received.{Received}
 use Rattle.osc_endpoint.specs.ServerAnswer.{MeetsRow, ServerAnswer}
 use Rattle.osc_endpoint.specs.ServerHistory as server
 use Rattle.osc_endpoint.specs.ServerHistory.{Entry, Event, History, TicketValues}
-use Rattle.osc_endpoint.specs.ServerRun.{GoesOn, Logs, ReplyStep, Run, ServerRunStep}
+use Rattle.osc_endpoint.specs.ServerRun.{DropStep, GoesOn, Logs, NotifyStep, ReplyStep, Run, ServerRunStep}
 use Rattle.osc_endpoint.specs.Views.{seen_delivery}
 use Rattle.osc_endpoint.proofs.Deliveries.{delivered, delivers_row, row_delivers}
 use Rattle.osc_endpoint.proofs.KeptContexts.{contexts_differ}
@@ -78,10 +78,24 @@ module _ (rows : ServerRowsExclude) where
   replied h g ts us of mid own plain room (entries.Replied (Err e)) (t, at, p, datagram, goes, kept) all = alone h g _ _ goes all
   replied h g ts us of mid own plain room x step all = absurd step
 
+  notified : (h g : History) (ts : List (Option TicketValues)) (of : ℕ) (plain : List ℕ) (room : ℕ) (x : ServerEntry) → NotifyStep h ts of plain room x g → AllAnswers h
+      → AllAnswers g × GoesOnAlone h g
+  notified h g ts of plain room entries.NoTicket (none, same) all = stays h g same all
+  notified h g ts of plain room (entries.BadPlain e) (t, at, fault, same) all = stays h g same all
+  notified h g ts of plain room (entries.Replied (Ok text)) (t, at, p, datagram, goes) all = alone h g _ _ goes all
+  notified h g ts of plain room (entries.Replied (Err e)) (t, at, p, datagram, goes) all = alone h g _ _ goes all
+  notified h g ts of plain room x step all = absurd step
+
+  dropped : (h g : History) (ts us : List (Option TicketValues)) (of : ℕ) (x : ServerEntry) → DropStep h ts of x g us → AllAnswers h → AllAnswers g × GoesOnAlone h g
+  dropped h g ts us of (entries.Dropped there) (is, same, out) all = stays h g same all
+  dropped h g ts us of x step all = absurd step
+
   served : (h g : History) (ts us : List (Option TicketValues)) (e : ServerEvent) (x : ServerEntry) → ServerRunStep h ts e x g us → AllAnswers h
       → AllAnswers g × GoesOnAlone h g
   served h g ts us (events.Datagram a) (entries.Took seen reply) (answer, logs, goes, is) all = alone h g _ _ goes all
   served h g ts us (events.Reply r) x (left, step, is) all = replied h g ts left r.of r.mid r.own r.plain.items _ x step all
+  served h g ts us (events.Notify r) x (step, is) all = notified h g ts r.of r.plain.items _ x step all
+  served h g ts us (events.Drop of) x (left, step, is) all = dropped h g ts left of x step all
   served h g ts us (events.Restart context next) (entries.Restarted (Ok y)) (goes, is) all = alone h g _ _ goes all
   served h g ts us (events.Restart context next) (entries.Restarted (Err e)) (goes, is) all = alone h g _ _ goes all
   served h g ts us e x step all = absurd step
@@ -102,8 +116,11 @@ module _ (rows : ServerRowsExclude) where
   stands h g ts us (events.Datagram a) (entries.Replied r) step all = tt
   stands h g ts us (events.Datagram a) entries.NoTicket step all = tt
   stands h g ts us (events.Datagram a) (entries.BadPlain e) step all = tt
+  stands h g ts us (events.Datagram a) (entries.Dropped there) step all = tt
   stands h g ts us (events.Datagram a) (entries.Restarted r) step all = tt
   stands h g ts us (events.Reply r) x step all = tt
+  stands h g ts us (events.Notify r) x step all = tt
+  stands h g ts us (events.Drop of) x step all = tt
   stands h g ts us (events.Restart context next) x step all = tt
 
   -- ---- runs

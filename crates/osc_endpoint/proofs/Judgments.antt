@@ -1,5 +1,5 @@
 -- What a context answers to a request that names it.
-use Rattle.std.proofs.Common.{◌≡◌, ℕ, ◌<◌, ◌≤◌, ◌^◌, ◌∙◌, sym, ap, subst, refl, arith, false, Option, Some, None, List, [], if◌then◌else◌}
+use Rattle.std.proofs.Common.{◌≡◌, ℕ, ◌<◌, ◌≤◌, ◌^◌, ◌∙◌, sym, ap, subst, refl, arith, Bool, false, Option, Some, None, List, [], if◌then◌else◌}
 use Rattle.std.specs.Prelude.{IsTrue, ◌==◌, unwrap_or, slice_get}
 use Rattle.std.proofs.lemmas.Bool.{eq-eqb}
 use Rattle.osc_coap.specs.Datagram.{IsDatagram}
@@ -26,6 +26,7 @@ use Rattle.osc_endpoint.specs.Agrees.{GateAgrees, SlotAgrees}
 use Rattle.osc_endpoint.specs.Deciding.{IsOpenedIn}
 use Rattle.osc_endpoint.specs.Judging.{IsAskerOf, IsNamed, GatePasses, GateRefuses, JudgesTo, OfWhatWasRead, RefusesEcho}
 use Rattle.osc_endpoint.specs.Life.{Life, Mark, Delivered, Spoiled, Challenged, Passes, Carries, is_open, in_force, marked}
+use Rattle.osc_endpoint.specs.Observing.{registers}
 use Rattle.osc_endpoint.specs.Received.{Receives}
 use Rattle.osc_endpoint.specs.Replies.{ErrorText, SaysError, as_reply, error_message, challenge_message, replay, bad_tag}
 use Rattle.osc_endpoint.specs.ServerAnswer.{IsReplay, SaysChallenge, challenge_given}
@@ -128,21 +129,23 @@ wants_echo l r d new x y old laws a named decrypts can accepts closed =
     let (m, protects) = protected s (number_of r.number) d new x laws named decrypts accepts in
     (closed.0, m, subst (λ t. ProtectsRequest t (number_of r.number) m d) a.context protects, closed.1 x s d (number_of r.number) m can decrypts protects)
 
-pub delivered : (l : Life) (r : Named) (d new : List ℕ) (x : DecryptedRequest) (y : ReadRequest) (life : ℕ) (old slot : Slot) → DatagramIsOneMessage → OneRequest → OneRequestReading
+pub delivered : (l : Life) (r : Named) (d new : List ℕ) (x : DecryptedRequest) (y : ReadRequest) (life : ℕ) (observes : Bool) (old slot : Slot) → DatagramIsOneMessage → OneRequest → OneRequestReading
     → SlotAgrees old l → GatePasses old.gate (number_of r.number) → IsNamed (as_server (context_of old.context)) (number_of r.number) d → IsAskerOf r.asker d
     → DecryptsRequest (requests (as_server (context_of old.context))) d x new → CanLendRequest new x y → AcceptsRequestAfter new x
     → (is_open l ≡ false → OfWhatWasRead new y (λ m. Carries (in_force l r.clock) m)) → life ≡ old.life
+    → OfWhatWasRead new y (λ m. observes ≡ registers (as_server (context_of old.context)).features m.code m.options)
     → SlotAgrees slot (marked (Some (Delivered (number_of r.number))) l)
-    → JudgesTo l r d (record { decision = decisions.Deliver y (record { context = r.index; life = life; number = r.number; asker = r.asker }); reply = 0 }) new [] (Some slot)
-delivered l r d new x y life old slot one one_message laws a passes named asker decrypts can accepts carries same agrees =
+    → JudgesTo l r d (record { decision = decisions.Deliver y (record { context = r.index; life = life; number = r.number; asker = r.asker; observes = observes }); reply = 0 }) new [] (Some slot)
+delivered l r d new x y life observes old slot one one_message laws a passes named asker decrypts can accepts carries same observed agrees =
     let s = as_server (context_of old.context) in
     let n = number_of r.number in
     let (m, protects) = protected s n d new x laws named decrypts accepts in
     let received = said (requests s) n m d protects in
     let got = receives_said (requests s) n m d protects in
+    let by_life : observes ≡ registers l.context.features m.code m.options = subst (λ t. observes ≡ registers t.features m.code m.options) a.context (observed x s d n m can decrypts protects) in
     let outer : asker.0 ≡ got.outer = one asker.0 got.outer d asker.1 got.datagram in
     record {
-      answer = server.Deliver received (record { context = r.index; life = life; number = n; kind = r.asker.kind; message_id = r.asker.message_id; token = r.asker.token.items });
+      answer = server.Deliver received (record { context = r.index; life = life; number = n; kind = r.asker.kind; message_id = r.asker.message_id; token = r.asker.token.items; observes = observes });
       row = (
         (
           subst (λ t. Receives (requests t) n d received) a.context got,

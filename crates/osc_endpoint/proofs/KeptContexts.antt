@@ -8,7 +8,7 @@ use Rattle.osc_endpoint.specs.Agrees.{OneEach}
 use Rattle.osc_endpoint.specs.Laws.{AllAnswers}
 use Rattle.osc_endpoint.specs.Life.{Life, Mark, marked, renewed}
 use Rattle.osc_endpoint.specs.ServerAnswer.{HaveSameLookup, ServerAnswer}
-use Rattle.osc_endpoint.specs.ServerHistory.{Add, Added, Begin, Datagram, Entry, Event, History, Replied, Reply, Restart, Restarted, Then, Took, life, mark_at, reply_mark_at}
+use Rattle.osc_endpoint.specs.ServerHistory.{Add, Added, Begin, Datagram, Entry, Event, History, Notify, Replied, Reply, Restart, Restarted, Then, Took, life, mark_at, reply_mark_at}
 use Rattle.osc_endpoint.proofs.Additions.{HasBy, OneBy, lookup_turned, one_more}
 
 -- a life of the one has the context of a life of the other
@@ -55,6 +55,8 @@ one_after R turned h (Add s start size) (Added index) free each = one_more R tur
 one_after R turned h (Datagram now echo mid d) (Took answer reply) free each = marked_by R h (Then h (Datagram now echo mid d) (Took answer reply)) (λ i. mark_at i answer) (λ i. refl) each
 one_after R turned h (Reply ticket own mid plain room) (Replied bytes) free each =
     marked_by R h (Then h (Reply ticket own mid plain room) (Replied bytes)) (λ i. reply_mark_at i ticket own) (λ i. refl) each
+one_after R turned h (Notify ticket plain room) (Replied bytes) free each =
+    marked_by R h (Then h (Notify ticket plain room) (Replied bytes)) (λ i. reply_mark_at i ticket true) (λ i. refl) each
 one_after R turned h (Restart context next) Restarted free each =
     one_kept R h (Then h (Restart context next) Restarted) (λ i. restarted_context (i == context) next (life h i)) each
 one_after R turned h event entry free each = each

@@ -9,8 +9,8 @@ pub mod Decisions
 pub mod Deliveries
 pub mod SealedReplies
 pub mod Additions
-pub mod RunTickets
 pub mod Runs
+pub mod RunTickets
 pub mod LifeCounts
 pub mod OwnNumbers
 pub mod Tickets
@@ -24,6 +24,7 @@ pub mod ClientRequests
 pub mod ClientRuns
 pub mod EventsLeft
 pub mod LifeAnswers
+pub mod SealedAnswers
 pub mod LifeReplies
 pub mod OneAnswers
 pub mod OneReceived

@@ -10,6 +10,7 @@ use Rattle.osc_protect.specs.declared.unprotect_error.UnprotectError.{UnprotectE
 use Rattle.osc_protect.specs.declared.unprotect_error.UnprotectError.TheVariants.{Tag, Inner}
 use Rattle.osc_endpoint.specs.AnswerLaws.{AnswerLaws}
 use Rattle.osc_endpoint.specs.Life.{Life, Passes, is_open, next_own}
+use Rattle.osc_endpoint.specs.Observing.{registers}
 use Rattle.osc_endpoint.specs.Received.{Received}
 use Rattle.osc_endpoint.specs.Replies.{ErrorText, SaysError, as_reply, challenge_message, error_message}
 use Rattle.osc_endpoint.specs.ServerAnswer.{Arrival, IsReplay, MeetsLifeRow, SaysChallenge}
@@ -41,7 +42,15 @@ same_given z echo other issued moment x y = let same = x ∙ sym y in (ap (λ (k
 
 -- the ticket of a delivery
 abbrev ticket_by : Life → ℕ → ℕ → Received → TicketValues
-ticket_by of i n r = record { context = i; life = of.count; number = n; kind = r.kind; message_id = r.message_id; token = r.token }
+ticket_by of i n r = record {
+  context = i;
+  life = of.count;
+  number = n;
+  kind = r.kind;
+  message_id = r.message_id;
+  token = r.token;
+  observes = registers of.context.features r.message.code r.message.options;
+}
 
 -- ---- rows
 

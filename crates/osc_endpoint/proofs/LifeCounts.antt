@@ -6,15 +6,17 @@ use Rattle.osc_coap.specs.Datagram.{Parts}
 use Rattle.osc_context.specs.OscoreValue.{IsOscoreValue}
 use Rattle.osc_context.specs.SecurityContext.{SecurityContext}
 use Rattle.osc_window.specs.declared.window_size.WindowSize.{WindowSize}
-use Rattle.osc_protect.specs.Laws.{ResponsesShowHeads}
-use Rattle.osc_protect.specs.Sealed.{SealsResponse}
+use Rattle.osc_protect.specs.Laws.{ProtectionsShowHeads}
+use Rattle.osc_protect.specs.Protection.{responses_to}
+use Rattle.osc_protect.specs.Sealed.{IsSealed}
 use Rattle.osc_endpoint.specs.declared.server_error.RestartError.{RestartError}
 use Rattle.osc_endpoint.specs.declared.start.Start.{Start}
 use Rattle.osc_endpoint.specs.declared.start.Start.TheVariants as starts
+use Rattle.osc_endpoint.specs.AnswerLaws.{SealedHeads}
 use Rattle.osc_endpoint.specs.Laws.{Text, HasOwnNumber, texts, text_in, answered}
 use Rattle.osc_endpoint.specs.Life.{HasOwn, Mark, Delivered, Spoiled, Challenged, Answered, Life, own_count, next_own, marked, born, renewed}
 use Rattle.osc_endpoint.specs.ServerAnswer.{IsContext, LifeRestart, ServerAnswer}
-use Rattle.osc_endpoint.specs.ServerHistory.{History, Then, Event, Entry, TicketValues, Add, Datagram, Reply, Restart, Advance, BadInner, Challenge, Deliver, Added, NotAdded, Took, Replied, NotReplied, Restarted, NotRestarted, Advanced, added, life}
+use Rattle.osc_endpoint.specs.ServerHistory.{History, Then, Event, Entry, TicketValues, Add, Datagram, Reply, Notify, Restart, Advance, BadInner, Challenge, Deliver, Added, NotAdded, Took, Replied, NotReplied, Restarted, NotRestarted, Advanced, added, life}
 
 -- of a life: its context, how many were before it, its first own number, and how many it used
 pub record Kept : Type 0 where
@@ -77,7 +79,7 @@ pub record IsTextOf (t : Text) (i : ℕ) (k : Kept) : Type 0 where
   pub life : t.life ≡ k.count
   pub keys : t.keys ≡ k.context
 
--- a text with the next own number, a challenge or a reply
+-- a text with the next own number, a challenge, a reply or a notification
 pub record SealsNumbered (a b : Image) : Type 0 where
   pub index : ℕ
   pub old : Kept
@@ -172,9 +174,10 @@ born_unused s (starts.Restarted next) size = refl
 -- ---- each answer is a step
 
 -- a text that was sealed with an own number has it, and its bytes say so
-numbered : ResponsesShowHeads → (t : Text) (s : SecurityContext) (n own : ℕ) (p : Parts) → t.own ≡ Some own → SealsResponse s n (Some own) p t.bytes → HasOwnNumber t own
-numbered shows t s n own p is sealed =
-    let head = (shows s n).sealed t.bytes (Some own) p sealed in
+numbered : (t : Text) (s : SecurityContext) (registers : Bool) (n own : ℕ) (p : Parts) → ProtectionsShowHeads (responses_to s registers n) → t.own ≡ Some own
+    → IsSealed (responses_to s registers n) (Some own) p t.bytes → HasOwnNumber t own
+numbered t s registers n own p shows is sealed =
+    let head = shows.sealed t.bytes (Some own) p sealed in
     record {
       own = is;
       outer = head.1.0;
@@ -209,7 +212,7 @@ restarted h i next l is = Restarts (record {
 text_at : (h : History) (i n : ℕ) (own : Bool) (l : Life) (bytes : List ℕ) → life h i ≡ Some l → text_in (life h i) i n own bytes ++ texts h ≡ text_in (Some l) i n own bytes ++ texts h
 text_at h i n own l bytes is = ap (λ (o : Option Life). text_in o i n own bytes ++ texts h) is
 
-pub steps : ResponsesShowHeads → (h : History) (event : Event) (entry : Entry) → ServerAnswer h event entry → Steps (image h) (image (Then h event entry))
+pub steps : SealedHeads → (h : History) (event : Event) (entry : Entry) → ServerAnswer h event entry → Steps (image h) (image (Then h event entry))
 steps shows h (Add s start size) (Added index) (context, (room, free, is)) = Adds (record {
   first = kept (born s start size);
   context = subst IsContext (sym (born_context s start size)) context;
@@ -230,7 +233,7 @@ steps shows h (Datagram now echo mid d) (Took (Challenge i n given issued) reply
       was = ap (option_map kept) is;
       text = text;
       of = record { context = refl; life = refl; keys = refl };
-      own = numbered shows text of.context n (next_own of) _ refl says.2;
+      own = numbered text of.context false n (next_own of) _ (shows.response of.context n) refl says.2;
       less = subst HasOwn same_life has;
       added = refl;
       changes = λ k. kept_here (k == i) (Challenged given issued) (life h k) of (λ e. ap (life h) (eqb-true k i e) ∙ is) tt;
@@ -256,7 +259,7 @@ steps shows h (Reply ticket true mid plain room) (Replied bytes) (of, (is, prese
       was = ap (option_map kept) is;
       text = text;
       of = record { context = refl; life = refl; keys = refl };
-      own = numbered shows text of.context ticket.number (next_own of) _ refl sealed;
+      own = numbered text of.context false ticket.number (next_own of) _ (shows.response of.context ticket.number) refl sealed;
       less = asked refl;
       added = refl;
       changes = λ k. kept_here (k == ticket.context) Answered (life h k) of (λ e. ap (life h) (eqb-true k ticket.context e) ∙ is) tt;
@@ -281,6 +284,24 @@ steps shows h (Reply ticket false mid plain room) (Replied bytes) (of, (is, pres
     })
 steps shows h (Reply ticket own mid plain room) (NotReplied e) row = same (image h)
 steps shows h (Reply ticket own mid plain room) entry row = absurd row.2
+steps shows h (Notify ticket plain room) (Replied bytes) (observes, (of, (is, present), (notifies, has, sealed, fits))) =
+    let text : Text = record { context = ticket.context; life = of.count; keys = of.context; request = ticket.number; own = Some (next_own of); bytes = bytes } in
+    Numbers (record {
+      index = ticket.context;
+      old = kept of;
+      was = ap (option_map kept) is;
+      text = text;
+      of = record { context = refl; life = refl; keys = refl };
+      own = numbered text of.context true ticket.number (next_own of) _ (shows.notification of.context ticket.number) refl sealed;
+      less = has;
+      added = refl;
+      changes = λ k. kept_here (k == ticket.context) Answered (life h k) of (λ e. ap (life h) (eqb-true k ticket.context e) ∙ is) tt;
+      texts = text_at h ticket.context ticket.number true of bytes is;
+      more = [];
+      answered = refl;
+    })
+steps shows h (Notify ticket plain room) (NotReplied e) row = same (image h)
+steps shows h (Notify ticket plain room) entry row = absurd row.1.2
 steps shows h (Restart i next) entry row = elim (restart_rows (life h i) entry row) [
   | inl r ↦ subst (λ (x : Entry). Steps (image h) (image (Then h (Restart i next) x))) (sym r.2) (restarted h i next r.0 r.1)
   | inr r ↦

@@ -1,5 +1,6 @@
 -- That a server has one answer to an event.
-use Rattle.std.proofs.Common.{◌≡◌, ℕ, ◌⊎◌, ◌∙◌, sym, ap, subst, refl, arith, Bool, Option, Some, None, List, inl, inr}
+use Rattle.std.proofs.Common.{◌≡◌, ℕ, ◌⊎◌, ◌∙◌, sym, ap, subst, refl, arith, Bool, true, false, Option, Some, None, List, inl, inr}
+use Rattle.std.proofs.lemmas.Bool.{both_ways}
 use Rattle.osc_coap.specs.Datagram.{Parts}
 use Rattle.osc_context.specs.SecurityContext.{SecurityContext}
 use Rattle.osc_protect.specs.Head.{Head, HasNoRequestHead, HasRequestHead}
@@ -8,19 +9,19 @@ use Rattle.osc_protect.specs.Refusals.{Names}
 use Rattle.osc_protect.specs.declared.head_error.HeadError.{HeadError}
 use Rattle.osc_protect.specs.declared.head_error.HeadError.TheVariants as heads
 use Rattle.osc_endpoint.specs.declared.server_error.AddError.TheVariants.{Full, SameLookup}
-use Rattle.osc_endpoint.specs.declared.server_error.ReplyError.TheVariants.{StaleTicket}
+use Rattle.osc_endpoint.specs.declared.server_error.ReplyError.TheVariants.{NotObserving, StaleTicket}
 use Rattle.osc_endpoint.specs.declared.server_error.RestartError.TheVariants.{NoSuchContext, LivesExhausted}
 use Rattle.osc_endpoint.specs.Agrees.{OneEach}
 use Rattle.osc_endpoint.specs.AnswerLaws.{AnswerLaws}
 use Rattle.osc_endpoint.specs.Laws.{OneServerAnswer}
 use Rattle.osc_endpoint.specs.Life.{Life}
 use Rattle.osc_endpoint.specs.Replies.{as_reply, bad_tag, no_context, replay, undecodable}
-use Rattle.osc_endpoint.specs.ServerAnswer.{AddAnswer, Arrival, IsPresent, IsRequestOf, LifeReply, LifeRestart, MeetsLifeRow, MeetsNamedRow, MeetsRow, NamesNone, OfTicket, ReplyAnswer, SaysChallenge, SaysReply, ServerAnswer, TakeAnswer, arrival}
-use Rattle.osc_endpoint.specs.ServerHistory.{Add, Added, Advance, Advanced, Answer, BadTag, Challenge, Datagram, Entry, Event, History, Malformed, NoContext, NotAdded, NotReplied, NotRequest, NotRestarted, Plain, Replay, Reply, Restart, Restarted, TicketValues, Took, Undecodable, life}
+use Rattle.osc_endpoint.specs.ServerAnswer.{AddAnswer, Arrival, IsPresent, IsRequestOf, LifeNotify, LifeReply, LifeRestart, MeetsLifeRow, MeetsNamedRow, MeetsRow, NamesNone, NotifyAnswer, OfTicket, ReplyAnswer, SaysChallenge, SaysReply, ServerAnswer, TakeAnswer, arrival, as_notification}
+use Rattle.osc_endpoint.specs.ServerHistory.{Add, Added, Advance, Advanced, Answer, BadTag, Challenge, Datagram, Entry, Event, History, Malformed, NoContext, NotAdded, NotReplied, NotRequest, NotRestarted, Notify, Plain, Replay, Reply, Restart, Restarted, TicketValues, Took, Undecodable, life}
 use Rattle.osc_endpoint.proofs.Deliveries.{IsSame, same_named}
 use Rattle.osc_endpoint.proofs.KeptContexts.{contexts_differ}
 use Rattle.osc_endpoint.proofs.LifeAnswers.{one_challenge, one_error, one_life_row}
-use Rattle.osc_endpoint.proofs.LifeReplies.{one_life_reply}
+use Rattle.osc_endpoint.proofs.LifeReplies.{one_life_notification, one_life_reply}
 
 -- ---- additions and restarts
 
@@ -72,6 +73,50 @@ one_reply laws h t own p room x y row other = elim (stale_or_not h t own p room 
   | inr a ↦ elim (stale_or_not h t own p room y other) [
     | inl b ↦ absurd (b.1 a.0 a.1)
     | inr b ↦ one_life_reply laws a.0 t.number own p room x y a.2 (subst (λ of. LifeReply of t.number own p room y) (one_present h t a.0 b.0 a.1 b.1) b.2)
+  ]
+]
+
+-- ---- notifications
+
+-- the ticket is stale
+abbrev IsStale : History → TicketValues → Entry → Type 0
+IsStale h t x = (x ≡ NotReplied StaleTicket) × ((of : Life) → IsPresent h t of → ⊥)
+
+-- its request registers nothing
+abbrev ObservesNothing : History → TicketValues → Entry → Type 0
+ObservesNothing h t x = (x ≡ NotReplied NotObserving) × (t.observes ≡ false) × (of : Life) × IsPresent h t of
+
+-- each row is one of these three
+sort_of_notify : (h : History) (t : TicketValues) (p : Parts) (room : ℕ) (x : Entry) → NotifyAnswer h t p room x
+    → IsStale h t x ⊎ (ObservesNothing h t x ⊎ ((t.observes ≡ true) × OfTicket h t (λ of. LifeNotify of t.number p room x)))
+sort_of_notify h t p room (NotReplied StaleTicket) row = inl (refl, row)
+sort_of_notify h t p room (NotReplied NotObserving) row = inr (inl (refl, row.2, row.0, row.1))
+sort_of_notify h t p room x row = inr (inr row)
+
+one_notify : AnswerLaws → (h : History) (t : TicketValues) (p : Parts) (room : ℕ) (x y : Entry) → NotifyAnswer h t p room x → NotifyAnswer h t p room y → x ≡ y
+one_notify laws h t p room x y row other = elim (sort_of_notify h t p room x row) [
+  | inl a ↦ elim (sort_of_notify h t p room y other) [
+    | inl b ↦ a.0 ∙ sym b.0
+    | inr c ↦ elim c [
+      | inl b ↦ absurd (a.1 b.2 b.3)
+      | inr b ↦ absurd (a.1 b.1.0 b.1.1)
+    ]
+  ]
+  | inr d ↦ elim d [
+    | inl a ↦ elim (sort_of_notify h t p room y other) [
+      | inl b ↦ absurd (b.1 a.2 a.3)
+      | inr c ↦ elim c [
+        | inl b ↦ a.0 ∙ sym b.0
+        | inr b ↦ absurd (both_ways _ a.1 b.0)
+      ]
+    ]
+    | inr a ↦ elim (sort_of_notify h t p room y other) [
+      | inl b ↦ absurd (b.1 a.1.0 a.1.1)
+      | inr c ↦ elim c [
+        | inl b ↦ absurd (both_ways _ b.1 a.0)
+        | inr b ↦ one_life_notification laws a.1.0 t.number p room x y a.1.2 (subst (λ of. LifeNotify of t.number p room y) (one_present h t a.1.0 b.1.0 a.1.1 b.1.1) b.1.2)
+      ]
+    ]
   ]
 ]
 
@@ -180,6 +225,7 @@ one_answer laws h (Datagram now echo mid d) (Took x r) (Took y s) each row other
 one_answer laws h (Datagram now echo mid d) (Took x r) y each row other = absurd other
 one_answer laws h (Datagram now echo mid d) x y each row other = absurd row
 one_answer laws h (Reply t own mid plain room) x y each row other = one_reply laws h t own (as_reply t.kind t.message_id t.token mid plain) room x y row other
+one_answer laws h (Notify t plain room) x y each row other = one_notify laws h t (as_notification t.token plain) room x y row other
 one_answer laws h (Restart i next) x y each row other = one_restart (life h i) x y row other
 one_answer laws h (Advance now) Advanced Advanced each row other = refl
 one_answer laws h (Advance now) Advanced y each row other = absurd other

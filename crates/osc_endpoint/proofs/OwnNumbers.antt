@@ -4,7 +4,7 @@ use Rattle.std.proofs.Common.{◌≡◌, ℕ, ◌+◌, ◌<◌, ◌≤◌, ◌�
 use Rattle.std.proofs.lemmas.Bool.{and_from, and_left, and_right, cases_eq, eq-eqb, ne_eqb}
 use Rattle.std.proofs.lemmas.Option.{none-some, same_Some}
 use Rattle.std.specs.List.{AllByRecursion}
-use Rattle.osc_protect.specs.Laws.{ResponsesShowHeads}
+use Rattle.osc_endpoint.specs.AnswerLaws.{SealedHeads}
 use Rattle.osc_endpoint.specs.Laws.{AllAnswers, CountsUp, HasOwnNumber, OwnNumbersOnce, Text, own_texts}
 use Rattle.osc_endpoint.specs.ServerAnswer.{IsContext}
 use Rattle.osc_endpoint.specs.ServerHistory.{History, Begin, Then}
@@ -197,10 +197,10 @@ counted_on a b c (Restarts s) = restarts a b c s
 counted_on a b c (Numbers s) = numbers a b c s
 counted_on a b c (Replies s) = replies a b c s
 
-pub counted : ResponsesShowHeads → (h : History) → AllAnswers h → IsCounted (image h)
+pub counted : SealedHeads → (h : History) → AllAnswers h → IsCounted (image h)
 counted shows Begin a = record { beyond = λ i past. refl; contexts = λ i k is. absurd (none-some k is); told = tt; numbered = λ i k is. absurd (none-some k is) }
 counted shows (Then h event entry) a = counted_on (image h) (image (Then h event entry)) (counted shows h a.0) (steps shows h event entry a.1)
 
 -- the own numbers of a life are consecutive
-pub own_numbers : ResponsesShowHeads → OwnNumbersOnce
+pub own_numbers : SealedHeads → OwnNumbersOnce
 own_numbers shows h i of a is = ((counted shows h a).numbered i (kept of) (ap (option_map kept) is)).0

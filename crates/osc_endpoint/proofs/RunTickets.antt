@@ -1,14 +1,16 @@
 -- A run takes only tickets that its own deliveries gave. h and g are the histories before and after, ts and us the tickets at the run's places,
--- zs those that were left before it began.
-use Rattle.std.proofs.Common.{◌≡◌, ℕ, zero, suc, ◌∙◌, sym, ap, subst, refl, Bool, Option, Some, None, Ok, Err, List, [], ◌∷◌, ◌++◌, slice_set}
+-- ws those that no reply took: the run's own, those that it dropped, and those that were left before it began.
+use Rattle.std.proofs.Common.{◌≡◌, ℕ, zero, suc, ◌∙◌, sym, ap, subst, refl, Bool, Option, Some, None, Ok, Err, List, [], ◌∷◌, ◌++◌, slice_set, ◌⊎◌, inl, inr}
 use Rattle.std.proofs.lemmas.List.{append_assoc}
 use Rattle.osc_endpoint.specs.declared.server_event.ServerEvent.{ServerEvent}
 use Rattle.osc_endpoint.specs.declared.server_event.ServerEvent.TheVariants as events
 use Rattle.osc_endpoint.specs.declared.server_event.ServerEntry.{ServerEntry}
 use Rattle.osc_endpoint.specs.declared.server_event.ServerEntry.TheVariants as entries
 use Rattle.osc_endpoint.specs.Laws.{AreLeft, IsTakenOut, TakesTickets}
+use Rattle.osc_endpoint.specs.ServerAnswer.{asks_own}
 use Rattle.osc_endpoint.specs.ServerHistory.{History, Then, Answer, Datagram, Deliver, Replied, Reply, TicketValues, Took}
-use Rattle.osc_endpoint.specs.ServerRun.{Run, ServerRunStep, ReplyStep, ticket_at, ticket_of}
+use Rattle.osc_endpoint.specs.ServerRun.{DropStep, NotifyStep, ReplyStep, Run, ServerRunStep, ticket_at, ticket_of}
+use Rattle.osc_endpoint.proofs.Runs.{none_taken}
 
 -- the ticket at a place, if there is one
 abbrev pub one_of : Option TicketValues → List TicketValues
@@ -44,52 +46,118 @@ taken_out (x ∷ ts) (suc i) t zs is =
       append_assoc (left_in (slice_set ts i None)) (one_of x) zs ∙ after,
     )
 
-no_more : (h : History) (ts us : List (Option TicketValues)) (zs : List TicketValues) → us ≡ ts ++ None ∷ [] → AreLeft h (left_in ts ++ zs) → AreLeft h (left_in us ++ zs)
-no_more h ts us zs is left = subst (λ xs. AreLeft h (xs ++ zs)) (sym (ap left_in is ∙ left_more ts None)) left
+-- ---- what a run drops stays among the tickets that no reply took
+
+-- the tickets stand among others, in the same order
+abbrev pub IsWithin : List TicketValues → List TicketValues → Type 0
+IsWithin [] ws = Unit {0}
+IsWithin (x ∷ xs) [] = ⊥
+IsWithin (x ∷ xs) (w ∷ ws) = ((x ≡ w) × IsWithin xs ws) ⊎ IsWithin (x ∷ xs) ws
+
+within_more : (xs ws : List TicketValues) (w : TicketValues) → IsWithin xs ws → IsWithin xs (w ∷ ws)
+within_more [] ws w h = tt
+within_more (x ∷ xs) ws w h = inr h
+
+pub without : (front back ws : List TicketValues) (t : TicketValues) → IsWithin (front ++ t ∷ back) ws → IsWithin (front ++ back) ws
+without [] back [] t h = absurd h
+without [] back (w ∷ ws) t (inl h) = within_more back ws w h.1
+without [] back (w ∷ ws) t (inr h) = within_more back ws w (without [] back ws t h)
+without (x ∷ front) back [] t h = absurd h
+without (x ∷ front) back (w ∷ ws) t (inl h) = inl (h.0, without front back ws t h.1)
+without (x ∷ front) back (w ∷ ws) t (inr h) = inr (without (x ∷ front) back ws t h)
+
+-- what is taken out of the former is taken out of the latter
+record LeavesWithin (t : TicketValues) (left ws : List TicketValues) : Type 0 where
+  pub after : List TicketValues
+  pub taken : IsTakenOut t ws after
+  pub within : IsWithin left after
+
+one_behind : (t w : TicketValues) (left more ws : List TicketValues) (k : LeavesWithin t left ws) → IsWithin more (w ∷ k.after) → LeavesWithin t more (w ∷ ws)
+one_behind t w left more ws k within =
+    let (front, back, was, is) = k.taken in
+    record { after = w ∷ k.after; taken = (w ∷ front, back, ap (λ xs. w ∷ xs) was, ap (λ xs. w ∷ xs) is); within = within }
+
+out_within : (front back ws : List TicketValues) (t : TicketValues) → IsWithin (front ++ t ∷ back) ws → LeavesWithin t (front ++ back) ws
+out_within [] back [] t h = absurd h
+out_within [] back (w ∷ ws) t (inl h) = record { after = ws; taken = ([], ws, ap (λ x. x ∷ ws) (sym h.0), refl); within = h.1 }
+out_within [] back (w ∷ ws) t (inr h) = let k = out_within [] back ws t h in one_behind t w back back ws k (within_more back k.after w k.within)
+out_within (x ∷ front) back [] t h = absurd h
+out_within (x ∷ front) back (w ∷ ws) t (inl h) = let k = out_within front back ws t h.1 in one_behind t w (front ++ back) (x ∷ front ++ back) ws k (inl (h.0, k.within))
+out_within (x ∷ front) back (w ∷ ws) t (inr h) = let k = out_within (x ∷ front) back ws t h in one_behind t w (x ∷ front ++ back) (x ∷ front ++ back) ws k (inr k.within)
+
+-- ---- the tickets at a run's places are among those that no reply took
+
+abbrev IsLeftTo : History → List (Option TicketValues) → Type 0
+IsLeftTo h ts = (ws : List TicketValues) × AreLeft h ws × IsWithin (left_in ts ++ []) ws
+
+no_more : (h : History) (ts us : List (Option TicketValues)) → us ≡ ts ++ None ∷ [] → IsLeftTo h ts → IsLeftTo h us
+no_more h ts us is (ws, left, within) = (ws, left, subst (λ xs. IsWithin (xs ++ []) ws) (sym (ap left_in is ∙ left_more ts None)) within)
+
+-- the history and the tickets stay
+unchanged : (h g : History) (ts us : List (Option TicketValues)) → g ≡ h → us ≡ ts → IsLeftTo h ts → IsLeftTo g us
+unchanged h g ts us same kept left = subst (λ k. IsLeftTo k us) (sym same) (subst (IsLeftTo h) (sym kept) left)
 
 -- what a datagram leaves
-took : (h : History) (now mid : ℕ) (echo d : List ℕ) (answer : Answer) (reply : List ℕ) (ts us : List (Option TicketValues)) (zs : List TicketValues)
-    → us ≡ ts ++ ticket_of answer ∷ [] → AreLeft h (left_in ts ++ zs) → AreLeft (Then h (Datagram now echo mid d) (Took answer reply)) (left_in us ++ zs)
-took h now mid echo d (Deliver received ticket) reply ts us zs is left =
-    (left_in ts ++ zs, left, ap (λ xs. xs ++ zs) (ap left_in is ∙ left_more ts (Some ticket)))
-took h now mid echo d answer reply ts us zs is left = no_more h ts us zs is left
+took : (h : History) (now mid : ℕ) (echo d : List ℕ) (answer : Answer) (reply : List ℕ) (ts us : List (Option TicketValues))
+    → us ≡ ts ++ ticket_of answer ∷ [] → IsLeftTo h ts → IsLeftTo (Then h (Datagram now echo mid d) (Took answer reply)) us
+took h now mid echo d (Deliver received ticket) reply ts us is (ws, left, within) =
+    (ticket ∷ ws, (ws, left, refl), subst (λ xs. IsWithin (xs ++ []) (ticket ∷ ws)) (sym (ap left_in is ∙ left_more ts (Some ticket))) (inl (refl, within)))
+took h now mid echo d answer reply ts us is left = no_more h ts us is left
 
 -- what a reply leaves
-replied : (h g : History) (ts us : List (Option TicketValues)) (zs : List TicketValues) (of mid : ℕ) (own : Bool) (plain : List ℕ) (room : ℕ) (x : ServerEntry)
-    → ReplyStep h ts of own mid plain room x g us → AreLeft h (left_in ts ++ zs) → AreLeft g (left_in us ++ zs)
-replied h g ts us zs of mid own plain room entries.NoTicket (none, same, kept) left =
-    subst (λ k. AreLeft k (left_in us ++ zs)) (sym same) (subst (λ xs. AreLeft h (left_in xs ++ zs)) (sym kept) left)
-replied h g ts us zs of mid own plain room (entries.BadPlain e) (t, at, fault, same, kept) left =
-    subst (λ k. AreLeft k (left_in us ++ zs)) (sym same) (subst (λ xs. AreLeft h (left_in xs ++ zs)) (sym kept) left)
-replied h g ts us zs of mid own plain room (entries.Replied (Ok text)) (t, at, p, datagram, (answers, goes), out) left =
-    let after : AreLeft (Then h (Reply t own mid p room) (Replied text.now)) (left_in us ++ zs) =
-    (left_in ts ++ zs, left, subst (λ xs. IsTakenOut t (left_in ts ++ zs) (left_in xs ++ zs)) (sym out) (taken_out ts of t zs at)) in
-    subst (λ k. AreLeft k (left_in us ++ zs)) (sym goes) after
-replied h g ts us zs of mid own plain room (entries.Replied (Err e)) (t, at, p, datagram, (answers, goes), kept) left =
-    subst (λ k. AreLeft k (left_in us ++ zs)) (sym goes) (subst (λ xs. AreLeft h (left_in xs ++ zs)) (sym kept) left)
-replied h g ts us zs of mid own plain room x step left = absurd step
+replied : (h g : History) (ts us : List (Option TicketValues)) (of mid : ℕ) (own : Bool) (plain : List ℕ) (room : ℕ) (x : ServerEntry)
+    → ReplyStep h ts of own mid plain room x g us → IsLeftTo h ts → IsLeftTo g us
+replied h g ts us of mid own plain room entries.NoTicket (none, same, kept) left = unchanged h g ts us same kept left
+replied h g ts us of mid own plain room (entries.BadPlain e) (t, at, fault, same, kept) left = unchanged h g ts us same kept left
+replied h g ts us of mid own plain room (entries.Replied (Ok text)) (t, at, p, datagram, (answers, goes), out) (ws, left, within) =
+    let (front, back, was, is) = taken_out ts of t [] at in
+    let k = out_within front back ws t (subst (λ xs. IsWithin xs ws) was within) in
+    let now : IsWithin (left_in us ++ []) k.after = subst (λ xs. IsWithin xs k.after) (sym (ap (λ vs. left_in vs ++ []) out ∙ is)) k.within in
+    let after : IsLeftTo (Then h (Reply t (asks_own t own) mid p room) (Replied text.now)) us = (k.after, (ws, left, k.taken), now) in
+    subst (λ k. IsLeftTo k us) (sym goes) after
+replied h g ts us of mid own plain room (entries.Replied (Err e)) (t, at, p, datagram, (answers, goes), kept) left =
+    subst (λ k. IsLeftTo k us) (sym goes) (unchanged h h ts us refl kept left)
+replied h g ts us of mid own plain room x step left = absurd step
+
+-- what a notification leaves
+notified : (h g : History) (ts : List (Option TicketValues)) (of : ℕ) (plain : List ℕ) (room : ℕ) (x : ServerEntry) → NotifyStep h ts of plain room x g → IsLeftTo h ts → IsLeftTo g ts
+notified h g ts of plain room entries.NoTicket (none, same) left = unchanged h g ts ts same refl left
+notified h g ts of plain room (entries.BadPlain e) (t, at, fault, same) left = unchanged h g ts ts same refl left
+notified h g ts of plain room (entries.Replied (Ok text)) (t, at, p, datagram, (answers, goes)) left = subst (λ k. IsLeftTo k ts) (sym goes) left
+notified h g ts of plain room (entries.Replied (Err e)) (t, at, p, datagram, (answers, goes)) left = subst (λ k. IsLeftTo k ts) (sym goes) left
+notified h g ts of plain room x step left = absurd step
+
+-- what a ticket leaves that is dropped
+left_empty : (h : History) (ts : List (Option TicketValues)) (of : ℕ) (o : Option TicketValues) → ticket_at ts of ≡ o → IsLeftTo h ts → IsLeftTo h (slice_set ts of None)
+left_empty h ts of None is left = unchanged h h ts (slice_set ts of None) refl (none_taken ts of (sym is)) left
+left_empty h ts of (Some t) is (ws, left, within) =
+    let (front, back, was, after) = taken_out ts of t [] is in
+    (ws, left, subst (λ xs. IsWithin xs ws) (sym after) (without front back ws t (subst (λ xs. IsWithin xs ws) was within)))
+
+dropped : (h g : History) (ts us : List (Option TicketValues)) (of : ℕ) (x : ServerEntry) → DropStep h ts of x g us → IsLeftTo h ts → IsLeftTo g us
+dropped h g ts us of (entries.Dropped there) (is, same, out) left = unchanged h g (slice_set ts of None) us same out (left_empty h ts of (ticket_at ts of) refl left)
+dropped h g ts us of x step left = absurd step
 
 -- what an event leaves
-served : (h g : History) (ts us : List (Option TicketValues)) (zs : List TicketValues) (e : ServerEvent) (x : ServerEntry)
-    → ServerRunStep h ts e x g us → AreLeft h (left_in ts ++ zs) → AreLeft g (left_in us ++ zs)
-served h g ts us zs (events.Datagram a) (entries.Took seen reply) (answer, logs, (answers, goes), is) left =
-    subst (λ k. AreLeft k (left_in us ++ zs)) (sym goes) (took h a.now a.fresh.mid a.fresh.echo a.bytes.items answer reply.now ts us zs is left)
-served h g ts us zs (events.Reply r) x (ts', step, is) left =
-    no_more g ts' us zs is (replied h g ts ts' zs r.of r.mid r.own r.plain.items _ x step left)
-served h g ts us zs (events.Restart context next) (entries.Restarted (Ok y)) ((answers, goes), is) left =
-    subst (λ k. AreLeft k (left_in us ++ zs)) (sym goes) (no_more h ts us zs is left)
-served h g ts us zs (events.Restart context next) (entries.Restarted (Err e)) ((answers, goes), is) left =
-    subst (λ k. AreLeft k (left_in us ++ zs)) (sym goes) (no_more h ts us zs is left)
-served h g ts us zs e x step left = absurd step
+served : (h g : History) (ts us : List (Option TicketValues)) (e : ServerEvent) (x : ServerEntry) → ServerRunStep h ts e x g us → IsLeftTo h ts → IsLeftTo g us
+served h g ts us (events.Datagram a) (entries.Took seen reply) (answer, logs, (answers, goes), is) left =
+    subst (λ k. IsLeftTo k us) (sym goes) (took h a.now a.fresh.mid a.fresh.echo a.bytes.items answer reply.now ts us is left)
+served h g ts us (events.Reply r) x (vs, step, is) left = no_more g vs us is (replied h g ts vs r.of r.mid r.own r.plain.items _ x step left)
+served h g ts us (events.Notify r) x (step, is) left = no_more g ts us is (notified h g ts r.of r.plain.items _ x step left)
+served h g ts us (events.Drop of) x (vs, step, is) left = no_more g vs us is (dropped h g ts vs of x step left)
+served h g ts us (events.Restart context next) (entries.Restarted (Ok y)) ((answers, goes), is) left =
+    subst (λ k. IsLeftTo k us) (sym goes) (no_more h ts us is left)
+served h g ts us (events.Restart context next) (entries.Restarted (Err e)) ((answers, goes), is) left =
+    subst (λ k. IsLeftTo k us) (sym goes) (no_more h ts us is left)
+served h g ts us e x step left = absurd step
 
 -- what a run leaves
-ran : (h g : History) (ts us : List (Option TicketValues)) (zs : List TicketValues) (es : List ServerEvent) (xs : List ServerEntry)
-    → Run h ts es xs g us → AreLeft h (left_in ts ++ zs) → AreLeft g (left_in us ++ zs)
-ran h g ts us zs [] [] (same, kept) left = subst (λ k. AreLeft k (left_in us ++ zs)) (sym same) (subst (λ xs. AreLeft h (left_in xs ++ zs)) (sym kept) left)
-ran h g ts us zs [] (x ∷ xs) run left = absurd run
-ran h g ts us zs (e ∷ es) [] run left = absurd run
-ran h g ts us zs (e ∷ es) (x ∷ xs) (mid, vs, step, run) left = ran mid g vs us zs es xs run (served h mid ts vs zs e x step left)
+ran : (h g : History) (ts us : List (Option TicketValues)) (es : List ServerEvent) (xs : List ServerEntry) → Run h ts es xs g us → IsLeftTo h ts → IsLeftTo g us
+ran h g ts us [] [] (same, kept) left = unchanged h g ts us same kept left
+ran h g ts us [] (x ∷ xs) run left = absurd run
+ran h g ts us (e ∷ es) [] run left = absurd run
+ran h g ts us (e ∷ es) (x ∷ xs) (mid, vs, step, run) left = ran mid g vs us es xs run (served h mid ts vs e x step left)
 
--- behind a history whose replies took their tickets, each reply of a run takes one that a delivery of the run gave
+-- after a history whose replies took their tickets, each reply of a run takes one that a delivery of the run gave
 pub run_takes : (h g : History) (us : List (Option TicketValues)) (es : List ServerEvent) (xs : List ServerEntry) → Run h [] es xs g us → TakesTickets h → TakesTickets g
-run_takes h g us es xs run (zs, left) = (left_in us ++ zs, ran h g [] us zs es xs run left)
+run_takes h g us es xs run (zs, left) = let after = ran h g [] us es xs run (zs, left, tt) in (after.0, after.1)

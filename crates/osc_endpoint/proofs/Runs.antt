@@ -1,6 +1,6 @@
 -- Runs of a server, one event after another.
 use Rattle.std.proofs.Common.{◌≡◌, ℕ, zero, suc, ◌∙◌, sym, ap, subst, refl, Option, Some, None, Ok, Err, List, [], ◌∷◌, ◌++◌, take, slice_set}
-use Rattle.std.specs.Prelude.{slice_get}
+use Rattle.std.specs.Prelude.{is_some, slice_get}
 use Rattle.std.specs.Option.{option_and_then, option_map}
 use Rattle.osc_endpoint.specs.declared.ticket.Ticket.{Ticket}
 use Rattle.osc_endpoint.specs.declared.server.Server.{Server}
@@ -21,8 +21,16 @@ ticket_seen (None ∷ ts) zero = refl
 ticket_seen (Some t ∷ ts) zero = refl
 ticket_seen (t ∷ ts) (suc i) = ticket_seen ts i
 
+-- whether something is left there
+pub left_seen : (ts : List (Option Ticket)) (i : ℕ) (o : Option Ticket) → o ≡ option_and_then (λ t. t) (slice_get ts i) → is_some o ≡ is_some (ticket_at (values_in ts) i)
+left_seen ts i o is = valued o ∙ ap is_some (ap (option_map values_of) is ∙ sym (ticket_seen ts i))
+  where
+    valued : (o : Option Ticket) → is_some o ≡ is_some (option_map values_of o)
+    valued None = refl
+    valued (Some t) = refl
+
 -- what is taken from an empty place, put back, and taken out
-pub none_taken : (ts : List (Option Ticket)) (i : ℕ) → None ≡ option_and_then (λ t. t) (slice_get ts i) → slice_set ts i None ≡ ts
+pub none_taken : {A : Type 0} (ts : List (Option A)) (i : ℕ) → None ≡ option_and_then (λ t. t) (slice_get ts i) → slice_set ts i None ≡ ts
 none_taken [] i h = refl
 none_taken (t ∷ ts) zero h = ap (λ x. x ∷ ts) h
 none_taken (t ∷ ts) (suc i) h = ap (λ xs. t ∷ xs) (none_taken ts i h)
@@ -46,6 +54,8 @@ pub step_more : (h g : History) (ts us : List (Option TicketValues)) (e : Server
     → Serves h ts e x o g us → ServerRunStep h ts e x g (us ++ o ∷ [])
 step_more h g ts us (events.Datagram a) (entries.Took seen reply) o (answer, logs, goes, is, same) = (answer, logs, goes, rw (is, same) refl)
 step_more h g ts us (events.Reply answering) x o (step, is) = (us, step, rw is refl)
+step_more h g ts us (events.Notify notifying) x o (step, is, same) = (step, rw (is, same) refl)
+step_more h g ts us (events.Drop of) x o (step, is) = (us, step, rw is refl)
 step_more h g ts us (events.Restart context next) (entries.Restarted (Ok y)) o (goes, is, same) = (goes, rw (is, same) refl)
 step_more h g ts us (events.Restart context next) (entries.Restarted (Err e)) o (goes, is, same) = (goes, rw (is, same) refl)
 step_more h g ts us e x o s = absurd s

@@ -2,7 +2,7 @@
 use Rattle.std.proofs.Common.{◌≡◌, ℕ, ◌∙◌, sym, ap, refl, Option, Some, None, List, [], ◌∷◌, option_map}
 use Rattle.std.specs.List.{AllByRecursion}
 use Rattle.osc_context.specs.SecurityContext.{SecurityContext}
-use Rattle.osc_protect.specs.Laws.{ResponsesShowHeads}
+use Rattle.osc_endpoint.specs.AnswerLaws.{SealedHeads}
 use Rattle.osc_endpoint.specs.Laws.{AllAnswers, HaveTwoNonces, Pairwise, ServerNoncesOnce, Text, texts}
 use Rattle.osc_endpoint.specs.Life.{Life}
 use Rattle.osc_endpoint.specs.Senders.{HaveSameSender, HaveTwoKeysOrNonces, SendersDiffer, ServerKeysOrNoncesOnce, WaitingKeysOrNoncesOnce}
@@ -53,12 +53,12 @@ pairs K R S f [] known apart = tt
 pairs K R S f (x ∷ xs) known apart = (row K R S f x known.0 xs known.1 apart.0, pairs K R S f xs known.1 apart.1)
 
 -- where no two texts of one life of a context share a nonce, no two of any contexts share key and nonce
-apart_by_keys : ResponsesShowHeads → (h : History) → AllAnswers h → SendersDiffer h → Pairwise HaveTwoNonces (texts h) → Pairwise HaveTwoKeysOrNonces (texts h)
+apart_by_keys : SealedHeads → (h : History) → AllAnswers h → SendersDiffer h → Pairwise HaveTwoNonces (texts h) → Pairwise HaveTwoKeysOrNonces (texts h)
 apart_by_keys shows h all differ =
     pairs (IsOfLife (λ i. option_map kept (life h i))) HaveTwoNonces HaveTwoKeysOrNonces (two_keys_or_nonces h (senders_differ h differ)) (texts h) (counted shows h all).told
 
-pub server_once : ResponsesShowHeads → ServerNoncesOnce → ServerKeysOrNoncesOnce
+pub server_once : SealedHeads → ServerNoncesOnce → ServerKeysOrNoncesOnce
 server_once shows once h all differ takes = apart_by_keys shows h all differ (once h all takes)
 
-pub waiting_once : ResponsesShowHeads → WaitingNoncesOnce → WaitingKeysOrNoncesOnce
+pub waiting_once : SealedHeads → WaitingNoncesOnce → WaitingKeysOrNoncesOnce
 waiting_once shows once h all differ waiting = apart_by_keys shows h all differ (once h all waiting)

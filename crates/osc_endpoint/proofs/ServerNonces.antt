@@ -6,12 +6,12 @@ use Rattle.std.proofs.lemmas.Option.{none-some, same_Some}
 use Rattle.std.specs.List.{AllByRecursion}
 use Rattle.osc_context.specs.Laws.{OneNonce, ValueNumberInRange}
 use Rattle.osc_context.specs.SecurityContext.{SecurityContext}
-use Rattle.osc_protect.specs.Laws.{ResponsesShowHeads}
 use Rattle.osc_protect.specs.Protection.{requests, response_nonce}
+use Rattle.osc_endpoint.specs.AnswerLaws.{SealedHeads}
 use Rattle.osc_endpoint.specs.Laws.{AllAnswers, AreApart, CountsUp, DeliveredOnce, HaveTwoNonces, Pairwise, ServerNoncesOnce, Text, answered, delivered, nonce_of_text, own_texts, texts}
 use Rattle.osc_endpoint.specs.Life.{Life}
 use Rattle.osc_endpoint.specs.ServerAnswer.{IsContext, LifeRestart}
-use Rattle.osc_endpoint.specs.ServerHistory.{History, Begin, Then, Add, Datagram, Reply, Restart, Advance, Deliver, Took, Answer, TicketValues, life}
+use Rattle.osc_endpoint.specs.ServerHistory.{History, Begin, Then, Add, Datagram, Reply, Notify, Restart, Advance, Deliver, Took, Answer, TicketValues, life}
 use Rattle.osc_endpoint.proofs.LifeCounts.{Kept, Image, image, SealsNumbered, SealsPlain, Steps, Stays, Adds, Restarts, Numbers, Replies, steps}
 use Rattle.osc_endpoint.proofs.OwnNumbers.{IsCounted, IsOfLife, all_weaker, counted, is_own, passed_over, taken_up}
 use Rattle.osc_endpoint.proofs.Tickets.{all_answered, all_behind, pairs_behind, tickets_once}
@@ -216,13 +216,13 @@ sound_on one a b c (Restarts s) = same_sound a b s.texts s.answered
 sound_on one a b c (Numbers s) = numbered_sound one a b c s
 sound_on one a b c (Replies s) = plain_sound one a b c s
 
-all_sound : OneNonce → ResponsesShowHeads → (h : History) → AllAnswers h → AreFine (answered h) → AreSound (image h)
+all_sound : OneNonce → SealedHeads → (h : History) → AllAnswers h → AreFine (answered h) → AreSound (image h)
 all_sound one shows Begin a fine = record { each = tt; pairs = tt }
 all_sound one shows (Then h event entry) a fine =
     sound_on one (image h) (image (Then h event entry)) (counted shows h a.0) (steps shows h event entry a.1) (all_sound one shows h a.0) fine
 
 -- no two texts of one life of a context share a nonce, where no request was answered twice
-pub texts_apart : OneNonce → ResponsesShowHeads → (h : History) → AllAnswers h → Pairwise AreApart (answered h) → AllByRecursion IsFor (answered h) → Pairwise HaveTwoNonces (texts h)
+pub texts_apart : OneNonce → SealedHeads → (h : History) → AllAnswers h → Pairwise AreApart (answered h) → AllByRecursion IsFor (answered h) → Pairwise HaveTwoNonces (texts h)
 texts_apart one shows h a apart fine = (all_sound one shows h a (apart, fine)).pairs
 
 -- ---- numbers that were delivered
@@ -237,11 +237,12 @@ all_for range (Then h (Datagram now echo mid d) (Took (Deliver received ticket) 
     (subst IsFor (sym values) (range ((requests of.context).parts n) receives.protects.value receives.protects.reads), all_for range h before)
 all_for range (Then h (Add s start size) (Took (Deliver received ticket) reply)) a = absurd a.1.1
 all_for range (Then h (Reply t own mid plain room) (Took (Deliver received ticket) reply)) a = absurd a.1.2
+all_for range (Then h (Notify t plain room) (Took (Deliver received ticket) reply)) a = absurd a.1.1.2
 all_for range (Then h (Restart i next) (Took (Deliver received ticket) reply)) a = absurd (no_restart (life h i) (Deliver received ticket) reply a.1)
 all_for range (Then h (Advance now) (Took (Deliver received ticket) reply)) a = absurd a.1
 all_for range (Then h event entry) a = all_for range h a.0
 
 -- nor where each reply takes a ticket
-pub no_shared_nonce : OneNonce → ValueNumberInRange → ResponsesShowHeads → DeliveredOnce → ServerNoncesOnce
+pub no_shared_nonce : OneNonce → ValueNumberInRange → SealedHeads → DeliveredOnce → ServerNoncesOnce
 no_shared_nonce one range shows once h a takes =
     texts_apart one shows h a (tickets_once once h a takes) (all_answered IsFor h takes.0 takes.1 (all_for range h a))

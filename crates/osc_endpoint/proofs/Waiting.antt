@@ -5,7 +5,7 @@ use Rattle.std.specs.List.{AllByRecursion}
 use Rattle.std.proofs.lemmas.Bool.{and_from, and_left, and_parts, both_ways, cond-false, cond-true, cond_both, eq-eqb, eqb-true, false_from_ne_true}
 use Rattle.osc_coap.specs.declared.message.Kind.TheVariants.{Con}
 use Rattle.osc_context.specs.Laws.{OneNonce, ValueNumberInRange}
-use Rattle.osc_protect.specs.Laws.{ResponsesShowHeads}
+use Rattle.osc_endpoint.specs.AnswerLaws.{SealedHeads}
 use Rattle.osc_endpoint.specs.Laws.{AllAnswers, AreApart, Pairwise, answered}
 use Rattle.osc_endpoint.specs.Life.{Life}
 use Rattle.osc_endpoint.specs.Received.{Received}
@@ -19,7 +19,7 @@ use Rattle.osc_endpoint.proofs.ServerNonces.{IsFor, all_for, texts_apart}
 
 -- a ticket to the request, for facts that look at nothing else of it
 abbrev request_of : ℕ → ℕ → ℕ → TicketValues
-request_of i c n = record { context = i; life = c; number = n; kind = Con; message_id = 0; token = [] }
+request_of i c n = record { context = i; life = c; number = n; kind = Con; message_id = 0; token = []; observes = false }
 
 record Is (i c n : ℕ) (t : TicketValues) : Type 0 where
   pub context : i ≡ t.context
@@ -163,7 +163,7 @@ tracked range (Then h event entry) all waiting =
 pub answers_once : ValueNumberInRange → AnsweredOnce
 answers_once range h all waiting = (tracked range h all waiting).apart
 
-pub waiting_nonces : OneNonce → ValueNumberInRange → ResponsesShowHeads → WaitingNoncesOnce
+pub waiting_nonces : OneNonce → ValueNumberInRange → SealedHeads → WaitingNoncesOnce
 waiting_nonces one range shows h all waiting = let t = tracked range h all waiting in texts_apart one shows h all t.apart t.in_range
 
 life_of : (o : Option Life) (i c n : ℕ) → IsSpentIn o (request_of i c n) → (of : Life) × (o ≡ Some of) × (c ≤ of.count)

@@ -1,5 +1,5 @@
 -- For the proofs: what a context of a server answers to a reply and to a notification by a ticket.
-use Rattle.std.specs.Prelude.{◌≡◌, ℕ, List, take, Bool, Option, Some, None, Result, Ok, Err, if◌then◌else◌}
+use Rattle.std.specs.Prelude.{◌≡◌, ℕ, Bool, true, false, Option, Some, None, Result, Ok, Err, if◌then◌else◌}
 use Rattle.osc_coap.specs.Datagram.{Parts}
 use Rattle.osc_protect.specs.declared.protect_error.ProtectError.{ProtectError}
 use Rattle.osc_protect.specs.declared.protect_error.ProtectError.TheVariants as protects
@@ -7,7 +7,7 @@ use Rattle.osc_endpoint.specs.declared.server_error.ReplyError.{ReplyError}
 use Rattle.osc_endpoint.specs.declared.server_error.ReplyError.TheVariants.{StaleTicket, NotObserving, NotThatKind, Unsupported, TooLong, NoRoom}
 use Rattle.osc_endpoint.specs.Life.{Life, Mark, Answered}
 use Rattle.osc_endpoint.specs.ServerAnswer.{LifeNotify, LifeReply}
-use Rattle.osc_endpoint.specs.ServerHistory.{Entry, Replied, NotReplied, TicketValues, reply_mark_at}
+use Rattle.osc_endpoint.specs.ServerHistory.{Entry, NotReplied, TicketValues, reply_mark_at}
 
 -- the refusal of a reply or a notification that follows from a refusal to seal (own rule)
 abbrev pub lifted : ProtectError → ReplyError

@@ -1,4 +1,4 @@
-use Rattle.std.proofs.Common.{◌≡◌, length, take, arith, subst, sym, Some}
+use Rattle.std.proofs.Common.{◌≡◌, length, take, arith, subst, sym, false, Some}
 use Rattle.osc_coap.specs.Datagram.{Parts}
 use Rattle.osc_coap.specs.Views.{parts_of}
 use Rattle.osc_context.specs.Views.{as_server, number_of}
@@ -8,7 +8,7 @@ use Rattle.osc_protect.specs.SealRefusals.{FitsToSeal}
 use Rattle.osc_protect.specs.Views.{context_of}
 use Rattle.osc_endpoint.specs.Replies.{as_reply, challenge_message}
 use Rattle.osc_endpoint.proofs.ChallengeLengths.{challenge_fits, not_err}
-use Rattle.osc_endpoint.proofs.SealedReplies.{named_fits, plainly_sealed}
+use Rattle.osc_endpoint.proofs.SealedReplies.{named_fits, sealed_as}
 use Rattle.osc_endpoint.proofs.challenge_reply.write_challenge.Goals as goal
 
 pub unreachable-requires : goal.unreachable-requires
@@ -31,5 +31,5 @@ returns-clause-sealed c =
     let same : p ≡ parts_of c.in-Ok.message = c.one_datagram.ensures.one _ _ _ c.write_plain-len.ensures.written c.in-Ok.ensures.accepted in
     let bytes = take c.in-Ok-seal_response.len c.seal_response.new.out in
     let s = as_server (context_of c.args.context.now) in
-    let named = plainly_sealed s c.new-request.result (number_of c.args.request) (Some (number_of c.args.own)) _ bytes c.new-request.ensures.plain c.new-request.ensures.number c.in-Ok-seal_response.ensures.sealed in
+    let named = sealed_as s c.new-request.result false (number_of c.args.request) (Some (number_of c.args.own)) _ bytes c.new-request.ensures.plain c.new-request.ensures.number c.in-Ok-seal_response.ensures.sealed in
     subst (λ (q : Parts). SealsResponse s (number_of c.args.request) (Some (number_of c.args.own)) q bytes) (sym same) named

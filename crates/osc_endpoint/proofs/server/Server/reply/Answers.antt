@@ -4,6 +4,7 @@ use Rattle.std.specs.Option.{option_map}
 use Rattle.osc_endpoint.specs.declared.slot.Slot.{Slot}
 use Rattle.osc_endpoint.specs.Agrees.{TableAgrees}
 use Rattle.osc_endpoint.specs.Life.{marked}
+use Rattle.osc_endpoint.specs.ServerAnswer.{asks_own}
 use Rattle.osc_endpoint.specs.ServerHistory as server
 use Rattle.osc_endpoint.specs.Views.{values_of}
 use Rattle.osc_endpoint.proofs.Decisions.{refill_same, agrees_replied}
@@ -16,6 +17,8 @@ returns-in-Ok-clause-follows c = λ h a.
     let len : length xs ≡ length c.args.self.now.slots.items = c.reply_at.auto.slots ∙ ap (λ (s : List (Option Slot)). length s) v in
     let items = refill_same c.args.self.now.slots.items xs len in
     let t = values_of c.args.ticket in
-    agrees_replied c.args.self.now _ h t c.args.own c.args.mid _ (parts_of c.args.plain.now) _ a refl (ap (λ (s : List (Option Slot)). length s) items ∙ len)
-    (subst (λ s. TableAgrees s (λ i. option_map (marked (server.reply_mark_at i t c.args.own)) (server.life h i))) (sym items)
-    (c.in-Ok.ensures.agrees (server.life h) (subst (λ s. TableAgrees s (server.life h)) (sym v) a.places)))
+    let own = asks_own t c.args.own in
+    agrees_replied c.args.self.now _ h t own c.args.mid _ (parts_of c.args.plain.now) _ a refl (ap (λ (s : List (Option Slot)). length s) items ∙ len)
+    (subst (λ s. TableAgrees s (λ i. option_map (marked (server.reply_mark_at i t own)) (server.life h i))) (sym items)
+    (subst (λ b. TableAgrees xs (λ i. option_map (marked (server.reply_mark_at i t b)) (server.life h i))) c.asks_own-own.ensures
+    (c.in-Ok.ensures.agrees (server.life h) (subst (λ s. TableAgrees s (server.life h)) (sym v) a.places))))

@@ -1,4 +1,9 @@
-use Rattle.std.proofs.Common.{refl}
+use Rattle.std.proofs.Common.{◌≡◌, ◌∙◌, ap, refl}
+use Rattle.osc_context.specs.Views.{as_server}
+use Rattle.osc_context.specs.declared.context.Context.{Context}
+use Rattle.osc_context.specs.declared.features.Features.{Features}
+use Rattle.osc_protect.specs.Views.{context_of}
+use Rattle.osc_endpoint.specs.Observing.{registers}
 use Rattle.osc_endpoint.proofs.Judgments.{spoiled, wants_echo, delivered, opened_in}
 use Rattle.osc_endpoint.proofs.slot.Slot.judge_opened.Goals as goal
 
@@ -14,9 +19,10 @@ returns-then-not-admits_read-clause-decided c = λ l d a decrypts named asker.
 
 pub returns-clause-decided : goal.returns-clause-decided
 returns-clause-decided c = λ l d a decrypts named asker.
-    delivered l c.args.request d c.args.datagram.now c.args.decrypted c.in-Ok.read c.deliver.new.self.life c.args.self.now c.deliver.new.self
+    let features : c.features.result ≡ (as_server (context_of c.args.self.now.context)).features = c.features.ensures.server ∙ ap (λ (k : Context). (as_server k).features) c.context.ensures in
+    delivered l c.args.request d c.args.datagram.now c.args.decrypted c.in-Ok.read c.deliver.new.self.life c.registers_read-observes.result c.args.self.now c.deliver.new.self
     c.one_datagram.ensures.one c.one_request.ensures c.one_reading.ensures.request a c.requires.passes named asker decrypts c.in-Ok.ensures.placed c.in-Ok.ensures.accepted
-    (c.if-not-admits_read.ensures.yes refl l a) c.deliver.ensures.life (c.deliver.ensures.kept l a)
+    (c.if-not-admits_read.ensures.yes refl l a) c.deliver.ensures.life (λ x s e n m can opens protects. c.registers_read-observes.ensures x s e n m can opens protects ∙ ap (λ (k : Features). registers k m.code m.options) features) (c.deliver.ensures.kept l a)
 
 pub returns-clause-shown : goal.returns-clause-shown
 returns-clause-shown c = λ d decrypts. (c.args.decrypted, c.in-Ok.ensures.placed)
