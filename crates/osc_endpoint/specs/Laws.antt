@@ -90,7 +90,7 @@ OwnNumbersOnce = (h : History) (i : ℕ) (of : Life) → AllAnswers h → life h
 abbrev pub IsTakenOut : TicketValues → List TicketValues → List TicketValues → Type 0
 IsTakenOut t before after = (front : List TicketValues) × (back : List TicketValues) × (before ≡ front ++ t ∷ back) × (after ≡ front ++ back)
 
--- the tickets that are left: each delivery gave one, and each accepted reply took one of these (own rule)
+-- the tickets that are left: each delivery gave one, and each accepted reply took one of these; a notification takes none (own rule)
 abbrev pub AreLeft : History → List TicketValues → Type 0
 AreLeft Begin ts = ts ≡ []
 AreLeft (Then h event (Took (Deliver received ticket) reply)) ts = (before : List TicketValues) × AreLeft h before × (ts ≡ ticket ∷ before)
@@ -107,7 +107,7 @@ answered Begin = []
 answered (Then h (Reply ticket own mid plain room) (Replied bytes)) = ticket ∷ answered h
 answered (Then h event entry) = answered h
 
--- a ticket gives at most one response: no two responses are to one number in one life of one context (RFC 8613, 8.3)
+-- a ticket gives at most one reply: no two replies are to one number in one life of one context (RFC 8613, 8.3)
 abbrev pub TicketOnce : Type 0
 TicketOnce = (h : History) → AllAnswers h → TakesTickets h → Pairwise AreApart (answered h)
 

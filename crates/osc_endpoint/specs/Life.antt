@@ -14,7 +14,7 @@ use Rattle.osc_coap.specs.Search.{values_at, first_of}
 use Rattle.osc_endpoint.specs.declared.start.Start.{Start}
 use Rattle.osc_endpoint.specs.declared.start.Start.TheVariants.{Fresh, Restarted}
 
--- what an answer leaves: a delivered number, the number of a bad plaintext, a challenge, or a reply with an own number (own rule)
+-- what an answer leaves: a delivered number, the number of a bad plaintext, a challenge, or a reply or notification with an own number (own rule)
 pub data Mark : Type 0 where
   Delivered : (number : ℕ) → Mark
   Spoiled : (number : ℕ) → Mark
@@ -67,7 +67,7 @@ challenge (Spoiled n ∷ marks) = challenge marks
 challenge (Challenged echo issued ∷ marks) = Some (echo, issued)
 challenge (Answered ∷ marks) = challenge marks
 
--- how many own numbers were used: one for each challenge, and one for each reply that asked for one (RFC 8613, 7.2.1)
+-- how many own numbers were used: one for each challenge, each notification, and each reply that asked for one (RFC 8613, 7.2.1)
 abbrev pub own_count : List Mark → ℕ
 own_count [] = 0
 own_count (Delivered n ∷ marks) = own_count marks

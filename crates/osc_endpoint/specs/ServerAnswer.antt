@@ -1,4 +1,4 @@
--- To be believed: what a server answers to each event, after a history (RFC 8613, 7.4, 8.2, 8.3 and B.1.2; RFC 9175, 2.3). The rows stand
+-- To be believed: what a server answers to each event, after a history (RFC 8613, 7.4, 8.2 to 8.3.1 and B.1.2; RFC 9175, 2.3). The rows stand
 -- in the order in which they are checked; the condition of each row includes that no earlier row's condition holds. h is a history, d a
 -- datagram, i the index of a context, n the number of a request, `of` the present life of that context, m a message, clock the clock after
 -- the event's own moment, mid and echo the fresh values that were passed in.
@@ -85,7 +85,7 @@ abbrev pub SaysChallenge : Life → ℕ → List ℕ → ℕ → List ℕ → Li
 SaysChallenge of n d mid echo reply = (p : Parts) × IsDatagram p d
     × SealsResponse of.context n (Some (next_own of)) (as_reply p.kind p.message_id p.token mid (challenge_message echo)) reply
 
--- the condition of each row of the life that the head names, from the window on (RFC 8613, 7.4, 8.2 and B.1.2)
+-- the condition of each row of the life that the head names, from the window on (RFC 8613, 4.1.3.5.1, 7.4, 8.2 and B.1.2)
 abbrev pub MeetsLifeRow : Life → ℕ → ℕ → Arrival → Answer → Type 0
 MeetsLifeRow of i n a Replay = IsReplay of n
 MeetsLifeRow of i n a BadTag = Passes of n × RefusesTag (requests of.context) a.bytes

@@ -46,8 +46,8 @@ pub fn own_numbers_once()
     protections_show_heads();
 }
 
-/// States that a ticket gives at most one response: no two responses are to one number in one life of one context (RFC 8613, 8.3). Each
-/// accepted reply has to take a ticket that a delivery gave and that no earlier reply took, as it does in a run.
+/// States that a ticket gives at most one reply: no two replies are to one number in one life of one context (RFC 8613, 8.3). Each accepted
+/// reply has to take a ticket that a delivery gave and that no earlier reply took, as it does in a run. Notifications aren't counted.
 pub fn ticket_once()
     ensures { TicketOnce }
 {
@@ -67,8 +67,8 @@ pub fn nonces_once()
 }
 
 /// States what holds even if tickets may be copied or altered, as long as each accepted reply is to a request that waits for its answer.
-/// Each request is answered at most once, and no two texts that a server seals in one life under one context share a nonce (RFC 8613, 5.2
-/// and 8.3).
+/// Each request is answered at most once, notifications aside, and no two texts that a server seals in one life under one context share a
+/// nonce (RFC 8613, 5.2 and 8.3).
 pub fn answered_once()
     ensures once { AnsweredOnce }
     ensures nonces { WaitingNoncesOnce }

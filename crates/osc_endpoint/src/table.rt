@@ -95,6 +95,14 @@ pub(crate) fn judge_at(
     judge_place(&mut slots[index], request, datagram, out)
 }
 
+/// Returns whether a ticket is of another life of the context than the present one.
+fn is_stale(slot: &Slot, ticket: &Ticket) -> bool
+    ensures yes { result ≡ true → (values_of ticket.now).life ≢ slot.now.life }
+    ensures no { result ≡ false → (values_of ticket.now).life ≡ slot.now.life }
+{
+    slot.life != ticket.life
+}
+
 /// Seals a reply by a ticket of the context in a place.
 fn reply_place(
     place: &mut Option<Slot>,
@@ -118,7 +126,7 @@ fn reply_place(
 {
     match place {
         Some(slot) => {
-            if slot.life != ticket.life {
+            if is_stale(slot, ticket) {
                 return Err(ReplyError::StaleTicket);
             }
             slot.reply_to(ticket.number, &ticket.asker, own, mid, plain, out)
@@ -175,7 +183,7 @@ fn notify_place(
 {
     match place {
         Some(slot) => {
-            if slot.life != ticket.life {
+            if is_stale(slot, ticket) {
                 return Err(ReplyError::StaleTicket);
             }
             if !ticket.observes {

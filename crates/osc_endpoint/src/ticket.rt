@@ -56,7 +56,7 @@ impl Ticket {
         &self.asker
     }
 
-    /// Returns whether the request registers an observation, so that `Server::notify` may answer it (RFC 8613, 4.1.3.5.1).
+    /// Returns whether the request registers an observation, so that `Server::notify` can answer it (RFC 8613, 4.1.3.5.1).
     #[must_use]
     pub fn observes(&self) -> bool
         ensures { result ≡ (values_of self.now).observes }
@@ -64,9 +64,8 @@ impl Ticket {
         self.observes
     }
 
-    /// Returns whether a reply has an own number: it does if you ask for one, or if the request registers an observation (RFC 8613, 4.1.3.5).
-    #[must_use]
-    pub fn asks_own(&self, own: bool) -> bool
+    /// Returns whether a reply has an own number: one is asked for, or the request registers an observation (RFC 8613, 4.1.3.5).
+    pub(crate) fn asks_own(&self, own: bool) -> bool
         ensures { result ≡ asks_own (values_of self.now) own }
     {
         self.observes || own
