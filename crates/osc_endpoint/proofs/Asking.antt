@@ -1,9 +1,11 @@
 -- The table of a client's pending requests, and the requests that it stands for.
-use Rattle.std.proofs.Common.{◌≡◌, ◌≢◌, ℕ, zero, suc, ◌<◌, ◌≤◌, ◌-◌, ◌∙◌, sym, ap, subst, refl, arith, Bool, true, false, Some, None, List, [], ◌∷◌, length, inl, inr}
-use Rattle.std.specs.Prelude.{All, Contains, bytes_eq, cond, filter, map, max, nat_le, not, remove, slice_get, slice_index_or}
+use Rattle.std.proofs.Common.{◌≡◌, ◌≢◌, ℕ, zero, suc, ◌+◌, ◌<◌, ◌≤◌, ◌-◌, ◌∙◌, sym, ap, subst, refl, arith, Bool, true, false, Some, None, List, [], ◌∷◌, ◌++◌, length, take, inl, inr}
+use Rattle.std.specs.Prelude.{◌||◌, All, Contains, if◌then◌else◌, bytes_eq, cond, drop, filter, map, max, nat_le, nat_lt, not, remove, slice_get, slice_index_or, slice_set}
 use Rattle.std.proofs.lemmas.Bool.{cases_order, false_from_ne_true, not_from_false, not_from_true}
 use Rattle.std.proofs.lemmas.Bool.Decides.{nat_tests}
-use Rattle.std.proofs.lemmas.List.{get_or_default, length-map}
+use Rattle.std.specs.List.{refill}
+use Rattle.std.proofs.Math.Seq.{take-append_seam}
+use Rattle.std.proofs.lemmas.List.{get_or-map, get_or_default, length-map, length-set}
 use Rattle.std.proofs.lemmas.Option.{get_or_from_slice_get, slice_get_within}
 use Rattle.std.proofs.lemmas.Slice.Eq.{bytes_eq-Decides}
 use Rattle.std.proofs.lemmas.List.Elements.{All-contains, All-contains_itself, All-filter}
@@ -13,9 +15,11 @@ use Rattle.osc_context.specs.Views.{as_client}
 use Rattle.osc_protect.specs.Views.{context_of}
 use Rattle.osc_endpoint.specs.declared.client.Client.{Client}
 use Rattle.osc_endpoint.specs.declared.pending.Pending.{Pending}
+use Rattle.osc_endpoint.specs.declared.pending.Wait.{Wait}
+use Rattle.osc_endpoint.specs.declared.pending.Wait.TheVariants.{Once, Observing}
 use Rattle.osc_endpoint.specs.Agrees.{ClientAgrees, TokensDiffer}
 use Rattle.osc_endpoint.specs.ClientAnswer.{IsAmong}
-use Rattle.osc_endpoint.specs.ClientHistory.{Advance, Advanced, Asked, Entry, Event, History, Then, alive, asked, clock, life_ms, next, pending, pending_at, without}
+use Rattle.osc_endpoint.specs.ClientHistory.{Advance, Advanced, Asked, Entry, Event, History, Then, after_place, after_response, alive, asked, clock, first_place, heard, is_alive, life_ms, next, pending, pending_at, without}
 use Rattle.osc_endpoint.specs.Views.{asked_of}
 
 step : (b : Bool) (x : Pending) (xs : List Pending) (ys : List Asked) → map asked_of xs ≡ ys → map asked_of (cond b (x ∷ xs) xs) ≡ cond b (asked_of x ∷ ys) ys
@@ -51,25 +55,23 @@ pub filter_swap : (p q : Asked → Bool) (xs : List Asked) → filter p (filter 
 filter_swap p q [] = refl
 filter_swap p q (x ∷ xs) = swap_by (p x) (q x) p q x xs refl refl (filter_swap p q xs)
 
-later : (a b r ms : ℕ) → a ≤ b → nat_le (b - r) ms ≡ true → nat_le (a - r) ms ≡ true
-later a b r ms h k = grind (arith, nat_tests)
+later : (heard : Bool) (a b r ms : ℕ) → a ≤ b → (heard || nat_le (b - r) ms) ≡ true → (heard || nat_le (a - r) ms) ≡ true
+later true a b r ms h k = refl
+later false a b r ms h k = grind (arith, nat_tests)
 
-alive_by : (c d : Bool) (a b ms : ℕ) (x : Asked) (xs : List Asked) → nat_le (a - x.moment) ms ≡ c → nat_le (b - x.moment) ms ≡ d → a ≤ b
+alive_by : (c d : Bool) (a b ms : ℕ) (x : Asked) (xs : List Asked) → is_alive a ms x ≡ c → is_alive b ms x ≡ d → a ≤ b
     → alive b ms (alive a ms xs) ≡ alive b ms xs → alive b ms (alive a ms (x ∷ xs)) ≡ alive b ms (x ∷ xs)
 alive_by true true a b ms x xs e f h k =
-    ap (alive b ms) (passes (λ (r : Asked). nat_le (a - r.moment) ms) x xs e) ∙ passes (λ (r : Asked). nat_le (b - r.moment) ms) x (alive a ms xs) f
-    ∙ ap (λ zs. x ∷ zs) k ∙ sym (passes (λ (r : Asked). nat_le (b - r.moment) ms) x xs f)
+    ap (alive b ms) (passes (is_alive a ms) x xs e) ∙ passes (is_alive b ms) x (alive a ms xs) f ∙ ap (λ zs. x ∷ zs) k ∙ sym (passes (is_alive b ms) x xs f)
 alive_by true false a b ms x xs e f h k =
-    ap (alive b ms) (passes (λ (r : Asked). nat_le (a - r.moment) ms) x xs e) ∙ fails (λ (r : Asked). nat_le (b - r.moment) ms) x (alive a ms xs) f
-    ∙ k ∙ sym (fails (λ (r : Asked). nat_le (b - r.moment) ms) x xs f)
-alive_by false true a b ms x xs e f h k = absurd (let l = later a b x.moment ms h f in cc)
-alive_by false false a b ms x xs e f h k =
-    ap (alive b ms) (fails (λ (r : Asked). nat_le (a - r.moment) ms) x xs e) ∙ k ∙ sym (fails (λ (r : Asked). nat_le (b - r.moment) ms) x xs f)
+    ap (alive b ms) (passes (is_alive a ms) x xs e) ∙ fails (is_alive b ms) x (alive a ms xs) f ∙ k ∙ sym (fails (is_alive b ms) x xs f)
+alive_by false true a b ms x xs e f h k = absurd (let l = later (nat_lt 0 (first_place x.wait)) a b x.moment ms h f in cc)
+alive_by false false a b ms x xs e f h k = ap (alive b ms) (fails (is_alive a ms) x xs e) ∙ k ∙ sym (fails (is_alive b ms) x xs f)
 
 -- those that are left at a later moment are left of those that are left at an earlier one
 pub alive_again : (a b ms : ℕ) (xs : List Asked) → a ≤ b → alive b ms (alive a ms xs) ≡ alive b ms xs
 alive_again a b ms [] h = refl
-alive_again a b ms (x ∷ xs) h = alive_by (nat_le (a - x.moment) ms) (nat_le (b - x.moment) ms) a b ms x xs refl refl h (alive_again a b ms xs h)
+alive_again a b ms (x ∷ xs) h = alive_by (is_alive a ms x) (is_alive b ms x) a b ms x xs refl refl h (alive_again a b ms xs h)
 
 -- ---- tokens
 
@@ -116,7 +118,7 @@ differ_filter p xs h = AllPairs-filter (λ (r q : Asked). r.token ≢ q.token) p
 
 -- nor one of those that are alive
 pub differ_alive : (moment ms : ℕ) (xs ys : List Asked) → ys ≡ alive moment ms xs → TokensDiffer xs → TokensDiffer ys
-differ_alive moment ms xs ys is d = subst TokensDiffer (sym is) (differ_filter (λ r. nat_le (moment - r.moment) ms) xs d)
+differ_alive moment ms xs ys is d = subst TokensDiffer (sym is) (differ_filter (is_alive moment ms) xs d)
 
 map_remove : (xs : List Pending) (i : ℕ) → map asked_of (remove xs i) ≡ remove (map asked_of xs) i
 map_remove [] zero = refl
@@ -133,7 +135,7 @@ differ_removed xs ys i is less d =
 pub differ_later : (h : History) (now : ℕ) → TokensDiffer (pending h) → TokensDiffer (pending_at h (max (clock h) now))
 differ_later h now d =
     subst TokensDiffer (alive_again (clock h) (max (clock h) now) (life_ms h) (asked h) (omega arith))
-    (differ_filter (λ r. nat_le (max (clock h) now - r.moment) (life_ms h)) (pending h) d)
+    (differ_filter (is_alive (max (clock h) now) (life_ms h)) (pending h) d)
 
 -- where no two have one token, a token names one of them
 pub one_of_token : (xs : List Asked) (r q : Asked) → TokensDiffer xs → Contains xs r → Contains xs q → r.token ≡ q.token → r ≡ q
@@ -147,11 +149,130 @@ one_of_token xs r q d (i, i_less, i_is) (j, j_less, j_is) same = elim (cases_ord
       absurd (apart (ap (λ (x : Asked). x.token) j_is ∙ sym same ∙ ap (λ (x : Asked). x.token) (sym i_is ∙ get_or_default xs i r q i_less)))
 ]
 
+-- ---- a notification
+
+-- the request, which waits as f says if it has this token
+abbrev rewaited : List ℕ → (Wait → Wait) → Asked → Asked
+rewaited token f r = if bytes_eq r.token token then record r { wait = f r.wait } else r
+
+-- that leaves each token as it is
+same_token : (token : List ℕ) (f : Wait → Wait) (r : Asked) → (rewaited token f r).token ≡ r.token
+same_token token f r = by_test (bytes_eq r.token token) refl
+  where
+    by_test : (b : Bool) → bytes_eq r.token token ≡ b → (rewaited token f r).token ≡ r.token
+    by_test true e = rw (e) refl
+    by_test false e = rw (e) refl
+
+positive : (n : ℕ) → nat_lt 0 (n + 1) ≡ true
+positive n = grind (arith, nat_tests)
+
+-- a response leaves each request alive that is
+still_alive : (moment ms place : ℕ) (token : List ℕ) (r : Asked) → is_alive moment ms r ≡ true → is_alive moment ms (after_response token place r) ≡ true
+still_alive moment ms place token r h = by_test (bytes_eq r.token token) refl
+  where
+    by_wait : (wait : Wait) → r.wait ≡ wait → is_alive moment ms (record r { wait = after_place place r.wait }) ≡ true
+    by_wait Once e = rw (e) (subst (λ w. (nat_lt 0 (first_place w) || nat_le (moment - r.moment) ms) ≡ true) e h)
+    by_wait (Observing from) e = rw (e) (ap (λ b. b || nat_le (moment - r.moment) ms) (positive place))
+    by_test : (b : Bool) → bytes_eq r.token token ≡ b → is_alive moment ms (after_response token place r) ≡ true
+    by_test true e = rw (e) (by_wait r.wait refl)
+    by_test false e = rw (e) h
+
+heard_by : (b : Bool) (moment ms place : ℕ) (token : List ℕ) (x : Asked) (xs : List Asked) → is_alive moment ms x ≡ b
+    → alive moment ms (heard token place (alive moment ms xs)) ≡ heard token place (alive moment ms xs)
+    → alive moment ms (heard token place (alive moment ms (x ∷ xs))) ≡ heard token place (alive moment ms (x ∷ xs))
+heard_by true moment ms place token x xs e h =
+    let kept_x = passes (is_alive moment ms) x xs e in
+    ap (λ zs. alive moment ms (heard token place zs)) kept_x
+    ∙ passes (is_alive moment ms) (after_response token place x) (heard token place (alive moment ms xs)) (still_alive moment ms place token x e)
+    ∙ ap (λ zs. after_response token place x ∷ zs) h ∙ sym (ap (heard token place) kept_x)
+heard_by false moment ms place token x xs e h =
+    let dropped = fails (is_alive moment ms) x xs e in
+    ap (λ zs. alive moment ms (heard token place zs)) dropped ∙ h ∙ sym (ap (heard token place) dropped)
+
+-- at that moment all requests stay pending
+pub heard_alive : (moment ms place : ℕ) (token : List ℕ) (xs : List Asked) → alive moment ms (heard token place (alive moment ms xs)) ≡ heard token place (alive moment ms xs)
+heard_alive moment ms place token [] = refl
+heard_alive moment ms place token (x ∷ xs) = heard_by (is_alive moment ms x) moment ms place token x xs refl (heard_alive moment ms place token xs)
+
+-- where no two have one token, no two have one then
+differ_rewaited : (token : List ℕ) (f : Wait → Wait) (xs : List Asked) → TokensDiffer xs → TokensDiffer (map (rewaited token f) xs)
+differ_rewaited token f xs differ = λ i j d below within.
+    let g = rewaited token f in
+    let less : j < length xs = subst (λ n. j < n) (length-map xs g) within in
+    let at_i = get_or-map g xs i d d (omega (arith, below, less)) in
+    let at_j = get_or-map g xs j d d less in
+    λ same. differ i j d below less
+    (sym (same_token token f (slice_index_or xs i d)) ∙ ap (λ (r : Asked). r.token) (sym at_i) ∙ same ∙ ap (λ (r : Asked). r.token) at_j ∙ same_token token f (slice_index_or xs j d))
+
+pub differ_heard : (token : List ℕ) (place : ℕ) (xs : List Asked) → TokensDiffer xs → TokensDiffer (heard token place xs)
+differ_heard token place xs differ = differ_rewaited token (after_place place) xs differ
+
+unheard : (token : List ℕ) (f : Wait → Wait) (xs : List Asked) → All (λ (r : Asked). r.token ≢ token) xs → map (rewaited token f) xs ≡ xs
+unheard token f [] others = refl
+unheard token f (x ∷ xs) others =
+    let other = false_from_ne_true _ (λ is. others 0 x (omega arith) ((bytes_eq-Decides x.token token).0 is)) in
+    ap (λ b. (if b then record x { wait = f x.wait } else x) ∷ map (rewaited token f) xs) other
+    ∙ ap (λ zs. x ∷ zs) (unheard token f xs (λ k d less. others (suc k) d (omega (arith, less))))
+
+-- what stands at a place of the table stands for the request there
+pub at_index : (xs : List Pending) (i : ℕ) (d : Pending) (r : Asked) → slice_get (map asked_of xs) i ≡ Some r → asked_of (slice_index_or xs i d) ≡ r
+at_index [] i d r is = absurd (let f : None ≡ Some r = is in cc)
+at_index (x ∷ xs) zero d r is = let f : Some (asked_of x) ≡ Some r = is in cc
+at_index (x ∷ xs) (suc i) d r is = at_index xs i d r is
+
+at_place : (xs : List Pending) (i : ℕ) (d : Pending) → i < length xs → slice_get (map asked_of xs) i ≡ Some (asked_of (slice_index_or xs i d))
+at_place [] i d less = absurd (omega (arith, less))
+at_place (x ∷ xs) zero d less = refl
+at_place (x ∷ xs) (suc i) d less = at_place xs i d (omega (arith, less))
+
+-- where no two have one token, the table with another wait at a place stands for the requests that wait so
+noted : (xs : List Pending) (i : ℕ) (f : Wait → Wait) (x : Pending) (r : Asked) → TokensDiffer (map asked_of xs) → slice_get (map asked_of xs) i ≡ Some r
+    → asked_of x ≡ record r { wait = f r.wait } → map asked_of (slice_set xs i x) ≡ map (rewaited r.token f) (map asked_of xs)
+noted [] i f x r differ is x_is = absurd (let e : None ≡ Some r = is in cc)
+noted (y ∷ ys) zero f x r differ is x_is =
+    let here : asked_of y ≡ r = let e : Some (asked_of y) ≡ Some r = is in cc in
+    let zs = map asked_of ys in
+    let that : rewaited r.token f r ≡ record r { wait = f r.wait } =
+        ap (λ b. if b then record r { wait = f r.wait } else r) ((bytes_eq-Decides r.token r.token).1 refl) in
+    let rest = unheard r.token f zs (λ k d less same. differ 0 (suc k) d (omega arith) (omega (arith, less)) (ap (λ (q : Asked). q.token) here ∙ sym same)) in
+    ap (λ q. q ∷ zs) (x_is ∙ sym that ∙ ap (rewaited r.token f) (sym here)) ∙ ap (λ qs. rewaited r.token f (asked_of y) ∷ qs) (sym rest)
+noted (y ∷ ys) (suc i) f x r differ is x_is =
+    let zs = map asked_of ys in
+    let less = slice_get_within zs i r is in
+    let apart : (asked_of y).token ≢ (slice_index_or zs i r).token = differ 0 (suc i) r (omega arith) (omega (arith, less)) in
+    let other = false_from_ne_true _ (λ same. apart ((bytes_eq-Decides (asked_of y).token r.token).0 same ∙ ap (λ (q : Asked). q.token) (sym (get_or_from_slice_get zs i r r is)))) in
+    ap (λ qs. asked_of y ∷ qs) (noted ys i f x r (λ j k d below within. differ (suc j) (suc k) d (omega (arith, below)) (omega (arith, within))) is x_is)
+    ∙ ap (λ b. (if b then record (asked_of y) { wait = f (asked_of y).wait } else asked_of y) ∷ map (rewaited r.token f) zs) (sym other)
+
+-- the same of a table that is written back
+written : (n : ℕ) (xs ds : List Pending) (i : ℕ) (x : Pending) → n ≡ length xs → ds ≡ xs → refill n xs (slice_set ds i x) ≡ slice_set xs i x
+written n xs ds i x len same =
+    let ws = slice_set xs i x in
+    ap (λ ys. refill n xs (slice_set ys i x)) same ∙ ap (λ k. take k (ws ++ drop (length ws) xs)) (len ∙ sym (length-set xs i x)) ∙ take-append_seam ws (drop (length ws) xs)
+
+-- a response to the request at a place
+pub heard_at : (n : ℕ) (xs ds : List Pending) (i place : ℕ) (x d : Pending) (wait : Wait) (r : Asked) → n ≡ length xs → ds ≡ xs → TokensDiffer (map asked_of xs)
+    → slice_get (map asked_of xs) i ≡ Some r → wait ≡ after_place place r.wait → asked_of x ≡ record (asked_of (slice_index_or ds i d)) { wait = wait }
+    → map asked_of (refill n xs (slice_set ds i x)) ≡ heard r.token place (map asked_of xs)
+heard_at n xs ds i place x d wait r len same differ is wait_is x_is =
+    let before : asked_of (slice_index_or ds i d) ≡ r = ap (λ ys. asked_of (slice_index_or ys i d)) same ∙ at_index xs i d r is in
+    let x_as : asked_of x ≡ record r { wait = after_place place r.wait } = x_is ∙ ap (λ (q : Asked). record q { wait = wait }) before ∙ ap (λ w. record r { wait = w }) wait_is in
+    ap (map asked_of) (written n xs ds i x len same) ∙ noted xs i (after_place place) x r differ is x_as
+
+-- then no two have one token
+pub differ_at : (n : ℕ) (xs ds : List Pending) (i : ℕ) (x d : Pending) (wait : Wait) → n ≡ length xs → ds ≡ xs → TokensDiffer (map asked_of xs)
+    → i < length xs → asked_of x ≡ record (asked_of (slice_index_or ds i d)) { wait = wait } → TokensDiffer (map asked_of (refill n xs (slice_set ds i x)))
+differ_at n xs ds i x d wait len same differ less x_is =
+    let r = asked_of (slice_index_or xs i d) in
+    let f : Wait → Wait = λ w. wait in
+    let x_as : asked_of x ≡ record r { wait = wait } = x_is ∙ ap (λ ys. record (asked_of (slice_index_or ys i d)) { wait = wait }) same in
+    subst TokensDiffer (sym (ap (map asked_of) (written n xs ds i x len same) ∙ noted xs i f x r differ (at_place xs i d less) x_as)) (differ_rewaited r.token f (map asked_of xs) differ)
+
 -- ---- steps of a client
 
 -- without the requests of a token, in either order with those whose time has passed
 pub ended : (h : History) (moment : ℕ) (token : List ℕ) → without token (pending_at h moment) ≡ alive moment (life_ms h) (without token (asked h))
-ended h moment token = filter_swap (λ r. not (bytes_eq r.token token)) (λ r. nat_le (moment - r.moment) (life_ms h)) (asked h)
+ended h moment token = filter_swap (λ r. not (bytes_eq r.token token)) (is_alive moment (life_ms h)) (asked h)
 
 module _ {N : ℕ} (c new : Client N) (h : History) where
   -- the clock moves, and those whose time has passed are dropped

@@ -2,38 +2,35 @@
 use Rattle.std.proofs.Common.{◌≡◌, ℕ, zero, suc, ◌∙◌, sym, ap, subst, refl, Some, List, [], ◌∷◌}
 use Rattle.std.specs.Prelude.{max, slice_get, unwrap_or}
 use Rattle.osc_coap.specs.Laws.{DatagramIsOneMessage}
-use Rattle.osc_protect.specs.Laws.{OneResponse}
+use Rattle.osc_protect.specs.Laws.{OneResponseHead}
 use Rattle.osc_endpoint.specs.declared.client_event.ClientEvent.{ClientEvent}
 use Rattle.osc_endpoint.specs.declared.client_event.ClientEvent.TheVariants as events
 use Rattle.osc_endpoint.specs.declared.client_event.ClientEntry.{ClientEntry}
 use Rattle.osc_endpoint.specs.declared.client_event.ClientEntry.TheVariants as entries
+use Rattle.osc_endpoint.specs.AnswerLaws.{AwaitedShowHeads, OneAwaited}
 use Rattle.osc_endpoint.specs.ClientAnswer.{ClientAnswer, ResponseAnswer}
-use Rattle.osc_endpoint.specs.ClientHeadline.{ClientHeadline, ClientRowsExclude, EntryStands, GoesOnAlone, StandsAt, told}
+use Rattle.osc_endpoint.specs.ClientHeadline.{ClientHeadline, ClientRowsExclude, EntryStands, GoesOnAlone, StandsAt}
 use Rattle.osc_endpoint.specs.ClientHistory as client
 use Rattle.osc_endpoint.specs.ClientHistory.{Datagram, Entry, Event, History, Took, clock}
 use Rattle.osc_endpoint.specs.ClientLaws.{AllClientAnswers, OneClientAnswer}
 use Rattle.osc_endpoint.specs.ClientRun.{ClientRunStep, GoesOn, RequestStep, Run}
-use Rattle.osc_endpoint.proofs.ClientDeliveries.{delivered, delivers_row, row_delivers, shown_delivery}
+use Rattle.osc_endpoint.proofs.ClientDeliveries.{hears_row, row_hears, shown_hearing}
 use Rattle.osc_endpoint.proofs.OneClientAnswers.{tokens_differ}
 
 -- ---- rows
-
-told_is : (answer : client.Answer) → told answer ≡ delivered answer
-told_is (client.Deliver received number) = refl
-told_is answer = refl
 
 -- one entry, so one answer
 same_answer : (x y : client.Answer) → Took x ≡ Took y → x ≡ y
 same_answer x y e = cc
 
-pub rows_exclude : DatagramIsOneMessage → OneResponse → OneClientAnswer → ClientRowsExclude
-rows_exclude message laws one c h all =
+pub rows_exclude : DatagramIsOneMessage → OneResponseHead → OneAwaited → AwaitedShowHeads → OneClientAnswer → ClientRowsExclude
+rows_exclude message head laws shows one c h all =
     let differ = tokens_differ c h all in
     record {
       one = λ now d x y row other. same_answer x y (one c h (Datagram now d) (Took x) (Took y) all row other);
-      delivery = λ now n d x own m row. (
-        (λ e. row_delivers h now n d x own m row (sym (told_is x) ∙ e)),
-        (λ is. told_is x ∙ delivers_row h now n d x own m message laws differ row is),
+      hearing = λ now n d x continuing own m row. (
+        (λ e. row_hears h now n d x continuing own m row e),
+        (λ is. hears_row message head laws shows h now n d continuing own m differ is x row),
       );
       entry = λ event x y row. ((λ e. subst (ClientAnswer c h event) e row), (λ other. one c h event x y all row other));
     }
@@ -61,10 +58,10 @@ module _ (rows : ClientRowsExclude) (c : ℕ) where
   stands : (h g : History) (e : ClientEvent) (x : ClientEntry) → ClientRunStep c h e x g → AllClientAnswers c h → EntryStands h e x
   stands h g (events.Datagram now bytes) (entries.Took outcome) (answer, shows, goes) all =
       let r = rows c h all in
-      let same = shown_delivery outcome answer shows ∙ sym (told_is answer) in
+      let same = shown_hearing outcome answer shows in
       record {
-        delivery = λ n own m.
-            let exact = r.delivery now n bytes.items answer own m goes.0 in
+        hearing = λ continuing n own m.
+            let exact = r.hearing now n bytes.items answer continuing own m goes.0 in
             ((λ e. exact.0 (sym same ∙ e)), (λ d. same ∙ exact.1 d));
         answer = answer;
         shows = shows;

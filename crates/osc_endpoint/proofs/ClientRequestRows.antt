@@ -2,8 +2,6 @@
 use Rattle.std.proofs.Common.{◌≡◌, ℕ, ◌<◌, ◌≤◌, ◌^◌, ◌⊎◌, ◌∙◌, sym, ap, refl, arith, List, length, inl, inr}
 use Rattle.std.proofs.lemmas.Bool.{both_ways}
 use Rattle.osc_coap.specs.Datagram.{Parts}
-use Rattle.osc_context.specs.Features.{unobserved}
-use Rattle.osc_context.specs.SecurityContext.{SecurityContext}
 use Rattle.osc_protect.specs.Protection.{requests}
 use Rattle.osc_protect.specs.SealRefusals.{IsPlainRequest, RefusesToSeal}
 use Rattle.osc_protect.specs.Sealed.{SealsRequest}
@@ -16,15 +14,11 @@ use Rattle.osc_endpoint.specs.ClientHistory.{Entry, History, NotSent, Sent, cont
 use Rattle.osc_endpoint.specs.Requesting.{lifted}
 use Rattle.osc_endpoint.proofs.LifeReplies.{unsupported_among}
 
--- the same context without Observe
-abbrev without_observe : SecurityContext → SecurityContext
-without_observe s = record s { features = unobserved s.features }
-
--- the request isn't one that can be sealed, or it has Observe
+-- the request isn't one that can be sealed
 record IsBarred (h : History) (p : Parts) (room : ℕ) (entry : Entry) : Type 0 where
   pub refusal : ProtectError
-  pub refuses : RefusesToSeal (requests (without_observe (context h))) (next h) p room refusal
-  pub never : IsPlainRequest (unobserved (context h).features) p → ⊥
+  pub refuses : RefusesToSeal (requests (context h)) (next h) p room refusal
+  pub never : IsPlainRequest (context h).features p → ⊥
   pub entry_is : entry ≡ NotSent (lifted refusal)
 
 -- it isn't sealed, and not for its token, nor for want of room among those pending, nor of a number
@@ -36,7 +30,7 @@ record IsRefused (n : ℕ) (h : History) (moment : ℕ) (p : Parts) (room : ℕ)
 
 -- it is for one of these
 abbrev IsHindered : ℕ → History → ℕ → Parts → Entry → Type 0
-IsHindered n h moment p (NotSent TokenInUse) = IsPlainRequest (unobserved (context h).features) p × IsAmong p.token (pending_at h moment)
+IsHindered n h moment p (NotSent TokenInUse) = IsPlainRequest (context h).features p × IsAmong p.token (pending_at h moment)
 IsHindered n h moment p (NotSent PendingFull) = IsNewRequest h moment p × (n ≤ length (pending_at h moment))
 IsHindered n h moment p (NotSent SequenceExhausted) = IsNewRequest h moment p × (length (pending_at h moment) < n) × (2 ^ 40 ≤ next h)
 IsHindered n h moment p entry = ⊥
@@ -61,7 +55,7 @@ module _ (laws : ClientAnswerLaws) (n : ℕ) (h : History) (moment : ℕ) (p : P
       inl (record {
         refusal = seals.Unsupported k;
         refuses = row;
-        never = λ plain. both_ways _ plain.1 (unsupported_among (unobserved (context h).features) k p.options row.1.unsupported row.1.among);
+        never = λ plain. both_ways _ plain.1 (unsupported_among (context h).features k p.options row.1.unsupported row.1.among);
         entry_is = refl;
       })
   sort_of (NotSent TokenInUse) row = inr (inr (inl row))
@@ -72,7 +66,7 @@ module _ (laws : ClientAnswerLaws) (n : ℕ) (h : History) (moment : ℕ) (p : P
   sort_of (Sent bytes) row = inr (inr (inr (record { bytes = bytes; can = row.0; seals = row.1; fits = row.2; entry_is = refl })))
   sort_of x row = absurd row
 
-  plain_of : (x : Entry) → IsHindered n h moment p x → IsPlainRequest (unobserved (context h).features) p
+  plain_of : (x : Entry) → IsHindered n h moment p x → IsPlainRequest (context h).features p
   plain_of (NotSent TokenInUse) row = row.0
   plain_of (NotSent PendingFull) row = row.0.0
   plain_of (NotSent SequenceExhausted) row = row.0.0
@@ -110,7 +104,7 @@ module _ (laws : ClientAnswerLaws) (n : ℕ) (h : History) (moment : ℕ) (p : P
 
   one_barred : (x y : Entry) → IsBarred h p room x → IsBarred h p room y → x ≡ y
   one_barred x y a b =
-      let same : a.refusal ≡ b.refusal = (laws.sealed.request (without_observe (context h))).refusal (next h) p room a.refusal b.refusal a.refuses b.refuses in
+      let same : a.refusal ≡ b.refusal = (laws.sealed.request (context h)).refusal (next h) p room a.refusal b.refusal a.refuses b.refuses in
       a.entry_is ∙ ap (λ e. NotSent (lifted e)) same ∙ sym b.entry_is
 
   one_refused : (x y : Entry) → IsRefused n h moment p room x → IsRefused n h moment p room y → x ≡ y

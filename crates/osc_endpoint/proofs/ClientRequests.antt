@@ -1,16 +1,14 @@
 -- Requests of a client: their rows, and the table with one request more.
 use Rattle.std.proofs.Common.{◌≡◌, ◌≢◌, ℕ, ◌+◌, ◌-◌, ◌∙◌, sym, ap, subst, refl, arith, Bool, true, false, List, [], ◌∷◌, ◌++◌, length, get_or, take}
-use Rattle.std.specs.Prelude.{cond, map, max, nat_le}
+use Rattle.std.specs.Prelude.{◌||◌, cond, map, max, nat_le, nat_lt}
 use Rattle.std.proofs.lemmas.Bool.{both_ways}
 use Rattle.std.proofs.lemmas.Bool.Decides.{nat_tests}
 use Rattle.std.proofs.lemmas.List.{get_or_default, map-append}
 use Rattle.std.proofs.lemmas.List.Elements.{filter-append}
 use Rattle.std.proofs.lemmas.List.Quantifiers.{all_pairs_push}
 use Rattle.osc_coap.specs.Datagram.{Parts}
-use Rattle.osc_context.specs.Features.{unobserved}
+use Rattle.osc_context.specs.SecurityContext.{SecurityContext}
 use Rattle.osc_context.specs.Views.{as_client, number_of}
-use Rattle.osc_context.specs.declared.features.Features.{Features}
-use Rattle.osc_protect.specs.OptionSets.{is_unsupported}
 use Rattle.osc_protect.specs.Protection.{requests}
 use Rattle.osc_protect.specs.Sealed.{SealsRequest}
 use Rattle.osc_protect.specs.SealRefusals.{RefusesPlainRequest, RefusesToSeal}
@@ -23,7 +21,7 @@ use Rattle.osc_endpoint.specs.declared.client_outcome.RequestError.TheVariants.{
 use Rattle.osc_endpoint.specs.declared.pending.Pending.{Pending}
 use Rattle.osc_endpoint.specs.Agrees.{ClientAgrees, TokensDiffer}
 use Rattle.osc_endpoint.specs.ClientAnswer.{CanAsk, IsAmong, RequestAnswer}
-use Rattle.osc_endpoint.specs.ClientHistory.{Asked, History, Then, Request, Advance, Advanced, Sent, NotSent, alive, asked, clock, context, life_ms, next, pending_at}
+use Rattle.osc_endpoint.specs.ClientHistory.{Asked, History, Then, Request, Advance, Advanced, Sent, NotSent, alive, asked, clock, context, first_place, is_alive, life_ms, next, pending_at, wait_of}
 use Rattle.osc_endpoint.specs.Requesting.{lifted}
 use Rattle.osc_endpoint.specs.Views.{asked_of}
 use Rattle.osc_endpoint.proofs.LifeReplies.{unsupported_among}
@@ -44,36 +42,30 @@ refused_now n h now room p NoRoom r = r
 refused_now n h now room p KeeperFailed r = r
 
 pub plain_refused : (n : ℕ) (h : History) (moment room : ℕ) (p : Parts) (e : ProtectError)
-    → RefusesPlainRequest (unobserved (context h).features) p e → RequestAnswer n h moment p room (NotSent (lifted e))
+    → RefusesPlainRequest (context h).features p e → RequestAnswer n h moment p room (NotSent (lifted e))
 plain_refused n h moment room p protects.NotThatKind r = r
 plain_refused n h moment room p (protects.Unsupported k) r = r
 plain_refused n h moment room p protects.TooLong r = absurd r
 plain_refused n h moment room p protects.NoRoom r = absurd r
 
--- what can't be sealed can't be sealed without Observe
-pub still_unsupported : (x : Features) (k : ℕ) → is_unsupported x k ≡ true → is_unsupported (unobserved x) k ≡ true
-still_unsupported x k = by_features x.observe x.blocks
-  where
-    by_features : (observe blocks : Bool) → is_unsupported (record { observe = observe; blocks = blocks }) k ≡ true → is_unsupported (record { observe = false; blocks = blocks }) k ≡ true
-    by_features false blocks h = h
-    by_features true blocks h = grind (arith)
-
 pub seal_refused : (n : ℕ) (h : History) (moment room : ℕ) (p : Parts) (e : ProtectError) → CanAsk n h moment p
     → RefusesToSeal (requests (context h)) (next h) p room e → RequestAnswer n h moment p room (NotSent (lifted e))
 seal_refused n h moment room p protects.NotThatKind can r = absurd (both_ways _ r can.0.0.0)
 seal_refused n h moment room p (protects.Unsupported k) can r =
-    let x = (context h).features in
-    absurd (both_ways _ can.0.0.1 (unsupported_among (unobserved x) k p.options (still_unsupported x k r.1.unsupported) r.1.among))
+    absurd (both_ways _ can.0.0.1 (unsupported_among (context h).features k p.options r.1.unsupported r.1.among))
 seal_refused n h moment room p protects.TooLong can r = (can, r)
 seal_refused n h moment room p protects.NoRoom can r = (can, r)
 
 -- ---- the table with one request more
 
+young : (heard : Bool) (moment ms at : ℕ) → at ≡ moment → (heard || nat_le (moment - at) ms) ≡ true
+young true moment ms at e = refl
+young false moment ms at e = grind (arith, nat_tests)
+
 -- the newest is alive
 pub alive_more : (moment ms : ℕ) (xs : List Asked) (a : Asked) → a.moment ≡ moment → alive moment ms (xs ++ a ∷ []) ≡ alive moment ms xs ++ a ∷ []
 alive_more moment ms xs a e =
-    let young : nat_le (moment - a.moment) ms ≡ true = grind (arith, nat_tests) in
-    filter-append (λ (r : Asked). nat_le (moment - r.moment) ms) xs (a ∷ []) ∙ ap (λ b. alive moment ms xs ++ cond b (a ∷ []) []) young
+    filter-append (is_alive moment ms) xs (a ∷ []) ∙ ap (λ b. alive moment ms xs ++ cond b (a ∷ []) []) (young (nat_lt 0 (first_place a.wait)) moment ms a.moment e)
 
 -- a new token is none of those before
 pub differ_more : (xs : List Asked) (a : Asked) → TokensDiffer xs → (IsAmong a.token xs → ⊥) → TokensDiffer (xs ++ a ∷ [])
@@ -94,11 +86,11 @@ sealed_now c h now number len p new old a can is room sealed =
 pub agrees_sent : {N : ℕ} (c new : Client N) (h : History) (now room : ℕ) (p : Parts) (bytes : List ℕ) (r : Pending)
     → ClientAgrees c (Then h (Advance now) Advanced) → CanAsk N (Then h (Advance now) Advanced) (max (clock h) now) p
     → new.context ≡ c.context → new.life_ms ≡ c.life_ms → new.clock ≡ c.clock → new.next ≡ c.next + 1 → new.pending.items ≡ c.pending.items ++ r ∷ []
-    → r.token.items ≡ p.token → number_of r.number ≡ next h → r.moment ≡ c.clock
+    → r.token.items ≡ p.token → number_of r.number ≡ next h → r.moment ≡ c.clock → r.wait ≡ wait_of (as_client (context_of c.context)).features p
     → ClientAgrees new (Then h (Request now p room) (Sent bytes))
-agrees_sent c new h now room p bytes r a can same_context same_life same_clock counted more token number moment =
-    let asked_now : Asked = record { token = p.token; number = next h; moment = max (clock h) now } in
-    let is : asked_of r ≡ asked_now = λ i. record { token = token i; number = number i; moment = (moment ∙ a.clock_is) i } in
+agrees_sent c new h now room p bytes r a can same_context same_life same_clock counted more token number moment wait =
+    let asked_now : Asked = record { token = p.token; number = next h; moment = max (clock h) now; wait = wait_of (context h).features p } in
+    let is : asked_of r ≡ asked_now = λ i. record { token = token i; number = number i; moment = (moment ∙ a.clock_is) i; wait = (wait ∙ ap (λ (s : SecurityContext). wait_of s.features p) a.context_is) i } in
     let grows = alive_more (max (clock h) now) (life_ms h) (asked h) asked_now refl in
     record {
       context_is = ap (λ k. as_client (context_of k)) same_context ∙ a.context_is;

@@ -1,12 +1,11 @@
 -- That a client has one answer to a datagram.
-use Rattle.std.proofs.Common.{◌≡◌, ℕ, ◌⊎◌, ◌∙◌, sym, ap, subst, refl, false, Option, List, inl, inr}
+use Rattle.std.proofs.Common.{◌≡◌, ℕ, ◌<◌, ◌⊎◌, ◌∙◌, sym, ap, subst, refl, arith, Bool, true, false, Option, List, inl, inr}
 use Rattle.std.specs.Prelude.{max}
 use Rattle.std.proofs.lemmas.Bool.{both_ways}
 use Rattle.osc_coap.specs.Code.{is_response}
 use Rattle.osc_coap.specs.Datagram.{Parts}
 use Rattle.osc_context.specs.SecurityContext.{SecurityContext}
 use Rattle.osc_protect.specs.Head.{HasNoResponseHead}
-use Rattle.osc_protect.specs.Protection.{responses}
 use Rattle.osc_protect.specs.Refusals.{RefusesToOpen}
 use Rattle.osc_protect.specs.declared.head_error.HeadError.{HeadError}
 use Rattle.osc_protect.specs.declared.head_error.HeadError.TheVariants as heads
@@ -14,9 +13,11 @@ use Rattle.osc_protect.specs.declared.unprotect_error.UnprotectError.{UnprotectE
 use Rattle.osc_protect.specs.declared.unprotect_error.UnprotectError.TheVariants as opens
 use Rattle.osc_endpoint.specs.Agrees.{TokensDiffer}
 use Rattle.osc_endpoint.specs.AnswerLaws.{ClientAnswerLaws}
-use Rattle.osc_endpoint.specs.ClientAnswer.{AskedAnswer, IsAmong, IsResponseWith, PendingAnswer, ResponseAnswer}
-use Rattle.osc_endpoint.specs.ClientHistory.{Answer, Asked, History, BadInner, BadTag, Deliver, Malformed, NotResponse, Undecodable, UnknownToken, Unprotected, clock, context, pending, pending_at}
+use Rattle.osc_endpoint.specs.ClientAnswer.{AskedAnswer, IsAmong, IsAwaited, IsResponseWith, PendingAnswer, ResponseAnswer, SaysAwaited, SaysOwn, awaited, continues}
+use Rattle.osc_endpoint.specs.ClientHistory.{Answer, Asked, History, BadInner, BadTag, Deliver, Malformed, NotResponse, Notified, Old, Undecodable, UnknownToken, Unprotected, clock, context, first_place, observes, pending, pending_at}
+use Rattle.osc_endpoint.specs.Observing.{place_of}
 use Rattle.osc_endpoint.specs.Received.{Received, Receives}
+use Rattle.osc_endpoint.proofs.ClientDecisions.{same_own}
 use Rattle.osc_endpoint.proofs.ClientDeliveries.{same_request}
 use Rattle.osc_endpoint.proofs.OneReceived.{one_received}
 
@@ -34,41 +35,85 @@ unopened opens.Inner = BadInner
 
 record IsUnopened (s : SecurityContext) (r : Asked) (d : List ℕ) (answer : Answer) : Type 0 where
   pub refusal : UnprotectError
-  pub refuses : RefusesToOpen (responses s r.number) d refusal
+  pub refuses : RefusesToOpen (awaited s r) d refusal
   pub answer_is : answer ≡ unopened refusal
+
+-- its place is before the first that the request waits for
+record IsOld (s : SecurityContext) (r : Asked) (d : List ℕ) (answer : Answer) : Type 0 where
+  pub own : Option ℕ
+  pub says : SaysOwn s r d own
+  pub before : place_of own < first_place r.wait
+  pub answer_is : answer ≡ Old
+
+-- the answer where it opens
+abbrev opened : Bool → Received → ℕ → Answer
+opened true received n = Notified received n
+opened false received n = Deliver received n
 
 record IsOpened (s : SecurityContext) (r : Asked) (d : List ℕ) (answer : Answer) : Type 0 where
   pub received : Received
   pub own : Option ℕ
-  pub receives : Receives (responses s r.number) own d received
-  pub answer_is : answer ≡ Deliver received r.number
+  pub later : IsAwaited r own
+  pub receives : Receives (awaited s r) own d received
+  pub answer_is : answer ≡ opened (continues r.wait received.message) received r.number
 
 module _ (laws : ClientAnswerLaws) (s : SecurityContext) (r : Asked) (d : List ℕ) where
-  opened_or_not : (x : Answer) → AskedAnswer s r d x → IsUnopened s r d x ⊎ IsOpened s r d x
-  opened_or_not Unprotected row = inl (record { refusal = opens.NoOscore; refuses = row; answer_is = refl })
-  opened_or_not Undecodable row = inl (record { refusal = opens.Undecodable; refuses = row; answer_is = refl })
-  opened_or_not BadTag row = inl (record { refusal = opens.Tag; refuses = row; answer_is = refl })
-  opened_or_not BadInner row = inl (record { refusal = opens.Inner; refuses = row; answer_is = refl })
-  opened_or_not (Deliver received n) (is, own, receives) =
-      inr (record { received = received; own = own; receives = receives; answer_is = ap (Deliver received) is })
-  opened_or_not x row = absurd row
+  abbrev Rest : Answer → Type 0
+  Rest x = IsOld s r d x ⊎ IsOpened s r d x
+
+  -- one that isn't opened isn't old, where it has a head that says so
+  abbrev Sort : Answer → Type 0
+  Sort x = (IsUnopened s r d x × ((own : Option ℕ) → SaysOwn s r d own → IsAwaited r own)) ⊎ Rest x
+
+  none_says : (e : HeadError) → HasNoResponseHead d e → (own : Option ℕ) → SaysOwn s r d own → IsAwaited r own
+  none_says e none own (head, has, names) = absurd (laws.head.never_both d head e has none)
+
+  awaited_alone : SaysAwaited s r d → (own : Option ℕ) → SaysOwn s r d own → IsAwaited r own
+  awaited_alone (other, says, later) own too = subst (IsAwaited r) (same_own s r r d other own laws.head says too) later
+
+  sort_by : (x : Answer) → AskedAnswer s r d x → Sort x
+  sort_by Unprotected row = inl (record { refusal = opens.NoOscore; refuses = row; answer_is = refl }, none_says heads.NoOscore row)
+  sort_by Undecodable row = inl (record { refusal = opens.Undecodable; refuses = row; answer_is = refl }, none_says heads.Undecodable row)
+  sort_by BadTag row = inl (record { refusal = opens.Tag; refuses = row.1; answer_is = refl }, awaited_alone row.0)
+  sort_by BadInner row = inl (record { refusal = opens.Inner; refuses = row.1; answer_is = refl }, awaited_alone row.0)
+  sort_by Old (own, says, before) = inr (inl (record { own = own; says = says; before = before; answer_is = refl }))
+  sort_by (Notified received n) (is, own, later, receives, wait) =
+      inr (inr (record { received = received; own = own; later = later; receives = receives; answer_is = ap (Notified received) is ∙ ap (λ b. opened b received r.number) (sym wait) }))
+  sort_by (Deliver received n) (is, own, later, receives, wait) =
+      inr (inr (record { received = received; own = own; later = later; receives = receives; answer_is = ap (Deliver received) is ∙ ap (λ b. opened b received r.number) (sym wait) }))
+  sort_by x row = absurd row
 
   not_both : (x y : Answer) → IsUnopened s r d x → IsOpened s r d y → ⊥
-  not_both x y a b = (laws.response s r.number).never_both d b.own b.received.message a.refusal b.receives.protects a.refuses
+  not_both x y a b = (laws.response s (observes r.wait) r.number).never_both d b.own b.received.message a.refusal b.receives.protects a.refuses
+
+  not_old : (x : Answer) → IsOld s r d x → ((own : Option ℕ) → SaysOwn s r d own → IsAwaited r own) → ⊥
+  not_old x a later = let before = a.before in let from = later a.own a.says in omega (arith, before, from)
+
+  not_opened : (x y : Answer) → IsOld s r d x → IsOpened s r d y → ⊥
+  not_opened x y a b =
+      not_old x a (awaited_alone (b.own, ((laws.shows s (observes r.wait) r.number).protects d b.own b.received.message b.receives.protects), b.later))
+
+  one_rest : (x y : Answer) → Rest x → Rest y → x ≡ y
+  one_rest x y (inl a) (inl b) = a.answer_is ∙ sym b.answer_is
+  one_rest x y (inl a) (inr b) = absurd (not_opened x y a b)
+  one_rest x y (inr a) (inl b) = absurd (not_opened y x b a)
+  one_rest x y (inr a) (inr b) =
+      let same = one_received (awaited s r) laws.one (laws.response s (observes r.wait) r.number) d a.own b.own a.received b.received a.receives b.receives in
+      a.answer_is ∙ ap (λ (k : Received). opened (continues r.wait k.message) k r.number) same ∙ sym b.answer_is
+
+  no_rest : (x y : Answer) → IsUnopened s r d x × ((own : Option ℕ) → SaysOwn s r d own → IsAwaited r own) → Rest y → ⊥
+  no_rest x y a (inl b) = not_old y b a.1
+  no_rest x y a (inr b) = not_both x y a.0 b
+
+  one_sort : (x y : Answer) → Sort x → Sort y → x ≡ y
+  one_sort x y (inl a) (inl b) =
+      a.0.answer_is ∙ ap unopened ((laws.response s (observes r.wait) r.number).refusal d a.0.refusal b.0.refusal a.0.refuses b.0.refuses) ∙ sym b.0.answer_is
+  one_sort x y (inl a) (inr b) = absurd (no_rest x y a b)
+  one_sort x y (inr a) (inl b) = absurd (no_rest y x b a)
+  one_sort x y (inr a) (inr b) = one_rest x y a b
 
   one_asked : (x y : Answer) → AskedAnswer s r d x → AskedAnswer s r d y → x ≡ y
-  one_asked x y row other = elim (opened_or_not x row) [
-    | inl a ↦ elim (opened_or_not y other) [
-      | inl b ↦ a.answer_is ∙ ap unopened ((laws.response s r.number).refusal d a.refusal b.refusal a.refuses b.refuses) ∙ sym b.answer_is
-      | inr b ↦ absurd (not_both x y a b)
-    ]
-    | inr a ↦ elim (opened_or_not y other) [
-      | inl b ↦ absurd (not_both y x b a)
-      | inr b ↦
-          let same = one_received (responses s r.number) laws.one (laws.response s r.number) d a.own b.own a.received b.received a.receives b.receives in
-          a.answer_is ∙ ap (λ k. Deliver k r.number) same ∙ sym b.answer_is
-    ]
-  ]
+  one_asked x y row other = one_sort x y (sort_by x row) (sort_by y other)
 
 -- ---- the answer to any datagram
 

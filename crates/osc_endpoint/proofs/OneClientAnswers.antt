@@ -4,9 +4,10 @@ use Rattle.std.specs.Prelude.{◌↔◌, max}
 use Rattle.osc_endpoint.specs.Agrees.{TokensDiffer}
 use Rattle.osc_endpoint.specs.AnswerLaws.{ClientAnswerLaws}
 use Rattle.osc_endpoint.specs.ClientAnswer.{ClientAnswer}
-use Rattle.osc_endpoint.specs.ClientHistory.{Advance, Advanced, Asked, Datagram, Deliver, Entry, Event, Forget, Forgot, History, New, Request, Restart, Restarted, Sent, Then, Took, asked, clock, life_ms, next, pending, pending_at, without}
+use Rattle.osc_endpoint.specs.ClientHistory.{Advance, Advanced, Asked, Datagram, Deliver, Entry, Event, Forget, Forgot, History, New, Notified, Request, Restart, Restarted, Sent, Then, Took, asked, clock, life_ms, context, next, pending, pending_at, wait_of, without}
 use Rattle.osc_endpoint.specs.ClientLaws.{AllClientAnswers, OneClientAnswer}
-use Rattle.osc_endpoint.proofs.Asking.{differ_filter, differ_later, ended}
+use Rattle.osc_endpoint.specs.Observing.{place_of}
+use Rattle.osc_endpoint.proofs.Asking.{differ_filter, differ_heard, differ_later, ended, heard_alive}
 use Rattle.osc_endpoint.proofs.ClientRequestRows.{one_request_answer}
 use Rattle.osc_endpoint.proofs.ClientRequests.{alive_more, differ_more}
 use Rattle.osc_endpoint.proofs.ClientTakeRows.{one_take_answer}
@@ -23,9 +24,13 @@ pub tokens_differ : (n : ℕ) (h : History) → AllClientAnswers n h → TokensD
 tokens_differ n (New s first ms) a = none_differ
 tokens_differ n (Then h (Request now p room) (Sent bytes)) a =
     let before = differ_later h now (tokens_differ n h a.0) in
-    let r : Asked = record { token = p.token; number = next h; moment = max (clock h) now } in
+    let r : Asked = record { token = p.token; number = next h; moment = max (clock h) now; wait = wait_of (context h).features p } in
     subst TokensDiffer (sym (alive_more (max (clock h) now) (life_ms h) (asked h) r refl)) (differ_more (pending_at h (max (clock h) now)) r before a.1.0.0.1)
 tokens_differ n (Then h (Request now p room) entry) a = differ_later h now (tokens_differ n h a.0)
+tokens_differ n (Then h (Datagram now d) (Took (Notified received number))) a =
+    let place = place_of received.number in
+    subst TokensDiffer (sym (heard_alive (max (clock h) now) (life_ms h) place received.token (asked h)))
+    (differ_heard received.token place (pending_at h (max (clock h) now)) (differ_later h now (tokens_differ n h a.0)))
 tokens_differ n (Then h (Datagram now d) (Took (Deliver received number))) a =
     subst TokensDiffer (ended h (max (clock h) now) received.token) (differ_without h (max (clock h) now) received.token (differ_later h now (tokens_differ n h a.0)))
 tokens_differ n (Then h (Datagram now d) entry) a = differ_later h now (tokens_differ n h a.0)

@@ -33,7 +33,7 @@ shows_delivery y t new o opens (server.BadInner i n) h = absurd h
 shows_delivery y t new o opens (server.Challenge i n echo issued) h = absurd h
 shows_delivery y t new o opens server.SequenceExhausted h = absurd h
 
--- of a client
+-- of a client's delivery
 pub shows_response : (y : ReadResponse) (piv : Piv) (new : List ℕ) (o : Opened) → ((x : DecryptedResponse) → CanLendResponse new x y → OpensResponseAfter new x o)
     → (answer : client.Answer) → client_deciding.Decides (client_decisions.Deliver y piv) new answer → ClientShows (client_outcomes.Deliver o piv) answer
 shows_response y piv new o opens (client.Deliver received number) h = (h.0.2 o (opens (h.0.0) h.0.1), h.1)
@@ -44,3 +44,19 @@ shows_response y piv new o opens client.Unprotected h = absurd h
 shows_response y piv new o opens client.Undecodable h = absurd h
 shows_response y piv new o opens client.BadTag h = absurd h
 shows_response y piv new o opens client.BadInner h = absurd h
+shows_response y piv new o opens client.Old h = absurd h
+shows_response y piv new o opens (client.Notified received number) h = absurd h
+
+-- of a notification
+pub shows_notification : (y : ReadResponse) (piv : Piv) (new : List ℕ) (o : Opened) → ((x : DecryptedResponse) → CanLendResponse new x y → OpensResponseAfter new x o)
+    → (answer : client.Answer) → client_deciding.Decides (client_decisions.Notified y piv) new answer → ClientShows (client_outcomes.Notified o piv) answer
+shows_notification y piv new o opens (client.Notified received number) h = (h.0.2 o (opens (h.0.0) h.0.1), h.1)
+shows_notification y piv new o opens (client.Malformed fault place) h = absurd h
+shows_notification y piv new o opens client.NotResponse h = absurd h
+shows_notification y piv new o opens client.UnknownToken h = absurd h
+shows_notification y piv new o opens client.Unprotected h = absurd h
+shows_notification y piv new o opens client.Undecodable h = absurd h
+shows_notification y piv new o opens client.BadTag h = absurd h
+shows_notification y piv new o opens client.BadInner h = absurd h
+shows_notification y piv new o opens client.Old h = absurd h
+shows_notification y piv new o opens (client.Deliver received number) h = absurd h

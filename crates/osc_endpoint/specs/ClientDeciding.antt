@@ -1,8 +1,10 @@
 -- How the code is seen: what a client decides about a datagram before it lends slices of it. h is a history, c the client, d the datagram
 -- as it came, new the datagram as it was left.
-use Rattle.std.specs.Prelude.{◌≡◌, ℕ, List, Contains, Option, Some, map, max, slice_get}
+use Rattle.std.specs.Prelude.{◌≡◌, ℕ, Bool, List, Contains, Option, Some, None, map, max, slice_get, if◌then◌else◌}
+use Rattle.osc_coap.specs.Inner.{InnerParts}
+use Rattle.osc_context.specs.SecurityContext.{SecurityContext}
 use Rattle.osc_context.specs.Views.{as_client, number_of}
-use Rattle.osc_protect.specs.Protection.{responses}
+use Rattle.osc_protect.specs.Protection.{Protects, responses_to}
 use Rattle.osc_protect.specs.Stages.{Decrypts}
 use Rattle.osc_protect.specs.StageViews.{CanLendResponse, DecryptsResponse, OpensResponseAfter}
 use Rattle.osc_protect.specs.Views.{context_of}
@@ -13,9 +15,13 @@ use Rattle.osc_endpoint.specs.declared.client.Client.{Client}
 use Rattle.osc_endpoint.specs.declared.client_outcome.ClientOutcome.{ClientOutcome}
 use Rattle.osc_endpoint.specs.declared.decision.ClientDecision.{ClientDecision}
 use Rattle.osc_endpoint.specs.declared.decision.ClientDecision.TheVariants as decisions
+use Rattle.osc_endpoint.specs.declared.pending.Found.{Found}
 use Rattle.osc_endpoint.specs.Agrees.{ClientAgrees}
-use Rattle.osc_endpoint.specs.ClientAnswer.{ClientAnswer, IsAnswerTo}
+use Rattle.osc_endpoint.specs.ClientAnswer.{ClientAnswer, IsAnswerTo, SaysAwaited, awaited, continues}
 use Rattle.osc_endpoint.specs.ClientHistory as client
+use Rattle.osc_endpoint.specs.ClientHistory.{after_place}
+use Rattle.osc_endpoint.specs.Observing.{place_of}
+use Rattle.osc_endpoint.specs.declared.pending.Wait.{Wait}
 use Rattle.osc_endpoint.specs.Received.{Received}
 use Rattle.osc_endpoint.specs.Views.{ClientShows, asked_of, received_of}
 
@@ -23,8 +29,18 @@ use Rattle.osc_endpoint.specs.Views.{ClientShows, asked_of, received_of}
 abbrev pub ReadsAs : ReadResponse → List ℕ → Received → Type 0
 ReadsAs x new r = (of : DecryptedResponse) × CanLendResponse new of x × ((o : Opened) → OpensResponseAfter new of o → received_of o ≡ r)
 
+-- a fact about the own number and the message of what was read from the datagram as it was left (how the code is seen)
+abbrev pub OfWhatWasRead : List ℕ → ReadResponse → (Option ℕ → InnerParts → Type 0) → Type 0
+OfWhatWasRead new x holds = (of : DecryptedResponse) (s : SecurityContext) (r : Bool) (n : ℕ) (d : List ℕ) (own : Option ℕ) (m : InnerParts) → CanLendResponse new of x
+    → DecryptsResponse (responses_to s r n) d of new → Protects (responses_to s r n) own m d → holds own m
+
+-- what a request waits for after a response, if the response continues the wait (RFC 8613, 7.4.1)
+abbrev pub wait_after : Wait → Option ℕ → InnerParts → Option Wait
+wait_after wait own m = if continues wait m then Some (after_place (place_of own) wait) else None
+
 -- the decision can be shown from the datagram as it was left (how the code is seen)
 abbrev pub CanShow : ClientDecision → List ℕ → Type 0
+CanShow (decisions.Notified x number) new = (of : DecryptedResponse) × CanLendResponse new of x
 CanShow (decisions.Deliver x number) new = (of : DecryptedResponse) × CanLendResponse new of x
 CanShow decision new = Unit {0}
 
@@ -37,6 +53,8 @@ Decides decisions.Unprotected new client.Unprotected = Unit {0}
 Decides decisions.Undecodable new client.Undecodable = Unit {0}
 Decides decisions.BadTag new client.BadTag = Unit {0}
 Decides decisions.BadInner new client.BadInner = Unit {0}
+Decides decisions.Old new client.Old = Unit {0}
+Decides (decisions.Notified x piv) new (client.Notified received number) = ReadsAs x new received × (number_of piv ≡ number)
 Decides (decisions.Deliver x piv) new (client.Deliver received number) = ReadsAs x new received × (number_of piv ≡ number)
 Decides decision new answer = ⊥
 
@@ -47,11 +65,12 @@ ClientShowsDecided decision new outcome = (answer : client.Answer) → Decides d
 -- for a response to a request of the table, the payload became the plaintext, followed by the old tag; all else stayed (RFC 8613, 8.4)
 abbrev pub IsOpenedBy : {N : ℕ} → Client N → List ℕ → List ℕ → Type 0
 IsOpenedBy c d new = (r : client.Asked) × Contains (map asked_of c.pending.items) r × (own : Option ℕ) × (len : ℕ)
-    × Decrypts (responses (as_client (context_of c.context)) r.number) d own len new
+    × Decrypts (awaited (as_client (context_of c.context)) r) d own len new
 
 -- what is left of the datagram: it is opened in the rows from a bad plaintext on, and as it came in the others (RFC 8613, 8.4)
 abbrev pub LeavesBy : {N : ℕ} → Client N → ClientDecision → List ℕ → List ℕ → Type 0
 LeavesBy c decisions.BadInner d new = IsOpenedBy c d new
+LeavesBy c (decisions.Notified x number) d new = IsOpenedBy c d new
 LeavesBy c (decisions.Deliver x number) d new = IsOpenedBy c d new
 LeavesBy c decision d new = new ≡ d
 
@@ -69,11 +88,13 @@ pub record ClientTakes {N : ℕ} (h : client.History) (now : ℕ) (d : List ℕ)
   pub shows : ClientShows outcome answer
   pub agrees : ClientAgrees c (client.Then h (client.Datagram now d) (client.Took answer))
 
--- the datagram answers this pending request, which is in a place of the table, and was decrypted as a response to it (RFC 8613, 8.4)
-pub record IsDecryptedFor {N : ℕ} (h : client.History) (now : ℕ) (d : List ℕ) (x : DecryptedResponse) (place number : ℕ) (new : List ℕ) (c : Client N) : Type 0 where
+-- the datagram answers this pending request, which is in a place of the table and waits for it, and was decrypted as a response to it (RFC 8613, 8.4)
+pub record IsDecryptedFor {N : ℕ} (h : client.History) (now : ℕ) (d : List ℕ) (x : DecryptedResponse) (f : Found) (new : List ℕ) (c : Client N) : Type 0 where
   pub agrees : ClientAgrees c (client.Then h (client.Advance now) client.Advanced)
   pub to : client.Asked
-  pub at_place : slice_get (map asked_of c.pending.items) place ≡ Some to
-  pub number_is : to.number ≡ number
+  pub at_place : slice_get (map asked_of c.pending.items) f.place ≡ Some to
+  pub number_is : to.number ≡ number_of f.number
+  pub wait_is : to.wait ≡ f.wait
   pub answers : IsAnswerTo h (max (client.clock h) now) d to
-  pub decrypts : DecryptsResponse (responses (client.context h) to.number) d x new
+  pub awaits : SaysAwaited (client.context h) to d
+  pub decrypts : DecryptsResponse (awaited (client.context h) to) d x new

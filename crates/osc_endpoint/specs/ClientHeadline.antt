@@ -1,39 +1,40 @@
 -- To be believed: what each entry of a client's run is, in one statement: contracts of headlines.rt. c is the number of pending requests
 -- that there is room for, h a history of answers, k a place of a log, n the number of a request, own a response's own number or none, m a
 -- message, d a datagram.
-use Rattle.std.specs.Prelude.{◌≡◌, ◌↔◌, ℕ, List, Option, Some, None, max, slice_get, take}
+use Rattle.std.specs.Prelude.{◌≡◌, ◌↔◌, ℕ, Bool, true, false, List, Option, Some, None, max, slice_get, take}
 use Rattle.osc_coap.specs.Inner.{InnerParts}
-use Rattle.osc_endpoint.specs.ClientAnswer.{ClientAnswer, Delivers, ResponseAnswer}
-use Rattle.osc_endpoint.specs.ClientHistory.{History, Then, Event, Entry, Answer, Deliver, clock}
+use Rattle.osc_endpoint.specs.ClientAnswer.{ClientAnswer, Hears, ResponseAnswer}
+use Rattle.osc_endpoint.specs.ClientHistory.{History, Then, Event, Entry, Answer, Notified, Deliver, clock}
 use Rattle.osc_endpoint.specs.ClientLaws.{AllClientAnswers}
 use Rattle.osc_endpoint.specs.ClientRun.{ClientRunStep, Run}
-use Rattle.osc_endpoint.specs.Views.{ClientShows, client_delivery_of}
+use Rattle.osc_endpoint.specs.Views.{ClientShows, client_hearing_of}
 use Rattle.osc_endpoint.specs.declared.client_event.ClientEvent.{ClientEvent}
 use Rattle.osc_endpoint.specs.declared.client_event.ClientEvent.TheVariants as events
 use Rattle.osc_endpoint.specs.declared.client_event.ClientEntry.{ClientEntry}
 use Rattle.osc_endpoint.specs.declared.client_event.ClientEntry.TheVariants as entries
 use Rattle.osc_endpoint.specs.declared.client_outcome.ClientOutcome.{ClientOutcome}
 
--- the request's number, the response's own number or none, and the message of an answer that is a delivery (own rule)
-abbrev pub told : Answer → Option (ℕ × Option ℕ × InnerParts)
-told (Deliver received number) = Some (number, received.number, received.message)
+-- whether an answer is a notification or else a delivery, and its request's number, the response's own number or none, and the message (own rule)
+abbrev pub told : Answer → Option (Bool × ℕ × Option ℕ × InnerParts)
+told (Notified received number) = Some (true, number, received.number, received.message)
+told (Deliver received number) = Some (false, number, received.number, received.message)
 told answer = None
 
 -- after a history of answers, the conditions of a datagram's rows exclude each other: a row's condition holds if and only if that row is
--- the answer, and the answer delivers exactly what is to be delivered; each other event has at most one entry (RFC 8613, 8.1 and 8.4)
+-- the answer, and the answer delivers or notifies exactly what is to be; each other event has at most one entry (RFC 8613, 8.1 and 8.4)
 pub record ClientRows (c : ℕ) (h : History) : Type 0 where
   pub one : (now : ℕ) (d : List ℕ) (x y : Answer) → ResponseAnswer h (max (clock h) now) d x → ResponseAnswer h (max (clock h) now) d y → x ≡ y
-  pub delivery : (now n : ℕ) (d : List ℕ) (x : Answer) (own : Option ℕ) (m : InnerParts) → ResponseAnswer h (max (clock h) now) d x
-      → (told x ≡ Some (n, own, m)) ↔ Delivers h now d n own m
+  pub hearing : (now n : ℕ) (d : List ℕ) (x : Answer) (continuing : Bool) (own : Option ℕ) (m : InnerParts) → ResponseAnswer h (max (clock h) now) d x
+      → (told x ≡ Some (continuing, n, own, m)) ↔ Hears h now d continuing n own m
   pub entry : (event : Event) (x y : Entry) → ClientAnswer c h event x → (x ≡ y) ↔ ClientAnswer c h event y
 
 -- that holds after every history of answers (RFC 8613, 8.1 and 8.4)
 abbrev pub ClientRowsExclude : Type 0
 ClientRowsExclude = (c : ℕ) (h : History) → AllClientAnswers c h → ClientRows c h
 
--- a log entry for a datagram: it delivers exactly what is to be delivered, and its row's condition holds and no other row's (RFC 8613, 8.4)
+-- a log entry for a datagram: it delivers or notifies exactly what is to be, and its row's condition holds and no other row's (RFC 8613, 8.4)
 pub record DatagramStands (h : History) (now : ℕ) (d : List ℕ) (x : ClientOutcome) : Type 0 where
-  pub delivery : (n : ℕ) (own : Option ℕ) (m : InnerParts) → (client_delivery_of x ≡ Some (n, own, m)) ↔ Delivers h now d n own m
+  pub hearing : (continuing : Bool) (n : ℕ) (own : Option ℕ) (m : InnerParts) → (client_hearing_of x ≡ Some (continuing, n, own, m)) ↔ Hears h now d continuing n own m
   pub answer : Answer
   pub shows : ClientShows x answer
   pub row : (y : Answer) → (answer ≡ y) ↔ ResponseAnswer h (max (clock h) now) d y

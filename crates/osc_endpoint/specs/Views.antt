@@ -1,5 +1,5 @@
 -- How the code is seen: tickets, pending requests, outcomes and answers as numbers and lists, without saying where the bytes lie.
-use Rattle.std.specs.Prelude.{◌≡◌, ℕ, List, take, Option, Some, None, Result, Ok, Err}
+use Rattle.std.specs.Prelude.{◌≡◌, ℕ, Bool, true, false, List, take, Option, Some, None, Result, Ok, Err}
 use Rattle.osc_coap.specs.Inner.{InnerParts}
 use Rattle.osc_context.specs.Views.{number_of}
 use Rattle.osc_protect.specs.Views.{shown, message_of, opened_number}
@@ -75,7 +75,7 @@ server_entry (Err e) out = server.NotReplied e.0
 
 -- a pending request, as the table keeps it (how the code is seen)
 abbrev pub asked_of : Pending → client.Asked
-asked_of p = record { token = p.token.items; number = number_of p.number; moment = p.moment }
+asked_of p = record { token = p.token.items; number = number_of p.number; moment = p.moment; wait = p.wait }
 
 -- the outcome of a client shows this answer (how the code is seen)
 abbrev pub ClientShows : ClientOutcome → client.Answer → Type 0
@@ -86,13 +86,16 @@ ClientShows client_outcomes.Unprotected client.Unprotected = Unit {0}
 ClientShows client_outcomes.Undecodable client.Undecodable = Unit {0}
 ClientShows client_outcomes.BadTag client.BadTag = Unit {0}
 ClientShows client_outcomes.BadInner client.BadInner = Unit {0}
+ClientShows client_outcomes.Old client.Old = Unit {0}
+ClientShows (client_outcomes.Notified o piv) (client.Notified received number) = (received_of o ≡ received) × (number_of piv ≡ number)
 ClientShows (client_outcomes.Deliver o piv) (client.Deliver received number) = (received_of o ≡ received) × (number_of piv ≡ number)
 ClientShows outcome answer = ⊥
 
--- the request's number, the response's own number or none, and the message of an outcome, if it is a delivery (how the code is seen)
-abbrev pub client_delivery_of : ClientOutcome → Option (ℕ × Option ℕ × InnerParts)
-client_delivery_of (client_outcomes.Deliver o piv) = Some (number_of piv, opened_number o, message_of o)
-client_delivery_of outcome = None
+-- whether an outcome is a notification or else a delivery, and its request's number, the response's own number or none, and the message (how the code is seen)
+abbrev pub client_hearing_of : ClientOutcome → Option (Bool × ℕ × Option ℕ × InnerParts)
+client_hearing_of (client_outcomes.Notified o piv) = Some (true, number_of piv, opened_number o, message_of o)
+client_hearing_of (client_outcomes.Deliver o piv) = Some (false, number_of piv, opened_number o, message_of o)
+client_hearing_of outcome = None
 
 -- the entry of a Request whose text stands at the front of the buffer (how the code is seen)
 abbrev pub request_entry : Result ℕ RequestError → List ℕ → client.Entry

@@ -12,8 +12,7 @@ use std::fmt;
 pub enum RequestError {
     /// The message is not CON or NON with a request code.
     NotThatKind,
-    /// The message has an option that can't be sealed. Observe is one, even if the context takes part in it. The value is the lowest number
-    /// of such an option; own rule.
+    /// The message has an option that can't be sealed. The value is the lowest number of such an option; own rule.
     Unsupported(u16),
     /// A request with this token is pending.
     TokenInUse,
@@ -64,10 +63,15 @@ pub enum ClientOutcome<'b> {
     Unprotected,
     /// The OSCORE option can't be used, or there is no payload, or there is an option for proxies.
     Undecodable,
+    /// The pending request is a registration, and a later response to it was delivered: one with a greater own Sender Sequence Number, or
+    /// any if this one has none.
+    Old,
     /// The payload protects no plaintext as a response to the pending request.
     BadTag,
     /// The plaintext isn't a response that may stand inside the protection.
     BadInner,
+    /// A notification is delivered, with the number of the registration. That request stays pending, and waits for later responses.
+    Notified(Opened<'b>, Piv),
     /// The response is delivered, with the number of its request. That request is no longer pending.
     Deliver(Opened<'b>, Piv),
 }

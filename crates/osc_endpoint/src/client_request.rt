@@ -10,7 +10,8 @@ ghost use Rattle.osc_endpoint.specs.declared.client_outcome.RequestError.TheVari
 use crate::asker::copy_of;
 use crate::client::Client;
 use crate::client_outcome::RequestError;
-use crate::pending::{Pending, find_request};
+use crate::observing::registers;
+use crate::pending::{Pending, Wait, find_request};
 use osc_coap::Message;
 use osc_context::Piv;
 use osc_protect::{ProtectError, check_request};
@@ -31,7 +32,8 @@ fn lift(error: ProtectError) -> RequestError
 impl<const N: usize> Client<N> {
     ghost use Rattle.osc_endpoint.specs.Agrees.{ClientAgrees, HasTokensApart, client_parts};
     ghost use Rattle.osc_endpoint.specs.ClientAnswer.{CanAsk, ClientAnswer, IsAmong, RequestAnswer};
-    ghost use Rattle.osc_endpoint.specs.ClientHistory.{History, Then, Request, NotSent, Advance, Advanced, clock, next};
+    ghost use Rattle.osc_endpoint.specs.ClientHistory.{History, Then, Request, NotSent, Advance, Advanced, clock, next, wait_of};
+    ghost use Rattle.osc_protect.specs.Views.{context_of};
     ghost use Rattle.osc_endpoint.specs.Requesting.{sent_entry};
     ghost use Rattle.osc_endpoint.specs.Views.{request_entry};
 
@@ -45,7 +47,7 @@ impl<const N: usize> Client<N> {
         ensures unused { OnOk result (IsAmong (parts_of plain.now).token (client_parts self.now).pending → ⊥) }
         ensures no_keeper_failed { IfErr result (λ e. e ≢ KeeperFailed) }
     {
-        let features = self.context.context().features().unobserved();
+        let features = self.context.context().features();
         if let Err(error) = check_request(plain, features) {
             return Err(lift(error));
         }
@@ -58,6 +60,18 @@ impl<const N: usize> Client<N> {
         match Piv::new(self.next) {
             Some(number) => Ok(number),
             None => Err(RequestError::SequenceExhausted),
+        }
+    }
+
+    /// Returns what a request waits for once it is sealed.
+    fn wait_for(&self, plain: &Message<'_>) -> Wait
+        ensures { result ≡ wait_of (context_of self.now.context).features (parts_of plain.now) }
+    {
+        let features = self.context.context().features();
+        if registers(features, plain.code, &plain.options()) {
+            Wait::Observing { from: 0 }
+        } else {
+            Wait::Once
         }
     }
 
@@ -87,11 +101,13 @@ impl<const N: usize> Client<N> {
         };
         match self.context.seal_request(number, plain, out) {
             Ok(len) => {
+                let wait = self.wait_for(plain);
                 self.next += 1;
                 self.pending.push(Pending {
                     token: copy_of(&plain.token),
                     number,
                     moment: self.clock,
+                    wait,
                 });
                 Ok((number, len))
             }
@@ -100,7 +116,7 @@ impl<const N: usize> Client<N> {
     }
 
     /// Seals a request with the next Sender Sequence Number into `out`, and returns how many bytes it takes at the front of `out` (RFC
-    /// 8613, 8.1). The request's token is pending from then on. Returns the first refusal in the order of `RequestError`. A refusal leaves
+    /// 8613, 8.1). The request's token is pending from then on, of a registration over all its notifications. Returns the first refusal in the order of `RequestError`. A refusal leaves
     /// `out` unchanged, and changes the client only as `advance` does.
     pub fn request(
         &mut self,

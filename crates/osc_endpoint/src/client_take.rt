@@ -1,18 +1,20 @@
 //! What a client makes of a datagram. It decides, and says what it leaves in the datagram. The decision lends slices of what is left.
 
-ghost use Rattle.std.specs.Prelude.{◌≡◌, ◌<◌, ℕ, Option, Some, IfOk, IfErr, OnOk};
+ghost use Rattle.std.specs.Prelude.{◌≡◌, ◌<◌, ℕ, Bool, Option, Some, IfOk, IfErr, OnOk};
 ghost use Rattle.arrayvec.specs.ArrayVec.{array_vec_len};
 ghost use Rattle.osc_context.specs.Views.{number_of};
-ghost use Rattle.osc_endpoint.specs.ClientDeciding.{CanShow, ClientShowsDecided, LeavesBy};
+ghost use Rattle.osc_protect.specs.StageViews.{CanLendResponse};
+ghost use Rattle.osc_endpoint.specs.ClientDeciding.{CanShow, ClientShowsDecided, LeavesBy, OfWhatWasRead, wait_after};
 
 use crate::client::Client;
 use crate::client_outcome::ClientOutcome;
 use crate::decision::ClientDecision;
-use crate::pending::{Found, drop_expired, find_request};
+use crate::observing::{is_notification, place_of};
+use crate::pending::{Found, Wait, drop_expired, find_request};
 use osc_coap::{one_datagram, parse};
 use osc_protect::{
-    DecryptedResponse, NoHead, RequestRef, ResponseHead, decrypt_response, inspect_response,
-    one_response,
+    DecryptedResponse, NoHead, ReadResponse, ResponseHead, decrypt_response, inspect_response, one_head,
+    one_notification, one_response, protections_show_heads,
 };
 
 impl ClientDecision {
@@ -31,6 +33,11 @@ impl ClientDecision {
             ClientDecision::Undecodable => ClientOutcome::Undecodable,
             ClientDecision::BadTag => ClientOutcome::BadTag,
             ClientDecision::BadInner => ClientOutcome::BadInner,
+            ClientDecision::Old => ClientOutcome::Old,
+            ClientDecision::Notified(read, number) => ClientOutcome::Notified(
+                read.opened(datagram),
+                number,
+            ),
             ClientDecision::Deliver(read, number) => ClientOutcome::Deliver(
                 read.opened(datagram),
                 number,
@@ -39,18 +46,37 @@ impl ClientDecision {
     }
 }
 
+/// Returns what a request waits for after a response that was read, if it is a notification for it. Any other response ends the wait.
+fn continued(wait: Wait, datagram: &[u8], read: ReadResponse) -> Option<Wait>
+    requires { (x : DecryptedResponse) × CanLendResponse datagram.now x read }
+    ensures { OfWhatWasRead datagram.now read (λ own m. result ≡ wait_after wait own m) }
+{
+    one_response();
+    one_notification();
+    let opened = read.opened(datagram);
+    if !wait.observes() {
+        return None;
+    }
+    if !is_notification(opened.code, &opened.inner()) {
+        return None;
+    }
+    Some(Wait::Observing {
+        from: place_of(opened.piv) + 1,
+    })
+}
+
 impl<const N: usize> Client<N> {
     ghost use Rattle.osc_coap.specs.Inner.{InnerParts};
     ghost use Rattle.osc_protect.specs.StageViews.{FitsResponse};
     ghost use Rattle.osc_endpoint.specs.Agrees.{ClientAgrees, HasTokensApart};
-    ghost use Rattle.osc_endpoint.specs.ClientAnswer.{Delivers};
+    ghost use Rattle.osc_endpoint.specs.ClientAnswer.{Hears};
     ghost use Rattle.osc_endpoint.specs.ClientDeciding.{ClientDecidesTo, ClientTakes, IsDecryptedFor, IsOpenedBy};
     ghost use Rattle.osc_endpoint.specs.ClientHistory.{History};
-    ghost use Rattle.osc_endpoint.specs.Views.{client_delivery_of};
+    ghost use Rattle.osc_endpoint.specs.Views.{client_hearing_of};
     ghost use Rattle.osc_endpoint.specs.declared.client_outcome.ClientOutcome.{ClientOutcome as OutcomeOf};
 
     /// Decrypts a response to a pending request in place, and returns which request that is. This is all of `decide` that comes before the
-    /// plaintext is read. It checks Type, token and OSCORE option in this order.
+    /// plaintext is read. It checks Type, token, OSCORE option and own number in this order.
     fn decrypt(
         &mut self,
         now: u64,
@@ -60,7 +86,7 @@ impl<const N: usize> Client<N> {
         ensures shown { IfErr result (λ x. CanShow x datagram.new) }
         ensures left { IfErr result (λ x. LeavesBy self.old x datagram.old datagram.new) }
         ensures answers { IfOk result (λ p. (h : History) → ClientAgrees self.old h
-            → IsDecryptedFor h now datagram.old p.0 p.1.place (number_of p.1.number) datagram.new self.new) }
+            → IsDecryptedFor h now datagram.old p.0 p.1 datagram.new self.new) }
         ensures opened { OnOk result (IsOpenedBy self.old datagram.old datagram.new) }
         ensures fits { IfOk result (λ p. FitsResponse datagram.new p.0) }
         ensures within { IfOk result (λ p. p.1.place < array_vec_len self.new.pending) }
@@ -86,7 +112,10 @@ impl<const N: usize> Client<N> {
             Err(NoHead::NoOscore) => return Err(ClientDecision::Unprotected),
             Err(NoHead::Undecodable) => return Err(ClientDecision::Undecodable),
         };
-        let (sealed, request) = (head.sealed(), RequestRef::new(found.number));
+        if found.is_old(head.number) {
+            return Err(ClientDecision::Old);
+        }
+        let (sealed, request) = (head.sealed(), found.request());
         let Ok(decrypted) = decrypt_response(&self.context, &request, datagram, sealed) else {
             return Err(ClientDecision::BadTag);
         };
@@ -94,20 +123,23 @@ impl<const N: usize> Client<N> {
     }
 
     /// Decides the answer to a datagram in place (RFC 8613, 8.4), and says what it leaves in the datagram. Apart from time, only a delivery
-    /// ends a pending request. The Message ID isn't compared. `ClientDecision::outcome` lends what was delivered.
+    /// ends a pending request; a notification doesn't. The Message ID isn't compared. `ClientDecision::outcome` lends what was delivered.
     pub fn decide(&mut self, now: u64, datagram: &mut [u8]) -> ClientDecision
         ensures answered { (h : History) → ClientAgrees self.old h → ClientDecidesTo h now datagram.old result datagram.new self.new }
         ensures shown { CanShow result datagram.new }
         ensures left { LeavesBy self.old result datagram.old datagram.new }
-        // `ClientDecision::outcome` returns a delivery if and only if the datagram that was passed in is to be delivered.
-        ensures delivered { (h : History) (n : ℕ) (own : Option ℕ) (m : InnerParts) (outcome : OutcomeOf) → ClientAgrees self.old h
-            → ClientShowsDecided result datagram.new outcome → client_delivery_of outcome ≡ Some (n, own, m) → Delivers h now datagram.old n own m }
-        ensures delivers { (h : History) (n : ℕ) (own : Option ℕ) (m : InnerParts) (outcome : OutcomeOf) → ClientAgrees self.old h
-            → ClientShowsDecided result datagram.new outcome → Delivers h now datagram.old n own m → client_delivery_of outcome ≡ Some (n, own, m) }
+        // `ClientDecision::outcome` returns a notification, or a delivery, if and only if the datagram that was passed in is to be one.
+        ensures heard { (h : History) (c : Bool) (n : ℕ) (own : Option ℕ) (m : InnerParts) (outcome : OutcomeOf) → ClientAgrees self.old h
+            → ClientShowsDecided result datagram.new outcome → client_hearing_of outcome ≡ Some (c, n, own, m) → Hears h now datagram.old c n own m }
+        ensures hears { (h : History) (c : Bool) (n : ℕ) (own : Option ℕ) (m : InnerParts) (outcome : OutcomeOf) → ClientAgrees self.old h
+            → ClientShowsDecided result datagram.new outcome → Hears h now datagram.old c n own m → client_hearing_of outcome ≡ Some (c, n, own, m) }
         ensures apart { HasTokensApart self.old → HasTokensApart self.new }
     {
         one_datagram();
+        one_head();
         one_response();
+        one_notification();
+        protections_show_heads();
         self.decide_forward(now, datagram)
     }
 
@@ -119,7 +151,10 @@ impl<const N: usize> Client<N> {
         ensures apart { HasTokensApart self.old → HasTokensApart self.new }
     {
         one_datagram();
+        one_head();
         one_response();
+        one_notification();
+        protections_show_heads();
         let (decrypted, found) = match self.decrypt(now, datagram) {
             Ok(decrypted) => decrypted,
             Err(decision) => return decision,
@@ -127,18 +162,26 @@ impl<const N: usize> Client<N> {
         let Ok(read) = inspect_response(datagram, decrypted) else {
             return ClientDecision::BadInner;
         };
-        let _answered = self.pending.remove(found.place);
-        ClientDecision::Deliver(read, found.number)
+        match continued(found.wait, datagram, read) {
+            Some(wait) => {
+                self.pending[found.place].wait = wait;
+                ClientDecision::Notified(read, found.number)
+            }
+            None => {
+                let _answered = self.pending.remove(found.place);
+                ClientDecision::Deliver(read, found.number)
+            }
+        }
     }
 
     /// Takes a datagram in place (RFC 8613, 8.4): calls `decide`, and returns the decision as an outcome. `decide` says what the datagram
     /// holds afterwards.
     pub fn take<'b>(&mut self, now: u64, datagram: &'b mut [u8]) -> ClientOutcome<'b>
         ensures answered { (h : History) → ClientAgrees self.old h → ClientTakes h now datagram.old result self.new }
-        ensures delivered { (h : History) (n : ℕ) (own : Option ℕ) (m : InnerParts) → ClientAgrees self.old h
-            → client_delivery_of result ≡ Some (n, own, m) → Delivers h now datagram.old n own m }
-        ensures delivers { (h : History) (n : ℕ) (own : Option ℕ) (m : InnerParts) → ClientAgrees self.old h
-            → Delivers h now datagram.old n own m → client_delivery_of result ≡ Some (n, own, m) }
+        ensures heard { (h : History) (c : Bool) (n : ℕ) (own : Option ℕ) (m : InnerParts) → ClientAgrees self.old h
+            → client_hearing_of result ≡ Some (c, n, own, m) → Hears h now datagram.old c n own m }
+        ensures hears { (h : History) (c : Bool) (n : ℕ) (own : Option ℕ) (m : InnerParts) → ClientAgrees self.old h
+            → Hears h now datagram.old c n own m → client_hearing_of result ≡ Some (c, n, own, m) }
         ensures apart { HasTokensApart self.old → HasTokensApart self.new }
     {
         let decision = self.decide(now, datagram);

@@ -38,5 +38,7 @@ pub enum ClientDecision {
     Undecodable,
     BadTag,
     BadInner,
+    Old,
+    Notified(ReadResponse, Piv),
     Deliver(ReadResponse, Piv),
 }

@@ -6,7 +6,10 @@ ghost use Rattle.osc_endpoint.specs.Headline.{ServerHeadline, ServerRowsExclude}
 
 use crate::laws::{one_client_answer, one_server_answer};
 use osc_coap::{one_datagram, one_text};
-use osc_protect::{one_head, one_reading, one_request, one_response, one_sealed};
+use osc_protect::{
+    one_head, one_notification, one_reading, one_request, one_response, one_sealed,
+    protections_show_heads,
+};
 
 /// States that the conditions of a server's rows exclude each other. A row's condition holds if and only if that row is the answer, and the
 /// answer is a delivery if and only if the datagram is to be delivered (RFC 8613, 8.2). Each other event has at most one entry.
@@ -28,7 +31,10 @@ pub fn client_rows()
 {
     one_client_answer();
     one_datagram();
+    one_head();
     one_response();
+    one_notification();
+    protections_show_heads();
 }
 
 /// States the headline, for every list of events after every history of answers, as `Server::new` and each call leave it. An entry of

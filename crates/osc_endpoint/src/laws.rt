@@ -8,7 +8,9 @@ ghost use Rattle.osc_endpoint.specs.Waiting.{AnsweredOnce, WaitingHasLife, Waiti
 
 use osc_coap::{one_datagram, one_text};
 use osc_context::{one_nonce, one_option_value};
-use osc_protect::{one_head, one_request, one_response, one_sealed, protections_show_heads};
+use osc_protect::{
+    one_head, one_notification, one_request, one_response, one_sealed, protections_show_heads,
+};
 
 /// States that an event has at most one answer after each history of answers: the rows of the table don't overlap, and each row fixes its
 /// bytes (RFC 8613, 8.2 and 8.3).
@@ -29,7 +31,9 @@ pub fn one_client_answer()
     one_datagram();
     one_head();
     one_response();
+    one_notification();
     one_sealed();
+    protections_show_heads();
 }
 
 /// States that no number is delivered twice in one life of a context (RFC 8613, 7.4).

@@ -61,7 +61,7 @@ pub mod siblings {
     pub use crate::asker::Asker;
     pub use crate::contexts::Contexts;
     pub use crate::judging::{Named, is_replay, refuse_replay};
-    pub use crate::pending::Pending;
+    pub use crate::pending::{Pending, Wait};
     pub use crate::server_take::decide_over;
     pub use crate::slot::Slot;
     pub use crate::ticket_places::{make_places, put_back, take_out};

@@ -13,7 +13,7 @@ returns-then-eq-clause-found c =
     let p = c.index-pending-place.result in
     let there = slice_get_read c.args.pending.now (length c.args.pending.now) c.loop-place.place p refl (omega arith) c.index-pending-place.is in
     let token : p.token.items ≡ c.args.token.now = search rules in
-    (asked_of p, slice_get-map asked_of c.args.pending.now c.loop-place.place ∙ ap (option_map asked_of) there, token, refl)
+    (asked_of p, slice_get-map asked_of c.args.pending.now c.loop-place.place ∙ ap (option_map asked_of) there, token, refl, refl)
 
 pub loop-place-preserved : goal.loop-place-preserved
 loop-place-preserved c = λ i r less there is. elim (cases_eq i c.loop-place.place) [

@@ -1,4 +1,4 @@
-use Rattle.std.proofs.Common.{◌≡◌, ◌∙◌, subst, refl, rules, Some}
+use Rattle.std.proofs.Common.{◌≡◌, ◌<◌, ◌∙◌, sym, ap, subst, refl, rules, Some, option_map}
 use Rattle.std.specs.Prelude.{map, slice_get}
 use Rattle.osc_coap.specs.Views.{parts_of}
 use Rattle.osc_context.specs.Views.{as_client, number_of}
@@ -6,14 +6,15 @@ use Rattle.osc_protect.specs.Head.{ShowsNoResponseHead}
 use Rattle.osc_protect.specs.Refusals.{RefusesTag}
 use Rattle.osc_protect.specs.StageViews.{DecryptsResponse}
 use Rattle.osc_protect.specs.Views.{context_of, registers, request_number}
-use Rattle.osc_endpoint.specs.ClientHistory.{Malformed, NotResponse, UnknownToken, Unprotected, Undecodable, BadTag, context}
+use Rattle.osc_endpoint.specs.ClientHistory.{Malformed, NotResponse, UnknownToken, Unprotected, Undecodable, BadTag, Old, context, first_place, observes}
+use Rattle.osc_endpoint.specs.Observing.{place_of}
 use Rattle.osc_endpoint.specs.Views.{asked_of}
 use Rattle.osc_endpoint.proofs.Asking.{advanced, contains_at, differ_alive, moved}
-use Rattle.osc_endpoint.proofs.ClientDecisions.{answers, in_history, not_there, opened_by, there}
+use Rattle.osc_endpoint.proofs.ClientDecisions.{answers, in_history, not_there, opened_by, says_awaited, says_own, there}
 use Rattle.osc_endpoint.proofs.client.Client.decrypt.Goals as goal
 
 pub decrypt_response-requires : goal.decrypt_response-requires
-decrypt_response-requires g c = c.sealed-sealed.ensures (as_client (context_of c.args.self.now.context)) (registers c.new-request.result) (request_number c.new-request.result) c.args.datagram.now (parts_of c.in-Ok.message, c.in-Ok.ensures.accepted, c.in-Ok-read.ensures.head)
+decrypt_response-requires g c = c.sealed-sealed.ensures (as_client (context_of c.args.self.now.context)) (registers c.request-request.result) (request_number c.request-request.result) c.args.datagram.now (parts_of c.in-Ok.message, c.in-Ok.ensures.accepted, c.in-Ok-read.ensures.head)
 
 pub returns-in-Err-clause-refused : goal.returns-in-Err-clause-refused
 returns-in-Err-clause-refused g c = λ h a.
@@ -54,7 +55,7 @@ pub returns-in-Err-NoOscore-clause-refused : goal.returns-in-Err-NoOscore-clause
 returns-in-Err-NoOscore-clause-refused g c = λ h a.
     let b = advanced c.args.self.now _ h c.args.now a refl refl refl c.max-self.ensures c.drop_expired.ensures in
     let p = parts_of c.in-Ok.message in
-    let (r, has, token, number) = there c.as_slice.result.now c.drop_expired.new.pending.items _ _ c.as_slice-2.result.now p.token c.as_slice.ensures.value c.as_slice-2.ensures.value c.in-Some.ensures.found in
+    let (r, has, token, number, wait) = there c.as_slice.result.now c.drop_expired.new.pending.items c.in-Some.found c.as_slice-2.result.now p.token c.as_slice.ensures.value c.as_slice-2.ensures.value c.in-Some.ensures.found in
     record {
       answer = Unprotected;
       row = (
@@ -70,7 +71,7 @@ pub returns-in-Err-Undecodable-clause-refused : goal.returns-in-Err-Undecodable-
 returns-in-Err-Undecodable-clause-refused g c = λ h a.
     let b = advanced c.args.self.now _ h c.args.now a refl refl refl c.max-self.ensures c.drop_expired.ensures in
     let p = parts_of c.in-Ok.message in
-    let (r, has, token, number) = there c.as_slice.result.now c.drop_expired.new.pending.items _ _ c.as_slice-2.result.now p.token c.as_slice.ensures.value c.as_slice-2.ensures.value c.in-Some.ensures.found in
+    let (r, has, token, number, wait) = there c.as_slice.result.now c.drop_expired.new.pending.items c.in-Some.found c.as_slice-2.result.now p.token c.as_slice.ensures.value c.as_slice-2.ensures.value c.in-Some.ensures.found in
     record {
       answer = Undecodable;
       row = (
@@ -86,11 +87,35 @@ pub returns-in_default-decrypt_response-clause-refused : goal.returns-in_default
 returns-in_default-decrypt_response-clause-refused g c = λ h a.
     let b = advanced c.args.self.now _ h c.args.now a refl refl refl c.max-self.ensures c.drop_expired.ensures in
     let p = parts_of c.in-Ok.message in
-    let (r, has, token, number) = there c.as_slice.result.now c.drop_expired.new.pending.items _ _ c.as_slice-2.result.now p.token c.as_slice.ensures.value c.as_slice-2.ensures.value c.in-Some.ensures.found in
-    let refused = in_history (λ f. RefusesTag f c.args.datagram.now) (as_client (context_of c.args.self.now.context)) (context h) (registers c.new-request.result) (request_number c.new-request.result) (number_of c.in-Some.found.number) r.number a.context_is c.new-request.ensures.plain c.new-request.ensures.number number c.in_default-decrypt_response.ensures.refused in
+    let (r, has, token, number, wait) = there c.as_slice.result.now c.drop_expired.new.pending.items c.in-Some.found c.as_slice-2.result.now p.token c.as_slice.ensures.value c.as_slice-2.ensures.value c.in-Some.ensures.found in
+    let refused = in_history (λ f. RefusesTag f c.args.datagram.now) (as_client (context_of c.args.self.now.context)) (context h) (registers c.request-request.result) (observes r.wait)
+        (request_number c.request-request.result) (number_of c.in-Some.found.number) r.number a.context_is (c.request-request.ensures.registers ∙ ap observes (sym wait))
+        c.request-request.ensures.number number c.in_default-decrypt_response.ensures.refused in
+    let says = says_awaited (context h) r c.args.datagram.now c.in-Ok-read.head c.in-Some.found (p, c.in-Ok.ensures.accepted, c.in-Ok-read.ensures.head) wait (c.is_old.ensures.no (search rules)) in
     record {
       answer = BadTag;
-      row = (r, answers _ h c.args.now c.args.datagram.now p r b c.in-Ok.ensures.accepted (search rules) token has, refused);
+      row = (r, answers _ h c.args.now c.args.datagram.now p r b c.in-Ok.ensures.accepted (search rules) token has, (says, refused));
+      decides = tt;
+      agrees = moved _ h c.args.now _ _ refl refl refl b;
+    }
+
+pub returns-then-is_old-clause-refused : goal.returns-then-is_old-clause-refused
+returns-then-is_old-clause-refused g c = λ h a.
+    let b = advanced c.args.self.now _ h c.args.now a refl refl refl c.max-self.ensures c.drop_expired.ensures in
+    let p = parts_of c.in-Ok.message in
+    let (r, has, token, number, wait) = there c.as_slice.result.now c.drop_expired.new.pending.items c.in-Some.found c.as_slice-2.result.now p.token c.as_slice.ensures.value c.as_slice-2.ensures.value c.in-Some.ensures.found in
+    let own = option_map number_of c.in-Ok-read.head.number in
+    record {
+      answer = Old;
+      row = (
+        r,
+        answers _ h c.args.now c.args.datagram.now p r b c.in-Ok.ensures.accepted (search rules) token has,
+        (
+          own,
+          says_own (context h) r c.args.datagram.now c.in-Ok-read.head (p, c.in-Ok.ensures.accepted, c.in-Ok-read.ensures.head),
+          subst (λ w. place_of own < first_place w) (sym wait) (c.is_old.ensures.yes (search rules)),
+        ),
+      );
       decides = tt;
       agrees = moved _ h c.args.now _ _ refl refl refl b;
     }
@@ -99,7 +124,7 @@ pub returns-clause-answers : goal.returns-clause-answers
 returns-clause-answers g c = λ h a.
     let b = advanced c.args.self.now _ h c.args.now a refl refl refl c.max-self.ensures c.drop_expired.ensures in
     let p = parts_of c.in-Ok.message in
-    let (r, at, named, number) = c.in-Some.ensures.found in
+    let (r, at, named, number, wait) = c.in-Some.ensures.found in
     let placed = subst (λ xs. slice_get (map asked_of xs) c.in-Some.found.place ≡ Some r) c.as_slice.ensures.value at in
     let has = contains_at (map asked_of c.drop_expired.new.pending.items) c.in-Some.found.place r placed in
     record {
@@ -107,15 +132,22 @@ returns-clause-answers g c = λ h a.
       to = r;
       at_place = placed;
       number_is = number;
+      wait_is = wait;
       answers = answers _ h c.args.now c.args.datagram.now p r b c.in-Ok.ensures.accepted (search rules) (named ∙ c.as_slice-2.ensures.value) has;
-      decrypts = in_history (λ f. DecryptsResponse f c.args.datagram.now c.in-Ok-decrypt_response.decrypted c.decrypt_response.new.datagram) (as_client (context_of c.args.self.now.context)) (context h) (registers c.new-request.result) (request_number c.new-request.result) (number_of c.in-Some.found.number) r.number a.context_is c.new-request.ensures.plain c.new-request.ensures.number number c.in-Ok-decrypt_response.ensures.decrypted;
+      awaits = says_awaited (context h) r c.args.datagram.now c.in-Ok-read.head c.in-Some.found (p, c.in-Ok.ensures.accepted, c.in-Ok-read.ensures.head) wait (c.is_old.ensures.no (search rules));
+      decrypts = in_history (λ f. DecryptsResponse f c.args.datagram.now c.in-Ok-decrypt_response.decrypted c.decrypt_response.new.datagram) (as_client (context_of c.args.self.now.context)) (context h)
+          (registers c.request-request.result) (observes r.wait) (request_number c.request-request.result) (number_of c.in-Some.found.number) r.number a.context_is
+          (c.request-request.ensures.registers ∙ ap observes (sym wait)) c.request-request.ensures.number number c.in-Ok-decrypt_response.ensures.decrypted;
     }
 
 pub returns-clause-opened : goal.returns-clause-opened
 returns-clause-opened g c =
-    let (r, has, token, number) = there c.as_slice.result.now c.drop_expired.new.pending.items _ _ c.as_slice-2.result.now _ c.as_slice.ensures.value c.as_slice-2.ensures.value c.in-Some.ensures.found in
-    opened_by c.args.self.now c.max-self.result (request_number c.new-request.result) (registers c.new-request.result) c.in-Some.found.number _ c.args.datagram.now c.decrypt_response.new.datagram r c.in-Ok-decrypt_response.decrypted
-    c.drop_expired.ensures has number c.new-request.ensures.plain c.new-request.ensures.number c.in-Ok-decrypt_response.ensures.decrypted
+    let (r, has, token, number, wait) = there c.as_slice.result.now c.drop_expired.new.pending.items c.in-Some.found c.as_slice-2.result.now _ c.as_slice.ensures.value c.as_slice-2.ensures.value c.in-Some.ensures.found in
+    opened_by c.args.self.now c.max-self.result (request_number c.request-request.result) (registers c.request-request.result) c.in-Some.found _ c.args.datagram.now c.decrypt_response.new.datagram r c.in-Ok-decrypt_response.decrypted
+    c.drop_expired.ensures has number wait c.request-request.ensures.registers c.request-request.ensures.number c.in-Ok-decrypt_response.ensures.decrypted
+
+pub returns-then-is_old-clause-apart : goal.returns-then-is_old-clause-apart
+returns-then-is_old-clause-apart g c = λ d. differ_alive _ _ _ _ c.drop_expired.ensures d
 
 pub returns-in-Err-clause-apart : goal.returns-in-Err-clause-apart
 returns-in-Err-clause-apart g c = λ d. differ_alive _ _ _ _ c.drop_expired.ensures d

@@ -9,7 +9,7 @@ use Rattle.osc_endpoint.proofs.client.Client.forget.Goals as goal
 
 pub returns-in-Some-clause-answered : goal.returns-in-Some-clause-answered
 returns-in-Some-clause-answered g c = λ h a.
-    let (r, at, token, number) = c.in-Some.ensures.found in
+    let (r, at, token, number, wait) = c.in-Some.ensures.found in
     let has = subst (λ xs. Contains xs r) (ap (map asked_of) c.as_slice.ensures.value ∙ a.table) (contains_at _ _ r at) in
     (λ e. (r, has, token), λ among. refl)
 
@@ -20,7 +20,7 @@ returns-in-None-clause-answered g c = λ h a.
 
 pub returns-in-Some-clause-follows : goal.returns-in-Some-clause-follows
 returns-in-Some-clause-follows g c = λ h a.
-    let (r, at, token, number) = c.in-Some.ensures.found in
+    let (r, at, token, number, wait) = c.in-Some.ensures.found in
     let placed = subst (λ xs. slice_get (map asked_of xs) c.in-Some.found.place ≡ Some r) c.as_slice.ensures.value at in
     let left = removed c.args.self.now.pending.items c.in-Some.found.place r c.args.token.now (subst TokensDiffer (sym a.table) a.differ) placed token in
     record {

@@ -31,7 +31,7 @@ pub returns-in-Ok-seal_request-clause-follows : goal.returns-in-Ok-seal_request-
 returns-in-Ok-seal_request-clause-follows g c = λ h a.
     let b = c.advance.ensures.follows h a in
     let given = c.in-Ok.ensures.accepted (Then h (Advance c.args.now) Advanced) b in
-    agrees_sent c.advance.new.self _ h c.args.now (length c.args.out.now) (parts_of c.args.plain.now) _ _ b given.0 refl refl refl refl c.push.ensures.items c.copy_of.ensures given.1 refl
+    agrees_sent c.advance.new.self _ h c.args.now (length c.args.out.now) (parts_of c.args.plain.now) _ _ b given.0 refl refl refl refl c.push.ensures.items c.copy_of.ensures given.1 refl c.wait_for-wait.ensures
 
 pub returns-in-Ok-seal_request-clause-number : goal.returns-in-Ok-seal_request-clause-number
 returns-in-Ok-seal_request-clause-number g c = λ h a. (c.in-Ok.ensures.accepted (Then h (Advance c.args.now) Advanced) (c.advance.ensures.follows h a)).1
