@@ -163,7 +163,7 @@ asks_own t own = t.observes || own
 abbrev pub as_notification : List ℕ → Parts → Parts
 as_notification token plain = record plain { token = token }
 
--- the answer of the ticket's life to Notify, row by row; p is the message with the notification's head (RFC 8613, 8.3.1; own rule: the order)
+-- the answer of the ticket's life to Notify, row by row; p is the message with the notification's head (RFC 7641, 4.2; RFC 8613, 8.3.1; own rule: the order)
 abbrev pub LifeNotify : Life → ℕ → Parts → ℕ → Entry → Type 0
 LifeNotify of n p room (NotReplied NotThatKind) = RefusesPlainResponse of.context.features p seals.NotThatKind
 LifeNotify of n p room (NotReplied (Unsupported k)) = RefusesPlainResponse of.context.features p (seals.Unsupported k)

@@ -64,5 +64,5 @@ pub mod siblings {
     pub use crate::pending::{Pending, Wait};
     pub use crate::server_take::decide_over;
     pub use crate::slot::Slot;
-    pub use crate::ticket_places::{make_places, put_back, take_out};
+    pub use crate::ticket_places::{make_places, put_back, take_out, ticket_at};
 }
