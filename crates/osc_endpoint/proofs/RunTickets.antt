@@ -8,7 +8,7 @@ use Rattle.osc_endpoint.specs.declared.server_event.ServerEntry.{ServerEntry}
 use Rattle.osc_endpoint.specs.declared.server_event.ServerEntry.TheVariants as entries
 use Rattle.osc_endpoint.specs.Laws.{AreLeft, IsTakenOut, TakesTickets}
 use Rattle.osc_endpoint.specs.ServerAnswer.{asks_own}
-use Rattle.osc_endpoint.specs.ServerHistory.{History, Then, Answer, Datagram, Deliver, Replied, Reply, TicketValues, Took}
+use Rattle.osc_endpoint.specs.ServerHistory.{History, Then, Answer, Datagram, Deliver, Notify, Replied, Reply, TicketValues, Took}
 use Rattle.osc_endpoint.specs.ServerRun.{DropStep, NotifyStep, ReplyStep, Run, ServerRunStep, ticket_at, ticket_of}
 use Rattle.osc_endpoint.proofs.Runs.{none_taken}
 
@@ -123,7 +123,11 @@ replied h g ts us of mid own plain room x step left = absurd step
 notified : (h g : History) (ts : List (Option TicketValues)) (of : ℕ) (plain : List ℕ) (room : ℕ) (x : ServerEntry) → NotifyStep h ts of plain room x g → IsLeftTo h ts → IsLeftTo g ts
 notified h g ts of plain room entries.NoTicket (none, same) left = unchanged h g ts ts same refl left
 notified h g ts of plain room (entries.BadPlain e) (t, at, fault, same) left = unchanged h g ts ts same refl left
-notified h g ts of plain room (entries.Replied (Ok text)) (t, at, p, datagram, (answers, goes)) left = subst (λ k. IsLeftTo k ts) (sym goes) left
+notified h g ts of plain room (entries.Replied (Ok text)) (t, at, p, datagram, (answers, goes)) (ws, left, within) =
+    let (front, back, was, is) = taken_out ts of t [] at in
+    let (before, behind, among, out) = (out_within front back ws t (subst (λ xs. IsWithin xs ws) was within)).taken in
+    let after : IsLeftTo (Then h (Notify t p room) (Replied text.now)) ts = (ws, (left, (before, behind, among)), within) in
+    subst (λ k. IsLeftTo k ts) (sym goes) after
 notified h g ts of plain room (entries.Replied (Err e)) (t, at, p, datagram, (answers, goes)) left = subst (λ k. IsLeftTo k ts) (sym goes) left
 notified h g ts of plain room x step left = absurd step
 

@@ -3,7 +3,7 @@
 use Rattle.std.proofs.Common.{sym, subst, List, [], ◌∷◌, ◌++◌}
 use Rattle.std.specs.List.{AllByRecursion}
 use Rattle.osc_endpoint.specs.Laws.{AreApart, AreLeft, DeliveredOnce, Pairwise, TicketOnce, answered, delivered}
-use Rattle.osc_endpoint.specs.ServerHistory.{History, Begin, Then, Reply, Deliver, Took, Replied, TicketValues}
+use Rattle.osc_endpoint.specs.ServerHistory.{History, Begin, Then, Reply, Notify, Deliver, Took, Replied, TicketValues}
 
 -- ---- one element moves to the back
 
@@ -47,6 +47,7 @@ all_kept P (Then h (Reply ticket own mid plain room) (Replied bytes)) ts (before
     (all_moved P ticket front back (answered h) (subst (λ (xs : List TicketValues). AllByRecursion P (xs ++ answered h)) was old))
 all_kept P (Then h event (Took (Deliver received ticket) reply)) ts (before, left, is) all =
     subst (λ (xs : List TicketValues). AllByRecursion P (xs ++ answered h)) (sym is) (all.0, all_kept P h before left all.1)
+all_kept P (Then h (Notify ticket plain room) (Replied bytes)) ts left all = all_kept P h ts left.0 all
 all_kept P (Then h event entry) ts left all = all_kept P h ts left all
 
 -- tickets that were delivered apart are left and answered apart
@@ -59,6 +60,7 @@ pairs_kept (Then h (Reply ticket own mid plain room) (Replied bytes)) ts (before
 pairs_kept (Then h event (Took (Deliver received ticket) reply)) ts (before, left, is) pairs =
     subst (λ (xs : List TicketValues). Pairwise AreApart (xs ++ answered h)) (sym is)
     (all_kept (AreApart ticket) h before left pairs.0, pairs_kept h before left pairs.1)
+pairs_kept (Then h (Notify ticket plain room) (Replied bytes)) ts left pairs = pairs_kept h ts left.0 pairs
 pairs_kept (Then h event entry) ts left pairs = pairs_kept h ts left pairs
 
 -- a fact of all that were delivered is one of all that were answered
