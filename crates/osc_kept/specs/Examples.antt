@@ -31,9 +31,9 @@ pub record Asked : Type 0 where
   pub room : ℕ
   pub bytes : List ℕ
 
--- the ticket of request n in a life of the one context (own rule)
+-- the ticket of request n, which registers nothing, in a life of the one context (own rule)
 abbrev pub ticket_of : ℕ → ℕ → Received → server.TicketValues
-ticket_of life n r = record { context = 0; life = life; number = n; kind = r.kind; message_id = r.message_id; token = r.token }
+ticket_of life n r = record { context = 0; life = life; number = n; kind = r.kind; message_id = r.message_id; token = r.token; observes = false }
 
 -- the client seals this request (own rule)
 abbrev pub asks : Asked → World → World

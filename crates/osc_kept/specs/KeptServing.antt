@@ -13,20 +13,22 @@ use Rattle.osc_endpoint.specs.Agrees.{Agrees}
 use Rattle.osc_endpoint.specs.Deciding.{Decides}
 use Rattle.osc_endpoint.specs.Life.{is_open_life, next_own}
 use Rattle.osc_endpoint.specs.ServerAnswer.{ServerAnswer}
-use Rattle.osc_endpoint.specs.ServerHistory.{History, Then, Event, Entry, Answer, Datagram, Reply, Took, Replied, Challenge, added, life}
+use Rattle.osc_endpoint.specs.ServerHistory.{History, Then, Event, Entry, Answer, Datagram, Reply, Notify, Took, Replied, Challenge, added, life}
 use Rattle.osc_endpoint.specs.Views.{Shows}
 use Rattle.osc_kept.specs.Numbering.{Own, Load, Reserve, Steps, after, upcoming}
 
--- whether a number is drawn before an event: if a challenge may be the answer, or if a reply asks for its own number (RFC 8613, 8.3 and B.1.2)
+-- whether a number is drawn before an event: if a challenge may be the answer, if a reply asks for its own number, or for a notification (RFC 8613, 8.3 and B.1.2)
 abbrev pub draws : History → Event → Bool
 draws h (Datagram now echo mid d) = not (is_open_life (life h 0))
 draws h (Reply ticket own mid plain room) = own
+draws h (Notify ticket plain room) = true
 draws h event = false
 
--- the own number that an event used, if it used one: a challenge does, and so does a reply that asked for it (RFC 8613, 7.2.1)
+-- the own number that an event used, if it used one: a challenge and a notification do, and so does a reply that asked for it (RFC 8613, 7.2.1)
 abbrev pub uses : History → Event → Entry → Option ℕ
 uses h (Datagram now echo mid d) (Took (Challenge i n given issued) reply) = option_map next_own (life h i)
 uses h (Reply ticket true mid plain room) (Replied bytes) = option_map next_own (life h ticket.context)
+uses h (Notify ticket plain room) (Replied bytes) = option_map next_own (life h ticket.context)
 uses h event entry = None
 
 -- the server is as its history says, has one context, and seals next with this number (RFC 8613, 7.2.1)

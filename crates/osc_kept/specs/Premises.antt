@@ -1,15 +1,15 @@
 -- To be believed: what a world has to meet, at each event over the events before it (RFC 8613, 7.2.1, 7.4, 8 and B.1; RFC 9175, 2.3). Each premise is a
 -- record or a definition of its own, and says who has to see to it. w is the world before the event, s the security context, n is how many pending
 -- requests the client has room for.
-use Rattle.std.specs.Prelude.{◌≡◌, ℕ, ◌≤◌, List, [], Option, Some, None, Contains, max}
+use Rattle.std.specs.Prelude.{◌≡◌, ℕ, Bool, ◌≤◌, List, [], Option, Some, None, Contains, max}
 use Rattle.osc_coap.specs.Inner.{InnerParts}
 use Rattle.osc_coap.specs.OptionNumbers as options
 use Rattle.osc_coap.specs.Search.{first_of, values_at}
 use Rattle.osc_context.specs.SecurityContext.{SecurityContext, IsUsable}
 use Rattle.osc_protect.specs.CipherLaws.{CipherInput, request_seal, response_seal}
-use Rattle.osc_protect.specs.Protection.{ProtectsRequest, ProtectsResponse}
+use Rattle.osc_protect.specs.Protection.{Protects, ProtectsRequest, responses_to}
 use Rattle.osc_endpoint.specs.declared.start.Start.TheVariants as starts
-use Rattle.osc_endpoint.specs.ClientAnswer.{ClientAnswer}
+use Rattle.osc_endpoint.specs.ClientAnswer.{ClientAnswer, awaited}
 use Rattle.osc_endpoint.specs.ClientHistory as client
 use Rattle.osc_endpoint.specs.Laws.{TakesTickets}
 use Rattle.osc_endpoint.specs.Life.{Life, in_force}
@@ -50,13 +50,14 @@ pub record SealedByClient (s : SecurityContext) (w : World) (input : CipherInput
   pub protects : ProtectsRequest s request.number request.message bytes
   pub text_is : protects.outer.payload ≡ text
 
--- the same for a response that the server sealed (RFC 8613, 5 and 8.3)
+-- the same for a response that the server sealed, to a request that registers an observation or doesn't (RFC 8613, 5 and 8.3)
 pub record SealedByServer (s : SecurityContext) (w : World) (input : CipherInput) (text : List ℕ) : Type 0 where
+  pub registers : Bool
   pub response : Response
   pub was_answered : Has response (answered s w)
   pub input_is : response_seal s response.number response.own ≡ input
   pub bytes : List ℕ
-  pub protects : ProtectsResponse s response.number response.own response.message bytes
+  pub protects : Protects (responses_to s registers response.number) response.own response.message bytes
   pub text_is : protects.outer.payload ≡ text
 
 -- what comes to the server and opens as request n is a text that the client sealed before, under the same key, nonce and additional data: only the two
@@ -66,7 +67,7 @@ NobodyForgesRequests s w d = (n : ℕ) (m : InnerParts) (p : ProtectsRequest s n
 
 -- what comes to the client and opens as a response to a pending request is a text that the server sealed before, under the same three (RFC 8613, 12.3 and 12.6)
 abbrev pub NobodyForgesResponses : SecurityContext → World → List client.Asked → List ℕ → Type 0
-NobodyForgesResponses s w pending d = (r : client.Asked) (own : Option ℕ) (m : InnerParts) → Contains pending r → (p : ProtectsResponse s r.number own m d)
+NobodyForgesResponses s w pending d = (r : client.Asked) (own : Option ℕ) (m : InnerParts) → Contains pending r → (p : Protects (awaited s r) own m d)
     → SealedByServer s w (response_seal s r.number own) p.outer.payload
 
 -- both of these, for the datagrams that arrive (RFC 8613, 12.3 and 12.6)

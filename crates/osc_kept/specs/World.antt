@@ -6,6 +6,7 @@ use Rattle.std.specs.Option.{option_map, option_and_then}
 use Rattle.osc_coap.specs.Datagram.{Parts}
 use Rattle.osc_coap.specs.Inner.{InnerParts}
 use Rattle.osc_context.specs.SecurityContext.{SecurityContext}
+use Rattle.osc_protect.specs.Protection.{as_notified}
 use Rattle.osc_protect.specs.Sealed.{inside}
 use Rattle.osc_window.specs.declared.window_size.WindowSize.{WindowSize}
 use Rattle.osc_endpoint.specs.declared.start.Start.{Start}
@@ -116,13 +117,21 @@ abbrev pub response_in : Option Life → ℕ → Bool → Parts → List Respons
 response_in None n own p = []
 response_in (Some of) n own p = record { number = n; own = own_number own of; message = inside p } ∷ []
 
--- challenges and replies (RFC 8613, 8.3)
+-- challenges, replies and notifications, whose Observe option is empty inside (RFC 8613, 4.1.3.5.2 and 8.3)
 abbrev pub answered : SecurityContext → World → List Response
 answered s Begin = []
 answered s (Then w (AtServer (server.Datagram now echo mid d) (server.Took (server.Challenge i n given issued) reply))) =
     response_in (server_life s w) n true (challenge_message given) ++ answered s w
 answered s (Then w (AtServer (server.Reply t own mid p room) (server.Replied bytes))) = response_in (server_life s w) t.number own p ++ answered s w
+answered s (Then w (AtServer (server.Notify t p room) (server.Replied bytes))) = response_in (server_life s w) t.number true (as_notified p) ++ answered s w
 answered s (Then w event) = answered s w
+
+-- the responses that the client delivered, notifications and others, over all lives (RFC 8613, 8.4)
+abbrev pub heard : World → List Response
+heard Begin = []
+heard (Then w (AtClient (client.Datagram now d) (client.Took (client.Notified received number)))) = record { number = number; own = received.number; message = received.message } ∷ heard w
+heard (Then w (AtClient (client.Datagram now d) (client.Took (client.Deliver received number)))) = record { number = number; own = received.number; message = received.message } ∷ heard w
+heard (Then w event) = heard w
 
 -- the numbers of the requests that were delivered, over all lives (RFC 8613, 7.4)
 abbrev pub delivered : World → List ℕ
