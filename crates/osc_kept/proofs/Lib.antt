@@ -7,6 +7,7 @@ pub mod Digest
 pub mod Rising
 pub mod Lives
 pub mod Owned
+pub mod Inside
 pub mod Fitting
 pub mod Claims
 pub mod Saving
