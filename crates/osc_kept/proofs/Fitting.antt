@@ -4,6 +4,7 @@ use Rattle.std.specs.Prelude.{max, nat_le, unwrap_or}
 use Rattle.std.specs.List.{AllByRecursion}
 use Rattle.osc_coap.specs.Datagram.{Parts}
 use Rattle.osc_coap.specs.Inner.{InnerParts}
+use Rattle.osc_coap.specs.Laws.{DatagramIsOneMessage}
 use Rattle.osc_context.specs.Features.{unobserved}
 use Rattle.osc_context.specs.Laws.{OneNonce, ValueNumberInRange}
 use Rattle.osc_context.specs.SecurityContext.{SecurityContext, IsUsable}
@@ -36,6 +37,7 @@ pub record LawsBelow : Type 0 where
   pub response : OneResponseInput
   pub in_range : ValueNumberInRange
   pub nonce : OneNonce
+  pub one : DatagramIsOneMessage
 
 -- ---- what opens was sealed
 
@@ -128,9 +130,9 @@ held once s ds h t own mid room p bytes x answer tickets =
     )
 
 -- an accepted notification has a ticket that was given
-given_left : (s : SecurityContext) (ds : List Deed) (h : server.History) (t : server.TicketValues) {p : Parts} {room : ℕ} {bytes : List ℕ} → Stands s ds h
+given_left : (s : SecurityContext) (ds : List Deed) (h : server.History) (t : server.TicketValues) (p : Parts) (room : ℕ) (bytes : List ℕ) → Stands s ds h
     → TakesTickets (server.Then h (server.Notify t p room) (server.Replied bytes)) → Has t (given ds)
-given_left s ds h t x (ts, left, (front, back, is)) =
+given_left s ds h t p room bytes x (ts, (left, (front, back, is))) =
     subst (λ us. Has t us) x.given_is (left_given h ts t left (subst (λ us. Has t us) (sym is) (has_middle front back t)))
 
 -- what stands before an event of the server, and that it meets the premises
@@ -227,7 +229,7 @@ fits_notify : LawsBelow → (n : ℕ) (s : SecurityContext) (w : World) (t : ser
     → At n s w (server.Notify t p room) (server.Replied bytes)
     → Fits s (digest s w) (server_deed (Some (life_in s (digest s w))) (server.Notify t p room) (server.Replied bytes))
 fits_notify laws n s w t room p bytes y = (
-  given_left s (digest s w) y.answer.0 t (at_stands n s w _ _ y) y.answer.4,
+  given_left s (digest s w) y.answer.0 t p room bytes (at_stands n s w _ _ y) y.answer.4,
   own_above n s w (server.Notify t p room) (server.Replied bytes) (next_own (life_in s (digest s w))) y.all y.answer y.kept_all y.kept
       (ap (λ z. own_use (server_deed z (server.Notify t p room) (server.Replied bytes))) (at_life n s w _ _ y)),
 )

@@ -15,7 +15,7 @@ use Rattle.osc_endpoint.specs.ServerHistory as server
 use Rattle.osc_kept.specs.Numbering.{Effect, Stay, Load, Use, use_of}
 use Rattle.osc_kept.specs.Premises.{AtEach, Answers, IsNoAdd}
 use Rattle.osc_kept.specs.World.{World, Begin, Then, ServerStarts, AtClient, AtServer, client_history, server_history, server_life, server_effect}
-use Rattle.osc_kept.proofs.Deeds.{Deed, Begins, Renews, Challenges, Replies, Nothing, life_in, with_mark, replied, given, taken}
+use Rattle.osc_kept.proofs.Deeds.{Deed, Begins, Renews, Challenges, Replies, Notifies, Nothing, life_in, with_mark, replied, given, taken}
 use Rattle.osc_kept.proofs.Digest.{client_deed, server_deed, digest}
 
 abbrev pub OnlyFirst : server.History → Type 0
