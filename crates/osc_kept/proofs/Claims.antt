@@ -12,8 +12,8 @@ use Rattle.osc_endpoint.specs.Life.{Life, next_own}
 use Rattle.osc_endpoint.specs.Received.{Received, Receives}
 use Rattle.osc_endpoint.specs.ServerHistory as server
 use Rattle.osc_kept.specs.Numbering.{Use}
-use Rattle.osc_kept.specs.Claims.{AnswersThatRequest, BothEnds, DeliversOnce, IsForThatRequest, IsNewForClient, IsNewForServer, SealsUnderNewNonce}
-use Rattle.osc_kept.specs.Premises.{AtEach, IsLawful, SealedByServer}
+use Rattle.osc_kept.specs.Claims.{AnswersThatRequest, DeliversOnce, IsForThatRequest, IsNewForClient, IsNewForServer, SealsUnderNewNonce}
+use Rattle.osc_kept.specs.Premises.{IsLawful, SealedByServer}
 use Rattle.osc_kept.specs.World.{World, Event, Begin, Then, Client, Server, AtClient, AtServer, Has, Request, Response, answered, client_history, server_life}
 use Rattle.osc_kept.proofs.Deeds.{AllBelow, AllFit, Delivers, Holds, IsSent, answered_sent, delivered_sent, given_delivered, not_before, not_shared, one_request, owned, owns, sends}
 use Rattle.osc_kept.proofs.Digest.{answered_is, delivered_is, digest, sent_is, server_deed}
@@ -24,7 +24,7 @@ use Rattle.osc_kept.proofs.Rising.{use_bounded, use_small}
 
 -- ---- deliveries
 
-delivers_once : LawsBelow → (n : ℕ) (s : SecurityContext) (w : World) (event : Event) → IsLawful n s (Then w event) → DeliversOnce s w event
+pub delivers_once : LawsBelow → (n : ℕ) (s : SecurityContext) (w : World) (event : Event) → IsLawful n s (Then w event) → DeliversOnce s w event
 delivers_once laws n s w (AtServer (server.Datagram now echo mid d) (server.Took (server.Deliver received t) reply)) i =
     let fits : AllFit s (Delivers t received.message ∷ digest s w) = all_fit laws n s (Then w (AtServer (server.Datagram now echo mid d) (server.Took (server.Deliver received t) reply))) i in (
       subst (λ rs. Has (record { number = t.number; message = received.message }) rs) (sym (sent_is s w)) fits.1.2,
@@ -72,7 +72,7 @@ received_for laws n s w now d received number answer h r own i f pending is rece
     (subst (λ y. IsForThatRequest s w y own received.message) (sym is)
     (is_for laws n s w r.number own received.message d (before n s w _ i) (pending_sent n s w h clock r i.answers.0 f pending) (client.observes r.wait) p x))
 
-answers_that : LawsBelow → (n : ℕ) (s : SecurityContext) (w : World) (event : Event) → IsLawful n s (Then w event) → AnswersThatRequest s w event
+pub answers_that : LawsBelow → (n : ℕ) (s : SecurityContext) (w : World) (event : Event) → IsLawful n s (Then w event) → AnswersThatRequest s w event
 answers_that laws n s w (AtClient (client.Datagram now d) (client.Took (client.Notified received number))) i =
     let (r, answers, (is, own, later, receives, continues)) = i.answers.1.2 in
     received_for laws n s w now d received number (client.Notified received number) i.answers.1.0 r own i i.answers.1.1 answers.1 is receives
@@ -123,7 +123,7 @@ new_own laws n s w k event entry of i f is_used r h e =
     (use_bounded Server s w (AtServer event entry) (next_own of) i.kept.0 i.kept.1 (effect_is n s w event entry i.answers.0 i.answers.1 ∙ uses))
     (own_above n s w event entry (next_own of) i.answers.0 i.answers.1 i.kept.0 i.kept.1 uses) h refl e
 
-seals_new : LawsBelow → (n : ℕ) (s : SecurityContext) (w : World) (event : Event) → IsLawful n s (Then w event) → SealsUnderNewNonce s w event
+pub seals_new : LawsBelow → (n : ℕ) (s : SecurityContext) (w : World) (event : Event) → IsLawful n s (Then w event) → SealsUnderNewNonce s w event
 seals_new laws n s w (AtClient (client.Request now p room) (client.Sent bytes)) i = λ h f.
     let same : i.answers.1.0 ≡ h = some_is (sym i.answers.1.1 ∙ f) in
     new_for_client laws n s w (client.next h) (before n s w _ i) (subst (λ g. client.next g < 2 ^ 40) same i.answers.1.2.0.2)
@@ -140,17 +140,3 @@ seals_new laws n s w (AtServer (server.Reply t false mid p room) (server.Replied
 seals_new laws n s w (AtServer (server.Notify t p room) (server.Replied bytes)) i = λ of f.
     new_own laws n s w t.number (server.Notify t p room) (server.Replied bytes) of i f refl
 seals_new laws n s w event i = tt
-
--- ---- all of it
-
-each : (P : World → Event → Type 0) (n : ℕ) (s : SecurityContext) → ((w : World) (event : Event) → IsLawful n s (Then w event) → P w event) → (w : World) → IsLawful n s w → AtEach P w
-each P n s f Begin i = tt
-each P n s f (Then w event) i = (each P n s f w (before n s w event i), f w event i)
-
-pub both_ends_hold : LawsBelow → (n : ℕ) (s : SecurityContext) (w : World) → IsLawful n s w → BothEnds s w
-both_ends_hold laws n s w i =
-    record {
-      once = each (DeliversOnce s) n s (delivers_once laws n s) w i;
-      that_request = each (AnswersThatRequest s) n s (answers_that laws n s) w i;
-      nonces = each (SealsUnderNewNonce s) n s (seals_new laws n s) w i;
-    }

@@ -10,6 +10,7 @@ pub mod Owned
 pub mod Inside
 pub mod Fitting
 pub mod Claims
+pub mod Hearing
 pub mod Saving
 pub mod GoingOn
 pub mod InWorld

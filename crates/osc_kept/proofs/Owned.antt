@@ -71,7 +71,7 @@ own_used n s (Then w event) o a k = own_used n s w o a.0 k
 abbrev pub AllSent : List Deed → List client.Asked → Type 0
 AllSent ds xs = All (λ (r : client.Asked). IsSent ds r.number) xs
 
-still_sent : (d : Deed) (ds : List Deed) (n : ℕ) → IsSent ds n → IsSent (d ∷ ds) n
+pub still_sent : (d : Deed) (ds : List Deed) (n : ℕ) → IsSent ds n → IsSent (d ∷ ds) n
 still_sent (Sends k m) ds n i = (i.0, inr i.1, i.2)
 still_sent d ds n i = i
 
