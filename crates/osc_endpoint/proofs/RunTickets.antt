@@ -87,10 +87,10 @@ out_within (x ∷ front) back (w ∷ ws) t (inr h) = let k = out_within (x ∷ f
 
 -- ---- the tickets at a run's places are among those that no reply took
 
-abbrev IsLeftTo : History → List (Option TicketValues) → Type 0
+abbrev pub IsLeftTo : History → List (Option TicketValues) → Type 0
 IsLeftTo h ts = (ws : List TicketValues) × AreLeft h ws × IsWithin (left_in ts ++ []) ws
 
-no_more : (h : History) (ts us : List (Option TicketValues)) → us ≡ ts ++ None ∷ [] → IsLeftTo h ts → IsLeftTo h us
+pub no_more : (h : History) (ts us : List (Option TicketValues)) → us ≡ ts ++ None ∷ [] → IsLeftTo h ts → IsLeftTo h us
 no_more h ts us is (ws, left, within) = (ws, left, subst (λ xs. IsWithin (xs ++ []) ws) (sym (ap left_in is ∙ left_more ts None)) within)
 
 -- the history and the tickets stay
@@ -98,14 +98,14 @@ unchanged : (h g : History) (ts us : List (Option TicketValues)) → g ≡ h →
 unchanged h g ts us same kept left = subst (λ k. IsLeftTo k us) (sym same) (subst (IsLeftTo h) (sym kept) left)
 
 -- what a datagram leaves
-took : (h : History) (now mid : ℕ) (echo d : List ℕ) (answer : Answer) (reply : List ℕ) (ts us : List (Option TicketValues))
+pub took : (h : History) (now mid : ℕ) (echo d : List ℕ) (answer : Answer) (reply : List ℕ) (ts us : List (Option TicketValues))
     → us ≡ ts ++ ticket_of answer ∷ [] → IsLeftTo h ts → IsLeftTo (Then h (Datagram now echo mid d) (Took answer reply)) us
 took h now mid echo d (Deliver received ticket) reply ts us is (ws, left, within) =
     (ticket ∷ ws, (ws, left, refl), subst (λ xs. IsWithin (xs ++ []) (ticket ∷ ws)) (sym (ap left_in is ∙ left_more ts (Some ticket))) (inl (refl, within)))
 took h now mid echo d answer reply ts us is left = no_more h ts us is left
 
 -- what a reply leaves
-replied : (h g : History) (ts us : List (Option TicketValues)) (of mid : ℕ) (own : Bool) (plain : List ℕ) (room : ℕ) (x : ServerEntry)
+pub replied : (h g : History) (ts us : List (Option TicketValues)) (of mid : ℕ) (own : Bool) (plain : List ℕ) (room : ℕ) (x : ServerEntry)
     → ReplyStep h ts of own mid plain room x g us → IsLeftTo h ts → IsLeftTo g us
 replied h g ts us of mid own plain room entries.NoTicket (none, same, kept) left = unchanged h g ts us same kept left
 replied h g ts us of mid own plain room (entries.BadPlain e) (t, at, fault, same, kept) left = unchanged h g ts us same kept left
@@ -120,7 +120,7 @@ replied h g ts us of mid own plain room (entries.Replied (Err e)) (t, at, p, dat
 replied h g ts us of mid own plain room x step left = absurd step
 
 -- what a notification leaves
-notified : (h g : History) (ts : List (Option TicketValues)) (of : ℕ) (plain : List ℕ) (room : ℕ) (x : ServerEntry) → NotifyStep h ts of plain room x g → IsLeftTo h ts → IsLeftTo g ts
+pub notified : (h g : History) (ts : List (Option TicketValues)) (of : ℕ) (plain : List ℕ) (room : ℕ) (x : ServerEntry) → NotifyStep h ts of plain room x g → IsLeftTo h ts → IsLeftTo g ts
 notified h g ts of plain room entries.NoTicket (none, same) left = unchanged h g ts ts same refl left
 notified h g ts of plain room (entries.BadPlain e) (t, at, fault, same) left = unchanged h g ts ts same refl left
 notified h g ts of plain room (entries.Replied (Ok text)) (t, at, p, datagram, (answers, goes)) (ws, left, within) =
@@ -138,7 +138,7 @@ left_empty h ts of (Some t) is (ws, left, within) =
     let (front, back, was, after) = taken_out ts of t [] is in
     (ws, left, subst (λ xs. IsWithin xs ws) (sym after) (without front back ws t (subst (λ xs. IsWithin xs ws) was within)))
 
-dropped : (h g : History) (ts us : List (Option TicketValues)) (of : ℕ) (x : ServerEntry) → DropStep h ts of x g us → IsLeftTo h ts → IsLeftTo g us
+pub dropped : (h g : History) (ts us : List (Option TicketValues)) (of : ℕ) (x : ServerEntry) → DropStep h ts of x g us → IsLeftTo h ts → IsLeftTo g us
 dropped h g ts us of (entries.Dropped there) (is, same, out) left = unchanged h g (slice_set ts of None) us same out (left_empty h ts of (ticket_at ts of) refl left)
 dropped h g ts us of x step left = absurd step
 

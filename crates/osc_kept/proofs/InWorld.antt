@@ -45,9 +45,11 @@ tickets_step : (s : SecurityContext) (w : World) (h : server.History) (event : s
 tickets_step s w h (server.Datagram now echo mid d) (server.Took (server.Deliver received t) reply) p a x = (t ∷ x.0, (x.0, x.1, refl))
 tickets_step s w h (server.Add context start size) (server.Took (server.Deliver received t) reply) p a x = absurd a.1
 tickets_step s w h (server.Reply t own mid q room) (server.Took (server.Deliver received u) reply) p a x = absurd a.2
+tickets_step s w h (server.Notify t q room) (server.Took (server.Deliver received u) reply) p a x = absurd a.1.2
 tickets_step s w h (server.Restart c next) (server.Took (server.Deliver received t) reply) p a x = absurd (no_took (server.life h c) (server.Deliver received t) reply a)
 tickets_step s w h (server.Advance now) (server.Took (server.Deliver received t) reply) p a x = absurd a
 tickets_step s w h (server.Reply t own mid q room) (server.Replied bytes) p a x = (p.1, (p.0, p.2, p.3))
+tickets_step s w h (server.Notify t q room) (server.Replied bytes) p a x = (p.0, (p.2, (p.3.0, p.3.1, p.3.2)))
 tickets_step s w h event entry p a x = x
 
 -- ---- a draw changes no premise
@@ -141,6 +143,7 @@ pub responses_still : (s : SecurityContext) (w v : World) (pending : List client
 responses_still s w v pending d e f r own m is p =
     let x : SealedByServer s w (response_seal s r.number own) p.outer.payload = f r own m is p in
     record {
+      registers = x.registers;
       response = x.response;
       was_answered = subst (λ rs. Has x.response rs) (sym e) x.was_answered;
       input_is = x.input_is;
@@ -167,6 +170,7 @@ fresh_before : (h : server.History) (event : server.Event) (entry : server.Entry
 fresh_before h (server.Add context start size) entry i of a e f = absurd a
 fresh_before h (server.Datagram now echo mid d) (server.Took answer reply) i of a e f = fresh_marked (server.mark_at i answer) (server.life h i) of e f
 fresh_before h (server.Reply t own mid p room) (server.Replied bytes) i of a e f = fresh_marked (server.reply_mark_at i t own) (server.life h i) of e f
+fresh_before h (server.Notify t p room) (server.Replied bytes) i of a e f = fresh_marked (server.reply_mark_at i t true) (server.life h i) of e f
 fresh_before h (server.Restart context next) server.Restarted i of a e f = fresh_renewed (i == context) next (server.life h i) of e f
 fresh_before h event entry i of a e f = (of, e, f)
 
@@ -256,6 +260,11 @@ pub reply_trusts : (s : SecurityContext) (w : World) (h : server.History) (t : s
     → ServerTrusts s w h (server.Reply t own mid p room) entry
 reply_trusts s w h t own mid p room (server.Replied bytes) x = x
 reply_trusts s w h t own mid p room entry x = tt
+
+pub notify_trusts : (s : SecurityContext) (w : World) (h : server.History) (t : server.TicketValues) (p : Parts) (room : ℕ) (entry : server.Entry) → IsHeld h t
+    → ServerTrusts s w h (server.Notify t p room) entry
+notify_trusts s w h t p room (server.Replied bytes) x = x
+notify_trusts s w h t p room entry x = tt
 
 -- ---- an event of a client
 

@@ -15,15 +15,15 @@ use Rattle.osc_endpoint.specs.declared.server_event.Seen.{Seen}
 use Rattle.osc_endpoint.specs.declared.server_event.Seen.TheVariants as seen
 use Rattle.osc_endpoint.specs.declared.server_event.ServerEntry.TheVariants as served
 use Rattle.osc_endpoint.specs.ClientHistory as client
-use Rattle.osc_endpoint.specs.ServerAnswer.{ServerAnswer}
-use Rattle.osc_endpoint.specs.ServerHistory.{History, Then, Answer, TicketValues, Datagram, Took, Reply, NotReplied, Restart, Restarted, NotRestarted}
+use Rattle.osc_endpoint.specs.ServerAnswer.{ServerAnswer, asks_own}
+use Rattle.osc_endpoint.specs.ServerHistory.{History, Then, Answer, TicketValues, Datagram, Took, Notify, Reply, NotReplied, Restart, Restarted, NotRestarted}
 use Rattle.osc_endpoint.specs.ServerRun.{GoesOn, Logs, ticket_at, ticket_of}
 use Rattle.osc_kept.specs.declared.kept_error.KeptError.{KeptError}
 use Rattle.osc_kept.specs.declared.kept_error.KeptError.TheVariants.{LivesExhausted}
 use Rattle.osc_kept.specs.declared.kept_event.KeptServerEntry.TheVariants as entries
 use Rattle.osc_kept.specs.declared.source.Source.{Source}
 use Rattle.osc_kept.specs.KeptAsking as asking
-use Rattle.osc_kept.specs.KeptRuns.{RunOf, ArrivalStep, ClientNumbers, ReplyStep, RequestStep, RestartStep, ServerNumbers, Worked, client_state}
+use Rattle.osc_kept.specs.KeptRuns.{RunOf, ArrivalStep, ClientNumbers, NotifyStep, ReplyStep, RequestStep, RestartStep, ServerNumbers, Worked, client_state}
 use Rattle.osc_kept.specs.KeptServing.{IsKept, KeptStep}
 use Rattle.osc_kept.specs.Numbering.{Own, Goes, Load, upcoming}
 use Rattle.osc_kept.specs.Owning.{own_in}
@@ -58,7 +58,7 @@ pub refused_step : {K : Type 0} {k : keeper.Ghosts K} (h : History) (old : Sourc
     (new : Source K k) (us : List (Option TicketValues)) (t : TicketValues) (p : Parts) (before after : Server)
     → ticket_at ts of ≡ Some t → IsDatagram p plain → us ≡ ts → IsKept before (upcoming (own_in old)) h
     → (e ≡ replies.KeeperFailed → (own_in new ≡ own_in old) × (k.failures new.keeper ≡ k.failures old.keeper + 1)) → (e ≢ replies.KeeperFailed → Worked old new)
-    → (e ≢ replies.KeeperFailed → KeptStep h (Reply t own mid p room) (NotReplied e) (own_in old) (own_in new) after) → after ≡ before
+    → (e ≢ replies.KeeperFailed → KeptStep h (Reply t (asks_own t own) mid p room) (NotReplied e) (own_in old) (own_in new) after) → after ≡ before
     → (g : History) × ReplyStep h old ts of own mid plain room (served.Replied (Err e)) g new us × IsKept after (upcoming (own_in new)) g
 refused_step h old ts of own mid plain room replies.KeeperFailed new us t p before after seen is back kept failed worked answered same =
     let f = failed refl in
@@ -66,6 +66,19 @@ refused_step h old ts of own mid plain room replies.KeeperFailed new us t p befo
 refused_step h old ts of own mid plain room e new us t p before after seen is back kept failed worked answered same =
     let step = answered (λ is. cc) in
     (_, (t, seen, p, is, (step.row, refl), (step.numbers, worked (λ is. cc)), back), step.kept)
+
+-- a refused notification, in the same way
+pub unnotified_step : {K : Type 0} {k : keeper.Ghosts K} (h : History) (old : Source K k) (ts : List (Option TicketValues)) (of : ℕ) (plain : List ℕ) (room : ℕ) (e : ReplyError)
+    (new : Source K k) (t : TicketValues) (p : Parts) (before after : Server) → ticket_at ts of ≡ Some t → IsDatagram p plain → IsKept before (upcoming (own_in old)) h
+    → (e ≡ replies.KeeperFailed → (own_in new ≡ own_in old) × (k.failures new.keeper ≡ k.failures old.keeper + 1)) → (e ≢ replies.KeeperFailed → Worked old new)
+    → (e ≢ replies.KeeperFailed → KeptStep h (Notify t p room) (NotReplied e) (own_in old) (own_in new) after) → after ≡ before
+    → (g : History) × NotifyStep h old ts of plain room (served.Replied (Err e)) g new × IsKept after (upcoming (own_in new)) g
+unnotified_step h old ts of plain room replies.KeeperFailed new t p before after seen is kept failed worked answered same =
+    let f = failed refl in
+    (h, (t, seen, p, is, refl, (f.1, f.0)), subst (λ (o : Own). IsKept after (upcoming o) h) (sym f.0) (subst (λ (s : Server). IsKept s (upcoming (own_in old)) h) (sym same) kept))
+unnotified_step h old ts of plain room e new t p before after seen is kept failed worked answered same =
+    let step = answered (λ is. cc) in
+    (_, (t, seen, p, is, (step.row, refl), (step.numbers, worked (λ is. cc))), step.kept)
 
 -- a restart: at what was loaded, or refused
 pub restart_step : {K : Type 0} {k : keeper.Ghosts K} (h : History) (old : Source K k) (r : Result (Unit {0}) KeptError) (new : Source K k) (before after : Server)

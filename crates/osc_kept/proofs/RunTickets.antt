@@ -1,23 +1,41 @@
 -- The tickets at the places of a run of a kept server are left: deliveries gave them, and no reply took them. h is the history before an event, ts and vs
--- the tickets before and behind it, us those without the place of the event, o what stands there, zs those that were left before the run began.
-use Rattle.std.proofs.Common.{◌≡◌, ℕ, ◌∙◌, sym, ap, subst, Option, Some, None, List, [], ◌∷◌, ◌++◌}
-use Rattle.osc_endpoint.specs.Laws.{AreLeft}
-use Rattle.osc_endpoint.specs.ServerHistory.{History, Then, Answer, Datagram, Deliver, TicketValues, Took}
-use Rattle.osc_endpoint.specs.ServerRun.{ticket_of}
-use Rattle.osc_endpoint.proofs.RunTickets.{left_in, left_more, one_of}
+-- the tickets before and behind it, us those without the place of the event, o what stands there.
+use Rattle.std.proofs.Common.{◌≡◌, ℕ, ◌∙◌, ap, refl, Bool, Option, Some, None, Ok, List, [], ◌∷◌, ◌++◌, Bor, slice_set}
+use Rattle.osc_coap.specs.Datagram.{Parts, IsDatagram}
+use Rattle.osc_endpoint.specs.declared.server_event.ServerEntry.TheVariants as served
+use Rattle.osc_endpoint.specs.ServerAnswer.{ServerAnswer, asks_own}
+use Rattle.osc_endpoint.specs.ServerHistory.{History, Then, Answer, Datagram, Notify, Replied, Reply, TicketValues, Took}
+use Rattle.osc_endpoint.specs.ServerRun.{ticket_at, ticket_of}
+use Rattle.osc_endpoint.proofs.RunTickets.{IsLeftTo, no_more, notified, replied, took}
+use Rattle.osc_kept.specs.InWorld.{IsHeld}
 
 -- what stands at the places behind an event
-pub places_are : (ts us vs : List (Option TicketValues)) (o p : Option TicketValues) → us ≡ ts → o ≡ p → vs ≡ us ++ o ∷ [] → left_in vs ≡ one_of p ++ left_in ts
-places_are ts us vs o p same is more = ap left_in (more ∙ ap (λ x. us ++ x ∷ []) is ∙ ap (λ ys. ys ++ p ∷ []) same) ∙ left_more ts p
+places_are : (ts us vs : List (Option TicketValues)) (o p : Option TicketValues) → us ≡ ts → o ≡ p → vs ≡ us ++ o ∷ [] → vs ≡ ts ++ p ∷ []
+places_are ts us vs o p same is more = more ∙ ap (λ x. us ++ x ∷ []) is ∙ ap (λ ys. ys ++ p ∷ []) same
 
 -- an event that gives no ticket, and takes none, leaves them
-pub none_more : (h : History) (ts us vs : List (Option TicketValues)) (o : Option TicketValues) (zs : List TicketValues) → us ≡ ts → o ≡ None → vs ≡ us ++ o ∷ []
-    → AreLeft h (left_in ts ++ zs) → AreLeft h (left_in vs ++ zs)
-none_more h ts us vs o zs same none more left = subst (λ ys. AreLeft h (ys ++ zs)) (sym (places_are ts us vs o None same none more)) left
+pub none_more : (h : History) (ts us vs : List (Option TicketValues)) (o : Option TicketValues) → us ≡ ts → o ≡ None → vs ≡ us ++ o ∷ [] → IsLeftTo h ts → IsLeftTo h vs
+none_more h ts us vs o same none more left = no_more h ts vs (places_are ts us vs o None same none more) left
 
 -- a datagram's answer gives one, or none
-pub took_more : (h : History) (now mid : ℕ) (echo d : List ℕ) (answer : Answer) (reply : List ℕ) (ts us vs : List (Option TicketValues)) (o : Option TicketValues) (zs : List TicketValues)
-    → us ≡ ts → o ≡ ticket_of answer → vs ≡ us ++ o ∷ [] → AreLeft h (left_in ts ++ zs) → AreLeft (Then h (Datagram now echo mid d) (Took answer reply)) (left_in vs ++ zs)
-took_more h now mid echo d (Deliver received ticket) reply ts us vs o zs same gives more left =
-    (left_in ts ++ zs, left, ap (λ ys. ys ++ zs) (places_are ts us vs o (Some ticket) same gives more))
-took_more h now mid echo d answer reply ts us vs o zs same gives more left = none_more h ts us vs o zs same gives more left
+pub took_more : (h : History) (now mid : ℕ) (echo d : List ℕ) (answer : Answer) (reply : List ℕ) (ts us vs : List (Option TicketValues)) (o : Option TicketValues)
+    → us ≡ ts → o ≡ ticket_of answer → vs ≡ us ++ o ∷ [] → IsLeftTo h ts → IsLeftTo (Then h (Datagram now echo mid d) (Took answer reply)) vs
+took_more h now mid echo d answer reply ts us vs o same gives more left = took h now mid echo d answer reply ts vs (places_are ts us vs o (ticket_of answer) same gives more) left
+
+-- a reply takes the one at its place, which was held
+pub replied_more : (h : History) (of mid room : ℕ) (own : Bool) (plain : List ℕ) (text : Bor (List ℕ)) (t : TicketValues) (p : Parts) (ts us vs : List (Option TicketValues)) (o : Option TicketValues)
+    → ticket_at ts of ≡ Some t → IsDatagram p plain → ServerAnswer h (Reply t (asks_own t own) mid p room) (Replied text.now) → us ≡ slice_set ts of None → o ≡ None → vs ≡ us ++ o ∷ []
+    → IsLeftTo h ts → IsHeld h t × IsLeftTo (Then h (Reply t (asks_own t own) mid p room) (Replied text.now)) vs
+replied_more h of mid room own plain text t p ts us vs o at datagram row out none more left =
+    let on : IsLeftTo (Then h (Reply t (asks_own t own) mid p room) (Replied text.now)) us =
+    replied h _ ts us of mid own plain room (served.Replied (Ok text)) (t, at, p, datagram, (row, refl), out) left in
+    ((on.1.0, on.0, on.1.1, on.1.2), none_more (Then h (Reply t (asks_own t own) mid p room) (Replied text.now)) us us vs o refl none more on)
+
+-- a notification leaves the one at its place, which is held
+pub notified_more : (h : History) (of room : ℕ) (plain : List ℕ) (text : Bor (List ℕ)) (t : TicketValues) (p : Parts) (ts us vs : List (Option TicketValues)) (o : Option TicketValues)
+    → ticket_at ts of ≡ Some t → IsDatagram p plain → ServerAnswer h (Notify t p room) (Replied text.now) → us ≡ ts → o ≡ None → vs ≡ us ++ o ∷ []
+    → IsLeftTo h ts → IsHeld h t × IsLeftTo (Then h (Notify t p room) (Replied text.now)) vs
+notified_more h of room plain text t p ts us vs o at datagram row same none more left =
+    let on : IsLeftTo (Then h (Notify t p room) (Replied text.now)) ts = notified h _ ts of plain room (served.Replied (Ok text)) (t, at, p, datagram, (row, refl)) left in
+    let (front, back, among) = on.1.1 in
+    ((on.0, front ++ back, on.1.0, (front, back, among, refl)), none_more (Then h (Notify t p room) (Replied text.now)) ts us vs o same none more on)

@@ -1,6 +1,6 @@
 -- A run of a kept end leaves a world that meets the premises, step by step. w is the world before the run, own the numbers then; v and u are worlds in it, a
 -- and b the states there.
-use Rattle.std.proofs.Common.{◌≡◌, ℕ, ◌≤◌, ◌∙◌, sym, ap, subst, refl, arith, Bool, Option, None, Ok, Err, List, [], ◌∷◌, ◌++◌, inl, inr, length, max, slice_set}
+use Rattle.std.proofs.Common.{◌≡◌, ℕ, ◌≤◌, ◌∙◌, sym, ap, subst, refl, arith, Bool, Option, None, Ok, Err, List, [], ◌∷◌, ◌++◌, inl, inr, length, max}
 use Rattle.osc_context.specs.SecurityContext.{SecurityContext}
 use Rattle.osc_context.specs.declared.keeper.Keeper as keeper
 use Rattle.osc_endpoint.specs.declared.client_event.ClientEntry.{ClientEntry}
@@ -13,7 +13,7 @@ use Rattle.osc_endpoint.specs.declared.server_event.ServerEntry.{ServerEntry}
 use Rattle.osc_endpoint.specs.declared.server_event.ServerEntry.TheVariants as served
 use Rattle.osc_endpoint.specs.ClientHistory as client
 use Rattle.osc_endpoint.specs.ClientRun as client_run
-use Rattle.osc_endpoint.specs.Laws.{AreLeft, IsTakenOut}
+use Rattle.osc_endpoint.specs.ServerAnswer.{asks_own}
 use Rattle.osc_endpoint.specs.ServerHistory as server
 use Rattle.osc_endpoint.specs.ServerRun as server_run
 use Rattle.osc_kept.specs.declared.kept_event.KeptClientEvent.{KeptClientEvent}
@@ -28,15 +28,16 @@ use Rattle.osc_kept.specs.Claims.{BothEnds}
 use Rattle.osc_kept.specs.GoingOn.{ClientMoves, ClientRuns, GoesOn, IsDrawn, KeepsFloor, KnowsFloor, ServerMoves, ServerRuns}
 use Rattle.osc_kept.specs.InWorld.{ClientStays, ClientTrusts, IsAsClaimed, IsUnseen, ServerStays, ServerTrusts}
 use Rattle.osc_kept.specs.KeptAsking as asking
-use Rattle.osc_kept.specs.KeptRuns.{ArrivalStep, ClientNumbers, ClientRun, ClientState, ClientStep, ReplyStep, RequestStep, ServerRun, ServerState, ServerStep, client_state, server_state}
+use Rattle.osc_kept.specs.KeptRuns.{ArrivalStep, ClientNumbers, ClientRun, ClientState, ClientStep, NotifyStep, ReplyStep, RequestStep, ServerRun, ServerState, ServerStep, client_state, server_state}
 use Rattle.osc_kept.specs.Numbering.{Own, Steps}
 use Rattle.osc_kept.specs.Owning.{own_in}
 use Rattle.osc_kept.specs.Premises.{IsLawful, IsNoAdd, NobodyForgesRequests}
 use Rattle.osc_kept.specs.RunsInWorld.{ClientRunInWorld, ClientRunTrusts, ClientStepTrusts, IsBehind, IsOf, LoadsAbove, RunsOn, ServerRunInWorld, ServerRunTrusts, ServerStepTrusts}
 use Rattle.osc_kept.specs.World.{World, Begin, Then, Event, End, Client, Server, AtClient, AtServer, answered, numbers, sent}
 use Rattle.osc_kept.proofs.InWorld.{client_in_world, forges_still, had_tickets, responses_still, same_answered, same_sent, server_in_world, unseen_still}
-use Rattle.osc_endpoint.proofs.RunTickets.{left_in, taken_out}
-use Rattle.osc_kept.proofs.RunTickets.{none_more, places_are, took_more}
+use Rattle.osc_endpoint.proofs.RunTickets as places
+use Rattle.osc_endpoint.proofs.RunTickets.{IsLeftTo}
+use Rattle.osc_kept.proofs.RunTickets.{none_more, notified_more, replied_more, took_more}
 
 -- ---- the list behind a step
 
@@ -89,20 +90,20 @@ more_claimed n s w v u x y = record { lawful = y.lawful; claims = y.claims; save
 
 -- ---- servers
 
--- where a run has come: zs are the tickets that were left before it
-record Served {K : Type 0} {k : keeper.Ghosts K} (n : ℕ) (s : SecurityContext) (w : World) (own : Own) (zs : List server.TicketValues) (v : World) (a : ServerState k) : Type 0 where
+-- where a run has come
+record Served {K : Type 0} {k : keeper.Ghosts K} (n : ℕ) (s : SecurityContext) (w : World) (own : Own) (v : World) (a : ServerState k) : Type 0 where
   pub on : RunsOn Server s w v own (own_in a.source)
   pub claimed : IsAsClaimed n s w v
   pub runs : ServerRuns s v a.history (own_in a.source)
   pub stays : ClientStays s w v
   pub same : sent s v ≡ sent s w
-  pub left : AreLeft a.history (left_in a.tickets ++ zs)
+  pub left : IsLeftTo a.history a.tickets
 
-module _ {K : Type 0} {k : keeper.Ghosts K} (claims : (n : ℕ) (s : SecurityContext) (w : World) → IsLawful n s w → BothEnds s w) (n : ℕ) (s : SecurityContext) (w : World) (own : Own) (zs : List server.TicketValues) where
+module _ {K : Type 0} {k : keeper.Ghosts K} (claims : (n : ℕ) (s : SecurityContext) (w : World) → IsLawful n s w → BothEnds s w) (n : ℕ) (s : SecurityContext) (w : World) (own : Own) where
   -- an event that is answered
-  served_on : (v : World) (a b : ServerState k) (event : server.Event) (entry : server.Entry) → Served n s w own zs v a → IsNoAdd event → server_run.GoesOn a.history event entry b.history
+  served_on : (v : World) (a b : ServerState k) (event : server.Event) (entry : server.Entry) → Served n s w own v a → IsNoAdd event → server_run.GoesOn a.history event entry b.history
       → ServerMoves a.history event entry (own_in a.source) (own_in b.source) → ServerTrusts s v a.history event entry
-      → AreLeft (server.Then a.history event entry) (left_in b.tickets ++ zs) → (u : World) × Served n s w own zs u b
+      → IsLeftTo (server.Then a.history event entry) b.tickets → (u : World) × Served n s w own u b
   served_on v a b event entry r plain (row, is) moves trusts left =
       let x = server_in_world claims n s v a.history event entry (own_in a.source) (own_in b.source) r.claimed.lawful r.runs plain row moves trusts in (
         x.0,
@@ -112,14 +113,13 @@ module _ {K : Type 0} {k : keeper.Ghosts K} (claims : (n : ℕ) (s : SecurityCon
           runs = subst (λ h. ServerRuns s x.0 h (own_in b.source)) (sym is) x.3;
           stays = λ h o y. x.4 h o (r.stays h o y);
           same = ap (sent s) x.1.ends ∙ same_sent Server s v x.1.between x.1.drawn ∙ r.same;
-          left = subst (λ h. AreLeft h (left_in b.tickets ++ zs)) (sym is) left;
+          left = subst (λ h. IsLeftTo h b.tickets) (sym is) left;
         },
       )
 
-  -- an event that changes nothing
-  served_so : (v : World) (a b : ServerState k) (us : List (Option server.TicketValues)) (o : Option server.TicketValues) → Served n s w own zs v a → b.history ≡ a.history
-      → own_in b.source ≡ own_in a.source → us ≡ a.tickets → o ≡ None → b.tickets ≡ us ++ o ∷ [] → (u : World) × Served n s w own zs u b
-  served_so v a b us o r is own_is same none more = (
+  -- an event that changes nothing but the tickets
+  served_so : (v : World) (a b : ServerState k) → Served n s w own v a → b.history ≡ a.history → own_in b.source ≡ own_in a.source → IsLeftTo a.history b.tickets → (u : World) × Served n s w own u b
+  served_so v a b r is own_is left = (
     v,
     record {
       on = subst (RunsOn Server s w v own) (sym own_is) r.on;
@@ -127,61 +127,88 @@ module _ {K : Type 0} {k : keeper.Ghosts K} (claims : (n : ℕ) (s : SecurityCon
       runs = subst (λ h. ServerRuns s v h (own_in b.source)) (sym is) (subst (ServerRuns s v a.history) (sym own_is) r.runs);
       stays = r.stays;
       same = r.same;
-      left = subst (λ h. AreLeft h (left_in b.tickets ++ zs)) (sym is) (none_more a.history a.tickets us b.tickets o zs same none more r.left);
+      left = subst (λ h. IsLeftTo h b.tickets) (sym is) left;
     },
   )
 
   arrived : (v : World) (a b : ServerState k) (x : Arrival) (entry : ServerEntry) (us : List (Option server.TicketValues)) (o : Option server.TicketValues)
       → ArrivalStep a.history a.source x entry b.history b.source o → us ≡ a.tickets → b.tickets ≡ us ++ o ∷ []
-      → NobodyForgesRequests s w x.bytes.items × IsUnseen s w x.fresh.echo → Served n s w own zs v a → (u : World) × Served n s w own zs u b
+      → NobodyForgesRequests s w x.bytes.items × IsUnseen s w x.fresh.echo → Served n s w own v a → (u : World) × Served n s w own u b
   arrived v a b x (served.Took seen.KeeperFailed reply) us o (is, (count, own_is), empty, none) same more trusts r =
-      served_on v a b (server.Advance x.now) server.Advanced r tt (tt, is) (own_in a.source, refl, (tt, own_is)) tt (none_more a.history a.tickets us b.tickets o zs same none more r.left)
+      served_on v a b (server.Advance x.now) server.Advanced r tt (tt, is) (own_in a.source, refl, (tt, own_is)) tt (none_more a.history a.tickets us b.tickets o same none more r.left)
   arrived v a b x (served.Took shown reply) us o step same more trusts r =
       served_on v a b (server.Datagram x.now x.fresh.echo x.fresh.mid x.bytes.items) (server.Took step.0 reply.now) r tt step.2 step.3.0
       (forges_still s w v x.bytes.items r.same trusts.0, unseen_still s w v x.fresh.echo r.same trusts.1)
-      (took_more a.history x.now x.fresh.mid x.fresh.echo x.bytes.items step.0 reply.now a.tickets us b.tickets o zs same step.4 more r.left)
+      (took_more a.history x.now x.fresh.mid x.fresh.echo x.bytes.items step.0 reply.now a.tickets us b.tickets o same step.4 more r.left)
   arrived v a b x entry us o step same more trusts r = absurd step
 
-  replied : (v : World) (a b : ServerState k) (of : ℕ) (asks_own : Bool) (mid : ℕ) (plain : List ℕ) (room : ℕ) (entry : ServerEntry) (us : List (Option server.TicketValues)) (o : Option server.TicketValues)
-      → ReplyStep a.history a.source a.tickets of asks_own mid plain room entry b.history b.source us → o ≡ None → b.tickets ≡ us ++ o ∷ []
-      → Served n s w own zs v a → (u : World) × Served n s w own zs u b
-  replied v a b of asks_own mid plain room (served.Replied (Ok text)) us o (t, at, p, datagram, goes, (steps, worked), out) none more r =
-      let taken : IsTakenOut t (left_in a.tickets ++ zs) (left_in (slice_set a.tickets of None) ++ zs) = taken_out a.tickets of t zs at in
-      served_on v a b (server.Reply t asks_own mid p room) (server.Replied text.now) r tt goes steps (left_in a.tickets ++ zs, left_in (slice_set a.tickets of None) ++ zs, r.left, taken)
-      (left_in a.tickets ++ zs, r.left, subst (λ ys. IsTakenOut t (left_in a.tickets ++ zs) (ys ++ zs)) (sym (places_are (slice_set a.tickets of None) us b.tickets o None out none more)) taken)
-  replied v a b of asks_own mid plain room (served.Replied (Err replies.KeeperFailed)) us o (t, at, p, datagram, is, (count, own_is), same) none more r =
-      served_so v a b us o r is own_is same none more
-  replied v a b of asks_own mid plain room (served.Replied (Err e)) us o (t, at, p, datagram, goes, (steps, worked), same) none more r =
-      served_on v a b (server.Reply t asks_own mid p room) (server.NotReplied e) r tt goes steps tt (none_more a.history a.tickets us b.tickets o zs same none more r.left)
-  replied v a b of asks_own mid plain room served.NoTicket us o ((at, is, same), source) none more r = served_so v a b us o r is (ap (λ x. own_in x) source) same none more
-  replied v a b of asks_own mid plain room (served.BadPlain e) us o ((t, at, fault, is, same), source) none more r =
-      served_so v a b us o r is (ap (λ x. own_in x) source) same none more
-  replied v a b of asks_own mid plain room entry us o step none more r = absurd step.0
+  replied : (v : World) (a b : ServerState k) (of : ℕ) (own' : Bool) (mid : ℕ) (plain : List ℕ) (room : ℕ) (entry : ServerEntry) (us : List (Option server.TicketValues)) (o : Option server.TicketValues)
+      → ReplyStep a.history a.source a.tickets of own' mid plain room entry b.history b.source us → o ≡ None → b.tickets ≡ us ++ o ∷ []
+      → Served n s w own v a → (u : World) × Served n s w own u b
+  replied v a b of own' mid plain room (served.Replied (Ok text)) us o (t, at, p, datagram, goes, (steps, worked), out) none more r =
+      let (held, left) = replied_more a.history of mid room own' plain text t p a.tickets us b.tickets o at datagram goes.0 out none more r.left in
+      served_on v a b (server.Reply t (asks_own t own') mid p room) (server.Replied text.now) r tt goes steps held left
+  replied v a b of own' mid plain room (served.Replied (Err replies.KeeperFailed)) us o (t, at, p, datagram, is, (count, own_is), same) none more r =
+      served_so v a b r is own_is (none_more a.history a.tickets us b.tickets o same none more r.left)
+  replied v a b of own' mid plain room (served.Replied (Err e)) us o (t, at, p, datagram, goes, (steps, worked), same) none more r =
+      served_on v a b (server.Reply t (asks_own t own') mid p room) (server.NotReplied e) r tt goes steps tt (none_more a.history a.tickets us b.tickets o same none more r.left)
+  replied v a b of own' mid plain room served.NoTicket us o ((at, is, same), source) none more r =
+      served_so v a b r is (ap (λ x. own_in x) source) (none_more a.history a.tickets us b.tickets o same none more r.left)
+  replied v a b of own' mid plain room (served.BadPlain e) us o ((t, at, fault, is, same), source) none more r =
+      served_so v a b r is (ap (λ x. own_in x) source) (none_more a.history a.tickets us b.tickets o same none more r.left)
+  replied v a b of own' mid plain room entry us o step none more r = absurd step.0
 
-  serves : (v : World) (a b : ServerState k) (e : KeptServerEvent) (x : KeptServerEntry) (step : ServerStep a e x b) → ServerStepTrusts s w own a e x b step → Served n s w own zs v a
-      → (u : World) × Served n s w own zs u b
+  notified : (v : World) (a b : ServerState k) (of : ℕ) (plain : List ℕ) (room : ℕ) (entry : ServerEntry) (us : List (Option server.TicketValues)) (o : Option server.TicketValues)
+      → NotifyStep a.history a.source a.tickets of plain room entry b.history b.source → us ≡ a.tickets → o ≡ None → b.tickets ≡ us ++ o ∷ []
+      → Served n s w own v a → (u : World) × Served n s w own u b
+  notified v a b of plain room (served.Replied (Ok text)) us o (t, at, p, datagram, goes, (steps, worked)) same none more r =
+      let (held, left) = notified_more a.history of room plain text t p a.tickets us b.tickets o at datagram goes.0 same none more r.left in
+      served_on v a b (server.Notify t p room) (server.Replied text.now) r tt goes steps held left
+  notified v a b of plain room (served.Replied (Err replies.KeeperFailed)) us o (t, at, p, datagram, is, (count, own_is)) same none more r =
+      served_so v a b r is own_is (none_more a.history a.tickets us b.tickets o same none more r.left)
+  notified v a b of plain room (served.Replied (Err e)) us o (t, at, p, datagram, goes, (steps, worked)) same none more r =
+      served_on v a b (server.Notify t p room) (server.NotReplied e) r tt goes steps tt (none_more a.history a.tickets us b.tickets o same none more r.left)
+  notified v a b of plain room served.NoTicket us o ((at, is), source) same none more r =
+      served_so v a b r is (ap (λ x. own_in x) source) (none_more a.history a.tickets us b.tickets o same none more r.left)
+  notified v a b of plain room (served.BadPlain e) us o ((t, at, fault, is), source) same none more r =
+      served_so v a b r is (ap (λ x. own_in x) source) (none_more a.history a.tickets us b.tickets o same none more r.left)
+  notified v a b of plain room entry us o step same none more r = absurd step.0
+
+  dropped : (v : World) (a b : ServerState k) (of : ℕ) (entry : ServerEntry) (us : List (Option server.TicketValues)) (o : Option server.TicketValues)
+      → server_run.DropStep a.history a.tickets of entry b.history us → b.source ≡ a.source → o ≡ None → b.tickets ≡ us ++ o ∷ [] → Served n s w own v a → (u : World) × Served n s w own u b
+  dropped v a b of (served.Dropped there) us o (was, is, out) source none more r =
+      let left = places.dropped a.history a.history a.tickets us of (served.Dropped there) (was, refl, out) r.left in
+      served_so v a b r is (ap (λ x. own_in x) source) (none_more a.history us us b.tickets o refl none more left)
+  dropped v a b of entry us o step source none more r = absurd step
+
+  serves : (v : World) (a b : ServerState k) (e : KeptServerEvent) (x : KeptServerEntry) (step : ServerStep a e x b) → ServerStepTrusts s w own a e x b step → Served n s w own v a
+      → (u : World) × Served n s w own u b
   serves v a b (server_events.Datagram arrival) (server_entries.Served entry) (us, o, (step, same), more) trusts r = arrived v a b arrival entry us o step same more trusts r
   serves v a b (server_events.Reply reply) (server_entries.Served entry) (us, o, (step, none), more) trusts r =
       replied v a b reply.of reply.own reply.mid reply.plain.items (length reply.out.items) entry us o step none more r
+  serves v a b (server_events.Notify notice) (server_entries.Served entry) (us, o, (step, same, none), more) trusts r =
+      notified v a b notice.of notice.plain.items (length notice.out.items) entry us o step same none more r
+  serves v a b (server_events.Drop of) (server_entries.Served entry) (us, o, (step, source, none), more) trusts r = dropped v a b of entry us o step source none more r
   serves v a b server_events.Restart (server_entries.Restarted (Ok x)) (us, o, ((loaded, was, moves, goes), same, none), more) trusts r =
       served_on v a b (server.Restart 0 loaded) server.Restarted r tt goes moves (above Server s w v own (own_in a.source) loaded r.on trusts moves.0.0)
-      (none_more a.history a.tickets us b.tickets o zs same none more r.left)
-  serves v a b server_events.Restart (server_entries.Restarted (Err e)) (us, o, ((why, is, own_is, lives), same, none), more) trusts r = served_so v a b us o r is own_is same none more
+      (none_more a.history a.tickets us b.tickets o same none more r.left)
+  serves v a b server_events.Restart (server_entries.Restarted (Err e)) (us, o, ((why, is, own_is, lives), same, none), more) trusts r =
+      served_so v a b r is own_is (none_more a.history a.tickets us b.tickets o same none more r.left)
   serves v a b server_events.Restart (server_entries.Served entry) (us, o, (step, same, none), more) trusts r = absurd step
   serves v a b e x (us, o, step, more) trusts r = absurd step
 
   server_ran : (v : World) (a b : ServerState k) (es : List KeptServerEvent) (xs : List KeptServerEntry) (run : ServerRun a es xs b) → ServerRunTrusts s w own a es xs b run
-      → Served n s w own zs v a → (u : World) × Served n s w own zs u b
-  server_ran v a b [] [] run trusts r = (v, subst (λ (c : ServerState k). Served n s w own zs v c) (sym run) r)
+      → Served n s w own v a → (u : World) × Served n s w own u b
+  server_ran v a b [] [] run trusts r = (v, subst (λ (c : ServerState k). Served n s w own v c) (sym run) r)
   server_ran v a b [] (x ∷ xs) run trusts r = absurd run
   server_ran v a b (e ∷ es) [] run trusts r = absurd run
   server_ran v a b (e ∷ es) (x ∷ xs) (mid, step, run) (here, more) r = let q = serves v a mid e x step here r in server_ran q.0 mid b es xs run more q.1
 
 pub server_run_in_world : ((n : ℕ) (s : SecurityContext) (w : World) → IsLawful n s w → BothEnds s w) → {K : Type 0} (k : keeper.Ghosts K) → ServerRunInWorld k
 server_run_in_world claims k n s w h source b es xs run lawful runs trusts =
-    let (zs, left) = had_tickets n s w h lawful.answers runs.history_is in
-    let r = server_ran claims n s w (own_in source) zs w (server_state h source []) b es xs run trusts
-    (record { on = nothing_on Server s w (own_in source); claimed = first_claimed n s w lawful (claims n s w lawful); runs = runs; stays = λ g o x. x; same = refl; left = left }) in
+    let (ws, left) = had_tickets n s w h lawful.answers runs.history_is in
+    let r = server_ran claims n s w (own_in source) w (server_state h source []) b es xs run trusts
+    (record { on = nothing_on Server s w (own_in source); claimed = first_claimed n s w lawful (claims n s w lawful); runs = runs; stays = λ g o x. x; same = refl; left = (ws, left, tt) }) in
     (r.0, r.1.on, r.1.claimed, r.1.runs, r.1.stays)
 
 -- ---- clients

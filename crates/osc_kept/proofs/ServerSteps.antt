@@ -18,11 +18,11 @@ use Rattle.osc_endpoint.specs.declared.decision.Decision.{Decision}
 use Rattle.osc_endpoint.specs.declared.decision.Decision.TheVariants as decisions
 use Rattle.osc_endpoint.specs.Agrees.{Agrees, PlaceAgrees}
 use Rattle.osc_endpoint.specs.Deciding.{Decides}
-use Rattle.osc_endpoint.specs.Life.{Life, Mark, Delivered, Spoiled, Challenged, Answered, born, marked, next_own, is_open_life, renewed}
+use Rattle.osc_endpoint.specs.Life.{Life, Mark, Delivered, Spoiled, Challenged, Answered, HasOwn, born, marked, next_own, is_open_life, renewed}
 use Rattle.osc_endpoint.specs.ServerAnswer.{ServerAnswer, LifeRestart}
-use Rattle.osc_endpoint.specs.ServerHistory.{History, Begin, Then, Add, Added, Answer, TicketValues, Datagram, Reply, Advance, Took, Replied, NotReplied, Restart, Restarted, NotRestarted, Advanced, Malformed, NotRequest, Plain, Undecodable, NoContext, Replay, BadTag, BadInner, Challenge, SequenceExhausted, Deliver, added, life, mark_at, reply_mark_at}
+use Rattle.osc_endpoint.specs.ServerHistory.{History, Begin, Then, Add, Added, Answer, TicketValues, Datagram, Notify, Reply, Advance, Took, Replied, NotReplied, Restart, Restarted, NotRestarted, Advanced, Malformed, NotRequest, Plain, Undecodable, NoContext, Replay, BadTag, BadInner, Challenge, SequenceExhausted, Deliver, added, life, mark_at, reply_mark_at}
 use Rattle.osc_kept.specs.KeptServing.{IsKept, KeptStep, uses}
-use Rattle.osc_kept.specs.Numbering.{Own, Draws, Goes, Use, after, upcoming, use_of}
+use Rattle.osc_kept.specs.Numbering.{Own, Draws, Goes, Steps, Use, after, upcoming, use_of}
 use Rattle.osc_kept.proofs.Drawing.{in_hand, upcoming_stays}
 
 -- ---- marks and own numbers
@@ -153,18 +153,35 @@ took_challenge s t h now echo m d i n given issued reply old mid new k row a dra
 pub moved : (s t : Server) (h : History) (now next : ℕ) → IsKept s next h → Agrees t (Then h (Advance now) Advanced) → IsKept t next (Then h (Advance now) Advanced)
 moved s t h now next k a = record { agrees = a; one = k.one; next_is = k.next_is }
 
--- ---- replies
+-- ---- replies and notifications
 
 answers_one : (b : Bool) → b ≡ true → spends (if b then Some Answered else None) ≡ 1
 answers_one true e = refl
 answers_one false e = cc
 
-answers_none : (b : Bool) → b ≡ false → spends (if b then Some Answered else None) ≡ 0
-answers_none true e = cc
-answers_none false e = refl
-
 is_zero : (i : ℕ) → i ≡ 0 → (0 == i) ≡ true
 is_zero i e = subst (λ (k : ℕ). (0 == k) ≡ true) (sym e) refl
+
+-- what a text with an own number does to the numbers: a reply with one, or a notification
+abbrev pub UsesOwn : History → TicketValues → Own → Own → Type 0
+UsesOwn h v old new = (option_map next_own (option_map (marked (reply_mark_at 0 v true)) (life h 0)) ≡ Some (upcoming new)) × Steps true (option_map next_own (life h v.context)) old new
+
+uses_own : (s : Server) (h : History) (v : TicketValues) (of : Life) (old mid new : Own) → IsKept s (upcoming old) h → life h v.context ≡ Some of → HasOwn of
+    → Draws true old mid → ((k : ℕ) → mid.hand ≡ Some k → k + 1 ≡ mid.next) → ((k : ℕ) → new ≡ after (Use k) mid) → UsesOwn h v old new
+uses_own s h v of old mid new k present has drawn last used =
+    let first : v.context ≡ 0 = only_first s h v.context of k.agrees k.one present in
+    let is : life h 0 ≡ Some of = subst (λ x. life h x ≡ Some of) first present in
+    let comes : next_own of ≡ upcoming old = life_next (life h 0) of (upcoming old) k.next_is is in
+    let below : upcoming old < 2 ^ 40 = subst (λ x. x < 2 ^ 40) comes has in
+    let hand : mid.hand ≡ Some (upcoming old) = in_hand old mid drawn below in
+    let behind : upcoming old + 1 ≡ mid.next = last (upcoming old) hand in
+    let is_next : upcoming new ≡ mid.next = ap upcoming (used (upcoming old)) in
+    let spent : spends (reply_mark_at 0 v true) ≡ 1 = answers_one (0 == v.context) (is_zero v.context first) in
+    let same : upcoming old + spends (reply_mark_at 0 v true) ≡ upcoming new = omega (arith, spent, behind, is_next) in
+    let number_is : option_map next_own (life h v.context) ≡ Some (upcoming old) = subst (λ x. option_map next_own (life h x) ≡ Some (upcoming old)) (sym first) k.next_is in (
+      next_marked (reply_mark_at 0 v true) (life h 0) (upcoming old) k.next_is ∙ ap Some same,
+      (mid, drawn, subst (λ (u : Option ℕ). Goes (use_of u) mid new) (sym number_is) (hand, used (upcoming old))),
+    )
 
 not_used : (h : History) (v : TicketValues) (m : ℕ) (p : Parts) (room : ℕ) (e : ReplyError) (own : Bool) → uses h (Reply v own m p room) (NotReplied e) ≡ None
 not_used h v m p room e true = refl
@@ -180,6 +197,16 @@ reply_refused s t h v own m p room e old new k row a drawn =
       row = row;
       kept = record { agrees = a; one = k.one; next_is = k.next_is ∙ ap Some (sym (upcoming_stays own old new drawn)) };
       numbers = subst (λ (u : Option ℕ). (mid : Own) × Draws own old mid × Goes (use_of u) mid new) (sym none) (new, drawn, (tt, refl));
+    }
+
+-- a notification that is refused
+pub notify_refused : (s t : Server) (h : History) (v : TicketValues) (p : Parts) (room : ℕ) (e : ReplyError) (old new : Own) → IsKept s (upcoming old) h
+    → ServerAnswer h (Notify v p room) (NotReplied e) → Agrees t (Then h (Notify v p room) (NotReplied e)) → Draws true old new → KeptStep h (Notify v p room) (NotReplied e) old new t
+notify_refused s t h v p room e old new k row a drawn =
+    record {
+      row = row;
+      kept = record { agrees = a; one = k.one; next_is = k.next_is ∙ ap Some (sym (upcoming_stays true old new drawn)) };
+      numbers = (new, drawn, (tt, refl));
     }
 
 -- a reply with no own number
@@ -200,21 +227,18 @@ pub reply_own : (s t : Server) (h : History) (v : TicketValues) (m : ℕ) (p : P
     → KeptStep h (Reply v true m p room) (Replied bytes) old new t
 reply_own s t h v m p room bytes old mid new k row a drawn last used =
     let (of, present, answer) = row in
-    let first : v.context ≡ 0 = only_first s h v.context of k.agrees k.one present.0 in
-    let is : life h 0 ≡ Some of = subst (λ x. life h x ≡ Some of) first present.0 in
-    let comes : next_own of ≡ upcoming old = life_next (life h 0) of (upcoming old) k.next_is is in
-    let below : upcoming old < 2 ^ 40 = subst (λ x. x < 2 ^ 40) comes (answer.0 refl) in
-    let hand : mid.hand ≡ Some (upcoming old) = in_hand old mid drawn below in
-    let behind : upcoming old + 1 ≡ mid.next = last (upcoming old) hand in
-    let is_next : upcoming new ≡ mid.next = ap upcoming (used (upcoming old)) in
-    let spent : spends (reply_mark_at 0 v true) ≡ 1 = answers_one (0 == v.context) (is_zero v.context first) in
-    let same : upcoming old + spends (reply_mark_at 0 v true) ≡ upcoming new = omega (arith, spent, behind, is_next) in
-    let number_is : option_map next_own (life h v.context) ≡ Some (upcoming old) = subst (λ x. option_map next_own (life h x) ≡ Some (upcoming old)) (sym first) k.next_is in
-    record {
-      row = row;
-      kept = record { agrees = a; one = k.one; next_is = next_marked (reply_mark_at 0 v true) (life h 0) (upcoming old) k.next_is ∙ ap Some same };
-      numbers = (mid, drawn, subst (λ (u : Option ℕ). Goes (use_of u) mid new) (sym number_is) (hand, used (upcoming old)));
-    }
+    let (next, steps) = uses_own s h v of old mid new k present.0 (answer.0 refl) drawn last used in
+    record { row = row; kept = record { agrees = a; one = k.one; next_is = next }; numbers = steps }
+
+-- a notification
+pub notify_own : (s t : Server) (h : History) (v : TicketValues) (p : Parts) (room : ℕ) (bytes : List ℕ) (old mid new : Own)
+    → IsKept s (upcoming old) h → ServerAnswer h (Notify v p room) (Replied bytes) → Agrees t (Then h (Notify v p room) (Replied bytes))
+    → Draws true old mid → ((k : ℕ) → mid.hand ≡ Some k → k + 1 ≡ mid.next) → ((k : ℕ) → new ≡ after (Use k) mid)
+    → KeptStep h (Notify v p room) (Replied bytes) old new t
+notify_own s t h v p room bytes old mid new k row a drawn last used =
+    let (of, present, answer) = row.1 in
+    let (next, steps) = uses_own s h v of old mid new k present.0 answer.1 drawn last used in
+    record { row = row; kept = record { agrees = a; one = k.one; next_is = next }; numbers = steps }
 
 -- a reply that is sealed, with an own number in hand or without one
 pub reply_with : (s t : Server) (h : History) (v : TicketValues) (own : Bool) (m : ℕ) (p : Parts) (room : ℕ) (bytes : List ℕ) (old mid new : Own) → own ≡ true

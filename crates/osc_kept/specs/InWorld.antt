@@ -29,11 +29,12 @@ IsUnseen s w echo = (r : Request) → Has r (sent s w) → first_of (values_at o
 abbrev pub IsHeld : server.History → server.TicketValues → Type 0
 IsHeld h t = (before : List server.TicketValues) × (after : List server.TicketValues) × AreLeft h before × IsTakenOut t before after
 
--- for a datagram: nobody forged it, and the fresh Echo value is new; for a reply: a delivery gave its ticket, and no reply took it; for a restart: the
--- number that was loaded isn't below the floor (RFC 8613, 7.2.1, 8.3, 12 and B.1; RFC 9175, 2.3)
+-- for a datagram: nobody forged it, and the fresh Echo value is new; for a reply or a notification: a delivery gave its ticket, and no reply took it; for a
+-- restart: the number that was loaded isn't below the floor (RFC 8613, 7.2.1, 8.3, 12 and B.1; RFC 9175, 2.3)
 abbrev pub ServerTrusts : SecurityContext → World → server.History → server.Event → server.Entry → Type 0
 ServerTrusts s w h (server.Datagram now echo mid d) entry = NobodyForgesRequests s w d × IsUnseen s w echo
 ServerTrusts s w h (server.Reply t own mid p room) (server.Replied bytes) = IsHeld h t
+ServerTrusts s w h (server.Notify t p room) (server.Replied bytes) = IsHeld h t
 ServerTrusts s w h (server.Restart c next) server.Restarted = (numbers Server s w).floor ≤ next
 ServerTrusts s w h event entry = Unit {0}
 

@@ -17,7 +17,7 @@ use Rattle.osc_endpoint.specs.declared.server_event.ServerEntry.{ServerEntry}
 use Rattle.osc_endpoint.specs.declared.server_event.ServerEntry.TheVariants as served
 use Rattle.osc_endpoint.specs.ClientHistory as client
 use Rattle.osc_endpoint.specs.ClientRun as client_run
-use Rattle.osc_endpoint.specs.ServerAnswer.{ServerAnswer}
+use Rattle.osc_endpoint.specs.ServerAnswer.{ServerAnswer, asks_own}
 use Rattle.osc_endpoint.specs.ServerHistory as server
 use Rattle.osc_endpoint.specs.ServerRun as server_run
 use Rattle.osc_kept.specs.declared.kept_error.KeptError.TheVariants.{LivesExhausted}
@@ -72,17 +72,29 @@ ArrivalStep h old a (served.Took x reply) g new o = (answer : server.Answer) × 
     × ServerNumbers h (server.Datagram a.now a.fresh.echo a.fresh.mid a.bytes.items) (server.Took answer reply.now) old new × (o ≡ server_run.ticket_of answer)
 ArrivalStep h old a entry g new o = ⊥
 
--- a reply by the ticket at a place, and the tickets that are left; if the keeper failed, nothing else changed (RFC 8613, 8.3)
+-- a reply by the ticket at a place, and the tickets that are left; if the keeper failed, nothing else changed (RFC 8613, 4.1.3.5 and 8.3)
 abbrev pub ReplyStep : {K : Type 0} {k : keeper.Ghosts K} → server.History → Source K k → List (Option server.TicketValues) → ℕ → Bool → ℕ → List ℕ → ℕ → ServerEntry → server.History → Source K k → List (Option server.TicketValues) → Type 0
 ReplyStep h old ts of own mid plain room (served.Replied (Ok text)) g new us = (t : server.TicketValues) × (server_run.ticket_at ts of ≡ Some t)
-    × (p : Parts) × IsDatagram p plain × server_run.GoesOn h (server.Reply t own mid p room) (server.Replied text.now) g
-    × ServerNumbers h (server.Reply t own mid p room) (server.Replied text.now) old new × (us ≡ slice_set ts of None)
+    × (p : Parts) × IsDatagram p plain × server_run.GoesOn h (server.Reply t (asks_own t own) mid p room) (server.Replied text.now) g
+    × ServerNumbers h (server.Reply t (asks_own t own) mid p room) (server.Replied text.now) old new × (us ≡ slice_set ts of None)
 ReplyStep h old ts of own mid plain room (served.Replied (Err replies.KeeperFailed)) g new us =
     (t : server.TicketValues) × (server_run.ticket_at ts of ≡ Some t) × (p : Parts) × IsDatagram p plain × (g ≡ h) × Failed old new × (us ≡ ts)
 ReplyStep h old ts of own mid plain room (served.Replied (Err e)) g new us = (t : server.TicketValues) × (server_run.ticket_at ts of ≡ Some t)
-    × (p : Parts) × IsDatagram p plain × server_run.GoesOn h (server.Reply t own mid p room) (server.NotReplied e) g
-    × ServerNumbers h (server.Reply t own mid p room) (server.NotReplied e) old new × (us ≡ ts)
+    × (p : Parts) × IsDatagram p plain × server_run.GoesOn h (server.Reply t (asks_own t own) mid p room) (server.NotReplied e) g
+    × ServerNumbers h (server.Reply t (asks_own t own) mid p room) (server.NotReplied e) old new × (us ≡ ts)
 ReplyStep h old ts of own mid plain room entry g new us = server_run.ReplyStep h ts of own mid plain room entry g us × (new ≡ old)
+
+-- a notification by the ticket at a place, which stays; if the keeper failed, nothing else changed (RFC 8613, 8.3.1)
+abbrev pub NotifyStep : {K : Type 0} {k : keeper.Ghosts K} → server.History → Source K k → List (Option server.TicketValues) → ℕ → List ℕ → ℕ → ServerEntry → server.History → Source K k → Type 0
+NotifyStep h old ts of plain room (served.Replied (Ok text)) g new = (t : server.TicketValues) × (server_run.ticket_at ts of ≡ Some t)
+    × (p : Parts) × IsDatagram p plain × server_run.GoesOn h (server.Notify t p room) (server.Replied text.now) g
+    × ServerNumbers h (server.Notify t p room) (server.Replied text.now) old new
+NotifyStep h old ts of plain room (served.Replied (Err replies.KeeperFailed)) g new =
+    (t : server.TicketValues) × (server_run.ticket_at ts of ≡ Some t) × (p : Parts) × IsDatagram p plain × (g ≡ h) × Failed old new
+NotifyStep h old ts of plain room (served.Replied (Err e)) g new = (t : server.TicketValues) × (server_run.ticket_at ts of ≡ Some t)
+    × (p : Parts) × IsDatagram p plain × server_run.GoesOn h (server.Notify t p room) (server.NotReplied e) g
+    × ServerNumbers h (server.Notify t p room) (server.NotReplied e) old new
+NotifyStep h old ts of plain room entry g new = server_run.NotifyStep h ts of plain room entry g × (new ≡ old)
 
 -- a restart's entry; if it is refused, nothing but the keeper changed (RFC 8613, B.1)
 abbrev pub RestartStep : {K : Type 0} {k : keeper.Ghosts K} → server.History → Source K k → KeptServerEntry → server.History → Source K k → Type 0
@@ -96,6 +108,8 @@ RestartStep h old entry g new = ⊥
 abbrev pub Serves : {K : Type 0} {k : keeper.Ghosts K} → ServerState k → KeptServerEvent → KeptServerEntry → server.History → Source K k → List (Option server.TicketValues) → Option server.TicketValues → Type 0
 Serves s (server_events.Datagram a) (server_entries.Served entry) g new us o = ArrivalStep s.history s.source a entry g new o × (us ≡ s.tickets)
 Serves s (server_events.Reply r) (server_entries.Served entry) g new us o = ReplyStep s.history s.source s.tickets r.of r.own r.mid r.plain.items (length r.out.items) entry g new us × (o ≡ None)
+Serves s (server_events.Notify r) (server_entries.Served entry) g new us o = NotifyStep s.history s.source s.tickets r.of r.plain.items (length r.out.items) entry g new × (us ≡ s.tickets) × (o ≡ None)
+Serves s (server_events.Drop of) (server_entries.Served entry) g new us o = server_run.DropStep s.history s.tickets of entry g us × (new ≡ s.source) × (o ≡ None)
 Serves s server_events.Restart entry g new us o = RestartStep s.history s.source entry g new × (us ≡ s.tickets) × (o ≡ None)
 Serves s event entry g new us o = ⊥
 

@@ -1,12 +1,13 @@
 //! What a kept server does with its endpoint and its numbers: it draws a number if an event asks for one, and then handles the event.
 
-ghost use Rattle.std.specs.Prelude.{◌≡◌, ◌≢◌, ◌≤◌, ◌+◌, ℕ, not, IsOk, IsErr, IfOk, IfErr, OnErr, length, take, drop};
+ghost use Rattle.std.specs.Prelude.{◌≡◌, ◌≢◌, ◌≤◌, ◌+◌, ℕ, not, true, IsOk, IsErr, IfOk, IfErr, OnErr, length, take, drop};
 ghost use Rattle.osc_coap.specs.Views.{parts_of};
 ghost use Rattle.osc_endpoint.specs.Agrees.{Agrees};
 ghost use Rattle.osc_endpoint.specs.Deciding.{CanShow, LeavesBy};
 ghost use Rattle.osc_endpoint.specs.Life.{is_open_life};
-ghost use Rattle.osc_endpoint.specs.ServerHistory.{History, Reply, life};
-ghost use Rattle.osc_endpoint.specs.Views.{server_entry, values_of};
+ghost use Rattle.osc_endpoint.specs.ServerAnswer.{asks_own};
+ghost use Rattle.osc_endpoint.specs.ServerHistory.{History, Notify, Reply, life};
+ghost use Rattle.osc_endpoint.specs.Views.{reply_entry, server_entry, values_of};
 ghost use Rattle.osc_endpoint.specs.declared.server_error.ReplyError.TheVariants.{KeeperFailed};
 ghost use Rattle.osc_kept.specs.KeptServing.{IsKept, KeptDecides, KeptStep};
 ghost use Rattle.osc_kept.specs.Numbering.{Own, Draws, upcoming};
@@ -33,17 +34,25 @@ pub(crate) fn draw_for_datagram<K: Keeper>(
     source.draw()
 }
 
-/// Draws a number for a reply, if the reply asks for one.
+/// Returns whether a reply has an own number: one is asked for, or the ticket's request registers an observation (RFC 8613, 4.1.3.5).
+fn has_own(ticket: &Ticket, own: bool) -> bool
+    ensures { result ≡ asks_own (values_of ticket.now) own }
+{
+    ticket.observes() || own
+}
+
+/// Draws a number for a reply, if the reply has an own number.
 pub(crate) fn draw_for_reply<K: Keeper>(
+    ticket: &Ticket,
     own: bool,
     source: &mut Source<K>,
 ) -> Result<(), KeeperError>
-    ensures drawn { IsOk result → Draws own (own_in source.old) (own_in source.new) }
+    ensures drawn { IsOk result → Draws (asks_own (values_of ticket.now) own) (own_in source.old) (own_in source.new) }
     ensures left { IsErr result → own_in source.new ≡ own_in source.old }
     ensures failed { IsErr result → K.failures source.new.keeper ≡ K.failures source.old.keeper + 1 }
     ensures worked { IsOk result → K.failures source.new.keeper ≡ K.failures source.old.keeper }
 {
-    if own {
+    if has_own(ticket, own) {
         return source.draw();
     }
     Ok(())
@@ -74,7 +83,7 @@ pub(crate) fn decide_drawn<K: Keeper>(
     decided
 }
 
-/// Seals a reply, after the draw for it. A reply with its own number uses the number in hand.
+/// Seals a reply, after the draw for it. A reply with an own number uses the number in hand.
 pub(crate) fn reply_drawn<K: Keeper>(
     server: &mut Server,
     source: &mut Source<K>,
@@ -84,8 +93,9 @@ pub(crate) fn reply_drawn<K: Keeper>(
     plain: &Message<'_>,
     out: &mut [u8],
 ) -> Result<usize, (ReplyError, Ticket)>
-    ensures answered { (h : History) (old : Own) → IsKept server.old (upcoming old) h → Draws own old (own_in source.old)
-        → KeptStep h (Reply (values_of ticket) own mid (parts_of plain.now) (length out.old)) (server_entry result out.new) old (own_in source.new) server.new }
+    ensures answered { (h : History) (old : Own) → IsKept server.old (upcoming old) h → Draws (asks_own (values_of ticket) own) old (own_in source.old)
+        → KeptStep h (Reply (values_of ticket) (asks_own (values_of ticket) own) mid (parts_of plain.now) (length out.old)) (server_entry result out.new)
+        old (own_in source.new) server.new }
     ensures keeper { source.new.keeper ≡ source.old.keeper }
     ensures back { IfErr result (λ e. e.1 ≡ ticket) }
     ensures within { IfOk result (λ n. n ≤ length out.new) }
@@ -93,13 +103,38 @@ pub(crate) fn reply_drawn<K: Keeper>(
     ensures unchanged { OnErr result ((out.new ≡ out.old) × (server.new ≡ server.old)) }
     ensures no_keeper_failed { IfErr result (λ e. e.0 ≢ KeeperFailed) }
 {
+    let has_own = has_own(&ticket, own);
     let len = match server.reply(ticket, own, mid, plain, out) {
         Ok(len) => len,
         Err(refused) => return Err(refused),
     };
-    if own {
+    if has_own {
         let _own = source.spend();
         return Ok(len);
     }
+    Ok(len)
+}
+
+/// Seals a notification, after the draw for it. It uses the number in hand.
+pub(crate) fn notify_drawn<K: Keeper>(
+    server: &mut Server,
+    source: &mut Source<K>,
+    ticket: &Ticket,
+    plain: &Message<'_>,
+    out: &mut [u8],
+) -> Result<usize, ReplyError>
+    ensures answered { (h : History) (old : Own) → IsKept server.old (upcoming old) h → Draws true old (own_in source.old)
+        → KeptStep h (Notify (values_of ticket.now) (parts_of plain.now) (length out.old)) (reply_entry result out.new) old (own_in source.new) server.new }
+    ensures keeper { source.new.keeper ≡ source.old.keeper }
+    ensures within { IfOk result (λ n. n ≤ length out.new) }
+    ensures behind { IfOk result (λ n. drop n out.new ≡ drop n out.old) }
+    ensures unchanged { OnErr result ((out.new ≡ out.old) × (server.new ≡ server.old)) }
+    ensures no_keeper_failed { IfErr result (λ e. e ≢ KeeperFailed) }
+{
+    let len = match server.notify(ticket, plain, out) {
+        Ok(len) => len,
+        Err(error) => return Err(error),
+    };
+    let _own = source.spend();
     Ok(len)
 }

@@ -8,7 +8,8 @@ ghost use Rattle.osc_context.specs.SecurityContext.{SecurityContext};
 ghost use Rattle.osc_context.specs.Views.{as_client, as_server};
 ghost use Rattle.osc_endpoint.specs.ClientHistory as asked;
 ghost use Rattle.osc_endpoint.specs.ServerHistory as served;
-ghost use Rattle.osc_endpoint.specs.Views.{request_entry, server_entry, values_of};
+ghost use Rattle.osc_endpoint.specs.ServerAnswer.{asks_own};
+ghost use Rattle.osc_endpoint.specs.Views.{reply_entry, request_entry, server_entry, values_of};
 ghost use Rattle.osc_endpoint.specs.declared.client_outcome.RequestError.TheVariants as requests;
 ghost use Rattle.osc_endpoint.specs.declared.outcome.Outcome.TheVariants as outcomes;
 ghost use Rattle.osc_endpoint.specs.declared.server_error.ReplyError.TheVariants as replies;
@@ -119,13 +120,32 @@ pub fn reply_in_world<K: Keeper>(
 ) -> Result<usize, (ReplyError, Ticket)>
     ensures answered { IfErr result (λ e. e.0 ≢ replies.KeeperFailed) → (n : ℕ) (s : SecurityContext) (w : World) → IsLawful n s w → RunsIn s w server.old
         → HoldsTicket s w (values_of ticket)
-        → ServerAfter n s w (served.Reply (values_of ticket) own mid (parts_of plain.now) (length out.old)) (server_entry result out.new) server.old server.new }
+        → ServerAfter n s w (served.Reply (values_of ticket) (asks_own (values_of ticket) own) mid (parts_of plain.now) (length out.old)) (server_entry result out.new)
+        server.old server.new }
     ensures unchanged { IfErr result (λ e. e.0 ≡ replies.KeeperFailed → (s : SecurityContext) (w : World) → RunsIn s w server.old → RunsIn s w server.new) }
     ensures failed { IfErr result (λ e. e.0 ≡ replies.KeeperFailed → K.failures server.new.source.keeper ≡ K.failures server.old.source.keeper + 1) }
     ensures worked { IfErr result (λ e. e.0 ≢ replies.KeeperFailed) → K.failures server.new.source.keeper ≡ K.failures server.old.source.keeper }
 {
     kept_ends_in_world();
     server.reply(ticket, own, mid, plain, out)
+}
+
+/// Calls `KeptServer::notify`. Its claim about that list assumes a ticket that a delivery gave and that no reply took.
+pub fn notify_in_world<K: Keeper>(
+    server: &mut KeptServer<K>,
+    ticket: &Ticket,
+    plain: &Message<'_>,
+    out: &mut [u8],
+) -> Result<usize, ReplyError>
+    ensures answered { IfErr result (λ e. e ≢ replies.KeeperFailed) → (n : ℕ) (s : SecurityContext) (w : World) → IsLawful n s w → RunsIn s w server.old
+        → HoldsTicket s w (values_of ticket.now)
+        → ServerAfter n s w (served.Notify (values_of ticket.now) (parts_of plain.now) (length out.old)) (reply_entry result out.new) server.old server.new }
+    ensures unchanged { IfErr result (λ e. e ≡ replies.KeeperFailed → (s : SecurityContext) (w : World) → RunsIn s w server.old → RunsIn s w server.new) }
+    ensures failed { IfErr result (λ e. e ≡ replies.KeeperFailed → K.failures server.new.source.keeper ≡ K.failures server.old.source.keeper + 1) }
+    ensures worked { IfErr result (λ e. e ≢ replies.KeeperFailed) → K.failures server.new.source.keeper ≡ K.failures server.old.source.keeper }
+{
+    kept_ends_in_world();
+    server.notify(ticket, plain, out)
 }
 
 /// Calls `run_kept_server_on`. Its claim about that list assumes that others do their part at each of its events (`ServerRunTrusts`).

@@ -1,7 +1,7 @@
 //! What happens in a run to an end whose numbers are kept, and what comes of it.
 
 use crate::kept_error::KeptError;
-use osc_endpoint::{Answering, Arrival, ClientEntry, ServerEntry};
+use osc_endpoint::{Answering, Arrival, ClientEntry, Notifying, ServerEntry};
 
 /// One event of a kept server's run.
 #[derive(Drop)]
@@ -10,6 +10,10 @@ pub enum KeptServerEvent {
     Datagram(Arrival),
     /// The application answers a request.
     Reply(Answering),
+    /// The application notifies a request that registers an observation.
+    Notify(Notifying),
+    /// The application drops the ticket of the event at an index: an observation is over.
+    Drop { of: usize },
     /// The context begins a new life, at the number that the keeper loads.
     Restart,
 }
@@ -17,7 +21,7 @@ pub enum KeptServerEvent {
 /// The result of one event of a kept server's run.
 #[derive(Debug, Drop)]
 pub enum KeptServerEntry<'a> {
-    /// What became of a datagram or of a reply, as in a server's run. KeeperFailed is possible too.
+    /// What became of a datagram, a reply, a notification or a ticket to drop, as in a server's run. KeeperFailed is possible too.
     Served(ServerEntry<'a>),
     /// Whether the context was restarted.
     Restarted(Result<(), KeptError>),

@@ -5,9 +5,9 @@ ghost use Rattle.osc_coap.specs.Views.{parts_of};
 ghost use Rattle.osc_context.specs.Views.{as_server, number_of};
 ghost use Rattle.osc_endpoint.specs.Deciding.{CanShow, LeavesBy};
 ghost use Rattle.osc_endpoint.specs.Life.{born};
-ghost use Rattle.osc_endpoint.specs.ServerAnswer.{ServerAnswer};
-ghost use Rattle.osc_endpoint.specs.ServerHistory.{History, Begin, Then, Add, Added, Advance, Advanced, Reply, Restart, Restarted, NotRestarted};
-ghost use Rattle.osc_endpoint.specs.Views.{server_entry, values_of};
+ghost use Rattle.osc_endpoint.specs.ServerAnswer.{ServerAnswer, asks_own};
+ghost use Rattle.osc_endpoint.specs.ServerHistory.{History, Begin, Then, Add, Added, Advance, Advanced, Notify, Reply, Restart, Restarted, NotRestarted};
+ghost use Rattle.osc_endpoint.specs.Views.{reply_entry, server_entry, values_of};
 ghost use Rattle.osc_endpoint.specs.declared.outcome.Outcome.TheVariants as outcomes;
 ghost use Rattle.osc_endpoint.specs.declared.server_error.ReplyError.TheVariants as replies;
 ghost use Rattle.osc_endpoint.specs.declared.server_error.RestartError.TheVariants as restarts;
@@ -19,7 +19,9 @@ ghost use Rattle.osc_kept.specs.Owning.{own_in};
 ghost use Rattle.osc_kept.specs.Refusals.{Loaded, RefusesAt};
 ghost use Rattle.osc_kept.specs.Views.{upcoming_of};
 
-use crate::drawn::{decide_drawn, draw_for_datagram, draw_for_reply, reply_drawn};
+use crate::drawn::{
+    decide_drawn, draw_for_datagram, draw_for_reply, notify_drawn, reply_drawn,
+};
 use crate::kept_error::{KeptError, lift};
 use crate::source::Source;
 use osc_coap::Message;
@@ -168,8 +170,9 @@ impl<K: Keeper> KeptServer<K> {
         }
     }
 
-    /// Seals a reply as `Server::reply` does. With `own`, it draws a number before anything else if none is in hand. If the keeper
-    /// fails then, it returns KeeperFailed, and nothing changes. Each refusal gives the ticket back, and the number stays in hand.
+    /// Seals a reply as `Server::reply` does. With `own`, or if the ticket's request registers an observation, it draws a number before
+    /// anything else if none is in hand. If the keeper fails then, it returns KeeperFailed, and nothing changes. Each refusal gives the
+    /// ticket back, and the number stays in hand.
     pub fn reply(
         &mut self,
         ticket: Ticket,
@@ -180,7 +183,7 @@ impl<K: Keeper> KeptServer<K> {
     ) -> Result<usize, (ReplyError, Ticket)>
         ensures answered { IfErr result (λ e. e.0 ≢ replies.KeeperFailed) → (h : History)
             → IsKept self.old.server (upcoming (own_in self.old.source)) h
-            → KeptStep h (Reply (values_of ticket) own mid (parts_of plain.now) (length out.old)) (server_entry result out.new)
+            → KeptStep h (Reply (values_of ticket) (asks_own (values_of ticket) own) mid (parts_of plain.now) (length out.old)) (server_entry result out.new)
             (own_in self.old.source) (own_in self.new.source) self.new.server }
         ensures failed { IfErr result (λ e. e.0 ≡ replies.KeeperFailed
             → (own_in self.new.source ≡ own_in self.old.source) × (K.failures self.new.source.keeper ≡ K.failures self.old.source.keeper + 1)) }
@@ -190,11 +193,37 @@ impl<K: Keeper> KeptServer<K> {
         ensures behind { IfOk result (λ n. drop n out.new ≡ drop n out.old) }
         ensures unchanged { OnErr result ((out.new ≡ out.old) × (self.new.server ≡ self.old.server)) }
     {
-        let Ok(()) = draw_for_reply(own, &mut self.source) else {
+        let Ok(()) = draw_for_reply(&ticket, own, &mut self.source) else {
             return Err((ReplyError::KeeperFailed, ticket));
         };
         let (server, source) = (&mut self.server, &mut self.source);
         reply_drawn(server, source, ticket, own, mid, plain, out)
+    }
+
+    /// Seals a notification as `Server::notify` does. It draws a number before anything else if none is in hand. If the keeper fails
+    /// then, it returns KeeperFailed, and nothing changes. Each refusal leaves the number in hand.
+    pub fn notify(
+        &mut self,
+        ticket: &Ticket,
+        plain: &Message<'_>,
+        out: &mut [u8],
+    ) -> Result<usize, ReplyError>
+        ensures answered { IfErr result (λ e. e ≢ replies.KeeperFailed) → (h : History)
+            → IsKept self.old.server (upcoming (own_in self.old.source)) h
+            → KeptStep h (Notify (values_of ticket.now) (parts_of plain.now) (length out.old)) (reply_entry result out.new)
+            (own_in self.old.source) (own_in self.new.source) self.new.server }
+        ensures failed { IfErr result (λ e. e ≡ replies.KeeperFailed
+            → (own_in self.new.source ≡ own_in self.old.source) × (K.failures self.new.source.keeper ≡ K.failures self.old.source.keeper + 1)) }
+        ensures worked { IfErr result (λ e. e ≢ replies.KeeperFailed) → K.failures self.new.source.keeper ≡ K.failures self.old.source.keeper }
+        ensures within { IfOk result (λ n. n ≤ length out.new) }
+        ensures behind { IfOk result (λ n. drop n out.new ≡ drop n out.old) }
+        ensures unchanged { OnErr result ((out.new ≡ out.old) × (self.new.server ≡ self.old.server)) }
+    {
+        let Ok(()) = self.source.draw() else {
+            return Err(ReplyError::KeeperFailed);
+        };
+        let (server, source) = (&mut self.server, &mut self.source);
+        notify_drawn(server, source, ticket, plain, out)
     }
 
     /// Ends the server, and returns its keeper.

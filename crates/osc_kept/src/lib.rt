@@ -14,10 +14,10 @@ mod source;
 
 pub use client_run::{run_kept_client, run_kept_client_on};
 pub use in_world::{
-    advance_in_world, decide_in_world, decide_response_in_world, forget_in_world, reply_in_world,
-    request_in_world, restart_client_in_world, restart_server_in_world, run_client_in_world,
-    run_server_in_world, start_client_in_world, start_server_in_world, take_in_world,
-    take_response_in_world,
+    advance_in_world, decide_in_world, decide_response_in_world, forget_in_world, notify_in_world,
+    reply_in_world, request_in_world, restart_client_in_world, restart_server_in_world,
+    run_client_in_world, run_server_in_world, start_client_in_world, start_server_in_world,
+    take_in_world, take_response_in_world,
 };
 pub use kept_client::KeptClient;
 pub use kept_error::KeptError;

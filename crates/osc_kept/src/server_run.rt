@@ -3,9 +3,9 @@
 ghost use Rattle.std.specs.Prelude.{◌≡◌, ◌<◌, [], List, Option, None, length, take, drop, vec_len, OnOk, OnErr};
 ghost use Rattle.std.specs.Option.{option_map};
 ghost use Rattle.osc_endpoint.specs.ServerHistory.{History, TicketValues};
-ghost use Rattle.osc_endpoint.specs.ServerRun.{values_in};
+ghost use Rattle.osc_endpoint.specs.ServerRun.{DropStep, values_in};
 ghost use Rattle.osc_endpoint.specs.Views.{values_of};
-ghost use Rattle.osc_kept.specs.KeptRuns.{ArrivalStep, ReplyStep, RestartStep, Serves, ServerRun, server_state};
+ghost use Rattle.osc_kept.specs.KeptRuns.{ArrivalStep, NotifyStep, ReplyStep, RestartStep, Serves, ServerRun, server_state};
 ghost use Rattle.osc_kept.specs.KeptServing.{IsKept};
 ghost use Rattle.osc_kept.specs.Numbering.{upcoming};
 ghost use Rattle.osc_kept.specs.Owning.{own_in};
@@ -14,8 +14,8 @@ use crate::kept_event::{KeptServerEntry, KeptServerEvent};
 use crate::kept_server::KeptServer;
 use osc_coap::parse;
 use osc_context::Keeper;
-use osc_endpoint::siblings::{make_places, put_back, take_out};
-use osc_endpoint::{Answering, Arrival, Outcome, Seen, ServerEntry, Taken, Ticket};
+use osc_endpoint::siblings::{make_places, put_back, take_out, ticket_at};
+use osc_endpoint::{Answering, Arrival, Notifying, Outcome, Seen, ServerEntry, Taken, Ticket};
 use std::alloc::{AllocError, Global};
 use std::mem;
 
@@ -104,6 +104,53 @@ fn serve_answering<'a, K: Keeper>(
     KeptServerEntry::Served(serve_reply(server, tickets, *of, *own, *mid, plain, out))
 }
 
+/// Seals a notification by the ticket at an index, which stays there. The entry borrows from the room for the notification.
+fn serve_notify<'a, K: Keeper>(
+    server: &mut KeptServer<K>,
+    tickets: &[Option<Ticket>],
+    of: usize,
+    plain: &[u8],
+    out: &'a mut [u8],
+) -> ServerEntry<'a>
+    ensures { (h : History) → IsKept server.old.server (upcoming (own_in server.old.source)) h
+        → (g : History) × NotifyStep h server.old.source (values_in tickets.now) of plain.now (length out.old) result g server.new.source
+        × IsKept server.new.server (upcoming (own_in server.new.source)) g }
+{
+    let Some(ticket) = ticket_at(tickets, of) else {
+        return ServerEntry::NoTicket;
+    };
+    let message = match parse(plain) {
+        Ok(message) => message,
+        Err(error) => return ServerEntry::BadPlain(error),
+    };
+    match server.notify(ticket, &message, out) {
+        Ok(len) => ServerEntry::Replied(Ok(&out[..len])),
+        Err(error) => ServerEntry::Replied(Err(error)),
+    }
+}
+
+/// Serves a notification. The entry borrows from the room for the notification.
+fn serve_notifying<'a, K: Keeper>(
+    server: &mut KeptServer<K>,
+    notifying: &'a mut Notifying,
+    tickets: &[Option<Ticket>],
+) -> KeptServerEntry<'a>
+    ensures { (h : History) → IsKept server.old.server (upcoming (own_in server.old.source)) h
+        → (g : History) × Serves (server_state h server.old.source (values_in tickets.now)) (KeptServerEvent.Notify notifying.old) result
+        g server.new.source (values_in tickets.now) None
+        × IsKept server.new.server (upcoming (own_in server.new.source)) g }
+{
+    let Notifying { of, plain, out } = notifying;
+    KeptServerEntry::Served(serve_notify(server, tickets, *of, plain, out))
+}
+
+/// Drops the ticket at an index. The entry borrows nothing.
+fn drop_ticket<'a>(tickets: &mut [Option<Ticket>], of: usize) -> ServerEntry<'a>
+    ensures { (h : History) → DropStep h (values_in tickets.old) of result h (values_in tickets.new) }
+{
+    ServerEntry::Dropped(take_out(tickets, of).is_some())
+}
+
 /// Serves a restart. The entry borrows nothing.
 fn serve_restart<'a, K: Keeper>(server: &mut KeptServer<K>) -> KeptServerEntry<'a>
     ensures { (h : History) → IsKept server.old.server (upcoming (own_in server.old.source)) h
@@ -130,6 +177,11 @@ fn serve<'a, K: Keeper>(
             (KeptServerEntry::Served(entry), ticket)
         }
         KeptServerEvent::Reply(answering) => (serve_answering(server, answering, tickets), None),
+        KeptServerEvent::Notify(notifying) => (serve_notifying(server, notifying, tickets), None),
+        KeptServerEvent::Drop { of } => (
+            KeptServerEntry::Served(drop_ticket(tickets, *of)),
+            None,
+        ),
         KeptServerEvent::Restart => (serve_restart(server), None),
     }
 }
