@@ -1,6 +1,6 @@
 -- The table of a client's pending requests, and the requests that it stands for.
 use Rattle.std.proofs.Common.{◌≡◌, ◌≢◌, ℕ, zero, suc, ◌+◌, ◌<◌, ◌≤◌, ◌-◌, ◌∙◌, sym, ap, subst, refl, arith, Bool, true, false, Some, None, List, [], ◌∷◌, ◌++◌, length, take, inl, inr}
-use Rattle.std.specs.Prelude.{◌||◌, All, Contains, if◌then◌else◌, bytes_eq, cond, drop, filter, map, max, nat_le, nat_lt, not, remove, slice_get, slice_index_or, slice_set}
+use Rattle.std.specs.Prelude.{◌||◌, All, AllPairs, Contains, if◌then◌else◌, bytes_eq, cond, drop, filter, map, max, nat_le, nat_lt, not, remove, slice_get, slice_index_or, slice_set}
 use Rattle.std.proofs.lemmas.Bool.{cases_order, false_from_ne_true, not_from_false, not_from_true}
 use Rattle.std.proofs.lemmas.Bool.Decides.{nat_tests}
 use Rattle.std.specs.List.{refill}
@@ -137,17 +137,31 @@ differ_later h now d =
     subst TokensDiffer (alive_again (clock h) (max (clock h) now) (life_ms h) (asked h) (omega arith))
     (differ_filter (is_alive (max (clock h) now) (life_ms h)) (pending h) d)
 
--- where no two have one token, a token names one of them
-pub one_of_token : (xs : List Asked) (r q : Asked) → TokensDiffer xs → Contains xs r → Contains xs q → r.token ≡ q.token → r ≡ q
-one_of_token xs r q d (i, i_less, i_is) (j, j_less, j_is) same = elim (cases_order i j) [
+-- where no two have the same value of f, such a value names one of them
+pub one_of : {A : Type 0} (f : Asked → A) (xs : List Asked) (r q : Asked) → AllPairs (λ x y. f x ≢ f y) xs → Contains xs r → Contains xs q → f r ≡ f q → r ≡ q
+one_of f xs r q d (i, i_less, i_is) (j, j_less, j_is) same = elim (cases_order i j) [
   | inl equal ↦ sym i_is ∙ ap (λ k. slice_index_or xs k r) equal ∙ get_or_default xs j r q j_less ∙ j_is
   | inr (inl below) ↦
-      let apart : (slice_index_or xs i r).token ≢ (slice_index_or xs j r).token = d i j r below j_less in
-      absurd (apart (ap (λ (x : Asked). x.token) i_is ∙ same ∙ ap (λ (x : Asked). x.token) (sym j_is ∙ get_or_default xs j q r j_less)))
+      let apart : f (slice_index_or xs i r) ≢ f (slice_index_or xs j r) = d i j r below j_less in
+      absurd (apart (ap f i_is ∙ same ∙ ap f (sym j_is ∙ get_or_default xs j q r j_less)))
   | inr (inr above) ↦
-      let apart : (slice_index_or xs j q).token ≢ (slice_index_or xs i q).token = d j i q above i_less in
-      absurd (apart (ap (λ (x : Asked). x.token) j_is ∙ sym same ∙ ap (λ (x : Asked). x.token) (sym i_is ∙ get_or_default xs i r q i_less)))
+      let apart : f (slice_index_or xs j q) ≢ f (slice_index_or xs i q) = d j i q above i_less in
+      absurd (apart (ap f j_is ∙ sym same ∙ ap f (sym i_is ∙ get_or_default xs i r q i_less)))
 ]
+
+-- where no two have one token, a token names one of them
+pub one_of_token : (xs : List Asked) (r q : Asked) → TokensDiffer xs → Contains xs r → Contains xs q → r.token ≡ q.token → r ≡ q
+one_of_token xs r q d x y same = one_of (λ z. z.token) xs r q d x y same
+
+-- where no two have the same value of f, no two have what leaves it as it is
+pub differ_mapped : {A : Type 0} (f : Asked → A) (g : Asked → Asked) → ((r : Asked) → f (g r) ≡ f r) → (xs : List Asked) → AllPairs (λ x y. f x ≢ f y) xs
+    → AllPairs (λ x y. f x ≢ f y) (map g xs)
+differ_mapped f g stays xs differ = λ i j d below within.
+    let less : j < length xs = subst (λ n. j < n) (length-map xs g) within in
+    let at_i = get_or-map g xs i d d (omega (arith, below, less)) in
+    let at_j = get_or-map g xs j d d less in
+    λ same. differ i j d below less
+    (sym (stays (slice_index_or xs i d)) ∙ ap f (sym at_i) ∙ same ∙ ap f at_j ∙ stays (slice_index_or xs j d))
 
 -- ---- a notification
 
@@ -196,13 +210,7 @@ heard_alive moment ms place token (x ∷ xs) = heard_by (is_alive moment ms x) m
 
 -- where no two have one token, no two have one then
 differ_rewaited : (token : List ℕ) (f : Wait → Wait) (xs : List Asked) → TokensDiffer xs → TokensDiffer (map (rewaited token f) xs)
-differ_rewaited token f xs differ = λ i j d below within.
-    let g = rewaited token f in
-    let less : j < length xs = subst (λ n. j < n) (length-map xs g) within in
-    let at_i = get_or-map g xs i d d (omega (arith, below, less)) in
-    let at_j = get_or-map g xs j d d less in
-    λ same. differ i j d below less
-    (sym (same_token token f (slice_index_or xs i d)) ∙ ap (λ (r : Asked). r.token) (sym at_i) ∙ same ∙ ap (λ (r : Asked). r.token) at_j ∙ same_token token f (slice_index_or xs j d))
+differ_rewaited token f xs differ = differ_mapped (λ z. z.token) (rewaited token f) (same_token token f) xs differ
 
 pub differ_heard : (token : List ℕ) (place : ℕ) (xs : List Asked) → TokensDiffer xs → TokensDiffer (heard token place xs)
 differ_heard token place xs differ = differ_rewaited token (after_place place) xs differ

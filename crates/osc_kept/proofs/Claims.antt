@@ -1,17 +1,19 @@
 -- What holds of two ends: of each delivery, of each response, of each nonce. w is a world that meets the premises.
-use Rattle.std.proofs.Common.{◌≡◌, ℕ, ◌<◌, ◌^◌, ◌∙◌, sym, ap, subst, refl, arith, true, false, Option, Some, None, List, ◌∷◌}
-use Rattle.std.specs.Prelude.{max}
+use Rattle.std.proofs.Common.{◌≡◌, ℕ, ◌<◌, ◌^◌, ◌∙◌, sym, ap, subst, refl, arith, Bool, true, false, Option, Some, None, List, ◌∷◌}
+use Rattle.std.specs.Prelude.{Contains, max}
 use Rattle.osc_coap.specs.Inner.{InnerParts}
 use Rattle.osc_context.specs.Nonce.{nonce_of}
 use Rattle.osc_context.specs.SecurityContext.{SecurityContext}
 use Rattle.osc_protect.specs.CipherLaws.{response_seal}
-use Rattle.osc_protect.specs.Protection.{ProtectsResponse, response_nonce}
+use Rattle.osc_protect.specs.Protection.{Protects, response_nonce, responses_to}
+use Rattle.osc_endpoint.specs.ClientAnswer.{awaited}
 use Rattle.osc_endpoint.specs.ClientHistory as client
 use Rattle.osc_endpoint.specs.Life.{Life, next_own}
+use Rattle.osc_endpoint.specs.Received.{Received, Receives}
 use Rattle.osc_endpoint.specs.ServerHistory as server
 use Rattle.osc_kept.specs.Numbering.{Use}
-use Rattle.osc_kept.specs.Claims.{AnswersThatRequest, BothEnds, DeliversOnce, IsForThatRequest, IsNewForClient, IsNewForServer, SealsUnderNewNonce}
-use Rattle.osc_kept.specs.Premises.{AtEach, IsLawful, SealedByServer}
+use Rattle.osc_kept.specs.Claims.{AnswersThatRequest, DeliversOnce, IsForThatRequest, IsNewForClient, IsNewForServer, SealsUnderNewNonce}
+use Rattle.osc_kept.specs.Premises.{IsLawful, SealedByServer}
 use Rattle.osc_kept.specs.World.{World, Event, Begin, Then, Client, Server, AtClient, AtServer, Has, Request, Response, answered, client_history, server_life}
 use Rattle.osc_kept.proofs.Deeds.{AllBelow, AllFit, Delivers, Holds, IsSent, answered_sent, delivered_sent, given_delivered, not_before, not_shared, one_request, owned, owns, sends}
 use Rattle.osc_kept.proofs.Digest.{answered_is, delivered_is, digest, sent_is, server_deed}
@@ -22,7 +24,7 @@ use Rattle.osc_kept.proofs.Rising.{use_bounded, use_small}
 
 -- ---- deliveries
 
-delivers_once : LawsBelow → (n : ℕ) (s : SecurityContext) (w : World) (event : Event) → IsLawful n s (Then w event) → DeliversOnce s w event
+pub delivers_once : LawsBelow → (n : ℕ) (s : SecurityContext) (w : World) (event : Event) → IsLawful n s (Then w event) → DeliversOnce s w event
 delivers_once laws n s w (AtServer (server.Datagram now echo mid d) (server.Took (server.Deliver received t) reply)) i =
     let fits : AllFit s (Delivers t received.message ∷ digest s w) = all_fit laws n s (Then w (AtServer (server.Datagram now echo mid d) (server.Took (server.Deliver received t) reply))) i in (
       subst (λ rs. Has (record { number = t.number; message = received.message }) rs) (sym (sent_is s w)) fits.1.2,
@@ -41,11 +43,11 @@ answered_small laws n s w r i k =
 
 -- a response to a pending request, which the server sealed
 is_for : LawsBelow → (n : ℕ) (s : SecurityContext) (w : World) (k : ℕ) (own : Option ℕ) (m : InnerParts) (d : List ℕ) → IsLawful n s w → IsSent (digest s w) k
-    → (p : ProtectsResponse s k own m d) → SealedByServer s w (response_seal s k own) p.outer.payload → IsForThatRequest s w k own m
-is_for laws n s w k own m d i asked p x =
+    → (b : Bool) (p : Protects (responses_to s b k) own m d) → SealedByServer s w (response_seal s k own) p.outer.payload → IsForThatRequest s w k own m
+is_for laws n s w k own m d i asked b p x =
     let same = laws.response.numbers s x.response.number k x.response.own own i.usable (answered_small laws n s w x.response i x.was_answered) (sent_small n s w k i asked)
     (laws.in_range _ _ x.protects.reads) (laws.in_range _ _ p.reads) x.input_is in
-    let message : x.response.message ≡ m = laws.response.message s s false false x.response.number k x.response.own own x.response.message m x.bytes d x.protects p x.input_is x.text_is in
+    let message : x.response.message ≡ m = laws.response.message s s x.registers b x.response.number k x.response.own own x.response.message m x.bytes d x.protects p x.input_is x.text_is in
     record {
       was_answered =
           subst (λ y. Has (record { number = y; own = own; message = m }) (answered s w)) same.0
@@ -57,17 +59,26 @@ is_for laws n s w k own m d i asked p x =
       one_alone = λ r h e. one_request s (digest s w) r asked.0 (all_fit laws n s w i) (subst (λ rs. Has r rs) (sent_is s w) h) asked.1 (e ∙ sym asked.2);
     }
 
-answers_that : LawsBelow → (n : ℕ) (s : SecurityContext) (w : World) (event : Event) → IsLawful n s (Then w event) → AnswersThatRequest s w event
-answers_that laws n s w (AtClient (client.Datagram now d) (client.Took (client.Deliver received number))) i =
-    let h : client.History = i.answers.1.0 in
-    let f : client_history s w ≡ Some h = i.answers.1.1 in
-    let a = i.answers.1.2 in
+-- a response to a pending request that is received was sealed for it
+received_for : LawsBelow → (n : ℕ) (s : SecurityContext) (w : World) (now : ℕ) (d : List ℕ) (received : Received) (number : ℕ) (answer : client.Answer) (h : client.History) (r : client.Asked)
+    (own : Option ℕ) → IsLawful n s (Then w (AtClient (client.Datagram now d) (client.Took answer))) → client_history s w ≡ Some h
+    → Contains (client.pending_at h (max (client.clock h) now)) r → number ≡ r.number → Receives (awaited (client.context h) r) own d received
+    → IsForThatRequest s w number received.number received.message
+received_for laws n s w now d received number answer h r own i f pending is receives =
     let clock : ℕ = max (client.clock h) now in
-    let p : ProtectsResponse s a.0.number a.2.1 received.message d = subst (λ c. ProtectsResponse c a.0.number a.2.1 received.message d) (runs n s w h i.answers.0 f).context_is a.2.2.protects in
-    let x : SealedByServer s w (response_seal s a.0.number a.2.1) p.outer.payload = i.sealed.1 h f a.0 a.2.1 received.message a.1.1 p in
-    subst (λ y. IsForThatRequest s w number y received.message) (sym a.2.2.number)
-    (subst (λ y. IsForThatRequest s w y a.2.1 received.message) (sym a.2.0)
-    (is_for laws n s w a.0.number a.2.1 received.message d (before n s w _ i) (pending_sent n s w h clock a.0 i.answers.0 f a.1.1) p x))
+    let p : Protects (awaited s r) own received.message d = subst (λ c. Protects (awaited c r) own received.message d) (runs n s w h i.answers.0 f).context_is receives.protects in
+    let x : SealedByServer s w (response_seal s r.number own) p.outer.payload = i.sealed.1 h f r own received.message pending p in
+    subst (λ y. IsForThatRequest s w number y received.message) (sym receives.number)
+    (subst (λ y. IsForThatRequest s w y own received.message) (sym is)
+    (is_for laws n s w r.number own received.message d (before n s w _ i) (pending_sent n s w h clock r i.answers.0 f pending) (client.observes r.wait) p x))
+
+pub answers_that : LawsBelow → (n : ℕ) (s : SecurityContext) (w : World) (event : Event) → IsLawful n s (Then w event) → AnswersThatRequest s w event
+answers_that laws n s w (AtClient (client.Datagram now d) (client.Took (client.Notified received number))) i =
+    let (r, answers, (is, own, later, receives, continues)) = i.answers.1.2 in
+    received_for laws n s w now d received number (client.Notified received number) i.answers.1.0 r own i i.answers.1.1 answers.1 is receives
+answers_that laws n s w (AtClient (client.Datagram now d) (client.Took (client.Deliver received number))) i =
+    let (r, answers, (is, own, later, receives, continues)) = i.answers.1.2 in
+    received_for laws n s w now d received number (client.Deliver received number) i.answers.1.0 r own i i.answers.1.1 answers.1 is receives
 answers_that laws n s w event i = tt
 
 -- ---- nonces
@@ -112,7 +123,7 @@ new_own laws n s w k event entry of i f is_used r h e =
     (use_bounded Server s w (AtServer event entry) (next_own of) i.kept.0 i.kept.1 (effect_is n s w event entry i.answers.0 i.answers.1 ∙ uses))
     (own_above n s w event entry (next_own of) i.answers.0 i.answers.1 i.kept.0 i.kept.1 uses) h refl e
 
-seals_new : LawsBelow → (n : ℕ) (s : SecurityContext) (w : World) (event : Event) → IsLawful n s (Then w event) → SealsUnderNewNonce s w event
+pub seals_new : LawsBelow → (n : ℕ) (s : SecurityContext) (w : World) (event : Event) → IsLawful n s (Then w event) → SealsUnderNewNonce s w event
 seals_new laws n s w (AtClient (client.Request now p room) (client.Sent bytes)) i = λ h f.
     let same : i.answers.1.0 ≡ h = some_is (sym i.answers.1.1 ∙ f) in
     new_for_client laws n s w (client.next h) (before n s w _ i) (subst (λ g. client.next g < 2 ^ 40) same i.answers.1.2.0.2)
@@ -126,18 +137,6 @@ seals_new laws n s w (AtServer (server.Reply t false mid p room) (server.Replied
     let holds : Holds (digest s w) t = held laws.tickets s (digest s w) y.answer.0 t false mid room p bytes (at_stands n s w _ _ y) y.answer.2 y.answer.4 in
     let earlier = before n s w _ i in
     shared_differs laws n s w t r r.own earlier holds (held_small laws n s w t earlier holds) h refl e
+seals_new laws n s w (AtServer (server.Notify t p room) (server.Replied bytes)) i = λ of f.
+    new_own laws n s w t.number (server.Notify t p room) (server.Replied bytes) of i f refl
 seals_new laws n s w event i = tt
-
--- ---- all of it
-
-each : (P : World → Event → Type 0) (n : ℕ) (s : SecurityContext) → ((w : World) (event : Event) → IsLawful n s (Then w event) → P w event) → (w : World) → IsLawful n s w → AtEach P w
-each P n s f Begin i = tt
-each P n s f (Then w event) i = (each P n s f w (before n s w event i), f w event i)
-
-pub both_ends_hold : LawsBelow → (n : ℕ) (s : SecurityContext) (w : World) → IsLawful n s w → BothEnds s w
-both_ends_hold laws n s w i =
-    record {
-      once = each (DeliversOnce s) n s (delivers_once laws n s) w i;
-      that_request = each (AnswersThatRequest s) n s (answers_that laws n s) w i;
-      nonces = each (SealsUnderNewNonce s) n s (seals_new laws n s) w i;
-    }

@@ -11,6 +11,7 @@ use Rattle.osc_context.specs.SecurityContext.{SecurityContext}
 use Rattle.osc_endpoint.specs.declared.start.Start.{Start}
 use Rattle.osc_endpoint.specs.declared.start.Start.TheVariants as starts
 use Rattle.osc_endpoint.specs.Life.{Life, Mark, Delivered, Spoiled, Challenged, Answered, Passes, born, challenge, first_delivered, floor, is_open, opened, renewed, spent}
+use Rattle.osc_endpoint.specs.Observing.{is_notification}
 use Rattle.osc_endpoint.specs.ServerHistory.{TicketValues}
 use Rattle.osc_window.specs.declared.window_size.WindowSize.{WindowSize}
 use Rattle.osc_window.specs.declared.window_size.WindowSize.TheVariants.{Places32}
@@ -24,6 +25,7 @@ pub data Deed : Type 0 where
   Challenges : (number : ℕ) (echo : List ℕ) (issued own : ℕ) (message : InnerParts) → Deed
   Delivers : (ticket : TicketValues) (message : InnerParts) → Deed
   Replies : (ticket : TicketValues) (own : Option ℕ) (message : InnerParts) → Deed
+  Notifies : (ticket : TicketValues) (own : ℕ) (message : InnerParts) → Deed
   Nothing : Deed
 
 -- ---- what came of them
@@ -54,6 +56,7 @@ life_in s (Spoils n ∷ ds) = with_mark (Spoiled n) (life_in s ds)
 life_in s (Challenges n echo issued own m ∷ ds) = with_mark (Challenged echo issued) (life_in s ds)
 life_in s (Delivers t m ∷ ds) = with_mark (Delivered t.number) (life_in s ds)
 life_in s (Replies t own m ∷ ds) = replied own (life_in s ds)
+life_in s (Notifies t own m ∷ ds) = with_mark Answered (life_in s ds)
 life_in s (d ∷ ds) = life_in s ds
 
 -- the tickets that were given, and taken, since the server started
@@ -74,6 +77,7 @@ abbrev pub answers : List Deed → List Response
 answers [] = []
 answers (Challenges n echo issued own m ∷ ds) = record { number = n; own = Some own; message = m } ∷ answers ds
 answers (Replies t own m ∷ ds) = record { number = t.number; own = own; message = m } ∷ answers ds
+answers (Notifies t own m ∷ ds) = record { number = t.number; own = Some own; message = m } ∷ answers ds
 answers (d ∷ ds) = answers ds
 
 -- the server's own numbers
@@ -81,6 +85,7 @@ abbrev pub owns : List Deed → List ℕ
 owns [] = []
 owns (Challenges n echo issued own m ∷ ds) = own ∷ owns ds
 owns (Replies t (Some own) m ∷ ds) = own ∷ owns ds
+owns (Notifies t own m ∷ ds) = own ∷ owns ds
 owns (d ∷ ds) = owns ds
 
 -- ---- what each wants
@@ -108,8 +113,9 @@ Fits s ds (Delivers t m) = Passes (life_in s ds) t.number × (is_open (life_in s
     × Has (record { number = t.number; message = m }) (sends ds)
 Fits s ds (Challenges n echo issued own m) = IsSent ds n × AllBelow (owns ds) own
     × ((challenge (life_in s ds).marks ≡ Some (echo, issued)) ⊎ ((r : Request) → Has r (sends ds) → carried r.message ≡ Some echo → ⊥))
-Fits s ds (Replies t None m) = Holds ds t
+Fits s ds (Replies t None m) = Holds ds t × (is_notification m.code m.options ≡ false)
 Fits s ds (Replies t (Some own) m) = Holds ds t × AllBelow (owns ds) own
+Fits s ds (Notifies t own m) = Has t (given ds) × AllBelow (owns ds) own
 Fits s ds deed = Unit {0}
 
 abbrev pub AllFit : SecurityContext → List Deed → Type 0
@@ -401,7 +407,7 @@ given_one s [] t u a h k e = absurd h
 taken_given : (s : SecurityContext) (ds : List Deed) (t : TicketValues) → AllFit s ds → Has t (taken ds) → Has t (given ds)
 taken_given s (Begins start size ∷ ds) t a h = h
 taken_given s (Delivers u m ∷ ds) t a h = inr (taken_given s ds t a.0 h)
-taken_given s (Replies u None m ∷ ds) t a (inl e) = subst (λ y. Has y (given ds)) (sym e) a.1.0
+taken_given s (Replies u None m ∷ ds) t a (inl e) = subst (λ y. Has y (given ds)) (sym e) a.1.0.0
 taken_given s (Replies u (Some own) m ∷ ds) t a (inl e) = subst (λ y. Has y (given ds)) (sym e) a.1.0.0
 taken_given s (Replies u own m ∷ ds) t a (inr h) = taken_given s ds t a.0 h
 taken_given s (d ∷ ds) t a h = taken_given s ds t a.0 h
@@ -423,6 +429,8 @@ shared s (Replies t own m ∷ ds) r a (inr h) e = elim (shared s ds r a.0 h e) [
   | inl k ↦ inl k
   | inr k ↦ inr (k.0, inr k.1, k.2)
 ]
+shared s (Notifies t own m ∷ ds) r a (inl f) e = let g : Some own ≡ None = sym (ap (λ (x : Response). x.own) f) ∙ e in cc
+shared s (Notifies t own m ∷ ds) r a (inr h) e = shared s ds r a.0 h e
 shared s (d ∷ ds) r a h e = shared s ds r a.0 h e
 shared s [] r a h e = absurd h
 
@@ -440,9 +448,11 @@ held_sent s ds t a h = delivered_sent s ds t.number a (given_delivered ds t h)
 pub answered_sent : (s : SecurityContext) (ds : List Deed) (r : Response) → AllFit s ds → Has r (answers ds) → IsSent ds r.number
 answered_sent s (Challenges n echo issued own m ∷ ds) r a (inl e) = (a.1.0.0, a.1.0.1, a.1.0.2 ∙ sym (ap (λ (y : Response). y.number) e))
 answered_sent s (Challenges n echo issued own m ∷ ds) r a (inr h) = answered_sent s ds r a.0 h
-answered_sent s (Replies t None m ∷ ds) r a (inl e) = let k = held_sent s ds t a.0 a.1.0 in (k.0, k.1, k.2 ∙ sym (ap (λ (y : Response). y.number) e))
+answered_sent s (Replies t None m ∷ ds) r a (inl e) = let k = held_sent s ds t a.0 a.1.0.0 in (k.0, k.1, k.2 ∙ sym (ap (λ (y : Response). y.number) e))
 answered_sent s (Replies t (Some own) m ∷ ds) r a (inl e) = let k = held_sent s ds t a.0 a.1.0.0 in (k.0, k.1, k.2 ∙ sym (ap (λ (y : Response). y.number) e))
 answered_sent s (Replies t own m ∷ ds) r a (inr h) = answered_sent s ds r a.0 h
+answered_sent s (Notifies t own m ∷ ds) r a (inl e) = let k = held_sent s ds t a.0 a.1.0 in (k.0, k.1, k.2 ∙ sym (ap (λ (y : Response). y.number) e))
+answered_sent s (Notifies t own m ∷ ds) r a (inr h) = answered_sent s ds r a.0 h
 answered_sent s (Sends n m ∷ ds) r a h = sent_more n m ds r.number (answered_sent s ds r a.0 h)
 answered_sent s (d ∷ ds) r a h = answered_sent s ds r a.0 h
 answered_sent s [] r a h = absurd h
@@ -455,5 +465,7 @@ owned (Replies t None m ∷ ds) r o (inl f) e = let g : None ≡ Some o = sym (a
 owned (Replies t None m ∷ ds) r o (inr h) e = owned ds r o h e
 owned (Replies t (Some own) m ∷ ds) r o (inl f) e = inl (some_is (sym e ∙ ap (λ (x : Response). x.own) f))
 owned (Replies t (Some own) m ∷ ds) r o (inr h) e = inr (owned ds r o h e)
+owned (Notifies t own m ∷ ds) r o (inl f) e = inl (some_is (sym e ∙ ap (λ (x : Response). x.own) f))
+owned (Notifies t own m ∷ ds) r o (inr h) e = inr (owned ds r o h e)
 owned (d ∷ ds) r o h e = owned ds r o h e
 owned [] r o h e = absurd h

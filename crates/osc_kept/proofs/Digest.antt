@@ -2,6 +2,7 @@
 use Rattle.std.proofs.Common.{◌≡◌, ℕ, ◌∙◌, sym, ap, refl, Bool, true, Option, Some, None, List, [], ◌∷◌, ◌++◌}
 use Rattle.osc_coap.specs.Datagram.{Parts}
 use Rattle.osc_context.specs.SecurityContext.{SecurityContext}
+use Rattle.osc_protect.specs.Protection.{as_notified}
 use Rattle.osc_protect.specs.Sealed.{inside}
 use Rattle.osc_endpoint.specs.ClientHistory as client
 use Rattle.osc_endpoint.specs.Life.{Life, next_own}
@@ -9,7 +10,7 @@ use Rattle.osc_endpoint.specs.Replies.{challenge_message}
 use Rattle.osc_endpoint.specs.ServerAnswer.{own_number}
 use Rattle.osc_endpoint.specs.ServerHistory as server
 use Rattle.osc_kept.specs.World.{World, Event, Begin, Then, ServerStarts, AtClient, AtServer, client_history, server_life, request_in, response_in, sent, answered, delivered}
-use Rattle.osc_kept.proofs.Deeds.{Deed, Sends, Begins, Renews, Spoils, Challenges, Delivers, Replies, Nothing, sends, delivers, answers}
+use Rattle.osc_kept.proofs.Deeds.{Deed, Sends, Begins, Renews, Spoils, Challenges, Delivers, Replies, Notifies, Nothing, sends, delivers, answers}
 
 abbrev pub client_deed : Option client.History → client.Event → client.Entry → Deed
 client_deed (Some h) (client.Request now p room) (client.Sent bytes) = Sends (client.next h) (inside p)
@@ -23,12 +24,17 @@ abbrev pub reply_deed : Option Life → server.TicketValues → Bool → Parts �
 reply_deed None t own p = Nothing
 reply_deed (Some of) t own p = Replies t (own_number own of) (inside p)
 
+abbrev pub notify_deed : Option Life → server.TicketValues → Parts → Deed
+notify_deed None t p = Nothing
+notify_deed (Some of) t p = Notifies t (next_own of) (inside (as_notified p))
+
 abbrev pub server_deed : Option Life → server.Event → server.Entry → Deed
 server_deed l (server.Restart i next) server.Restarted = Renews next
 server_deed l (server.Datagram now echo mid d) (server.Took (server.BadInner i n) reply) = Spoils n
 server_deed l (server.Datagram now echo mid d) (server.Took (server.Challenge i n given issued) reply) = challenge_deed l n given issued
 server_deed l (server.Datagram now echo mid d) (server.Took (server.Deliver received ticket) reply) = Delivers ticket received.message
 server_deed l (server.Reply t own mid p room) (server.Replied bytes) = reply_deed l t own p
+server_deed l (server.Notify t p room) (server.Replied bytes) = notify_deed l t p
 server_deed l event entry = Nothing
 
 abbrev pub deed : SecurityContext → World → Event → Deed
@@ -54,6 +60,8 @@ sends_server (Some of) (server.Datagram now echo mid d) (server.Took (server.Cha
 sends_server (Some of) (server.Reply t own mid p room) (server.Replied bytes) ds = refl
 sends_server None (server.Datagram now echo mid d) (server.Took (server.Challenge i n given issued) reply) ds = refl
 sends_server None (server.Reply t own mid p room) (server.Replied bytes) ds = refl
+sends_server (Some of) (server.Notify t p room) (server.Replied bytes) ds = refl
+sends_server None (server.Notify t p room) (server.Replied bytes) ds = refl
 sends_server o (server.Restart i next) server.Restarted ds = refl
 sends_server o event entry ds = refl
 
@@ -76,6 +84,8 @@ delivers_server w (Some of) (server.Datagram now echo mid d) (server.Took (serve
 delivers_server w None (server.Datagram now echo mid d) (server.Took (server.Challenge i n given issued) reply) ds e = e
 delivers_server w (Some of) (server.Reply t own mid p room) (server.Replied bytes) ds e = e
 delivers_server w None (server.Reply t own mid p room) (server.Replied bytes) ds e = e
+delivers_server w (Some of) (server.Notify t p room) (server.Replied bytes) ds e = e
+delivers_server w None (server.Notify t p room) (server.Replied bytes) ds e = e
 delivers_server w o (server.Restart i next) server.Restarted ds e = e
 delivers_server w o event entry ds e = e
 
@@ -100,6 +110,9 @@ answers_server s w None (server.Datagram now echo mid d) (server.Took (server.Ch
 answers_server s w (Some of) (server.Reply t own mid p room) (server.Replied bytes) ds e f =
     ap (λ x. response_in x t.number own p ++ answered s w) f ∙ ap (λ rs. record { number = t.number; own = own_number own of; message = inside p } ∷ rs) e
 answers_server s w None (server.Reply t own mid p room) (server.Replied bytes) ds e f = ap (λ x. response_in x t.number own p ++ answered s w) f ∙ e
+answers_server s w (Some of) (server.Notify t p room) (server.Replied bytes) ds e f =
+    ap (λ x. response_in x t.number true (as_notified p) ++ answered s w) f ∙ ap (λ rs. record { number = t.number; own = Some (next_own of); message = inside (as_notified p) } ∷ rs) e
+answers_server s w None (server.Notify t p room) (server.Replied bytes) ds e f = ap (λ x. response_in x t.number true (as_notified p) ++ answered s w) f ∙ e
 answers_server s w o (server.Restart i next) server.Restarted ds e f = e
 answers_server s w o event entry ds e f = e
 

@@ -4,6 +4,8 @@ use Rattle.std.specs.Prelude.{max, nat_le, unwrap_or}
 use Rattle.std.specs.List.{AllByRecursion}
 use Rattle.osc_coap.specs.Datagram.{Parts}
 use Rattle.osc_coap.specs.Inner.{InnerParts}
+use Rattle.osc_coap.specs.Laws.{DatagramIsOneMessage}
+use Rattle.osc_context.specs.Features.{unobserved}
 use Rattle.osc_context.specs.Laws.{OneNonce, ValueNumberInRange}
 use Rattle.osc_context.specs.SecurityContext.{SecurityContext, IsUsable}
 use Rattle.osc_protect.specs.CipherLaws.{OneRequestInput, OneResponseInput, request_seal}
@@ -21,8 +23,9 @@ use Rattle.osc_endpoint.specs.ServerHistory as server
 use Rattle.osc_kept.specs.Numbering.{Use}
 use Rattle.osc_kept.specs.Premises.{AtEach, Answers, EchoIsNew, FreshWhileNothingDelivered, IsLawful, NobodyForges, NobodyForgesRequests, NumbersAreKept, SealedByClient}
 use Rattle.osc_kept.specs.World.{World, Event, Begin, Then, Client, Server, ServerStarts, AtClient, AtServer, Has, client_effect, client_history, sent, server_life}
-use Rattle.osc_kept.proofs.Deeds.{AllBelow, AllFit, Begins, CarriesLast, Challenges, Deed, Delivers, Fits, Holds, Renews, Replies, Spoils, carried, life_in, owns, replied, sends}
+use Rattle.osc_kept.proofs.Deeds.{AllBelow, AllFit, Begins, CarriesLast, Challenges, Deed, Delivers, Fits, Holds, Renews, Replies, Spoils, carried, given, life_in, owns, replied, sends}
 use Rattle.osc_kept.proofs.Digest.{client_deed, delivered_is, digest, sent_is, server_deed}
+use Rattle.osc_kept.proofs.Inside.{unnotified}
 use Rattle.osc_kept.proofs.Lives.{Stands, life_known, own_use, some_is, stands}
 use Rattle.osc_kept.proofs.Owned.{effect_is, own_used, sent_used}
 use Rattle.osc_kept.proofs.Rising.{use_above}
@@ -34,6 +37,7 @@ pub record LawsBelow : Type 0 where
   pub response : OneResponseInput
   pub in_range : ValueNumberInRange
   pub nonce : OneNonce
+  pub one : DatagramIsOneMessage
 
 -- ---- what opens was sealed
 
@@ -106,6 +110,7 @@ left_given (server.Then h event (server.Took (server.Deliver received ticket) re
     ]
 left_given (server.Then h (server.Reply u own mid p room) (server.Replied bytes)) ts t a k =
     left_given h a.0 t a.1 (subst (λ xs. Has t xs) (sym a.2.2) (has_more a.2.0 a.2.1 u t (subst (λ xs. Has t xs) a.2.3 k)))
+left_given (server.Then h (server.Notify u p room) (server.Replied bytes)) ts t a k = left_given h ts t a.0 k
 left_given (server.Then h event entry) ts t a k = left_given h ts t a k
 
 all_at : (P : server.TicketValues → Type 0) (xs : List server.TicketValues) (x : server.TicketValues) → AllByRecursion P xs → Has x xs → P x
@@ -123,6 +128,12 @@ held once s ds h t own mid room p bytes x answer tickets =
       λ k. all_at (AreApart t) (answered h) t (once (server.Then h (server.Reply t own mid p room) (server.Replied bytes)) (x.lawful, answer) tickets).0
           (subst (λ ts. Has t ts) (sym x.taken_is) k) refl refl refl,
     )
+
+-- an accepted notification has a ticket that was given
+given_left : (s : SecurityContext) (ds : List Deed) (h : server.History) (t : server.TicketValues) (p : Parts) (room : ℕ) (bytes : List ℕ) → Stands s ds h
+    → TakesTickets (server.Then h (server.Notify t p room) (server.Replied bytes)) → Has t (given ds)
+given_left s ds h t p room bytes x (ts, (left, (front, back, is))) =
+    subst (λ us. Has t us) x.given_is (left_given h ts t left (subst (λ us. Has t us) (sym is) (has_middle front back t)))
 
 -- what stands before an event of the server, and that it meets the premises
 pub record At (n : ℕ) (s : SecurityContext) (w : World) (event : server.Event) (entry : server.Entry) : Type 0 where
@@ -209,13 +220,26 @@ fits_reply laws n s w t true mid room p bytes y = (
   own_above n s w (server.Reply t true mid p room) (server.Replied bytes) (next_own (life_in s (digest s w))) y.all y.answer y.kept_all y.kept
       (ap (λ z. own_use (server_deed z (server.Reply t true mid p room) (server.Replied bytes))) (at_life n s w _ _ y)),
 )
-fits_reply laws n s w t false mid room p bytes y = held laws.tickets s (digest s w) y.answer.0 t false mid room p bytes (at_stands n s w _ _ y) y.answer.2 y.answer.4
+fits_reply laws n s w t false mid room p bytes y = (
+  held laws.tickets s (digest s w) y.answer.0 t false mid room p bytes (at_stands n s w _ _ y) y.answer.2 y.answer.4,
+  unnotified (unobserved y.answer.2.0.context.features) p refl y.answer.2.2.1.supported,
+)
+
+fits_notify : LawsBelow → (n : ℕ) (s : SecurityContext) (w : World) (t : server.TicketValues) (room : ℕ) (p : Parts) (bytes : List ℕ)
+    → At n s w (server.Notify t p room) (server.Replied bytes)
+    → Fits s (digest s w) (server_deed (Some (life_in s (digest s w))) (server.Notify t p room) (server.Replied bytes))
+fits_notify laws n s w t room p bytes y = (
+  given_left s (digest s w) y.answer.0 t p room bytes (at_stands n s w _ _ y) y.answer.4,
+  own_above n s w (server.Notify t p room) (server.Replied bytes) (next_own (life_in s (digest s w))) y.all y.answer y.kept_all y.kept
+      (ap (λ z. own_use (server_deed z (server.Notify t p room) (server.Replied bytes))) (at_life n s w _ _ y)),
+)
 
 fits_server : LawsBelow → (n : ℕ) (s : SecurityContext) (w : World) (event : server.Event) (entry : server.Entry) → At n s w event entry
     → Fits s (digest s w) (server_deed (Some (life_in s (digest s w))) event entry)
 fits_server laws n s w (server.Datagram now echo mid d) (server.Took (server.Deliver received t) reply) y = fits_delivery laws n s w now mid echo d reply received t y
 fits_server laws n s w (server.Datagram now echo mid d) (server.Took (server.Challenge i k value issued) reply) y = fits_challenge laws n s w now mid i k issued echo d value reply y
 fits_server laws n s w (server.Reply t own mid p room) (server.Replied bytes) y = fits_reply laws n s w t own mid room p bytes y
+fits_server laws n s w (server.Notify t p room) (server.Replied bytes) y = fits_notify laws n s w t room p bytes y
 fits_server laws n s w (server.Restart i next) server.Restarted y = tt
 fits_server laws n s w event entry y = tt
 

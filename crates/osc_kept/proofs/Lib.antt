@@ -7,8 +7,10 @@ pub mod Digest
 pub mod Rising
 pub mod Lives
 pub mod Owned
+pub mod Inside
 pub mod Fitting
 pub mod Claims
+pub mod Hearing
 pub mod Saving
 pub mod GoingOn
 pub mod InWorld

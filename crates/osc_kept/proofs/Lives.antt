@@ -15,7 +15,7 @@ use Rattle.osc_endpoint.specs.ServerHistory as server
 use Rattle.osc_kept.specs.Numbering.{Effect, Stay, Load, Use, use_of}
 use Rattle.osc_kept.specs.Premises.{AtEach, Answers, IsNoAdd}
 use Rattle.osc_kept.specs.World.{World, Begin, Then, ServerStarts, AtClient, AtServer, client_history, server_history, server_life, server_effect}
-use Rattle.osc_kept.proofs.Deeds.{Deed, Begins, Renews, Challenges, Replies, Nothing, life_in, with_mark, replied, given, taken}
+use Rattle.osc_kept.proofs.Deeds.{Deed, Begins, Renews, Challenges, Replies, Notifies, Nothing, life_in, with_mark, replied, given, taken}
 use Rattle.osc_kept.proofs.Digest.{client_deed, server_deed, digest}
 
 abbrev pub OnlyFirst : server.History → Type 0
@@ -36,6 +36,7 @@ was_there : (h : server.History) (event : server.Event) (entry : server.Entry) (
 was_there h (server.Add context start size) entry i of a e = absurd a
 was_there h (server.Datagram now echo mid d) (server.Took answer reply) i of a e = from_map (marked (server.mark_at i answer)) (server.life h i) of e
 was_there h (server.Reply t own mid p room) (server.Replied bytes) i of a e = from_map (marked (server.reply_mark_at i t own)) (server.life h i) of e
+was_there h (server.Notify t p room) (server.Replied bytes) i of a e = from_map (marked (server.reply_mark_at i t true)) (server.life h i) of e
 was_there h (server.Restart context next) server.Restarted i of a e = from_choice (i == context) (renewed next) (server.life h i) of e
 was_there h event entry i of a e = (of, e)
 
@@ -97,6 +98,7 @@ present_step s ds h (server.Datagram now echo mid d) (server.Took (server.Delive
     marks_here (server.life h 0) (life_in s ds) (Delivered t.number) t.context p (delivered_first h (record { clock = max (server.clock h) now; echo = echo; mid = mid; bytes = d }) received t reply z a)
 present_step s ds h (server.Datagram now echo mid d) (server.Took answer reply) p z n a = ap (λ x. option_map (marked None) x) p
 present_step s ds h (server.Reply t own mid q room) (server.Replied bytes) p z n a = reply_here (server.life h 0) (life_in s ds) t own p (z t.context a.0 a.1.0)
+present_step s ds h (server.Notify t q room) (server.Replied bytes) p z n a = marks_here (server.life h 0) (life_in s ds) Answered t.context p (z t.context a.1.0 a.1.1.0)
 present_step s ds h (server.Restart c next) server.Restarted p z n a =
     let x = restart_there (server.life h c) a in
     renew_here (server.life h 0) (life_in s ds) c next p (z c x.0 x.1)
@@ -109,6 +111,7 @@ given_step : (l : Life) (ds : List Deed) (h : server.History) (event : server.Ev
 given_step l ds h (server.Datagram now echo mid d) (server.Took (server.Deliver received t) reply) a e = ap (λ ts. t ∷ ts) e
 given_step l ds h (server.Add context start size) (server.Took (server.Deliver received t) reply) a e = absurd a.1
 given_step l ds h (server.Reply t own mid q room) (server.Took (server.Deliver received u) reply) a e = absurd a.2
+given_step l ds h (server.Notify t q room) (server.Took (server.Deliver received u) reply) a e = absurd a.1.2
 given_step l ds h (server.Restart c next) (server.Took (server.Deliver received t) reply) a e = absurd (no_took (server.life h c) (server.Deliver received t) reply a)
 given_step l ds h (server.Advance now) (server.Took (server.Deliver received t) reply) a e = absurd a
 given_step l ds h event entry a e = e
@@ -117,6 +120,7 @@ taken_step : (l : Life) (ds : List Deed) (h : server.History) (event : server.Ev
     → answered (server.Then h event entry) ≡ taken (server_deed (Some l) event entry ∷ ds)
 taken_step l ds h (server.Reply t own mid q room) (server.Replied bytes) e = ap (λ ts. t ∷ ts) e
 taken_step l ds h (server.Datagram now echo mid d) (server.Took (server.Deliver received t) reply) e = e
+taken_step l ds h (server.Notify t q room) (server.Replied bytes) e = e
 taken_step l ds h (server.Restart c next) server.Restarted e = e
 taken_step l ds h event entry e = e
 
@@ -127,6 +131,7 @@ abbrev pub own_use : Deed → Effect
 own_use (Renews next) = Load next
 own_use (Challenges n echo issued own m) = Use own
 own_use (Replies t (Some own) m) = Use own
+own_use (Notifies t own m) = Use own
 own_use d = Stay
 
 pub effect_step : (s : SecurityContext) (ds : List Deed) (h : server.History) (event : server.Event) (entry : server.Entry) → IsPresentIn s ds h → OnlyFirst h → ServerAnswer h event entry
@@ -136,6 +141,8 @@ effect_step s ds h (server.Datagram now echo mid d) (server.Took (server.Challen
 effect_step s ds h (server.Reply t true mid q room) (server.Replied bytes) p z a =
     ap (λ x. use_of (option_map next_own (server.life h x))) (z t.context a.0 a.1.0) ∙ ap (λ x. use_of (option_map next_own x)) p
 effect_step s ds h (server.Reply t false mid q room) (server.Replied bytes) p z a = refl
+effect_step s ds h (server.Notify t q room) (server.Replied bytes) p z a =
+    ap (λ x. use_of (option_map next_own (server.life h x))) (z t.context a.1.0 a.1.1.0) ∙ ap (λ x. use_of (option_map next_own x)) p
 effect_step s ds h (server.Restart c next) server.Restarted p z a = refl
 effect_step s ds h event entry p z a = refl
 

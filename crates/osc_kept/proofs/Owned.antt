@@ -1,15 +1,16 @@
 -- The numbers of what was sealed are among those that the end used, and a request that is pending was sent.
-use Rattle.std.proofs.Common.{◌≡◌, ℕ, ◌∙◌, sym, ap, subst, refl, Option, Some, None, List, ◌∷◌, inl, inr}
-use Rattle.std.specs.Prelude.{All, Contains}
+use Rattle.std.proofs.Common.{◌≡◌, ℕ, ◌∙◌, sym, ap, subst, refl, bytes_eq, Bool, true, false, Option, Some, None, List, ◌∷◌, inl, inr}
+use Rattle.std.specs.Prelude.{All, Contains, max}
 use Rattle.std.specs.Option.{option_map}
-use Rattle.std.proofs.lemmas.List.Elements.{All-contains, All-filter, All-nil, All-push, All-weaker}
+use Rattle.std.proofs.lemmas.List.Elements.{All-contains, All-filter, All-map, All-nil, All-push, All-weaker}
 use Rattle.osc_context.specs.SecurityContext.{SecurityContext}
 use Rattle.osc_protect.specs.Sealed.{inside}
 use Rattle.osc_endpoint.specs.ClientHistory as client
+use Rattle.osc_endpoint.specs.Observing.{place_of}
 use Rattle.osc_endpoint.specs.ServerHistory as server
 use Rattle.osc_kept.specs.Premises.{AtEach, Answers}
 use Rattle.osc_kept.specs.World.{World, Begin, Then, Client, Server, ClientStarts, Draws, Reserves, AtClient, AtServer, Has, Request, client_effect, client_history, server_effect, server_history, server_life}
-use Rattle.osc_kept.proofs.Deeds.{Deed, Sends, Challenges, Replies, IsSent, life_in, owns, sends}
+use Rattle.osc_kept.proofs.Deeds.{Deed, Sends, Challenges, Replies, Notifies, IsSent, life_in, owns, sends}
 use Rattle.osc_kept.proofs.Digest.{client_deed, deed, digest, sends_server, server_deed}
 use Rattle.osc_kept.proofs.Lives.{Stands, effect_step, life_known, own_use, some_is, stands}
 use Rattle.osc_kept.proofs.Rising.{used, used_after}
@@ -38,6 +39,8 @@ deed_used (Challenges n echo issued own m) ds ns o f (inl e) = inl e
 deed_used (Challenges n echo issued own m) ds ns o f (inr k) = inr (f k)
 deed_used (Replies t (Some own) m) ds ns o f (inl e) = inl e
 deed_used (Replies t (Some own) m) ds ns o f (inr k) = inr (f k)
+deed_used (Notifies t own m) ds ns o f (inl e) = inl e
+deed_used (Notifies t own m) ds ns o f (inr k) = inr (f k)
 deed_used d ds ns o f k = f k
 
 -- what an event does to the server's numbers, its deed does
@@ -68,18 +71,33 @@ own_used n s (Then w event) o a k = own_used n s w o a.0 k
 abbrev pub AllSent : List Deed → List client.Asked → Type 0
 AllSent ds xs = All (λ (r : client.Asked). IsSent ds r.number) xs
 
-still_sent : (d : Deed) (ds : List Deed) (n : ℕ) → IsSent ds n → IsSent (d ∷ ds) n
+pub still_sent : (d : Deed) (ds : List Deed) (n : ℕ) → IsSent ds n → IsSent (d ∷ ds) n
 still_sent (Sends k m) ds n i = (i.0, inr i.1, i.2)
 still_sent d ds n i = i
 
 all_still : (d : Deed) (ds : List Deed) (xs : List client.Asked) → AllSent ds xs → AllSent (d ∷ ds) xs
 all_still d ds xs a = All-weaker (λ (r : client.Asked). IsSent ds r.number) (λ (r : client.Asked). IsSent (d ∷ ds) r.number) (λ r i. still_sent d ds r.number i) xs a
 
+-- a response leaves a request's number as it is
+pub same_number : (token : List ℕ) (place : ℕ) (r : client.Asked) → (client.after_response token place r).number ≡ r.number
+same_number token place r = by_test (bytes_eq r.token token) refl
+  where
+    by_test : (b : Bool) → bytes_eq r.token token ≡ b → (client.after_response token place r).number ≡ r.number
+    by_test true e = rw (e) refl
+    by_test false e = rw (e) refl
+
 asked_step : (h : client.History) (event : client.Event) (entry : client.Entry) (ds : List Deed) → AllSent ds (client.asked h)
     → AllSent (client_deed (Some h) event entry ∷ ds) (client.asked (client.Then h event entry))
 asked_step h (client.Request now p room) (client.Sent bytes) ds a =
     let d : Deed = Sends (client.next h) (inside p) in
     All-push (λ (r : client.Asked). IsSent (d ∷ ds) r.number) (client.asked h) _ (all_still d ds (client.asked h) a) (record { number = client.next h; message = inside p }, inl refl, refl)
+asked_step h (client.Datagram now d) (client.Took (client.Notified received number)) ds a =
+    let place = place_of received.number in
+    let alive = client.alive (max (client.clock h) now) (client.life_ms h) (client.asked h) in
+    All-map (λ (r : client.Asked). IsSent ds r.number) (client.after_response received.token place) alive
+    (All-weaker (λ (r : client.Asked). IsSent ds r.number) (λ (r : client.Asked). IsSent ds (client.after_response received.token place r).number)
+        (λ r i. subst (IsSent ds) (sym (same_number received.token place r)) i) alive
+        (All-filter _ (λ (r : client.Asked). IsSent ds r.number) (client.asked h) a))
 asked_step h (client.Datagram now d) (client.Took (client.Deliver received number)) ds a = All-filter _ (λ (r : client.Asked). IsSent ds r.number) (client.asked h) a
 asked_step h (client.Forget token) entry ds a = All-filter _ (λ (r : client.Asked). IsSent ds r.number) (client.asked h) a
 asked_step h (client.Restart first) entry ds a = All-nil (λ (r : client.Asked). IsSent ds r.number)

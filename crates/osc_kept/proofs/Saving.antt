@@ -15,7 +15,7 @@ use Rattle.osc_kept.specs.Numbering.{Own, Effect, Reserve, after, Allowed}
 use Rattle.osc_kept.specs.GoingOn.{FreshBySaving, SavesFirst}
 use Rattle.osc_kept.specs.Premises.{Answers, AtEach, FreshWhileNothingDelivered, NumbersAreKept}
 use Rattle.osc_kept.specs.World.{World, Begin, Then, Event, Server, ServerStarts, AtServer, Has, delivered, effect, numbers}
-use Rattle.osc_kept.proofs.Deeds.{Deed, Begins, Renews, Challenges, Delivers, Replies, born_challenge, delivers, here, life_in, owns, replied}
+use Rattle.osc_kept.proofs.Deeds.{Deed, Begins, Renews, Challenges, Delivers, Notifies, Replies, born_challenge, delivers, here, life_in, owns, replied}
 use Rattle.osc_kept.proofs.Digest.{delivered_is, digest}
 use Rattle.osc_kept.proofs.Fitting.{carries_last, same_life}
 use Rattle.osc_kept.proofs.Lives.{Stands, life_known, stands}
@@ -42,6 +42,7 @@ any_owned s (Renews next ∷ ds) c e = let f : None ≡ Some c = e in cc
 any_owned s (Challenges n echo issued own m ∷ ds) c e = (own, inl refl)
 any_owned s (Replies t (Some own) m ∷ ds) c e = (own, inl refl)
 any_owned s (Replies t None m ∷ ds) c e = any_owned s ds c e
+any_owned s (Notifies t own m ∷ ds) c e = (own, inl refl)
 any_owned s (d ∷ ds) c e = any_owned s ds c e
 any_owned s [] c e = let f : None ≡ Some c = e in cc
 

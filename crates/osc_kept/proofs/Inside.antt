@@ -1,0 +1,65 @@
+-- Options of a plain message inside its protection: the values of an option that goes inside are the same there, and what may have no Observe
+-- is no notification. x is what counts of a context's features, entries are options in order.
+use Rattle.std.proofs.Common.{◌≡◌, ℕ, ◌∙◌, sym, ap, refl, Bool, true, false, List, [], ◌∷◌, ◌⊎◌, inl, inr, ◌==◌, ◌||◌, ◌&&◌, ◌/◌, None}
+use Rattle.std.specs.Prelude.{is_some}
+use Rattle.std.proofs.Math.Bool.{and-false}
+use Rattle.std.proofs.lemmas.Bool.{eqb-true}
+use Rattle.osc_coap.specs.Class.{class, inner_options, is_inner}
+use Rattle.osc_coap.specs.Datagram.{Parts}
+use Rattle.osc_coap.specs.OptionNumbers.{observe}
+use Rattle.osc_coap.specs.OptionSpelling.{Entry}
+use Rattle.osc_coap.specs.Search.{first_of, has_number, values_at}
+use Rattle.osc_context.specs.declared.features.Features.{Features}
+use Rattle.osc_protect.specs.OptionSets.{is_unsupported}
+use Rattle.osc_protect.specs.Sealed.{inside}
+use Rattle.osc_endpoint.specs.Observing.{is_notification, is_observable, observe_value, registers, says_register}
+
+one_of : (b : Bool) → (b ≡ true) ⊎ (b ≡ false)
+one_of true = inl refl
+one_of false = inr refl
+
+-- the values of such an option
+pub values_inside : (n : ℕ) → is_inner (class n) ≡ true → (entries : List Entry) → values_at n (inner_options entries) ≡ values_at n entries
+values_inside n goes [] = refl
+values_inside n goes (entry ∷ entries) =
+    let rest = values_inside n goes entries in
+    elim (one_of (entry.0 == n)) [
+      | inl is ↦
+          let inner : is_inner (class entry.0) ≡ true = ap (λ k. is_inner (class k)) (eqb-true _ _ is) ∙ goes in
+          rw (inner, is) (ap (λ vs. entry.1 ∷ vs) rest)
+      | inr isnt ↦ elim (one_of (is_inner (class entry.0))) [
+        | inl inner ↦ rw (inner, isnt) rest
+        | inr outer ↦ rw (outer, isnt) rest
+      ]
+    ]
+
+-- a request registers inside what it registers as a plain message
+pub registers_inside : (x : Features) (p : Parts) → registers x (inside p).code (inside p).options ≡ registers x p.code p.options
+registers_inside x p = ap (λ vs. registers_by x p.code vs) (values_inside observe refl p.options)
+  where
+    registers_by : Features → ℕ → List (List ℕ) → Bool
+    registers_by x code vs = x.observe && (is_observable code && says_register (first_of vs))
+
+neither : (a b : Bool) → (a || b) ≡ false → (a ≡ false) × (b ≡ false)
+neither true b e = absurd (let f : true ≡ false = e in cc)
+neither false b e = (refl, e)
+
+observe_unsupported : (x : Features) (n : ℕ) → x.observe ≡ false → (n == observe) ≡ true → is_unsupported x n ≡ true
+observe_unsupported x n off is =
+    ap (is_unsupported x) (eqb-true n observe is) ∙ ap (λ b. is_unsupported (record { observe = b; blocks = x.blocks }) observe) off
+
+-- what may have no Observe has none
+no_value : (x : Features) (entries : List Entry) → x.observe ≡ false → has_number (is_unsupported x) entries ≡ false → observe_value entries ≡ None
+no_value x [] off none = refl
+no_value x (entry ∷ entries) off none =
+    let (first, rest) = neither (is_unsupported x entry.0) (has_number (is_unsupported x) entries) none in
+    elim (one_of (entry.0 == observe)) [
+      | inl is ↦ absurd (let f : true ≡ false = sym (observe_unsupported x entry.0 off is) ∙ first in cc)
+      | inr isnt ↦ rw (isnt) (no_value x entries off rest)
+    ]
+
+-- and is no notification
+pub unnotified : (x : Features) (p : Parts) → x.observe ≡ false → has_number (is_unsupported x) p.options ≡ false → is_notification p.code (inside p).options ≡ false
+unnotified x p off none =
+    let value : observe_value (inside p).options ≡ None = ap first_of (values_inside observe refl p.options) ∙ no_value x p.options off none in
+    ap (λ o. (p.code / 32 == 2) && is_some o) value ∙ and-false (p.code / 32 == 2)
