@@ -19,9 +19,7 @@ ghost use Rattle.osc_kept.specs.Owning.{own_in};
 ghost use Rattle.osc_kept.specs.Refusals.{Loaded, RefusesAt};
 ghost use Rattle.osc_kept.specs.Views.{upcoming_of};
 
-use crate::drawn::{
-    decide_drawn, draw_for_datagram, draw_for_reply, notify_drawn, reply_drawn,
-};
+use crate::drawn::{decide_drawn, draw_for_datagram, draw_for_reply, notify_drawn, reply_drawn};
 use crate::kept_error::{KeptError, lift};
 use crate::source::Source;
 use osc_coap::Message;

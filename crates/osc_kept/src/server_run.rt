@@ -178,10 +178,7 @@ fn serve<'a, K: Keeper>(
         }
         KeptServerEvent::Reply(answering) => (serve_answering(server, answering, tickets), None),
         KeptServerEvent::Notify(notifying) => (serve_notifying(server, notifying, tickets), None),
-        KeptServerEvent::Drop { of } => (
-            KeptServerEntry::Served(drop_ticket(tickets, *of)),
-            None,
-        ),
+        KeptServerEvent::Drop { of } => (KeptServerEntry::Served(drop_ticket(tickets, *of)), None),
         KeptServerEvent::Restart => (serve_restart(server), None),
     }
 }
