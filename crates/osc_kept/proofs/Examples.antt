@@ -1,5 +1,5 @@
 -- The premises on two ends can be met, and none can be left out.
-use Rattle.std.proofs.Common.{◌≡◌, ℕ, ◌<◌, ◌≤◌, ◌^◌, ◌∙◌, sym, ap, subst, refl, arith, false, Option, Some, None, List, [], ◌∷◌, inl, inr}
+use Rattle.std.proofs.Common.{◌≡◌, ℕ, ◌<◌, ◌≤◌, ◌^◌, ◌∙◌, sym, ap, subst, refl, arith, Bool, true, false, Option, Some, None, List, [], ◌∷◌, inl, inr}
 use Rattle.std.specs.Prelude.{All, max}
 use Rattle.std.proofs.lemmas.List.Elements.{All-cons, All-contains, All-filter, All-nil}
 use Rattle.osc_coap.specs.Datagram.{Parts}
@@ -11,8 +11,8 @@ use Rattle.osc_context.specs.Reserving.{next_limit}
 use Rattle.osc_context.specs.SecurityContext.{SecurityContext}
 use Rattle.osc_context.specs.Views.{number_of}
 use Rattle.osc_protect.specs.CipherLaws.{request_seal, response_seal}
-use Rattle.osc_protect.specs.Laws.{SealedOpens}
-use Rattle.osc_protect.specs.Protection.{ProtectsResponse}
+use Rattle.osc_protect.specs.Laws.{OneNotification, SealedOpens}
+use Rattle.osc_protect.specs.Protection.{Protects, responses_to}
 use Rattle.osc_protect.specs.Sealed.{SealsRequest, SealsResponse, inside}
 use Rattle.osc_endpoint.specs.declared.start.Start.TheVariants as starts
 use Rattle.osc_endpoint.specs.ClientHistory as client
@@ -22,12 +22,14 @@ use Rattle.osc_endpoint.specs.ServerHistory as server
 use Rattle.osc_kept.specs.Examples.{Asked, CarriesValue, Ends, ForgeryBreaks, NumberOutOfOrderBreaks, PremisesCanBeMet, RepeatedValueBreaks, asks, challenges, delivers, exchange, restarts, start_client, start_server, ticket_of}
 use Rattle.osc_kept.specs.Premises.{Answers, NobodyForgesRequests, NobodyForgesResponses, SealedByServer}
 use Rattle.osc_kept.specs.World.{World, Begin, Then, Client, Server, Draws, Reserves, AtClient, AtServer, Has, Request, answered, client_history, sent, server_history}
+use Rattle.osc_kept.proofs.Inside.{as_notification}
 use Rattle.osc_kept.proofs.Lives.{some_is}
 
 -- what is used of the layers below
 pub record OpeningLaws : Type 0 where
   pub opens : SealedOpens
   pub one : DatagramIsOneMessage
+  pub notification : OneNotification
 
 -- ---- what a kept end sealed is no forgery
 
@@ -45,15 +47,24 @@ sent_opens laws s w d k q seals has n m p =
       text_is = ap (λ (x : Parts). x.payload) (laws.one alone.opens.outer p.outer d alone.opens.datagram p.datagram);
     }
 
-answered_under : OpeningLaws → (s : SecurityContext) (w : World) (a : List ℕ) (k : ℕ) (own : Option ℕ) (q : Parts) (number : ℕ) (other : Option ℕ) (m : InnerParts) → SealsResponse s k own q a
-    → Has (record { number = k; own = own; message = inside q }) (answered s w) → number ≡ k → (p : ProtectsResponse s number other m a) → SealedByServer s w (response_seal s number other) p.outer.payload
-answered_under laws s w a k own q number other m seals has is p =
+-- an own number that a response to request k has, whether a registration or another request waits for it
+same_own : OpeningLaws → (s : SecurityContext) (a : List ℕ) (k : ℕ) (own : Option ℕ) (q : Parts) (b : Bool) (other : Option ℕ) (m : InnerParts) → SealsResponse s k own q a
+    → Protects (responses_to s b k) other m a → other ≡ own
+same_own laws s a k own q false other m seals p = ((laws.opens.response s k own q a seals).nothing_else other m p).0
+same_own laws s a k own q true other m seals p =
+    (laws.notification s k).number a other own m (inside q) p (as_notification s k own (inside q) a (laws.opens.response s k own q a seals).opens)
+
+answered_under : OpeningLaws → (s : SecurityContext) (w : World) (a : List ℕ) (k : ℕ) (own : Option ℕ) (q : Parts) (b : Bool) (number : ℕ) (other : Option ℕ) (m : InnerParts) → SealsResponse s k own q a
+    → Has (record { number = k; own = own; message = inside q }) (answered s w) → number ≡ k → (p : Protects (responses_to s b number) other m a)
+    → SealedByServer s w (response_seal s number other) p.outer.payload
+answered_under laws s w a k own q b number other m seals has is p =
     let alone = laws.opens.response s k own q a seals in
-    let same = alone.nothing_else other m (subst (λ x. ProtectsResponse s x other m a) is p) in
+    let same = same_own laws s a k own q b other m seals (subst (λ x. Protects (responses_to s b x) other m a) is p) in
     record {
+      registers = false;
       response = record { number = k; own = own; message = inside q };
       was_answered = has;
-      input_is = ap (response_seal s k) (sym same.0) ∙ ap (λ x. response_seal s x other) (sym is);
+      input_is = ap (response_seal s k) (sym same) ∙ ap (λ x. response_seal s x other) (sym is);
       bytes = a;
       protects = alone.opens;
       text_is = ap (λ (x : Parts). x.payload) (laws.one alone.opens.outer p.outer a alone.opens.datagram p.datagram);
@@ -62,7 +73,7 @@ answered_under laws s w a k own q number other m seals has is p =
 answered_opens : OpeningLaws → (s : SecurityContext) (w : World) (a : List ℕ) (k : ℕ) (own : Option ℕ) (q : Parts) (pending : List client.Asked) → SealsResponse s k own q a
     → Has (record { number = k; own = own; message = inside q }) (answered s w) → All (λ (r : client.Asked). r.number ≡ k) pending → NobodyForgesResponses s w pending a
 answered_opens laws s w a k own q pending seals has all r other m among p =
-    answered_under laws s w a k own q r.number other m seals has (All-contains (λ (x : client.Asked). x.number ≡ k) pending r all among) p
+    answered_under laws s w a k own q (client.observes r.wait) r.number other m seals has (All-contains (λ (x : client.Asked). x.number ≡ k) pending r all among) p
 
 -- where one request alone waits
 answers_one : OpeningLaws → (s : SecurityContext) (w : World) (h : client.History) (only : client.Asked) (a : List ℕ) (own : Option ℕ) (q : Parts) → client_history s w ≡ Some h → client.asked h ≡ only ∷ []
