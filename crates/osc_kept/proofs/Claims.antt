@@ -14,7 +14,7 @@ use Rattle.osc_endpoint.specs.ServerHistory as server
 use Rattle.osc_kept.specs.Numbering.{Use}
 use Rattle.osc_kept.specs.Claims.{AnswersThatRequest, DeliversOnce, IsForThatRequest, IsNewForClient, IsNewForServer, SealsUnderNewNonce}
 use Rattle.osc_kept.specs.Premises.{IsLawful, SealedByServer}
-use Rattle.osc_kept.specs.World.{World, Event, Begin, Then, Client, Server, AtClient, AtServer, Has, Request, Response, answered, client_history, server_life}
+use Rattle.osc_kept.specs.World.{World, Event, Then, Client, Server, AtClient, AtServer, Has, Request, Response, answered, client_history, server_life}
 use Rattle.osc_kept.proofs.Deeds.{AllBelow, AllFit, Delivers, Holds, IsSent, answered_sent, delivered_sent, given_delivered, not_before, not_shared, one_request, owned, owns, sends}
 use Rattle.osc_kept.proofs.Digest.{answered_is, delivered_is, digest, sent_is, server_deed}
 use Rattle.osc_kept.proofs.Fitting.{LawsBelow, all_fit, at_server, at_stands, before, fits_client, held, own_above}

@@ -1,23 +1,18 @@
 -- The premises on two ends can be met, and none can be left out.
 use Rattle.std.proofs.Common.{◌≡◌, ℕ, ◌<◌, ◌≤◌, ◌^◌, ◌∙◌, sym, ap, subst, refl, arith, Bool, true, false, Option, Some, None, List, [], ◌∷◌, inl, inr}
-use Rattle.std.specs.Prelude.{All, max, ◌||◌, ◌&&◌, ◌==◌, not}
+use Rattle.std.specs.Prelude.{All, max}
 use Rattle.std.proofs.lemmas.List.Elements.{All-cons, All-contains, All-filter, All-nil}
 use Rattle.osc_coap.specs.Datagram.{Parts}
 use Rattle.osc_coap.specs.Inner.{InnerParts}
 use Rattle.osc_coap.specs.OptionNumbers as options
-use Rattle.osc_coap.specs.Class.{class, is_outer}
-use Rattle.osc_coap.specs.OptionSpelling.{Entry}
-use Rattle.osc_coap.specs.Search.{first_of, has_number, values_at}
+use Rattle.osc_coap.specs.Search.{first_of, values_at}
 use Rattle.osc_coap.specs.Laws.{DatagramIsOneMessage}
-use Rattle.osc_context.specs.Features.{unobserved}
 use Rattle.osc_context.specs.Reserving.{next_limit}
 use Rattle.osc_context.specs.SecurityContext.{SecurityContext}
 use Rattle.osc_context.specs.Views.{number_of}
 use Rattle.osc_protect.specs.CipherLaws.{request_seal, response_seal}
-use Rattle.osc_context.specs.declared.features.Features.{Features}
 use Rattle.osc_protect.specs.Laws.{OneNotification, SealedOpens}
-use Rattle.osc_protect.specs.OptionSets.{is_barred}
-use Rattle.osc_protect.specs.Protection.{Protects, ProtectsNotification, ProtectsResponse, responses_to}
+use Rattle.osc_protect.specs.Protection.{Protects, responses_to}
 use Rattle.osc_protect.specs.Sealed.{SealsRequest, SealsResponse, inside}
 use Rattle.osc_endpoint.specs.declared.start.Start.TheVariants as starts
 use Rattle.osc_endpoint.specs.ClientHistory as client
@@ -27,12 +22,14 @@ use Rattle.osc_endpoint.specs.ServerHistory as server
 use Rattle.osc_kept.specs.Examples.{Asked, CarriesValue, Ends, ForgeryBreaks, NumberOutOfOrderBreaks, PremisesCanBeMet, RepeatedValueBreaks, asks, challenges, delivers, exchange, restarts, start_client, start_server, ticket_of}
 use Rattle.osc_kept.specs.Premises.{Answers, NobodyForgesRequests, NobodyForgesResponses, SealedByServer}
 use Rattle.osc_kept.specs.World.{World, Begin, Then, Client, Server, Draws, Reserves, AtClient, AtServer, Has, Request, answered, client_history, sent, server_history}
+use Rattle.osc_kept.proofs.Inside.{as_notification}
 use Rattle.osc_kept.proofs.Lives.{some_is}
 
 -- what is used of the layers below
 pub record OpeningLaws : Type 0 where
   pub opens : SealedOpens
   pub one : DatagramIsOneMessage
+  pub notification : OneNotification
 
 -- ---- what a kept end sealed is no forgery
 
@@ -50,55 +47,19 @@ sent_opens laws s w d k q seals has n m p =
       text_is = ap (λ (x : Parts). x.payload) (laws.one alone.opens.outer p.outer d alone.opens.datagram p.datagram);
     }
 
--- what a context without Observe lets stand inside, one with it lets stand there too
-more_inside : (a o b c d : Bool) → (true && o) || b || c || d ≡ false → (a && o) || b || c || d ≡ false
-more_inside a true b c d e = cc
-more_inside true false b c d e = e
-more_inside false false b c d e = e
+-- an own number that a response to request k has, whether a registration or another request waits for it
+same_own : OpeningLaws → (s : SecurityContext) (a : List ℕ) (k : ℕ) (own : Option ℕ) (q : Parts) (b : Bool) (other : Option ℕ) (m : InnerParts) → SealsResponse s k own q a
+    → Protects (responses_to s b k) other m a → other ≡ own
+same_own laws s a k own q false other m seals p = ((laws.opens.response s k own q a seals).nothing_else other m p).0
+same_own laws s a k own q true other m seals p =
+    (laws.notification s k).number a other own m (inside q) p (as_notification s k own (inside q) a (laws.opens.response s k own q a seals).opens)
 
-fewer_barred : (x : Features) (n : ℕ) → is_barred (unobserved x) n ≡ false → is_barred x n ≡ false
-fewer_barred x n e = more_inside (not x.observe) (n == options.observe) (not x.blocks && (n == options.block2)) (not x.blocks && (n == options.block1)) (is_outer (class n)) e
-
-one_fewer : (a b c d : Bool) → (a ≡ false → c ≡ false) → (b ≡ false → d ≡ false) → a || b ≡ false → c || d ≡ false
-one_fewer true b c d f g e = cc
-one_fewer false b c d f g e = subst (λ y. y || d ≡ false) (sym (f refl)) (g e)
-
-none_barred : (x : Features) (es : List Entry) → has_number (is_barred (unobserved x)) es ≡ false → has_number (is_barred x) es ≡ false
-none_barred x [] e = refl
-none_barred x (entry ∷ es) e =
-    one_fewer (is_barred (unobserved x) entry.0) (has_number (is_barred (unobserved x)) es) (is_barred x entry.0) (has_number (is_barred x) es) (fewer_barred x entry.0) (none_barred x es) e
-
--- a response opens in the same way if its request registers an observation
-as_notification : (s : SecurityContext) (k : ℕ) (own : Option ℕ) (m : InnerParts) (a : List ℕ) → ProtectsResponse s k own m a → ProtectsNotification s k own m a
-as_notification s k own m a p =
-    record {
-      outer = p.outer;
-      datagram = p.datagram;
-      used = p.used;
-      value = p.value;
-      single = p.single;
-      reads = p.reads;
-      direct = p.direct;
-      code = p.code;
-      allowed = none_barred s.features m.options p.allowed;
-      plaintext = p.plaintext;
-      spells = p.spells;
-      sealed = p.sealed;
-    }
-
--- it has one own number or none, whatever its request waits for
-one_own : OpeningLaws → OneNotification → (s : SecurityContext) (registers : Bool) (a : List ℕ) (k : ℕ) (own : Option ℕ) (q : Parts) (other : Option ℕ) (m : InnerParts) → SealsResponse s k own q a
-    → Protects (responses_to s registers k) other m a → other ≡ own
-one_own laws notified s true a k own q other m seals p =
-    (notified s k).number a other own m (inside q) p (as_notification s k own (inside q) a (laws.opens.response s k own q a seals).opens)
-one_own laws notified s false a k own q other m seals p = ((laws.opens.response s k own q a seals).nothing_else other m p).0
-
-answered_under : OpeningLaws → OneNotification → (s : SecurityContext) (registers : Bool) (w : World) (a : List ℕ) (k : ℕ) (own : Option ℕ) (q : Parts) (number : ℕ) (other : Option ℕ) (m : InnerParts)
-    → SealsResponse s k own q a → Has (record { number = k; own = own; message = inside q }) (answered s w) → number ≡ k → (p : Protects (responses_to s registers number) other m a)
+answered_under : OpeningLaws → (s : SecurityContext) (w : World) (a : List ℕ) (k : ℕ) (own : Option ℕ) (q : Parts) (b : Bool) (number : ℕ) (other : Option ℕ) (m : InnerParts) → SealsResponse s k own q a
+    → Has (record { number = k; own = own; message = inside q }) (answered s w) → number ≡ k → (p : Protects (responses_to s b number) other m a)
     → SealedByServer s w (response_seal s number other) p.outer.payload
-answered_under laws notified s registers w a k own q number other m seals has is p =
+answered_under laws s w a k own q b number other m seals has is p =
     let alone = laws.opens.response s k own q a seals in
-    let same : other ≡ own = one_own laws notified s registers a k own q other m seals (subst (λ x. Protects (responses_to s registers x) other m a) is p) in
+    let same = same_own laws s a k own q b other m seals (subst (λ x. Protects (responses_to s b x) other m a) is p) in
     record {
       registers = false;
       response = record { number = k; own = own; message = inside q };
@@ -109,21 +70,21 @@ answered_under laws notified s registers w a k own q number other m seals has is
       text_is = ap (λ (x : Parts). x.payload) (laws.one alone.opens.outer p.outer a alone.opens.datagram p.datagram);
     }
 
-answered_opens : OpeningLaws → OneNotification → (s : SecurityContext) (w : World) (a : List ℕ) (k : ℕ) (own : Option ℕ) (q : Parts) (pending : List client.Asked) → SealsResponse s k own q a
+answered_opens : OpeningLaws → (s : SecurityContext) (w : World) (a : List ℕ) (k : ℕ) (own : Option ℕ) (q : Parts) (pending : List client.Asked) → SealsResponse s k own q a
     → Has (record { number = k; own = own; message = inside q }) (answered s w) → All (λ (r : client.Asked). r.number ≡ k) pending → NobodyForgesResponses s w pending a
-answered_opens laws notified s w a k own q pending seals has all r other m among p =
-    answered_under laws notified s (client.observes r.wait) w a k own q r.number other m seals has (All-contains (λ (x : client.Asked). x.number ≡ k) pending r all among) p
+answered_opens laws s w a k own q pending seals has all r other m among p =
+    answered_under laws s w a k own q (client.observes r.wait) r.number other m seals has (All-contains (λ (x : client.Asked). x.number ≡ k) pending r all among) p
 
 -- where one request alone waits
-answers_one : OpeningLaws → OneNotification → (s : SecurityContext) (w : World) (h : client.History) (only : client.Asked) (a : List ℕ) (own : Option ℕ) (q : Parts) → client_history s w ≡ Some h → client.asked h ≡ only ∷ []
+answers_one : OpeningLaws → (s : SecurityContext) (w : World) (h : client.History) (only : client.Asked) (a : List ℕ) (own : Option ℕ) (q : Parts) → client_history s w ≡ Some h → client.asked h ≡ only ∷ []
     → SealsResponse s only.number own q a → Has (record { number = only.number; own = own; message = inside q }) (answered s w)
     → (g : client.History) → client_history s w ≡ Some g → NobodyForgesResponses s w (client.pending_at g (max (client.clock g) 0)) a
-answers_one laws notified s w h only a own q e one seals has g f =
+answers_one laws s w h only a own q e one seals has g f =
     let P = λ (r : client.Asked). r.number ≡ only.number in
     let all : All P (client.asked h) = subst (All P) (sym one) (All-cons P only [] refl (All-nil P)) in
     let waits : All P (client.pending_at h (max (client.clock h) 0)) = All-filter _ P (client.asked h) all in
     subst (λ x. NobodyForgesResponses s w (client.pending_at x (max (client.clock x) 0)) a) (some_is (sym e ∙ f))
-    (answered_opens laws notified s w a only.number own q (client.pending_at h (max (client.clock h) 0)) seals has waits)
+    (answered_opens laws s w a only.number own q (client.pending_at h (max (client.clock h) 0)) seals has waits)
 
 -- ---- what both ends sealed
 
@@ -232,8 +193,8 @@ number_out_of_order_breaks laws n s x q later r k m echo c free a =
 
 -- ---- the premises can be met
 
-pub premises_met : OpeningLaws → OneNotification → PremisesCanBeMet
-premises_met laws notified n s x first second again r k v u echo a c p room usable free still_free answers =
+pub premises_met : OpeningLaws → PremisesCanBeMet
+premises_met laws n s x first second again r k v u echo a c p room usable free still_free answers =
     let a15 = answers.0.0.0 in
     let a12 = a15.0.0.0 in
     let a7 = a12.0.0.0.0.0 in
@@ -273,7 +234,7 @@ premises_met laws notified n s x first second again r k v u echo a c p room usab
                         (
                           (
                             (((((((tt, tt), tt), tt), tt), tt), sent_opens laws s _ first.bytes 0 first.plain seals_first (inl refl)), tt),
-                            answers_one laws notified s _ asked1 _ a None _ refl refl reply (inl refl),
+                            answers_one laws s _ asked1 _ a None _ refl refl reply (inl refl),
                           ),
                           tt,
                         ),
@@ -287,7 +248,7 @@ premises_met laws notified n s x first second again r k v u echo a c p room usab
                 ),
                 sent_opens laws s _ second.bytes 64 second.plain seals_second (inl refl),
               ),
-              answers_one laws notified s _ asked3 _ c (Some 64) _ refl refl challenge.seals (inl refl),
+              answers_one laws s _ asked3 _ c (Some 64) _ refl refl challenge.seals (inl refl),
             ),
             tt,
           ),

@@ -1,7 +1,7 @@
 -- What a client hears over all its lives: each response once, and those to one request in the order in which they were sealed. w is a world that
 -- meets the premises, ds are its deeds, hs what was heard, h is the history of the client that runs, r a request that it asked.
-use Rattle.std.proofs.Common.{◌≡◌, ◌≢◌, ℕ, ◌+◌, ◌<◌, ◌≤◌, ◌∙◌, sym, ap, subst, refl, arith, bytes_eq, Bool, true, false, Option, Some, None, List, [], ◌∷◌, ◌++◌, ◌⊎◌, ◌&&◌, inl, inr, if◌then◌else◌}
-use Rattle.std.specs.Prelude.{All, AllPairs, Contains, filter, map, max, not, slice_index_or}
+use Rattle.std.proofs.Common.{◌≡◌, ◌≢◌, ℕ, ◌+◌, ◌<◌, ◌≤◌, ◌∙◌, sym, ap, subst, refl, arith, bytes_eq, Bool, true, false, Option, Some, None, List, [], ◌∷◌, ◌&&◌, inl, inr, if◌then◌else◌}
+use Rattle.std.specs.Prelude.{All, AllPairs, Contains, filter, max, not, slice_index_or}
 use Rattle.std.specs.Option.{option_map}
 use Rattle.std.proofs.lemmas.Bool.{not_from_true}
 use Rattle.std.proofs.lemmas.List.Elements.{All-contains, All-contains_itself, All-filter, All-map, All-nil, All-push, All-weaker, filter_passes}
@@ -21,19 +21,18 @@ use Rattle.osc_endpoint.specs.ClientHistory as client
 use Rattle.osc_endpoint.specs.ClientLaws.{AllClientAnswers}
 use Rattle.osc_endpoint.specs.Observing.{is_notification, place_of, registers}
 use Rattle.osc_endpoint.specs.Received.{Received, Receives}
-use Rattle.osc_endpoint.specs.ServerHistory as server
 use Rattle.osc_endpoint.proofs.Asking.{contains_filter, differ_later, differ_mapped, one_of, one_of_token}
 use Rattle.osc_endpoint.proofs.OneClientAnswers.{tokens_differ}
 use Rattle.osc_kept.specs.Claims.{AnswersThatRequest, BothEnds, DeliversOnce, HearsInOrder, IsAfter, IsForThatRequest, IsNext, NotifiesRegistrations, SealsUnderNewNonce}
 use Rattle.osc_kept.specs.Premises.{AtEach, Answers, IsLawful}
-use Rattle.osc_kept.specs.World.{World, Event, Begin, Then, Client, ClientStarts, AtClient, AtServer, Has, Request, Response, answered, client_history, heard, sent, server_life}
+use Rattle.osc_kept.specs.World.{World, Event, Begin, Then, ClientStarts, AtClient, AtServer, Has, Request, Response, client_history, heard, server_life}
 use Rattle.osc_kept.proofs.Claims.{answers_that, delivers_once, seals_new}
 use Rattle.osc_kept.proofs.Deeds.{AllFit, Challenges, Deed, IsSent, Nothing, Notifies, Replies, Sends, answers, owned, owns, sends}
-use Rattle.osc_kept.proofs.Digest.{answered_is, client_deed, deed, digest, sends_server, sent_is, server_deed}
+use Rattle.osc_kept.proofs.Digest.{answered_is, client_deed, deed, digest, sends_server, sent_is}
 use Rattle.osc_kept.proofs.Fitting.{LawsBelow, all_fit, before, fits_client}
 use Rattle.osc_kept.proofs.Inside.{registers_inside}
 use Rattle.osc_kept.proofs.Lives.{some_is}
-use Rattle.osc_kept.proofs.Owned.{pending_sent, runs, same_number, still_sent}
+use Rattle.osc_kept.proofs.Owned.{runs, same_number, still_sent}
 
 -- ---- in the list of what was sealed, what has a greater own number was sealed later
 

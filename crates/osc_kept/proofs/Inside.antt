@@ -1,16 +1,20 @@
 -- Options of a plain message inside its protection: the values of an option that goes inside are the same there, and what may have no Observe
 -- is no notification. x is what counts of a context's features, entries are options in order.
-use Rattle.std.proofs.Common.{◌≡◌, ℕ, ◌∙◌, sym, ap, refl, Bool, true, false, List, [], ◌∷◌, ◌⊎◌, inl, inr, ◌==◌, ◌||◌, ◌&&◌, ◌/◌, None}
+use Rattle.std.proofs.Common.{◌≡◌, ℕ, ◌∙◌, sym, ap, refl, arith, Bool, true, false, List, [], ◌∷◌, ◌⊎◌, inl, inr, ◌==◌, ◌||◌, ◌&&◌, ◌/◌, Option, None}
 use Rattle.std.specs.Prelude.{is_some}
 use Rattle.std.proofs.Math.Bool.{and-false}
 use Rattle.std.proofs.lemmas.Bool.{eqb-true}
 use Rattle.osc_coap.specs.Class.{class, inner_options, is_inner}
 use Rattle.osc_coap.specs.Datagram.{Parts}
+use Rattle.osc_coap.specs.Inner.{InnerParts}
 use Rattle.osc_coap.specs.OptionNumbers.{observe}
 use Rattle.osc_coap.specs.OptionSpelling.{Entry}
 use Rattle.osc_coap.specs.Search.{first_of, has_number, values_at}
 use Rattle.osc_context.specs.declared.features.Features.{Features}
-use Rattle.osc_protect.specs.OptionSets.{is_unsupported}
+use Rattle.osc_context.specs.Features.{unobserved}
+use Rattle.osc_context.specs.SecurityContext.{SecurityContext}
+use Rattle.osc_protect.specs.OptionSets.{is_barred, is_unsupported}
+use Rattle.osc_protect.specs.Protection.{ProtectsNotification, ProtectsResponse}
 use Rattle.osc_protect.specs.Sealed.{inside}
 use Rattle.osc_endpoint.specs.Observing.{is_notification, is_observable, observe_value, registers, says_register}
 
@@ -40,7 +44,7 @@ registers_inside x p = ap (λ vs. registers_by x p.code vs) (values_inside obser
     registers_by : Features → ℕ → List (List ℕ) → Bool
     registers_by x code vs = x.observe && (is_observable code && says_register (first_of vs))
 
-neither : (a b : Bool) → (a || b) ≡ false → (a ≡ false) × (b ≡ false)
+pub neither : (a b : Bool) → (a || b) ≡ false → (a ≡ false) × (b ≡ false)
 neither true b e = absurd (let f : true ≡ false = e in cc)
 neither false b e = (refl, e)
 
@@ -63,3 +67,31 @@ pub unnotified : (x : Features) (p : Parts) → x.observe ≡ false → has_numb
 unnotified x p off none =
     let value : observe_value (inside p).options ≡ None = ap first_of (values_inside observe refl p.options) ∙ no_value x p.options off none in
     ap (λ o. (p.code / 32 == 2) && is_some o) value ∙ and-false (p.code / 32 == 2)
+
+-- ---- what protects a message as a response protects it as a notification
+
+barred_less : (observes blocks : Bool) (n : ℕ) → is_barred (record { observe = false; blocks = blocks }) n ≡ false → is_barred (record { observe = observes; blocks = blocks }) n ≡ false
+barred_less false blocks n h = h
+barred_less true blocks n h = grind (arith)
+
+allowed_too : (x : Features) (entries : List Entry) → has_number (is_barred (unobserved x)) entries ≡ false → has_number (is_barred x) entries ≡ false
+allowed_too x [] h = refl
+allowed_too x (entry ∷ entries) h =
+    let (first, rest) = neither (is_barred (unobserved x) entry.0) (has_number (is_barred (unobserved x)) entries) h in
+    rw (barred_less x.observe x.blocks entry.0 first) (allowed_too x entries rest)
+
+pub as_notification : (s : SecurityContext) (n : ℕ) (own : Option ℕ) (m : InnerParts) (d : List ℕ) → ProtectsResponse s n own m d → ProtectsNotification s n own m d
+as_notification s n own m d p = record {
+  outer = p.outer;
+  datagram = p.datagram;
+  used = p.used;
+  value = p.value;
+  single = p.single;
+  reads = p.reads;
+  direct = p.direct;
+  code = p.code;
+  allowed = allowed_too s.features m.options p.allowed;
+  plaintext = p.plaintext;
+  spells = p.spells;
+  sealed = p.sealed;
+}

@@ -10,7 +10,7 @@ ghost use Rattle.osc_kept.specs.RunsInWorld.{ClientRunInWorld, ServerRunInWorld}
 use osc_coap::one_datagram;
 use osc_context::{Keeper, one_nonce, one_option_value};
 use osc_endpoint::ticket_once;
-use osc_protect::{one_cipher_input, sealed_opens};
+use osc_protect::{one_cipher_input, one_notification, sealed_opens};
 
 /// States what holds for each list of what happens at both ends and between them, including restarts and lost memory of either end. A
 /// request is delivered at most once, and the client sealed it. A response is delivered for the very request that it answers, and the
@@ -55,6 +55,7 @@ pub fn premises_can_be_met()
 {
     one_datagram();
     sealed_opens();
+    one_notification();
 }
 
 /// States that three of the premises are needed. With forged requests alone, with an Echo value that a request carried before, or
@@ -64,6 +65,7 @@ pub fn premises_are_needed()
 {
     one_datagram();
     sealed_opens();
+    one_notification();
 }
 
 /// States that each answer and each start of a kept end adds to a list that meets the premises. If others do their part
