@@ -163,7 +163,7 @@ is_zero : (i : ℕ) → i ≡ 0 → (0 == i) ≡ true
 is_zero i e = subst (λ (k : ℕ). (0 == k) ≡ true) (sym e) refl
 
 -- what a text with an own number does to the numbers: a reply with one, or a notification
-abbrev pub UsesOwn : History → TicketValues → Own → Own → Type 0
+abbrev UsesOwn : History → TicketValues → Own → Own → Type 0
 UsesOwn h v old new = (option_map next_own (option_map (marked (reply_mark_at 0 v true)) (life h 0)) ≡ Some (upcoming new)) × Steps true (option_map next_own (life h v.context)) old new
 
 uses_own : (s : Server) (h : History) (v : TicketValues) (of : Life) (old mid new : Own) → IsKept s (upcoming old) h → life h v.context ≡ Some of → HasOwn of
