@@ -49,9 +49,10 @@ OSCORE_ASSERT(sizeof(void *) == 8, "this library has pointers of 8 bytes: compil
 /* What a call answers: 0 where it is done, else the first refusal whose condition holds, in the order of this list; those that came last
    are judged elsewhere: OSCORE_SAME_SENDER right after OSCORE_SAME_LOOKUP; OSCORE_SAVE_FIRST right before OSCORE_NO_SUCH_CONTEXT, except
    that `oscore_kept_server_take` judges it right after OSCORE_BAD_HANDLE; OSCORE_OPTION_ORDER and OSCORE_VALUE_TOO_LONG before
-   OSCORE_NO_ROOM. A call that refuses writes `detail`: the place of a datagram's fault in bytes from 0, the number of an option, the
-   index of one that was handed in, the number to save, or 0. It leaves `out`, `out_len`, `options`, `opened`, `head`, `index`, `ticket`,
-   `request`, the server and the client as they were; where a call does more, it says so. */
+   OSCORE_NO_ROOM; OSCORE_NOT_OBSERVING right after OSCORE_STALE_TICKET, OSCORE_NOT_NOTIFICATION right after OSCORE_UNSUPPORTED, and
+   OSCORE_OLD right after OSCORE_UNDECODABLE. A call that refuses writes `detail`: the place of a datagram's fault in bytes from 0, the
+   number of an option, the index of one that was handed in, the number to save, or 0. It leaves `out`, `out_len`, `options`, `opened`,
+   `head`, `index`, `ticket`, `request`, the server and the client as they were; where a call does more, it says so. */
 typedef enum oscore_status {
     OSCORE_DONE = 0,
     OSCORE_BAD_HANDLE = 1,         /* no call wrote such a handle: as a length that is too large, or two identifiers that are one */
@@ -97,22 +98,26 @@ typedef enum oscore_status {
     OSCORE_SAME_SENDER = 41,       /* a context of the server has this Sender Key */
     OSCORE_SAVE_FIRST = 42,        /* a number has to be saved first: `detail` is that number */
     OSCORE_OPTION_ORDER = 43,      /* an option's number is below that of the one before it; `detail` is its index */
-    OSCORE_VALUE_TOO_LONG = 44     /* an option's value has more than 65,804 bytes; `detail` is its index */
+    OSCORE_VALUE_TOO_LONG = 44,    /* an option's value has more than 65,804 bytes; `detail` is its index */
+    OSCORE_NOT_OBSERVING = 45,     /* the ticket's request registers no observation, so nothing notifies it */
+    OSCORE_NOT_NOTIFICATION = 46,  /* the message isn't of class 2, or has no Observe */
+    OSCORE_OLD = 47                /* a later response to the same registration came before this one */
 } oscore_status;
 
 /* What calls return has the bytes of a uint32_t. */
 OSCORE_ASSERT(sizeof(oscore_status) == 4, "a status has 4 bytes: compile without -fshort-enums");
 
-/* So many bytes of `out` are enough to seal a plain datagram of so many bytes, whatever its options are, and the context, and the
-   number: by a context, a server or a client that calls wrote, no call then answers OSCORE_NO_ROOM. That is proved (docs/PROVED.md), but
-   of the calls of kept ends, which seal by the same code. 59 are: 48 of the OSCORE option (RFC 8613, 6.1: its option byte, one more byte
-   for its length, the flags, 5 of a Partial IV, a length and 32 of a kid context, 7 of a kid); 10 of the marker, the code inside and the
-   tag; and 1, since an inner option may come after Uri-Port in the plain datagram, and after nothing inside, so that its delta is up to
-   7 more, and that can take an extended byte more (RFC 7252, 3.1). A response has no kid, so its option has at most 7 bytes, and the
-   server puts the request's token of up to 8 bytes into it. Some messages take all 59. The sealed message has at most 65,535 bytes.
-   One message may need more: what `oscore_seal_request` seals with Observe, under a context that allows it. The option then stands
-   twice, so it takes at most its header and its value more: 4 bytes for a value of at most 3, as RFC 7641, 2 has it. */
-#define OSCORE_ROOM(plain_len) ((plain_len) + 59)
+/* So many bytes of `out` are enough to seal a plain datagram of so many bytes that has Observe at most once, in at most 3 bytes, as
+   RFC 7641, 2 has it; whatever its other options are, and the context, and the number: by a context, a server or a client that calls
+   wrote, no call then answers OSCORE_NO_ROOM. That is proved (docs/PROVED.md), but of the calls of kept ends, which seal by the same code.
+   63 are: 48 of the OSCORE option (RFC 8613, 6.1: its option byte, one more byte for its length, the flags, 5 of a Partial IV, a length
+   and 32 of a kid context, 7 of a kid); 10 of the marker, the code inside and the tag; 1, since an inner option may come after Uri-Port in
+   the plain datagram, and after nothing inside, so that its delta is up to 7 more, and that can take an extended byte more (RFC 7252,
+   3.1); and 4 of Observe, which stands outside and inside where the context allows it (RFC 8613, 4.1.3.5). A response has no kid, so its
+   option has at most 7 bytes, and the server puts the request's token of up to 8 bytes into it. Some requests with Observe take all 63,
+   and without it 59. A longer Observe, or one more, takes what it takes in the plain datagram once more. The sealed message has at most
+   65,535 bytes. */
+#define OSCORE_ROOM(plain_len) ((plain_len) + 63)
 
 /* A context as one of its two ends holds it (RFC 8613, 3.1): plain bytes, to be made by `oscore_derive` and copied as you like.
    It holds keys: `oscore_wipe(&context, sizeof context)` when it isn't needed, as behind `oscore_server_add` or `oscore_client_begin`,
@@ -124,7 +129,7 @@ typedef struct oscore_context {
     uint8_t sender_key[16], recipient_key[16], common_iv[13];
     uint8_t constant_time; /* by any value but 0 its keys are used in constant time */
     uint8_t blocks; /* any value but 0 lets block-wise options pass inside the protection */
-    uint8_t observe; /* any value but 0 lets Observe pass in requests, inside and outside the protection */
+    uint8_t observe; /* any value but 0 lets Observe pass, in requests and in notifications, inside and outside the protection */
 } oscore_context;
 
 /* An option of a message: of one that was opened its value lies in the datagram; of one that is to be written, anywhere but in `out`. */
@@ -155,6 +160,7 @@ typedef struct oscore_opened {
     size_t payload_len;
     size_t option_count;   /* how many options were put into the array, in ascending order of their numbers */
     bool has_more_options; /* the array is full, and there are more */
+    bool is_notification;  /* from a client's take: the request stays pending, and may be notified again; else false */
 } oscore_opened;
 
 /* What a protected request says to whoever has no key. Nothing of it was protected yet, or is secret. Its slices lie in the datagram. */
@@ -208,20 +214,24 @@ typedef struct oscore_server1 {
     oscore_unanswered unanswered;
 } oscore_server1;
 
-/* The right to answer one request that was delivered. It may be copied, and a copy gives no second answer. It holds no secret. */
+/* The right to answer one request that was delivered, and to notify it where it registers an observation. It may be copied, and a copy
+   gives no second answer. It holds no secret. */
 typedef struct oscore_ticket {
     size_t context; /* its index, as `oscore_server_add` gave it */
     uint64_t life, number;
     uint8_t kind; /* 0 CON, 1 NON */
     uint16_t message_id;
     uint8_t token[8], token_len;
+    uint8_t observes; /* 1 where the request registers an observation, else 0 */
 } oscore_ticket;
 
 /* A request of a client that waits for its response. It holds no secret. */
 typedef struct oscore_pending {
     uint64_t number;
     uint64_t moment; /* when it was sealed */
+    uint64_t from;   /* of a registration: what comes before this place among its responses is old */
     uint8_t token[8], token_len;
+    uint8_t observes; /* 1 where it registers an observation, else 0 */
 } oscore_pending;
 
 /* A client of one context, which counts its numbers and knows which requests wait for their responses: plain bytes, begun by
@@ -229,7 +239,7 @@ typedef struct oscore_pending {
    holds keys: `oscore_wipe(&client, sizeof client)` when it isn't needed. */
 typedef struct oscore_client {
     oscore_context context;
-    uint64_t life_ms; /* for how long a request is pending */
+    uint64_t life_ms; /* for how long a request is pending that wasn't notified */
     uint64_t clock;   /* the latest moment that a call was given */
     uint64_t next;    /* number of the next request: store it before you send what a call sealed */
     size_t count;     /* how many of the requests are pending, oldest first */
@@ -266,11 +276,12 @@ void oscore_status_name(uint32_t status, char name[24]);
    that depends on a key or a message, which is slower. What is sent is the same, and the other end may choose otherwise.
    With `blocks` the options Block1 and Block2 (27 and 23) pass inside the protection, both ways (RFC 8613, 4.1.3.4.1). Without it no
    message with such an option is sealed, and none opens.
-   With `observe` a request may have Observe (6), as one that registers for notifications (RFC 8613, 4.1.3.5; RFC 7641): the option then
-   stands outside and, encrypted, inside, the code outside is 0.05, and who opens sees the one inside. `oscore_seal_request` seals such a
-   request, `oscore_open_request` opens it, and a server takes it; a client seals none, since it takes no notifications, and answers
-   OSCORE_UNSUPPORTED. Without `observe` none is sealed, and none opens. No response has Observe, either way, so a server answers a
-   registration by a plain response, as RFC 7641, 4.1 allows. Both ends must choose the same of `blocks` and of `observe`. */
+   With `observe` messages may have Observe (6), the option of observations (RFC 7641; RFC 8613, 4.1.3.5): it then stands outside and,
+   encrypted, inside, the code outside is 0.05 or 2.05, and who opens sees the one inside. A GET or FETCH whose Observe is 0, an empty
+   value, registers: `oscore_client_request` seals it, `oscore_server_take` delivers it, `oscore_server_notify` seals each notification, in
+   which Observe is empty inside, and `oscore_client_take` opens them. Observe stands in no other response, so `oscore_server_reply` and
+   `oscore_seal_response` seal none with it, and `oscore_open_response` opens none. Without `observe` no message with Observe is sealed,
+   and none opens. Both ends must choose the same of `blocks` and of `observe`. */
 OSCORE_MUST_USE oscore_status oscore_derive(oscore_context *out, const uint8_t *secret, size_t secret_len, const uint8_t *salt,
                                             size_t salt_len, bool has_id_context, const uint8_t *id_context, size_t id_context_len,
                                             const uint8_t *sender, size_t sender_len, const uint8_t *recipient,
@@ -353,10 +364,24 @@ OSCORE_MUST_USE oscore_status oscore_server_take(oscore_server *server, uint64_t
 /* Seals the answer to the request of a ticket: under an own number where `own` says so, else under the request's. Of `plain`, which is
    a datagram, the code, the options and the payload are used; kind, message ID and token are those that the request asks for, and
    `mid` is the message ID where the request wasn't confirmable. A request is answered once: OSCORE_TICKET_SPENT where it has its
-   answer, or where a request was delivered whose number is at least 64 above that of the ticket's request. A refusal spends nothing. */
+   answer, or where a request was delivered whose number is at least 64 above that of the ticket's request. A refusal spends nothing.
+   The answer to a registration is under an own number whatever `own` says. It has no Observe, and so it is the last: the client then waits
+   for nothing more. */
 OSCORE_MUST_USE oscore_status oscore_server_reply(oscore_server *server, const oscore_ticket *ticket, bool own, uint16_t mid,
                                                   const uint8_t *plain, size_t plain_len, uint8_t *out, size_t out_room,
                                                   size_t *out_len, size_t *detail);
+
+/* Seals a notification to the registration of a ticket, under a new own number (RFC 7641, 3.2; RFC 8613, 8.3.1). Of `plain`, which is a
+   datagram, all is used but the token, which is the ticket's: kind and message ID too, so the first is an ACK with the message ID of the
+   registration where that is a CON, and each later one a NON or a CON with a new one. It is of class 2 and has Observe, whose value
+   stands outside, for whoever is in between; the client goes by the own number. Any other response, as an error, is a reply, and ends the
+   observation.
+   The ticket stays, and so does the request's right to an answer. The library counts no observations: the program keeps the ticket as
+   long as it has something to notify, and drops it where a request of the same context with the same token and options has Observe 1,
+   where one registers with the same token (the new ticket takes its place), and where a notification is answered by a reset. A ticket may
+   be notified by however many requests came since; OSCORE_STALE_TICKET where its context was restarted. A refusal spends nothing. */
+OSCORE_MUST_USE oscore_status oscore_server_notify(oscore_server *server, const oscore_ticket *ticket, const uint8_t *plain,
+                                                   size_t plain_len, uint8_t *out, size_t out_room, size_t *out_len, size_t *detail);
 
 /* A server of this one context: `oscore_server_begin` and `oscore_server_add` in one. Refused with OSCORE_BAD_HANDLE or
    OSCORE_BAD_NUMBER, it leaves the server as it was. */
@@ -378,9 +403,14 @@ OSCORE_MUST_USE oscore_status oscore_server1_reply(oscore_server1 *server, const
                                                    const uint8_t *plain, size_t plain_len, uint8_t *out, size_t out_room,
                                                    size_t *out_len, size_t *detail);
 
+/* Seals a notification to the registration of a ticket, as `oscore_server_notify` does. */
+OSCORE_MUST_USE oscore_status oscore_server1_notify(oscore_server1 *server, const oscore_ticket *ticket, const uint8_t *plain,
+                                                    size_t plain_len, uint8_t *out, size_t out_room, size_t *out_len, size_t *detail);
+
 /* A client with nothing pending. `next` is its next number, above each that the context ever sealed under; 0 for a context that was
-   never used. A request is pending for `life_ms` milliseconds and no longer. From then on the client counts the numbers of the
-   context's sender: seal neither requests nor responses by `context` beside it. */
+   never used. A request is pending for `life_ms` milliseconds and no longer; a registration that was notified, until its last response or
+   `oscore_client_forget`. From then on the client counts the numbers of the context's sender: seal neither requests nor responses by
+   `context` beside it. */
 OSCORE_MUST_USE oscore_status oscore_client_begin(oscore_client *client, const oscore_context *context, uint64_t next,
                                                   uint64_t life_ms);
 
@@ -393,12 +423,15 @@ OSCORE_MUST_USE oscore_status oscore_client_forget(oscore_client *client, const 
 /* Seals a request with the client's next number. `plain` is its datagram, and its token is pending from then on. `now` is as at
    `oscore_server_take`; a moment from far ahead ends all that is pending, and what is sealed after it is pending until the time has come
    there. A refusal from OSCORE_NOT_THAT_KIND on moves the clock, which ends what was pending for too long. To send a request again
-   (RFC 7252, 4.2), send the same bytes: what is sealed anew is another request, and is obeyed once more. */
+   (RFC 7252, 4.2), send the same bytes: what is sealed anew is another request, and is obeyed once more.
+   To cancel an observation, or to register anew, under its token, call `oscore_client_forget` first. */
 OSCORE_MUST_USE oscore_status oscore_client_request(oscore_client *client, uint64_t now, const uint8_t *plain, size_t plain_len,
                                                     uint8_t *out, size_t out_room, size_t *out_len, size_t *detail);
 
 /* Answers a datagram, where it lies. 0: a response to a pending request, which is pending no more, and `request` is its number; that,
-   `opened` and `options` are written at 0 alone. OSCORE_BAD_HANDLE leaves the client as it was, the others move its clock.
+   `opened` and `options` are written at 0 alone. Where `opened->is_notification` is true, it is a notification of the registration
+   `request`, which stays pending, and later ones come in the same way; each is delivered once at most, and none after a later one, which
+   is OSCORE_OLD. OSCORE_BAD_HANDLE leaves the client as it was, the others move its clock.
    Each other refusal says that this datagram isn't the response, and nothing of the one that may still come: the request stays
    pending, and the caller keeps waiting, until 0, the end of `life_ms`, `oscore_client_forget` or `oscore_client_restart`. Anyone
    may have sent what is refused, and anyone can send an error without protection; OSCORE_INNER alone says that it was sealed with the

@@ -206,7 +206,7 @@ static bool is_none(const oscore_client *c) {
     none = none || (own->sender_len == own->recipient_len && !memcmp(own->sender, own->recipient, own->sender_len));
     for (size_t i = 0; !none && i < c->count; i++) {
         const oscore_pending *a = &c->pending[i];
-        none = a->number >= 1ull << 40 || a->token_len > 8;
+        none = a->number >= 1ull << 40 || a->token_len > 8 || a->observes > 1 || (!a->observes && a->from);
         for (size_t j = 0; !none && j < i; j++)
             none = a->token_len == c->pending[j].token_len && !memcmp(a->token, c->pending[j].token, a->token_len);
     }

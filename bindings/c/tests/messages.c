@@ -206,7 +206,7 @@ static void takes_no_notification(void) {
 }
 
 /* A server takes a registration, and a plain reply answers it: the other reading's bytes of one to the cancellation, 2.05 with
-   Content-Format 0 and 20.5, to a request of the number 21. A reply with Observe, and a client's request with it, are refused. */
+   Content-Format 0 and 20.5, to a request of the number 21. A reply with Observe is refused. A client seals the registration. */
 static void serves_observe(void) {
     static const uint8_t echo_bytes[8] = {1};
     uint8_t wanted[64], answered[64];
@@ -239,8 +239,9 @@ static void serves_observe(void) {
     CHECK(!oscore_client_begin(client, clients[C1], 20, 1000));
     uint8_t *plain = bytes_at(PLAIN, REGISTRATION, 0, &plain_len);
     out = guarded_room(OUT, OSCORE_ROOM(plain_len));
-    CHECK(oscore_client_request(client, 0, plain, plain_len, out, OSCORE_ROOM(plain_len), out_len, detail) == OSCORE_UNSUPPORTED
-        && *detail == 6 && client->next == 20 && client->count == 0);
+    CHECK(!oscore_client_request(client, 0, plain, plain_len, out, OSCORE_ROOM(plain_len), out_len, detail) && client->next == 21);
+    len = hex(REGISTERED, wanted);
+    CHECK(*out_len == len && !memcmp(out, wanted, len));
     derives(false);
 }
 
@@ -348,9 +349,9 @@ static void names_statuses(void) {
         "NumberTooLarge", "EmptyPayload", "NoSuchContext", "LivesExhausted", "Full", "SameLookup", "StaleTicket",
         "TicketSpent", "NotThatKind", "UnknownToken", "NoOscore", "Undecodable", "NoContext", "WrongContext", "Replay",
         "Tag", "Inner", "Challenge", "Unsupported", "TokenInUse", "PendingFull", "SequenceExhausted", "TooLong", "NoRoom",
-        "NotPending", "SameSender", "SaveFirst", "OptionOrder", "ValueTooLong", "Unknown"};
+        "NotPending", "SameSender", "SaveFirst", "OptionOrder", "ValueTooLong", "NotObserving", "NotNotification", "Old", "Unknown"};
     char *name = guarded_room(NAME, 24);
-    for (uint32_t status = 0; status <= OSCORE_VALUE_TOO_LONG + 1; status++) {
+    for (uint32_t status = 0; status <= OSCORE_OLD + 1; status++) {
         oscore_status_name(status, name);
         CHECK(!strcmp(name, NAMES[status]));
     }
@@ -364,7 +365,8 @@ static void has_sizes(void) {
     oscore_sizes(sizes);
     CHECK(sizes->context == sizeof(oscore_context) && sizes->option == sizeof(oscore_option));
     CHECK(sizes->opened == sizeof(oscore_opened) && sizes->request_head == sizeof(oscore_request_head));
-    CHECK(sizes->server == sizeof(oscore_server) && sizes->ticket == sizeof(oscore_ticket) && sizes->server1 == sizeof(oscore_server1));
+    CHECK(sizes->server == sizeof(oscore_server) && sizes->ticket == sizeof(oscore_ticket) && sizes->server1 == sizeof(oscore_server1)
+        && sizes->client == sizeof(oscore_client));
 }
 
 static void spoils_datagrams(void) {
@@ -467,12 +469,15 @@ static size_t growth(const uint8_t *bytes, size_t len, bool request, uint64_t nu
     return *out_len - len;
 }
 
+/* What a message without Observe grows by at most. */
+enum { PLAIN_GROWTH = 59 };
+
 /* Observe stands twice in a request where the context allows it, and takes 1 to 4 bytes more for a value of at most 3. With Uri-Port and an
-   option 19 behind it all of that is taken: 19 has a delta of 12 in the plain message, and of 13 inside. */
+   option 19 behind it all of the room is taken, for 3 all that the header says: 19 has a delta of 12 in the plain message, and of 13 inside. */
 static void has_room_for_observe(void) {
     for (size_t value_len = 0; value_len <= 3; value_len++) {
         uint8_t bytes[16] = {0x40, 1, 0, 1, (uint8_t)(0x60 | value_len)};
-        size_t len = 7 + value_len, most = OSCORE_ROOM(len) + 1 + value_len;
+        size_t len = 7 + value_len, most = len + PLAIN_GROWTH + 1 + value_len;
         bytes[len - 2] = 0x10, bytes[len - 1] = 0xc0;
         oscore_context *context = guarded_copy(HANDLE, clients[C1], sizeof *context);
         context->sender_len = 7, context->recipient_len = 0, context->id_context_len = 32, context->observe = 1;
@@ -480,6 +485,7 @@ static void has_room_for_observe(void) {
         CHECK(oscore_seal_request(context, (1ull << 40) - 1, plain, len, out, most - 1, out_len, detail) == OSCORE_NO_ROOM);
         out = guarded_room(OUT, most);
         CHECK(!oscore_seal_request(context, (1ull << 40) - 1, plain, len, out, most, out_len, detail) && *out_len == most);
+        CHECK(most <= OSCORE_ROOM(len) && (value_len < 3 || most == OSCORE_ROOM(len)));
     }
 }
 
@@ -487,7 +493,7 @@ static void has_room_for_observe(void) {
 static void has_room(void) {
     static uint8_t bytes[8192];
     size_t len = hex("40010001708161", bytes);
-    CHECK(growth(bytes, len, true, (1ull << 40) - 1) == OSCORE_ROOM(0));
+    CHECK(growth(bytes, len, true, (1ull << 40) - 1) == PLAIN_GROWTH);
     has_room_for_observe();
     for (int i = 0; i < rounds; i++) {
         uint64_t number = ((uint64_t)rand() << 20 ^ (uint64_t)rand()) % (1ull << 40) >> rand() % 40;

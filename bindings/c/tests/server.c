@@ -463,7 +463,7 @@ static void spoils_tickets(void) {
         oscore_ticket spoilt = good;
         *server = whole;
         ((uint8_t *)&spoilt)[(size_t)rand() % sizeof spoilt] = (uint8_t)rand();
-        bool is_none = spoilt.kind > 3 || spoilt.number >= NUMBERS || spoilt.token_len > 8;
+        bool is_none = spoilt.kind > 3 || spoilt.number >= NUMBERS || spoilt.token_len > 8 || spoilt.observes > 1;
         bool stale = spoilt.context != 0 || spoilt.life != 0, spent = spoilt.number != 20;
         uint32_t status = answer(&spoilt, i % 2);
         CHECK(status == (is_none ? OSCORE_BAD_HANDLE : stale ? OSCORE_STALE_TICKET : spent ? OSCORE_TICKET_SPENT : OSCORE_DONE));

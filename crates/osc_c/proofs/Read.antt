@@ -12,7 +12,7 @@ use Rattle.osc_endpoint.specs.ClientAnswer.{ClientAnswer}
 use Rattle.osc_endpoint.specs.ClientHistory as client
 use Rattle.osc_endpoint.specs.ClientLaws.{AllClientAnswers, OneClientAnswer}
 use Rattle.osc_endpoint.specs.Laws.{AllAnswers, OneServerAnswer}
-use Rattle.osc_endpoint.specs.ServerAnswer.{ServerAnswer}
+use Rattle.osc_endpoint.specs.ServerAnswer.{ServerAnswer, asks_own}
 use Rattle.osc_endpoint.specs.ServerHistory as server
 use Rattle.osc_handle.specs.ClientBytes.{Asks, IsClient}
 use Rattle.osc_handle.specs.ContextBytes.{IsContext, server_in}
@@ -28,6 +28,7 @@ use Rattle.osc_c.specs.ClientCalls.RefusesAsking.{bad_handle as ask_handle, malf
 use Rattle.osc_c.specs.ClientCalls.RefusesTaking.{bad_handle as take_handle, refused as take_refused}
 use Rattle.osc_c.specs.ServerCalls as serves
 use Rattle.osc_c.specs.ServerCalls.RefusesAdding.{bad_handle as add_handle, bad_number as add_number, refused as add_refused, same_sender as add_sender}
+use Rattle.osc_c.specs.ServerCalls.RefusesNotifying.{bad_handle as notify_handle, malformed as notify_malformed, refused as notify_refused}
 use Rattle.osc_c.specs.ServerCalls.RefusesReplying.{bad_handle as reply_handle, malformed as reply_malformed, spent as reply_spent, refused as reply_refused}
 use Rattle.osc_c.specs.ServerCalls.RefusesRestarting.{bad_handle as restart_handle, bad_number as restart_number, refused as restart_refused}
 use Rattle.osc_c.specs.ServerCalls.RefusesServing.{bad_handle as serve_handle, refused as serve_refused}
@@ -106,13 +107,13 @@ serving_read one s new now mid echo d reply status result detail ticket (serve_r
 
 pub replying_read : OneServerAnswer → DatagramIsOneMessage → DatagramHasNoFault → (s new : ServerHandle) (t : TicketHandle) (own : Bool) (mid : ℕ) (plain : List ℕ) (room : ℕ) (status : Status) (result detail : ℕ) (text : List ℕ)
     → serves.RefusesReplying s new t own mid plain room status detail → result ≡ code status → IsTable s.contexts → IsTicket t → (p : Parts) → IsDatagram p plain → (h : server.History) (entry : server.Entry) → Serves s h
-    → (IsSpent h (ticket_in t) → ⊥) → ServerAnswer h (server.Reply (ticket_in t) own mid p room) entry → serves.ReadsReplying entry result detail text
+    → (IsSpent h (ticket_in t) → ⊥) → ServerAnswer h (server.Reply (ticket_in t) (asks_own (ticket_in t) own) mid p room) entry → serves.ReadsReplying entry result detail text
 replying_read one message never s new t own mid plain room status result detail text (reply_handle not is zero) says table ticket p of h entry held alive y = absurd (not table ticket)
 replying_read one message never s new t own mid plain room status result detail text (reply_malformed a b fault place has is at) says table ticket p of h entry held alive y = absurd (never p plain fault place of has)
 replying_read one message never s new t own mid plain room status result detail text (reply_spent a b q from spent is zero) says table ticket p of h entry held alive y = absurd (alive (spent h held))
 replying_read one message never s new t own mid plain room status result detail text (reply_refused a b q from e is holds) says table ticket p of h entry held alive y =
-    let x = subst (λ (m : Parts). ServerAnswer h (server.Reply (ticket_in t) own mid m room) (server.NotReplied e)) (message q p plain from of) (holds h held).0 in
-    carried one (λ z. serves.ReadsReplying z result detail text) h (server.Reply (ticket_in t) own mid p room) (server.NotReplied e) entry held.answers x y (status, says, is)
+    let x = subst (λ (m : Parts). ServerAnswer h (server.Reply (ticket_in t) (asks_own (ticket_in t) own) mid m room) (server.NotReplied e)) (message q p plain from of) (holds h held).0 in
+    carried one (λ z. serves.ReadsReplying z result detail text) h (server.Reply (ticket_in t) (asks_own (ticket_in t) own) mid p room) (server.NotReplied e) entry held.answers x y (status, says, is)
 
 pub reply_faulty : DatagramHasOneFault → DatagramHasNoFault → (s new : ServerHandle) (t : TicketHandle) (own : Bool) (mid : ℕ) (plain : List ℕ) (room : ℕ) (status : Status) (result detail : ℕ)
     → serves.RefusesReplying s new t own mid plain room status detail → result ≡ code status → IsTable s.contexts → IsTicket t → (fault : Fault) (place : ℕ) → HasFault plain fault place
@@ -122,6 +123,24 @@ reply_faulty first never s new t own mid plain room status result detail (reply_
     let same = first plain other fault at place from has in (says ∙ ap code (is ∙ ap format_status same.0), put ∙ same.1)
 reply_faulty first never s new t own mid plain room status result detail (reply_spent a b q from spent is zero) says table ticket fault place has = absurd (never q plain fault place from has)
 reply_faulty first never s new t own mid plain room status result detail (reply_refused a b q from e is holds) says table ticket fault place has = absurd (never q plain fault place from has)
+
+-- the same of a notification
+pub notifying_read : OneServerAnswer → DatagramIsOneMessage → DatagramHasNoFault → (s new : ServerHandle) (t : TicketHandle) (plain : List ℕ) (room : ℕ) (status : Status) (result detail : ℕ) (text : List ℕ)
+    → serves.RefusesNotifying s new t plain room status detail → result ≡ code status → IsTable s.contexts → IsTicket t → (p : Parts) → IsDatagram p plain → (h : server.History) (entry : server.Entry) → Serves s h
+    → ServerAnswer h (server.Notify (ticket_in t) p room) entry → serves.ReadsReplying entry result detail text
+notifying_read one message never s new t plain room status result detail text (notify_handle not is zero) says table ticket p of h entry held y = absurd (not table ticket)
+notifying_read one message never s new t plain room status result detail text (notify_malformed a b fault place has is at) says table ticket p of h entry held y = absurd (never p plain fault place of has)
+notifying_read one message never s new t plain room status result detail text (notify_refused a b q from e is holds) says table ticket p of h entry held y =
+    let x = subst (λ (m : Parts). ServerAnswer h (server.Notify (ticket_in t) m room) (server.NotReplied e)) (message q p plain from of) (holds h held).0 in
+    carried one (λ z. serves.ReadsReplying z result detail text) h (server.Notify (ticket_in t) p room) (server.NotReplied e) entry held.answers x y (status, says, is)
+
+pub notify_faulty : DatagramHasOneFault → DatagramHasNoFault → (s new : ServerHandle) (t : TicketHandle) (plain : List ℕ) (room : ℕ) (status : Status) (result detail : ℕ)
+    → serves.RefusesNotifying s new t plain room status detail → result ≡ code status → IsTable s.contexts → IsTicket t → (fault : Fault) (place : ℕ) → HasFault plain fault place
+    → (result ≡ code (format_status fault)) × (detail ≡ place)
+notify_faulty first never s new t plain room status result detail (notify_handle not is zero) says table ticket fault place has = absurd (not table ticket)
+notify_faulty first never s new t plain room status result detail (notify_malformed a b other at from is put) says table ticket fault place has =
+    let same = first plain other fault at place from has in (says ∙ ap code (is ∙ ap format_status same.0), put ∙ same.1)
+notify_faulty first never s new t plain room status result detail (notify_refused a b q from e is holds) says table ticket fault place has = absurd (never q plain fault place from has)
 
 pub asking_read : OneClientAnswer → DatagramIsOneMessage → DatagramHasNoFault → (c new : ClientHandle) (now : ℕ) (plain : List ℕ) (room : ℕ) (status : Status) (result detail : ℕ) (text : List ℕ)
     → asks.RefusesAsking c new now plain room status detail → result ≡ code status → (p : Parts) → IsDatagram p plain → (h : client.History) (entry : client.Entry) → Asks c h
@@ -141,20 +160,22 @@ request_faulty first never c new now plain room status result detail (ask_malfor
 request_faulty first never c new now plain room status result detail (ask_refused a q from e is holds) says whole fault place has = absurd (never q plain fault place from has)
 
 -- the number of the status that a client's answer has is read of it
-pub status_taken : (answer : client.Answer) (status : Status) (result detail request : ℕ) → asks.IsAnswerStatus answer status detail → result ≡ code status → asks.ReadsTaking (client.Took answer) result detail request
-status_taken (client.Malformed fault place) status result detail request is says = (status, says, is)
-status_taken client.NotResponse status result detail request is says = (status, says, is)
-status_taken client.UnknownToken status result detail request is says = (status, says, is)
-status_taken client.Unprotected status result detail request is says = (status, says, is)
-status_taken client.Undecodable status result detail request is says = (status, says, is)
-status_taken client.BadTag status result detail request is says = (status, says, is)
-status_taken client.BadInner status result detail request is says = (status, says, is)
-status_taken (client.Deliver received n) status result detail request is says = absurd is
+pub status_taken : (answer : client.Answer) (status : Status) (result detail request : ℕ) (stays : Bool) → asks.IsAnswerStatus answer status detail → result ≡ code status → asks.ReadsTaking (client.Took answer) result detail request stays
+status_taken (client.Malformed fault place) status result detail request stays is says = (status, says, is)
+status_taken client.NotResponse status result detail request stays is says = (status, says, is)
+status_taken client.UnknownToken status result detail request stays is says = (status, says, is)
+status_taken client.Unprotected status result detail request stays is says = (status, says, is)
+status_taken client.Undecodable status result detail request stays is says = (status, says, is)
+status_taken client.Old status result detail request stays is says = (status, says, is)
+status_taken client.BadTag status result detail request stays is says = (status, says, is)
+status_taken client.BadInner status result detail request stays is says = (status, says, is)
+status_taken (client.Notified received n) status result detail request stays is says = absurd is
+status_taken (client.Deliver received n) status result detail request stays is says = absurd is
 
-pub taking_read : OneClientAnswer → (c new : ClientHandle) (now : ℕ) (d : List ℕ) (status : Status) (result detail request : ℕ) → asks.RefusesTaking c new now d status detail → result ≡ code status
-    → (h : client.History) (entry : client.Entry) → Asks c h → ClientAnswer 8 h (client.Datagram now d) entry → asks.ReadsTaking entry result detail request
-taking_read one c new now d status result detail request (take_handle not same is zero) says h entry held y = absurd (not held.whole)
-taking_read one c new now d status result detail request (take_refused a by) says h entry held y =
+pub taking_read : OneClientAnswer → (c new : ClientHandle) (now : ℕ) (d : List ℕ) (status : Status) (result detail request : ℕ) (stays : Bool) → asks.RefusesTaking c new now d status detail → result ≡ code status
+    → (h : client.History) (entry : client.Entry) → Asks c h → ClientAnswer 8 h (client.Datagram now d) entry → asks.ReadsTaking entry result detail request stays
+taking_read one c new now d status result detail request stays (take_handle not same is zero) says h entry held y = absurd (not held.whole)
+taking_read one c new now d status result detail request stays (take_refused a by) says h entry held y =
     let took = by h held in
-    carried_too one (λ x. asks.ReadsTaking x result detail request) h (client.Datagram now d) (client.Took took.answer) entry held.answers took.row y
-    (status_taken took.answer status result detail request took.says says)
+    carried_too one (λ x. asks.ReadsTaking x result detail request stays) h (client.Datagram now d) (client.Took took.answer) entry held.answers took.row y
+    (status_taken took.answer status result detail request stays took.says says)

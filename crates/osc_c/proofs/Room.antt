@@ -1,9 +1,8 @@
--- So much room is enough: a sealing isn't refused for want of it, where no Observe stands outside. s are the bytes of a server before a call, c those of a
+-- So much room is enough: a sealing isn't refused for want of it. s are the bytes of a server before a call, c those of a
 -- client or of a context, t those of a ticket, new are the bytes afterwards, plain is the datagram of a plain message, room the length of the buffer.
 use Rattle.std.proofs.Common.{◌≡◌, ℕ, ◌+◌, ◌≤◌, Bool, true, false, List, Option, zero, suc, length, ap, sym, subst, arith, length-take}
 use Rattle.osc_coap.specs.Datagram.{Parts, IsDatagram}
 use Rattle.osc_coap.specs.Laws.{DatagramHasItsLength, OptionsAscend}
-use Rattle.osc_coap.specs.Search.{has_number}
 use Rattle.osc_coap.specs.declared.message.Kind.{Kind}
 use Rattle.osc_coap.specs.declared.format_error.Fault.{Fault}
 use Rattle.osc_coap.specs.declared.format_error.Fault.TheVariants as faults
@@ -11,13 +10,13 @@ use Rattle.osc_context.specs.Features.{unobserved}
 use Rattle.osc_context.specs.Laws.{ValueMostLen}
 use Rattle.osc_context.specs.OscoreValue.{IsOscoreValue, kid_context_bytes}
 use Rattle.osc_context.specs.SecurityContext.{SecurityContext}
-use Rattle.osc_protect.specs.OptionSets.{is_observe}
-use Rattle.osc_protect.specs.Protection.{Protection, requests, responses}
+use Rattle.osc_protect.specs.Protection.{Protection, as_it_is, as_notified, notifications, requests, responses}
 use Rattle.osc_protect.specs.SealRefusals.{RefusesToSeal}
 use Rattle.osc_protect.specs.Usage.{value_of_request, value_of_response}
 use Rattle.osc_protect.specs.declared.protect_error.ProtectError.TheVariants as seals
 use Rattle.osc_endpoint.specs.ClientHistory as client
 use Rattle.osc_endpoint.specs.Replies.{reply_id, reply_kind}
+use Rattle.osc_endpoint.specs.ServerAnswer.{as_notification}
 use Rattle.osc_endpoint.specs.ServerHistory as server
 use Rattle.osc_endpoint.specs.declared.client_outcome.RequestError.TheVariants as asks
 use Rattle.osc_endpoint.specs.declared.server_error.ReplyError.TheVariants as replies
@@ -29,15 +28,16 @@ use Rattle.osc_handle.specs.declared.client_handle.ClientHandle.{ClientHandle}
 use Rattle.osc_handle.specs.declared.context_handle.ContextHandle.{ContextHandle}
 use Rattle.osc_handle.specs.declared.server_handle.ServerHandle.{ServerHandle}
 use Rattle.osc_handle.specs.declared.ticket_handle.TicketHandle.{TicketHandle}
-use Rattle.osc_c.specs.Calls.{LacksObserve, RefusesSealing}
+use Rattle.osc_c.specs.Calls.{HasRoomFor, RefusesSealing}
 use Rattle.osc_c.specs.Calls.RefusesSealing.{bad_handle, bad_number, malformed, refused}
 use Rattle.osc_c.specs.ClientCalls.{RefusesAsking}
 use Rattle.osc_c.specs.ClientCalls.RefusesAsking.{bad_handle as ask_handle, malformed as ask_malformed, refused as ask_refused}
-use Rattle.osc_c.specs.ServerCalls.{RefusesReplying}
+use Rattle.osc_c.specs.ServerCalls.{RefusesNotifying, RefusesReplying}
+use Rattle.osc_c.specs.ServerCalls.RefusesNotifying.{bad_handle as notify_handle, malformed as notify_malformed, refused as notify_refused}
 use Rattle.osc_c.specs.ServerCalls.RefusesReplying.{bad_handle as reply_handle, malformed as reply_malformed, spent as reply_spent, refused as reply_refused}
 use Rattle.osc_c.specs.Statuses.{code, format_status}
 use Rattle.osc_c.specs.declared.status.Status.{Status}
-use Rattle.osc_c.proofs.Growth.{has_none, sealed_growth}
+use Rattle.osc_c.proofs.Growth.{most_twice, none_twice, sealed_growth, short_as_it_is, short_as_notified}
 
 -- ---- how long values are
 
@@ -62,14 +62,14 @@ response_value most s asked own value reads = let all = most (value_of_response 
 
 -- a request is not refused for want of so much room
 request_room : DatagramHasItsLength → OptionsAscend → ValueMostLen → (c : ContextHandle) (n : ℕ) (p : Parts) (plain : List ℕ) (room : ℕ) → IsContext c → IsDatagram p plain
-    → ((client_in c).features.observe ≡ true → has_number is_observe p.options ≡ false) → length plain + 59 ≤ room
-    → RefusesToSeal (requests (client_in c)) n p room seals.NoRoom → ⊥
-request_room long ascend most c n p plain room whole of none enough refuses =
+    → HasRoomFor (client_in c).features.observe plain room → RefusesToSeal (requests (client_in c)) n p room seals.NoRoom → ⊥
+request_room long ascend most c n p plain room whole of enough refuses =
     let value = refuses.1.0 in
     let short = request_value most c n whole value refuses.1.1 in
-    let size = sealed_growth long ascend (client_in c).features p plain value of refuses.0.1 none short p.kind p.message_id p.token in
+    let size = sealed_growth long ascend (client_in c).features as_it_is p plain value short_as_it_is of refuses.0.1 short p.kind p.message_id p.token in
     let less = refuses.1.2.1 in
-    omega (arith, size, short, less, enough)
+    let fits = enough p of in
+    omega (arith, size, short, less, fits)
 
 -- nor is a response, also under another head
 response_room : DatagramHasItsLength → OptionsAscend → ValueMostLen → (s : SecurityContext) (asked : ℕ) (own : Option ℕ) (p : Parts) (kind : Kind) (message_id : ℕ) (token plain : List ℕ) (room : ℕ) → IsDatagram p plain → length token ≤ 8
@@ -77,9 +77,22 @@ response_room : DatagramHasItsLength → OptionsAscend → ValueMostLen → (s :
 response_room long ascend most s asked own p kind message_id token plain room of few enough refuses =
     let value = refuses.1.0 in
     let short = response_value most s asked own value refuses.1.1 in
-    let size = sealed_growth long ascend (unobserved s.features) p plain value of refuses.0.1 (λ is. absurd (let bad : false ≡ true = is in cc)) (omega (arith, short)) kind message_id token in
+    let size = sealed_growth long ascend (unobserved s.features) as_it_is p plain value short_as_it_is of refuses.0.1 (omega (arith, short)) kind message_id token in
+    let none = none_twice p.options in
     let less = refuses.1.2.1 in
-    omega (arith, size, short, less, few, enough)
+    omega (arith, size, none, short, less, few, enough)
+
+-- nor is a notification
+notification_room : DatagramHasItsLength → OptionsAscend → ValueMostLen → (s : SecurityContext) (asked : ℕ) (own : Option ℕ) (p : Parts) (token plain : List ℕ) (room : ℕ) → IsDatagram p plain → length token ≤ 8
+    → HasRoomFor true plain room → RefusesToSeal (notifications s asked) own (as_notification token p) room seals.NoRoom → ⊥
+notification_room long ascend most s asked own p token plain room of few enough refuses =
+    let value = refuses.1.0 in
+    let short = response_value most s asked own value refuses.1.1 in
+    let size = sealed_growth long ascend s.features as_notified p plain value short_as_notified of refuses.0.1 (omega (arith, short)) p.kind p.message_id token in
+    let twice = most_twice s.features.observe p.options in
+    let less = refuses.1.2.1 in
+    let fits = enough p of in
+    omega (arith, size, twice, short, less, few, fits)
 
 -- ---- in C
 
@@ -109,9 +122,9 @@ sealing_room A B f i plain room status detail enough (refused a b p of seals.NoR
 
 -- a request of a context has enough
 pub request_has_room : DatagramHasItsLength → OptionsAscend → ValueMostLen → (B : Type 0) (c : ContextHandle) (n : ℕ) (plain : List ℕ) (room : ℕ) (status : Status) (detail : ℕ)
-    → RefusesSealing (IsContext c) B (requests (client_in c)) n plain room status detail → LacksObserve (client_in c).features plain → length plain + 59 ≤ room → code status ≡ 39 → ⊥
-request_has_room long ascend most B c n plain room status detail refuses none enough =
-    sealing_room (IsContext c) B (requests (client_in c)) n plain room status detail (λ whole p of. request_room long ascend most c n p plain room whole of (λ allowed. none allowed p of) enough) refuses
+    → RefusesSealing (IsContext c) B (requests (client_in c)) n plain room status detail → HasRoomFor (client_in c).features.observe plain room → code status ≡ 39 → ⊥
+request_has_room long ascend most B c n plain room status detail refuses enough =
+    sealing_room (IsContext c) B (requests (client_in c)) n plain room status detail (λ whole p of. request_room long ascend most c n p plain room whole of enough) refuses
 
 -- a response too
 pub response_has_room : DatagramHasItsLength → OptionsAscend → ValueMostLen → (A B : Type 0) (s : SecurityContext) (asked : ℕ) (own : Option ℕ) (plain : List ℕ) (room : ℕ) (status : Status) (detail : ℕ)
@@ -126,6 +139,8 @@ reply_has_room long ascend most s new t own mid plain room status detail (reply_
 reply_has_room long ascend most s new t own mid plain room status detail (reply_malformed a b fault place has is at) h held enough says = let number = ap code is in let small = fault_code fault in omega (arith, number, small, says)
 reply_has_room long ascend most s new t own mid plain room status detail (reply_spent a b p of spent is at) h held enough says = let number = ap code is in omega (arith, number, says)
 reply_has_room long ascend most s new t own mid plain room status detail (reply_refused a b p of replies.StaleTicket is holds) h held enough says = let number = ap code is.0 in omega (arith, number, says)
+reply_has_room long ascend most s new t own mid plain room status detail (reply_refused a b p of replies.NotObserving is holds) h held enough says = let number = ap code is.0 in omega (arith, number, says)
+reply_has_room long ascend most s new t own mid plain room status detail (reply_refused a b p of replies.NotNotification is holds) h held enough says = let number = ap code is.0 in omega (arith, number, says)
 reply_has_room long ascend most s new t own mid plain room status detail (reply_refused a b p of replies.NotThatKind is holds) h held enough says = let number = ap code is.0 in omega (arith, number, says)
 reply_has_room long ascend most s new t own mid plain room status detail (reply_refused a b p of (replies.Unsupported k) is holds) h held enough says = let number = ap code is.0 in omega (arith, number, says)
 reply_has_room long ascend most s new t own mid plain room status detail (reply_refused a b p of replies.SequenceExhausted is holds) h held enough says = let number = ap code is.0 in omega (arith, number, says)
@@ -136,9 +151,27 @@ reply_has_room long ascend most s new t own mid plain room status detail (reply_
     let few = b.token in
     response_room long ascend most row.0.context t.number _ p (reply_kind (ticket_in t).kind) (reply_id (ticket_in t).kind (ticket_in t).message_id mid) (ticket_in t).token plain room of (omega (arith, few, length-take t.token_len t.token)) enough row.2.1
 
+-- a notification of a server
+pub notify_has_room : DatagramHasItsLength → OptionsAscend → ValueMostLen → (s new : ServerHandle) (t : TicketHandle) (plain : List ℕ) (room : ℕ) (status : Status) (detail : ℕ)
+    → RefusesNotifying s new t plain room status detail → (h : server.History) → Serves s h → HasRoomFor true plain room → code status ≡ 39 → ⊥
+notify_has_room long ascend most s new t plain room status detail (notify_handle bad is at) h held enough says = let number = ap code is in omega (arith, number, says)
+notify_has_room long ascend most s new t plain room status detail (notify_malformed a b fault place has is at) h held enough says = let number = ap code is in let small = fault_code fault in omega (arith, number, small, says)
+notify_has_room long ascend most s new t plain room status detail (notify_refused a b p of replies.StaleTicket is holds) h held enough says = let number = ap code is.0 in omega (arith, number, says)
+notify_has_room long ascend most s new t plain room status detail (notify_refused a b p of replies.NotObserving is holds) h held enough says = let number = ap code is.0 in omega (arith, number, says)
+notify_has_room long ascend most s new t plain room status detail (notify_refused a b p of replies.NotThatKind is holds) h held enough says = let number = ap code is.0 in omega (arith, number, says)
+notify_has_room long ascend most s new t plain room status detail (notify_refused a b p of (replies.Unsupported k) is holds) h held enough says = let number = ap code is.0 in omega (arith, number, says)
+notify_has_room long ascend most s new t plain room status detail (notify_refused a b p of replies.NotNotification is holds) h held enough says = let number = ap code is.0 in omega (arith, number, says)
+notify_has_room long ascend most s new t plain room status detail (notify_refused a b p of replies.SequenceExhausted is holds) h held enough says = let number = ap code is.0 in omega (arith, number, says)
+notify_has_room long ascend most s new t plain room status detail (notify_refused a b p of replies.TooLong is holds) h held enough says = let number = ap code is.0 in omega (arith, number, says)
+notify_has_room long ascend most s new t plain room status detail (notify_refused a b p of replies.KeeperFailed is holds) h held enough says = absurd is
+notify_has_room long ascend most s new t plain room status detail (notify_refused a b p of replies.NoRoom is holds) h held enough says =
+    let row = (holds h held).0 in
+    let few = b.token in
+    notification_room long ascend most row.1.0.context t.number _ p (ticket_in t).token plain room of (omega (arith, few, length-take t.token_len t.token)) enough row.1.2.2
+
 -- a request of a client
 pub asking_has_room : DatagramHasItsLength → OptionsAscend → ValueMostLen → (c new : ClientHandle) (now : ℕ) (plain : List ℕ) (room : ℕ) (status : Status) (detail : ℕ)
-    → RefusesAsking c new now plain room status detail → (h : client.History) → Asks c h → length plain + 59 ≤ room → code status ≡ 39 → ⊥
+    → RefusesAsking c new now plain room status detail → (h : client.History) → Asks c h → HasRoomFor (client_in c.context).features.observe plain room → code status ≡ 39 → ⊥
 asking_has_room long ascend most c new now plain room status detail (ask_handle bad same is at) h held enough says = let number = ap code is in omega (arith, number, says)
 asking_has_room long ascend most c new now plain room status detail (ask_malformed a same fault place has is at) h held enough says = let number = ap code is in let small = fault_code fault in omega (arith, number, small, says)
 asking_has_room long ascend most c new now plain room status detail (ask_refused a p of asks.NotThatKind is holds) h held enough says = let number = ap code is.0 in omega (arith, number, says)
@@ -150,5 +183,5 @@ asking_has_room long ascend most c new now plain room status detail (ask_refused
 asking_has_room long ascend most c new now plain room status detail (ask_refused a p of asks.KeeperFailed is holds) h held enough says = absurd is
 asking_has_room long ascend most c new now plain room status detail (ask_refused a p of asks.NoRoom is holds) h held enough says =
     let row = (holds h held).0 in
-    request_room long ascend most c.context (client.next h) p plain room a.context of (λ allowed. has_none (client.context h).features p.options row.0.0.0.1) enough
+    request_room long ascend most c.context (client.next h) p plain room a.context of enough
     (subst (λ (s : SecurityContext). RefusesToSeal (requests s) (client.next h) p room seals.NoRoom) (sym held.context_is) row.1)

@@ -10,6 +10,7 @@ use Rattle.osc_handle.specs.declared.server_handle.ServerHandle.{ServerHandle}
 use Rattle.osc_handle.specs.declared.slot_handle.SlotHandle.{SlotHandle}
 use Rattle.osc_handle.specs.declared.ticket_handle.TicketHandle.{TicketHandle}
 use Rattle.osc_c.specs.ServerCalls as serves
+use Rattle.osc_c.specs.ServerCalls.RefusesNotifying.{bad_handle as notify_handle, malformed as notify_malformed, refused as notify_refused}
 use Rattle.osc_c.specs.ServerCalls.RefusesReplying.{bad_handle as reply_handle, malformed as reply_malformed, spent as reply_spent, refused as reply_refused}
 use Rattle.osc_c.specs.ServerCalls.RefusesRestarting.{bad_handle as restart_handle, bad_number as restart_number, refused as restart_refused}
 use Rattle.osc_c.specs.ServerCalls.RefusesServing.{bad_handle as serve_handle, refused as serve_refused}
@@ -43,3 +44,9 @@ replying_bad s new t own mid plain room status detail (reply_handle not is zero_
 replying_bad s new t own mid plain room status detail (reply_malformed table ticket fault place has is at) bad = absurd (bad table ticket)
 replying_bad s new t own mid plain room status detail (reply_spent table ticket p of holds is zero_is) bad = absurd (bad table ticket)
 replying_bad s new t own mid plain room status detail (reply_refused table ticket p of e is holds) bad = absurd (bad table ticket)
+
+pub notifying_bad : (s new : ServerHandle) (t : TicketHandle) (plain : List ℕ) (room : ℕ) (status : Status) (detail : ℕ) → serves.RefusesNotifying s new t plain room status detail
+    → (IsTable s.contexts → IsTicket t → ⊥) → status ≡ BadHandle
+notifying_bad s new t plain room status detail (notify_handle not is zero_is) bad = is
+notifying_bad s new t plain room status detail (notify_malformed table ticket fault place has is at) bad = absurd (bad table ticket)
+notifying_bad s new t plain room status detail (notify_refused table ticket p of e is holds) bad = absurd (bad table ticket)

@@ -1,12 +1,15 @@
 -- To be believed: why a call of C on a client does nothing, or less, row by row in the order in which the reasons are checked, and what it leaves; and what
 -- C reads of each answer. c are the client's bytes before, new those after, plain the datagram of a plain message, room the length of the buffer, d a
 -- datagram.
-use Rattle.std.specs.Prelude.{◌≡◌, ℕ, false, true, List}
+use Rattle.std.specs.Prelude.{◌≡◌, ℕ, Bool, false, true, List}
 use Rattle.osc_coap.specs.Datagram.{Parts, IsDatagram}
 use Rattle.osc_coap.specs.Fault.{HasFault}
 use Rattle.osc_coap.specs.declared.format_error.Fault.{Fault}
+use Rattle.osc_context.specs.declared.partial_iv.Piv.{Piv}
+use Rattle.osc_protect.specs.declared.opened.Opened.{Opened}
 use Rattle.osc_endpoint.specs.ClientAnswer.{ClientAnswer}
-use Rattle.osc_endpoint.specs.ClientHistory.{Advance, Advanced, Answer, BadInner, BadTag, Datagram, Deliver, Entry, Forget, Forgot, History, Malformed, NotResponse, NotSent, Request, Sent, Then, Took, Undecodable as NoAnswer, UnknownToken as Unknown, Unprotected}
+use Rattle.osc_endpoint.specs.ClientHistory.{Advance, Advanced, Answer, BadInner, BadTag, Datagram, Deliver, Entry, Forget, Forgot, History, Malformed, NotResponse, NotSent, Notified, Old, Request, Sent, Then, Took, Undecodable as NoAnswer, UnknownToken as Unknown, Unprotected}
+use Rattle.osc_endpoint.specs.Received.{Received}
 use Rattle.osc_endpoint.specs.declared.client_outcome.ClientOutcome.{ClientOutcome}
 use Rattle.osc_endpoint.specs.declared.client_outcome.ClientOutcome.TheVariants as outcomes
 use Rattle.osc_endpoint.specs.declared.client_outcome.RequestError.{RequestError}
@@ -16,6 +19,7 @@ use Rattle.osc_handle.specs.declared.client_handle.ClientHandle.{ClientHandle}
 use Rattle.osc_c.specs.Statuses.{code, format_status}
 use Rattle.osc_c.specs.declared.status.Status.{Status}
 use Rattle.osc_c.specs.declared.status.Status.TheVariants.{BadHandle, BadNumber, NotThatKind, UnknownToken, NoOscore, Undecodable, Tag, Inner, Unsupported, TokenInUse, PendingFull, SequenceExhausted, TooLong, NoRoom, NotPending}
+use Rattle.osc_c.specs.declared.status.Status.TheVariants.{Old as OldStatus}
 
 -- why an end doesn't begin, or isn't restarted (own rule)
 pub data RefusesNumber (IsHandle IsNumber : Type 0) (status : Status) : Type 0 where
@@ -40,6 +44,16 @@ pub data RefusesAsking (c new : ClientHandle) (now : ℕ) (plain : List ℕ) (ro
   refused : IsClient c → (p : Parts) → IsDatagram p plain → (e : RequestError) → IsAskingStatus e status detail
       → ((h : History) → Asks c h → ClientAnswer 8 h (Request now p room) (NotSent e) × Asks new (Then h (Advance now) Advanced)) → RefusesAsking c new now plain room status detail
 
+-- the answer that a request gets: a notification, after which it stays pending, or its last response (RFC 8613, 8.4 and 8.4.2)
+abbrev pub heard_as : Bool → Received → ℕ → Answer
+heard_as true received number = Notified received number
+heard_as false received number = Deliver received number
+
+-- the same as an outcome (how the code is seen)
+abbrev pub shown_as : Bool → Opened → Piv → ClientOutcome
+shown_as true o number = outcomes.Notified o number
+shown_as false o number = outcomes.Deliver o number
+
 -- the status of an outcome, and its detail: the place of a fault, or else 0 (own rule)
 abbrev pub IsOutcomeStatus : ClientOutcome → Status → ℕ → Type 0
 IsOutcomeStatus (outcomes.Malformed e) status detail = (status ≡ format_status e.fault) × (detail ≡ e.place)
@@ -47,8 +61,10 @@ IsOutcomeStatus outcomes.NotResponse status detail = (status ≡ NotThatKind) ×
 IsOutcomeStatus outcomes.UnknownToken status detail = (status ≡ UnknownToken) × (detail ≡ 0)
 IsOutcomeStatus outcomes.Unprotected status detail = (status ≡ NoOscore) × (detail ≡ 0)
 IsOutcomeStatus outcomes.Undecodable status detail = (status ≡ Undecodable) × (detail ≡ 0)
+IsOutcomeStatus outcomes.Old status detail = (status ≡ OldStatus) × (detail ≡ 0)
 IsOutcomeStatus outcomes.BadTag status detail = (status ≡ Tag) × (detail ≡ 0)
 IsOutcomeStatus outcomes.BadInner status detail = (status ≡ Inner) × (detail ≡ 0)
+IsOutcomeStatus (outcomes.Notified o number) status detail = ⊥
 IsOutcomeStatus (outcomes.Deliver o number) status detail = ⊥
 
 -- the status of an answer, and its detail: the place of a fault, or else 0 (own rule)
@@ -58,8 +74,10 @@ IsAnswerStatus NotResponse status detail = (status ≡ NotThatKind) × (detail �
 IsAnswerStatus Unknown status detail = (status ≡ UnknownToken) × (detail ≡ 0)
 IsAnswerStatus Unprotected status detail = (status ≡ NoOscore) × (detail ≡ 0)
 IsAnswerStatus NoAnswer status detail = (status ≡ Undecodable) × (detail ≡ 0)
+IsAnswerStatus Old status detail = (status ≡ OldStatus) × (detail ≡ 0)
 IsAnswerStatus BadTag status detail = (status ≡ Tag) × (detail ≡ 0)
 IsAnswerStatus BadInner status detail = (status ≡ Inner) × (detail ≡ 0)
+IsAnswerStatus (Notified received number) status detail = ⊥
 IsAnswerStatus (Deliver received number) status detail = ⊥
 
 -- the answer to a datagram has this status and detail, and the bytes are as it says (RFC 8613, 8.4)
@@ -86,11 +104,12 @@ ReadsAsking (Sent bytes) result detail text = (result ≡ 0) × (text ≡ bytes)
 ReadsAsking (NotSent e) result detail text = (status : Status) × (result ≡ code status) × IsAskingStatus e status detail
 ReadsAsking entry result detail text = ⊥
 
--- for the answer to a datagram: 0 and the request's number, or the number of its status and the detail (own rule)
-abbrev pub ReadsTaking : Entry → ℕ → ℕ → ℕ → Type 0
-ReadsTaking (Took (Deliver received n)) result detail request = (result ≡ 0) × (request ≡ n)
-ReadsTaking (Took answer) result detail request = (status : Status) × (result ≡ code status) × IsAnswerStatus answer status detail
-ReadsTaking entry result detail request = ⊥
+-- for the answer to a datagram: 0, the request's number and whether that stays pending, or the number of its status and the detail (own rule)
+abbrev pub ReadsTaking : Entry → ℕ → ℕ → ℕ → Bool → Type 0
+ReadsTaking (Took (Notified received n)) result detail request stays = (result ≡ 0) × (request ≡ n) × (stays ≡ true)
+ReadsTaking (Took (Deliver received n)) result detail request stays = (result ≡ 0) × (request ≡ n) × (stays ≡ false)
+ReadsTaking (Took answer) result detail request stays = (status : Status) × (result ≡ code status) × IsAnswerStatus answer status detail
+ReadsTaking entry result detail request stays = ⊥
 
 -- for the answer to Forget (own rule)
 abbrev pub ReadsForgetting : Entry → ℕ → Type 0

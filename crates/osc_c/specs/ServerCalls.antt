@@ -10,7 +10,7 @@ use Rattle.osc_context.specs.declared.partial_iv.Piv.{Piv}
 use Rattle.osc_window.specs.Views.{places_of}
 use Rattle.osc_window.specs.declared.window_size.WindowSize.{WindowSize}
 use Rattle.osc_endpoint.specs.Senders.{HasSameSender}
-use Rattle.osc_endpoint.specs.ServerAnswer.{ServerAnswer}
+use Rattle.osc_endpoint.specs.ServerAnswer.{ServerAnswer, asks_own}
 use Rattle.osc_endpoint.specs.ServerHistory.{Add, Added, Answer, BadInner, BadTag, Challenge as Challenged, Datagram, Deliver, Entry, Event, History, Malformed, NoContext as NoSuchKid, NotAdded, NotReplied, NotRequest, NotRestarted, Plain, Replay as Replayed, Replied, Restart, Restarted as LivesAnew, SequenceExhausted as NoOwnLeft, Then, TicketValues, Took, Undecodable as NotDecoded}
 use Rattle.osc_endpoint.specs.declared.outcome.Outcome.{Outcome}
 use Rattle.osc_endpoint.specs.declared.outcome.Outcome.TheVariants as outcomes
@@ -23,7 +23,7 @@ use Rattle.osc_endpoint.specs.declared.server_error.RestartError.TheVariants as 
 use Rattle.osc_endpoint.specs.declared.start.Start.{Start}
 use Rattle.osc_endpoint.specs.declared.start.Start.TheVariants.{Fresh, Restarted}
 use Rattle.osc_handle.specs.ContextBytes.{IsContext, server_in}
-use Rattle.osc_handle.specs.ServerBytes.{IsSameSender, IsSpent, RepliesIn, Serves}
+use Rattle.osc_handle.specs.ServerBytes.{IsSameSender, IsSpent, NotifiesIn, RepliesIn, Serves}
 use Rattle.osc_handle.specs.TableBytes.{IsTable}
 use Rattle.osc_handle.specs.TicketBytes.{IsTicket, ticket_in}
 use Rattle.osc_handle.specs.declared.context_handle.ContextHandle.{ContextHandle}
@@ -31,7 +31,7 @@ use Rattle.osc_handle.specs.declared.server_handle.ServerHandle.{ServerHandle}
 use Rattle.osc_handle.specs.declared.ticket_handle.TicketHandle.{TicketHandle}
 use Rattle.osc_c.specs.Statuses.{code, format_status}
 use Rattle.osc_c.specs.declared.status.Status.{Status}
-use Rattle.osc_c.specs.declared.status.Status.TheVariants.{BadHandle, BadNumber, NoSuchContext, LivesExhausted, Full, SameLookup, SameSender, StaleTicket, TicketSpent, NotThatKind, NoOscore, Undecodable, NoContext, Replay, Tag, Inner, Challenge, Unsupported, SequenceExhausted, TooLong, NoRoom}
+use Rattle.osc_c.specs.declared.status.Status.TheVariants.{BadHandle, BadNumber, NoSuchContext, LivesExhausted, Full, SameLookup, SameSender, StaleTicket, TicketSpent, NotThatKind, NoOscore, Undecodable, NoContext, Replay, Tag, Inner, Challenge, Unsupported, SequenceExhausted, TooLong, NoRoom, NotObserving, NotNotification}
 
 -- after the history, the entry is the answer to the event, and the bytes are as both say (RFC 8613, 8.2 and 8.3)
 abbrev pub AnswersIn : History → Event → Entry → ServerHandle → Type 0
@@ -62,12 +62,14 @@ abbrev pub restart_status : RestartError → Status
 restart_status restarts.NoSuchContext = NoSuchContext
 restart_status restarts.LivesExhausted = LivesExhausted
 
--- a refusal to reply has the status of its name, and the number of the option as its detail, or else 0; a server of C has no keeper (own rule)
+-- a refusal to reply or to notify has the status of its name, and the number of the option as its detail, or else 0; a server of C has no keeper (own rule)
 abbrev pub IsReplyStatus : ReplyError → Status → ℕ → Type 0
 IsReplyStatus replies.KeeperFailed status detail = ⊥
 IsReplyStatus replies.StaleTicket status detail = (status ≡ StaleTicket) × (detail ≡ 0)
+IsReplyStatus replies.NotObserving status detail = (status ≡ NotObserving) × (detail ≡ 0)
 IsReplyStatus replies.NotThatKind status detail = (status ≡ NotThatKind) × (detail ≡ 0)
 IsReplyStatus (replies.Unsupported n) status detail = (status ≡ Unsupported) × (detail ≡ n)
+IsReplyStatus replies.NotNotification status detail = (status ≡ NotNotification) × (detail ≡ 0)
 IsReplyStatus replies.SequenceExhausted status detail = (status ≡ SequenceExhausted) × (detail ≡ 0)
 IsReplyStatus replies.TooLong status detail = (status ≡ TooLong) × (detail ≡ 0)
 IsReplyStatus replies.NoRoom status detail = (status ≡ NoRoom) × (detail ≡ 0)
@@ -132,7 +134,14 @@ pub data RefusesReplying (s new : ServerHandle) (t : TicketHandle) (own : Bool) 
   malformed : IsTable s.contexts → IsTicket t → (fault : Fault) (place : ℕ) → HasFault plain fault place → status ≡ format_status fault → detail ≡ place → RefusesReplying s new t own mid plain room status detail
   spent : IsTable s.contexts → IsTicket t → (p : Parts) → IsDatagram p plain → ((h : History) → Serves s h → IsSpent h (ticket_in t)) → status ≡ TicketSpent → detail ≡ 0 → RefusesReplying s new t own mid plain room status detail
   refused : IsTable s.contexts → IsTicket t → (p : Parts) → IsDatagram p plain → (e : ReplyError) → IsReplyStatus e status detail
-      → ((h : History) → Serves s h → RepliesIn h (ticket_in t) own mid p room (NotReplied e) new) → RefusesReplying s new t own mid plain room status detail
+      → ((h : History) → Serves s h → RepliesIn h (ticket_in t) (asks_own (ticket_in t) own) mid p room (NotReplied e) new) → RefusesReplying s new t own mid plain room status detail
+
+-- why no notification is sealed; nothing changes (RFC 8613, 8.3.1)
+pub data RefusesNotifying (s new : ServerHandle) (t : TicketHandle) (plain : List ℕ) (room : ℕ) (status : Status) (detail : ℕ) : Type 0 where
+  bad_handle : (IsTable s.contexts → IsTicket t → ⊥) → status ≡ BadHandle → detail ≡ 0 → RefusesNotifying s new t plain room status detail
+  malformed : IsTable s.contexts → IsTicket t → (fault : Fault) (place : ℕ) → HasFault plain fault place → status ≡ format_status fault → detail ≡ place → RefusesNotifying s new t plain room status detail
+  refused : IsTable s.contexts → IsTicket t → (p : Parts) → IsDatagram p plain → (e : ReplyError) → IsReplyStatus e status detail
+      → ((h : History) → Serves s h → NotifiesIn h (ticket_in t) p room (NotReplied e) new) → RefusesNotifying s new t plain room status detail
 
 -- for a context that is added: the number of SameSender if another context has its Sender Key, or else 0 and the index (RFC 8613, 3.3)
 pub record ReadsAdded (h : History) (s : SecurityContext) (i result index : ℕ) : Type 0 where
@@ -157,7 +166,7 @@ ReadsServing (Took (Deliver received t) bytes) result detail ticket reply = (res
 ReadsServing (Took answer bytes) result detail ticket reply = (status : Status) × (result ≡ code status) × IsAnswerStatus answer status detail × (reply ≡ bytes)
 ReadsServing entry result detail ticket reply = ⊥
 
--- for the answer to Reply: 0 and the sealed text, or the number of the refusal's status and the detail (own rule)
+-- for the answer to Reply, or to Notify: 0 and the sealed text, or the number of the refusal's status and the detail (own rule)
 abbrev pub ReadsReplying : Entry → ℕ → ℕ → List ℕ → Type 0
 ReadsReplying (Replied bytes) result detail text = (result ≡ 0) × (text ≡ bytes)
 ReadsReplying (NotReplied e) result detail text = (status : Status) × (result ≡ code status) × IsReplyStatus e status detail

@@ -8,13 +8,13 @@ ghost use Rattle.osc_context.specs.Views.{number_of};
 ghost use Rattle.osc_protect.specs.Views.{message_of};
 ghost use Rattle.osc_protect.specs.declared.opened.Opened.{Opened as OpenedOf};
 ghost use Rattle.osc_endpoint.specs.ClientAnswer.{ClientAnswer};
-ghost use Rattle.osc_endpoint.specs.ClientHistory.{Datagram, Deliver, Entry, Forget, Forgot, History, New, Request, Restart, Restarted, Sent, Then, Took};
+ghost use Rattle.osc_endpoint.specs.ClientHistory.{Datagram, Entry, Forget, Forgot, History, New, Request, Restart, Restarted, Sent, Then, Took};
 ghost use Rattle.osc_endpoint.specs.Views.{received_of};
-ghost use Rattle.osc_endpoint.specs.declared.client_outcome.ClientOutcome.TheVariants.{Deliver as Delivered};
 ghost use Rattle.osc_endpoint.specs.declared.client_outcome.RequestError.TheVariants.{KeeperFailed};
 ghost use Rattle.osc_handle.specs.ClientBytes.{Asks, IsClient};
 ghost use Rattle.osc_handle.specs.ContextBytes.{client_in, IsContext};
-ghost use Rattle.osc_c.specs.ClientCalls.{IsAskingStatus, IsOutcomeStatus, ReadsAsking, ReadsForgetting, ReadsTaking, RefusesAsking, RefusesForgetting, RefusesNumber, RefusesTaking};
+ghost use Rattle.osc_c.specs.Calls.{HasRoomFor};
+ghost use Rattle.osc_c.specs.ClientCalls.{IsAskingStatus, IsOutcomeStatus, heard_as, shown_as, ReadsAsking, ReadsForgetting, ReadsTaking, RefusesAsking, RefusesForgetting, RefusesNumber, RefusesTaking};
 ghost use Rattle.osc_c.specs.Opened.{option_in, Shows};
 ghost use Rattle.osc_c.specs.Statuses.{code, format_status};
 ghost use Rattle.osc_c.specs.declared.status.Status.{Status as StatusOf};
@@ -29,8 +29,8 @@ use osc_endpoint::{ClientOutcome, RequestError, one_client_answer};
 use osc_handle::{ClientHandle, ContextHandle};
 use osc_protect::Opened;
 
-/// Begins a client with nothing pending (RFC 8613, 8.1). Its requests are pending for `life_ms` milliseconds and no longer. A refusal
-/// is BadHandle or BadNumber, in this order.
+/// Begins a client with nothing pending (RFC 8613, 8.1). Its requests are pending for `life_ms` milliseconds and no longer, except a
+/// registration that was notified. A refusal is BadHandle or BadNumber, in this order.
 #[unsafe(no_mangle)]
 pub extern "C" fn oscore_client_begin(
     client: &mut ClientHandle,
@@ -169,7 +169,7 @@ pub extern "C" fn oscore_client_request(
         × Asks client.new (Then h (Request now p (length out.old)) (Sent (take out_len.new out.new)))) }
     ensures within { result ≡ 0 → out_len.new ≤ length out.new }
     ensures behind { result ≡ 0 → drop out_len.new out.new ≡ drop out_len.new out.old }
-    ensures room { (h : History) → Asks client.old h → length plain.now + 59 ≤ length out.old → result ≢ code NoRoom }
+    ensures room { (h : History) → Asks client.old h → HasRoomFor (client_in client.old.context).features.observe plain.now (length out.old) → result ≢ code NoRoom }
     ensures whole { IsClient client.old → IsClient client.new }
     ensures refused { result ≢ 0 → (status : StatusOf) × (result ≡ code status) × RefusesAsking client.old client.new now plain.now (length out.old) status detail.new }
     ensures refuses { (IsClient client.old → ⊥) → result ≡ code BadHandle }
@@ -194,9 +194,9 @@ pub extern "C" fn oscore_client_request(
     }
 }
 
-/// Returns what was delivered and the number of its request, or the refusal that C reads.
-pub(crate) fn delivery<'b>(outcome: ClientOutcome<'b>) -> Result<(Opened<'b>, Piv), Refusal>
-    ensures opened { IfOk result (λ o. outcome.entry ≡ Delivered o.0 o.1) }
+/// Returns what was heard, the number of its request, and whether that stays pending, or the refusal that C reads.
+pub(crate) fn hearing<'b>(outcome: ClientOutcome<'b>) -> Result<(Opened<'b>, Piv, bool), Refusal>
+    ensures opened { IfOk result (λ o. outcome.entry ≡ shown_as o.2 o.0 o.1) }
     ensures refused { IfErr result (λ r. IsOutcomeStatus outcome.entry r.status r.detail) }
 {
     match outcome {
@@ -205,9 +205,11 @@ pub(crate) fn delivery<'b>(outcome: ClientOutcome<'b>) -> Result<(Opened<'b>, Pi
         ClientOutcome::UnknownToken => Err(Status::UnknownToken.into()),
         ClientOutcome::Unprotected => Err(Status::NoOscore.into()),
         ClientOutcome::Undecodable => Err(Status::Undecodable.into()),
+        ClientOutcome::Old => Err(Status::Old.into()),
         ClientOutcome::BadTag => Err(Status::Tag.into()),
         ClientOutcome::BadInner => Err(Status::Inner.into()),
-        ClientOutcome::Deliver(opened, number) => Ok((opened, number)),
+        ClientOutcome::Notified(opened, number) => Ok((opened, number, true)),
+        ClientOutcome::Deliver(opened, number) => Ok((opened, number, false)),
     }
 }
 
@@ -216,18 +218,18 @@ fn take_in<'b>(
     client: &mut ClientHandle,
     now: u64,
     datagram: &'b mut [u8],
-) -> Result<(Opened<'b>, Piv), Refusal>
+) -> Result<(Opened<'b>, Piv, bool), Refusal>
     ensures opened { IfOk result (λ o. (h : History) → Asks client.old h
-        → ClientAnswer 8 h (Datagram now datagram.old) (Took (Deliver (received_of o.0) (number_of o.1)))
-        × Asks client.new (Then h (Datagram now datagram.old) (Took (Deliver (received_of o.0) (number_of o.1))))) }
+        → ClientAnswer 8 h (Datagram now datagram.old) (Took (heard_as o.2 (received_of o.0) (number_of o.1)))
+        × Asks client.new (Then h (Datagram now datagram.old) (Took (heard_as o.2 (received_of o.0) (number_of o.1))))) }
     ensures whole { IsClient client.old → IsClient client.new }
     ensures refused { IfErr result (λ r. RefusesTaking client.old client.new now datagram.old r.status r.detail) }
     ensures refuses { (IsClient client.old → ⊥) → IfErr result (λ r. r.status ≡ BadHandle) }
     ensures accepted { IsOk result → IsClient client.old }
 {
     match client.take(now, datagram) {
-        Some(outcome) => match delivery(outcome) {
-            Ok(delivered) => Ok(delivered),
+        Some(outcome) => match hearing(outcome) {
+            Ok(heard) => Ok(heard),
             Err(refusal) => Err(refusal),
         },
         None => Err(Status::BadHandle.into()),
@@ -235,9 +237,9 @@ fn take_in<'b>(
 }
 
 /// Takes a datagram in place (RFC 8613, 8.4). It returns 0 if a response to a pending request is delivered; then `request` is that
-/// request's number, and the request is no longer pending. `options` has room for a number of options; `opened` says whether there
-/// are more. A refusal is BadHandle, one of the datagram's faults with its place, NotThatKind, UnknownToken, NoOscore, Undecodable,
-/// Tag or Inner, in this order; all but BadHandle move the clock.
+/// request's number, and the request is no longer pending, unless `opened` says that this is a notification. `options` has room for a
+/// number of options; `opened` says whether there are more. A refusal is BadHandle, one of the datagram's faults with its place,
+/// NotThatKind, UnknownToken, NoOscore, Undecodable, Old, Tag or Inner, in this order; all but BadHandle move the clock.
 #[unsafe(no_mangle)]
 pub extern "C" fn oscore_client_take<'b>(
     client: &mut ClientHandle,
@@ -251,19 +253,20 @@ pub extern "C" fn oscore_client_take<'b>(
     ensures opened { result ≡ 0 → (o : OpenedOf) × Shows opened.new o
         × (opened.new.has_more_options ≡ false → map option_in (take opened.new.option_count options.new) ≡ (message_of o).options)
         × (opened.new.has_more_options ≡ true → map option_in options.new ≡ take (length options.old) (message_of o).options)
-        × ((h : History) → Asks client.old h → ClientAnswer 8 h (Datagram now datagram.old) (Took (Deliver (received_of o) request.new))
-        × Asks client.new (Then h (Datagram now datagram.old) (Took (Deliver (received_of o) request.new)))) }
+        × ((h : History) → Asks client.old h → ClientAnswer 8 h (Datagram now datagram.old) (Took (heard_as opened.new.is_notification (received_of o) request.new))
+        × Asks client.new (Then h (Datagram now datagram.old) (Took (heard_as opened.new.is_notification (received_of o) request.new)))) }
     ensures whole { IsClient client.old → IsClient client.new }
     ensures refused { result ≢ 0 → (status : StatusOf) × (result ≡ code status) × RefusesTaking client.old client.new now datagram.old status detail.new }
     ensures refuses { (IsClient client.old → ⊥) → result ≡ code BadHandle }
     ensures answers { (h : History) (entry : Entry) → Asks client.old h → ClientAnswer 8 h (Datagram now datagram.old) entry
-        → ReadsTaking entry result detail.new request.new }
+        → ReadsTaking entry result detail.new request.new opened.new.is_notification }
     ensures unchanged { result ≢ 0 → (opened.new ≡ opened.old) × (options.new ≡ options.old) × (request.new ≡ request.old) }
 {
     one_client_answer();
     match take_in(client, now, datagram) {
-        Ok((message, number)) => {
+        Ok((message, number, stays)) => {
             show(&message, options, opened);
+            opened.is_notification = stays;
             *request = number.number();
             DONE
         }

@@ -8,6 +8,7 @@ mod derivation;
 mod head_view;
 mod kept_client;
 mod kept_server;
+mod notifying;
 mod opened_view;
 mod opening;
 mod rooms;

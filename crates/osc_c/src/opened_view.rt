@@ -41,6 +41,8 @@ pub struct OpenedView<'b> {
     pub option_count: usize,
     /// Whether there are more options than the array has room for.
     pub has_more_options: bool,
+    /// Whether a client heard a notification, so that its request stays pending.
+    pub is_notification: bool,
 }
 
 /// Returns the number of a kind, as the Type field of a datagram has it (RFC 7252, 3).
@@ -100,4 +102,5 @@ pub(crate) fn show<'b>(
     let (count, more) = put_options(opened.inner(), places);
     view.option_count = count;
     view.has_more_options = more;
+    view.is_notification = false;
 }

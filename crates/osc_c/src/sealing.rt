@@ -7,7 +7,7 @@ ghost use Rattle.osc_coap.specs.Datagram.{Parts, IsDatagram};
 ghost use Rattle.osc_protect.specs.Protection.{requests, responses};
 ghost use Rattle.osc_protect.specs.SealRefusals.{FitsToSeal};
 ghost use Rattle.osc_protect.specs.Sealed.{SealsRequest, SealsResponse};
-ghost use Rattle.osc_c.specs.Calls.{AreNumbers, IsOwnNumber, LacksObserve, RefusesSealing};
+ghost use Rattle.osc_c.specs.Calls.{AreNumbers, HasRoomFor, IsOwnNumber, RefusesSealing};
 ghost use Rattle.osc_c.specs.Opened.{number_given};
 ghost use Rattle.osc_handle.specs.ContextBytes.{client_in, server_in, IsContext};
 ghost use Rattle.osc_c.specs.Statuses.{code};
@@ -59,7 +59,7 @@ fn seal_request_in(
 /// Seals a request (RFC 8613, 8.1) under this Sender Sequence Number, as the context's client. `plain` is its datagram. The first
 /// `out_len` bytes of `out` are the sealed datagram. A refusal is BadHandle, BadNumber, one of the datagram's faults with its place,
 /// NotThatKind, Unsupported with the lowest number of such an option, TooLong or NoRoom, in this order. A buffer that has 59 bytes more
-/// than `plain` has room, unless the context allows Observe and `plain` has it: Observe then stands inside and outside.
+/// than `plain` has room; if the context allows Observe and `plain` has it, Observe stands inside and outside, and takes its own bytes more.
 #[unsafe(no_mangle)]
 pub extern "C" fn oscore_seal_request(
     context: &ContextHandle,
@@ -72,7 +72,7 @@ pub extern "C" fn oscore_seal_request(
     ensures sealed { result ≡ 0 → (p : Parts) × IsDatagram p plain.now × SealsRequest (client_in context.now) number p (take out_len.new out.new) }
     ensures within { result ≡ 0 → out_len.new ≤ length out.new }
     ensures behind { result ≡ 0 → drop out_len.new out.new ≡ drop out_len.new out.old }
-    ensures room { LacksObserve (client_in context.now).features plain.now → length plain.now + 59 ≤ length out.old → result ≢ code NoRoom }
+    ensures room { HasRoomFor (client_in context.now).features.observe plain.now (length out.old) → result ≢ code NoRoom }
     ensures accepts { (p : Parts) → IsContext context.now → number < 2 ^ 40 → IsDatagram p plain.now
         → FitsToSeal (requests (client_in context.now)) number p (length out.old) → result ≡ 0 }
     ensures refused { result ≢ 0 → (status : StatusOf) × (result ≡ code status)

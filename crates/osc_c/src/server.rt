@@ -10,7 +10,7 @@ ghost use Rattle.osc_context.specs.declared.partial_iv.Piv.{Piv as PivOf};
 ghost use Rattle.osc_window.specs.declared.window_size.WindowSize.{WindowSize as WindowSizeOf};
 ghost use Rattle.osc_protect.specs.Views.{message_of};
 ghost use Rattle.osc_protect.specs.declared.opened.Opened.{Opened as OpenedOf};
-ghost use Rattle.osc_endpoint.specs.ServerAnswer.{ServerAnswer};
+ghost use Rattle.osc_endpoint.specs.ServerAnswer.{ServerAnswer, asks_own};
 ghost use Rattle.osc_endpoint.specs.ServerHistory.{Add, Added, Begin, Datagram, Deliver, Entry, History, Replied, Reply, Restart, Restarted, Took};
 ghost use Rattle.osc_endpoint.specs.Views.{received_of, values_of};
 ghost use Rattle.osc_endpoint.specs.declared.outcome.Outcome.TheVariants.{Deliver as Delivered, KeeperFailed as KeeperFailedOutcome};
@@ -287,7 +287,7 @@ pub extern "C" fn oscore_server_take<'b>(
     }
 }
 
-/// Returns the refusal that C reads when a server refuses to reply.
+/// Returns the refusal that C reads when a server refuses to reply or to notify.
 pub(crate) fn replying_refusal(error: ReplyError) -> Refusal
     requires { error ≢ KeeperFailed }
     ensures { IsReplyStatus error result.status result.detail }
@@ -295,11 +295,13 @@ pub(crate) fn replying_refusal(error: ReplyError) -> Refusal
     match error {
         ReplyError::KeeperFailed => unreachable!(),
         ReplyError::StaleTicket => Status::StaleTicket.into(),
+        ReplyError::NotObserving => Status::NotObserving.into(),
         ReplyError::NotThatKind => Status::NotThatKind.into(),
         ReplyError::Unsupported(number) => Refusal {
             status: Status::Unsupported,
             detail: usize::from(number),
         },
+        ReplyError::NotNotification => Status::NotNotification.into(),
         ReplyError::SequenceExhausted => Status::SequenceExhausted.into(),
         ReplyError::TooLong => Status::TooLong.into(),
         ReplyError::NoRoom => Status::NoRoom.into(),
@@ -316,7 +318,7 @@ fn reply_in(
     out: &mut [u8],
 ) -> Result<usize, Refusal>
     ensures sealed { IfOk result (λ n. (p : Parts) × IsDatagram p plain.now
-        × ((h : History) → Serves server.old h → RepliesIn h (ticket_in ticket.now) own mid p (length out.old) (Replied (take n out.new)) server.new)) }
+        × ((h : History) → Serves server.old h → RepliesIn h (ticket_in ticket.now) (asks_own (ticket_in ticket.now) own) mid p (length out.old) (Replied (take n out.new)) server.new)) }
     ensures accepted { IsOk result → IsTable server.old.contexts × IsTicket ticket.now }
     ensures refused { IfErr result (λ r. RefusesReplying server.old server.new ticket.now own mid plain.now (length out.old) r.status r.detail) }
     ensures once { (p : Parts) → IsDatagram p plain.now → IsTable server.old.contexts → IsTicket ticket.now → (h : History) → Serves server.old h
@@ -344,8 +346,9 @@ fn reply_in(
 }
 
 /// Seals a reply to the request of a ticket (RFC 8613, 8.3), with its own Partial IV or under the Partial IV of the request. `plain`
-/// is a datagram, of which the code, options and payload are used. The first `out_len` bytes of `out` are the sealed reply, and the
-/// request then has its answer. A refusal is BadHandle, one of the datagram's faults with its place, StaleTicket, TicketSpent,
+/// is a datagram, of which the code, options and payload are used. If the request registers an observation, the reply has its own
+/// Partial IV in any case, and ends the observation. The first `out_len` bytes of `out` are the sealed reply, and the request then has
+/// its answer. A refusal is BadHandle, one of the datagram's faults with its place, StaleTicket, TicketSpent,
 /// NotThatKind, Unsupported with the lowest number of such an option, SequenceExhausted, TooLong or NoRoom, in this order, and
 /// changes nothing.
 #[unsafe(no_mangle)]
@@ -360,7 +363,7 @@ pub extern "C" fn oscore_server_reply(
     detail: &mut usize,
 ) -> u32
     ensures sealed { result ≡ 0 → (p : Parts) × IsDatagram p plain.now
-        × ((h : History) → Serves server.old h → RepliesIn h (ticket_in ticket.now) own mid p (length out.old) (Replied (take out_len.new out.new)) server.new) }
+        × ((h : History) → Serves server.old h → RepliesIn h (ticket_in ticket.now) (asks_own (ticket_in ticket.now) own) mid p (length out.old) (Replied (take out_len.new out.new)) server.new) }
     ensures refused { result ≢ 0 → (status : StatusOf) × (result ≡ code status)
         × RefusesReplying server.old server.new ticket.now own mid plain.now (length out.old) status detail.new }
     ensures refuses { (IsTable server.old.contexts → IsTicket ticket.now → ⊥) → result ≡ code BadHandle }
@@ -368,7 +371,7 @@ pub extern "C" fn oscore_server_reply(
         → (result ≡ code (format_status fault)) × (detail.new ≡ place) }
     ensures answers { IsTable server.old.contexts → IsTicket ticket.now → (p : Parts) → IsDatagram p plain.now
         → (h : History) (entry : Entry) → Serves server.old h → (IsSpent h (ticket_in ticket.now) → ⊥)
-        → ServerAnswer h (Reply (ticket_in ticket.now) own mid p (length out.old)) entry → ReadsReplying entry result detail.new (take out_len.new out.new) }
+        → ServerAnswer h (Reply (ticket_in ticket.now) (asks_own (ticket_in ticket.now) own) mid p (length out.old)) entry → ReadsReplying entry result detail.new (take out_len.new out.new) }
     ensures once { (p : Parts) → IsDatagram p plain.now → IsTable server.old.contexts → IsTicket ticket.now → (h : History) → Serves server.old h
         → IsSpent h (ticket_in ticket.now) → result ≡ code TicketSpent }
     ensures bytes { IsTable server.old.contexts → IsTable server.new.contexts }

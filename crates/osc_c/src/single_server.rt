@@ -9,7 +9,7 @@ ghost use Rattle.osc_context.specs.declared.partial_iv.Piv.{Piv as PivOf};
 ghost use Rattle.osc_window.specs.declared.window_size.WindowSize.{WindowSize as WindowSizeOf};
 ghost use Rattle.osc_protect.specs.Views.{message_of};
 ghost use Rattle.osc_protect.specs.declared.opened.Opened.{Opened as OpenedOf};
-ghost use Rattle.osc_endpoint.specs.ServerAnswer.{ServerAnswer};
+ghost use Rattle.osc_endpoint.specs.ServerAnswer.{ServerAnswer, asks_own};
 ghost use Rattle.osc_endpoint.specs.ServerHistory.{Add, Added, Begin, Datagram, Deliver, Entry, History, Replied, Reply, Restart, Restarted, Took};
 ghost use Rattle.osc_endpoint.specs.Views.{received_of, values_of};
 ghost use Rattle.osc_handle.specs.ContextBytes.{IsContext, server_in};
@@ -219,7 +219,7 @@ fn reply_in(
     out: &mut [u8],
 ) -> Result<usize, Refusal>
     ensures sealed { IfOk result (λ n. (p : Parts) × IsDatagram p plain.now
-        × ((h : History) → Serves (server_of_one server.old) h → RepliesIn h (ticket_in ticket.now) own mid p (length out.old) (Replied (take n out.new)) (server_of_one server.new))) }
+        × ((h : History) → Serves (server_of_one server.old) h → RepliesIn h (ticket_in ticket.now) (asks_own (ticket_in ticket.now) own) mid p (length out.old) (Replied (take n out.new)) (server_of_one server.new))) }
     ensures accepted { IsOk result → IsSlotBytes server.old.slot × IsTicket ticket.now }
     ensures refused { IfErr result (λ r. RefusesReplying (server_of_one server.old) (server_of_one server.new) ticket.now own mid plain.now (length out.old) r.status r.detail) }
     ensures once { (p : Parts) → IsDatagram p plain.now → IsSlotBytes server.old.slot → IsTicket ticket.now → (h : History) → Serves (server_of_one server.old) h
@@ -259,7 +259,7 @@ pub extern "C" fn oscore_server1_reply(
     detail: &mut usize,
 ) -> u32
     ensures sealed { result ≡ 0 → (p : Parts) × IsDatagram p plain.now
-        × ((h : History) → Serves (server_of_one server.old) h → RepliesIn h (ticket_in ticket.now) own mid p (length out.old) (Replied (take out_len.new out.new)) (server_of_one server.new)) }
+        × ((h : History) → Serves (server_of_one server.old) h → RepliesIn h (ticket_in ticket.now) (asks_own (ticket_in ticket.now) own) mid p (length out.old) (Replied (take out_len.new out.new)) (server_of_one server.new)) }
     ensures refused { result ≢ 0 → (status : StatusOf) × (result ≡ code status)
         × RefusesReplying (server_of_one server.old) (server_of_one server.new) ticket.now own mid plain.now (length out.old) status detail.new }
     ensures refuses { (IsSlotBytes server.old.slot → IsTicket ticket.now → ⊥) → result ≡ code BadHandle }
@@ -267,7 +267,7 @@ pub extern "C" fn oscore_server1_reply(
         → (result ≡ code (format_status fault)) × (detail.new ≡ place) }
     ensures answers { IsSlotBytes server.old.slot → IsTicket ticket.now → (p : Parts) → IsDatagram p plain.now
         → (h : History) (entry : Entry) → Serves (server_of_one server.old) h → (IsSpent h (ticket_in ticket.now) → ⊥)
-        → ServerAnswer h (Reply (ticket_in ticket.now) own mid p (length out.old)) entry → ReadsReplying entry result detail.new (take out_len.new out.new) }
+        → ServerAnswer h (Reply (ticket_in ticket.now) (asks_own (ticket_in ticket.now) own) mid p (length out.old)) entry → ReadsReplying entry result detail.new (take out_len.new out.new) }
     ensures once { (p : Parts) → IsDatagram p plain.now → IsSlotBytes server.old.slot → IsTicket ticket.now → (h : History) → Serves (server_of_one server.old) h
         → IsSpent h (ticket_in ticket.now) → result ≡ code TicketSpent }
     ensures bytes { IsSlotBytes server.old.slot → IsSlotBytes server.new.slot }

@@ -11,7 +11,7 @@ use osc_protect::{HeadError, ProtectError, UnprotectError};
 pub(crate) const DONE: u32 = 0;
 
 /// The names of the statuses, in the order of their numbers from 0.
-const NAMES: [&[u8]; 45] = [
+const NAMES: [&[u8]; 48] = [
     b"Done",
     b"BadHandle",
     b"BadNumber",
@@ -57,11 +57,15 @@ const NAMES: [&[u8]; 45] = [
     b"SaveFirst",
     b"OptionOrder",
     b"ValueTooLong",
+    b"NotObserving",
+    b"NotNotification",
+    b"Old",
 ];
 
 /// Why a call does nothing: the first refusal whose condition holds, in this order, except for the statuses that were added last.
 /// SameSender is checked right after SameLookup. SaveFirst is checked right before NoSuchContext, and for a datagram right after
-/// BadHandle. OptionOrder and ValueTooLong are checked before NoRoom. A call that is done returns 0.
+/// BadHandle. OptionOrder and ValueTooLong are checked before NoRoom. NotObserving is checked right after StaleTicket,
+/// NotNotification right after Unsupported, and Old right after Undecodable. A call that is done returns 0.
 #[derive(Clone, Copy, Debug, PartialEq, Eq)]
 pub(crate) enum Status {
     /// The bytes of the handle can't have been written by a call.
@@ -111,6 +115,12 @@ pub(crate) enum Status {
     SaveFirst = 42,
     OptionOrder = 43,
     ValueTooLong = 44,
+    /// The request of a ticket registers no observation.
+    NotObserving = 45,
+    /// A message that is to notify isn't of class 2, or has no Observe.
+    NotNotification = 46,
+    /// A later response to the same registration was delivered.
+    Old = 47,
 }
 
 impl Status {

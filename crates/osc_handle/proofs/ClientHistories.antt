@@ -90,4 +90,6 @@ leaves_parts k decisions.Unprotected d new h = h
 leaves_parts k decisions.Undecodable d new h = h
 leaves_parts k decisions.BadTag d new h = h
 leaves_parts k decisions.BadInner d new h = h
+leaves_parts k decisions.Old d new h = h
+leaves_parts k (decisions.Notified x number) d new h = h
 leaves_parts k (decisions.Deliver x number) d new h = h

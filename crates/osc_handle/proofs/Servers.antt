@@ -1,6 +1,6 @@
 -- A server in bytes after each call. s and t are the bytes before and after, h is the history.
-use Rattle.std.proofs.Common.{◌≡◌, ◌≢◌, ◌∙◌, ◌<◌, ◌≤◌, ◌+◌, sym, ap, subst, refl, arith, ℕ, zero, suc, Bool, true, false, not, ◌&&◌, ◌==◌, List, [], ◌∷◌, ◌++◌, Option, Some, None, IfSome, Ok, Err, length, take, slice_set, if◌then◌else◌}
-use Rattle.std.specs.Prelude.{slice_get}
+use Rattle.std.proofs.Common.{◌≡◌, ◌≢◌, ◌∙◌, ◌<◌, ◌≤◌, ◌+◌, sym, ap, subst, refl, arith, ℕ, zero, suc, Bool, true, false, not, ◌&&◌, ◌==◌, List, [], ◌∷◌, ◌++◌, Option, Some, None, IfSome, Result, Ok, Err, length, take, slice_set, if◌then◌else◌}
+use Rattle.std.specs.Prelude.{OnErr, slice_get}
 use Rattle.std.specs.Option.{option_map}
 use Rattle.std.proofs.lemmas.Bool.{both_ways, cond-false, cond-true, eq-eqb, eqb-true, ne_eqb}
 use Rattle.std.proofs.lemmas.Option.{same_Some}
@@ -11,7 +11,7 @@ use Rattle.osc_context.specs.Views.{as_server}
 use Rattle.osc_protect.specs.Views.{context_of}
 use Rattle.osc_window.specs.declared.window_size.WindowSize.{WindowSize}
 use Rattle.osc_endpoint.proofs.Additions.{agrees_added}
-use Rattle.osc_endpoint.proofs.Decisions.{agrees_replied}
+use Rattle.osc_endpoint.proofs.Decisions.{agrees_notified, agrees_replied}
 use Rattle.osc_endpoint.proofs.KeptContexts.{contexts_differ}
 use Rattle.osc_endpoint.proofs.Places.{same_life, slot_at}
 use Rattle.osc_endpoint.specs.Agrees.{Agrees, HoldsLife, PlaceAgrees, SlotAgrees, TableAgrees, server_of}
@@ -22,9 +22,10 @@ use Rattle.osc_endpoint.specs.Replies.{as_reply}
 use Rattle.osc_endpoint.specs.Replying.{reply_mark}
 use Rattle.osc_endpoint.specs.Restarting.{lives_after}
 use Rattle.osc_endpoint.specs.Senders.{SendersDiffer}
-use Rattle.osc_endpoint.specs.ServerAnswer.{HaveSameLookup, IsContext, IsPresent, IsTaken, LifeReply, LifeRestart, ReplyAnswer, ServerAnswer}
+use Rattle.osc_endpoint.specs.ServerAnswer.{HaveSameLookup, IsContext, IsPresent, IsTaken, LifeNotify, LifeReply, LifeRestart, ReplyAnswer, ServerAnswer, as_notification}
 use Rattle.osc_endpoint.specs.ServerHistory as server
 use Rattle.osc_endpoint.specs.Table.{FindsAt, context_of_place}
+use Rattle.osc_endpoint.specs.Views.{reply_entry}
 use Rattle.osc_endpoint.specs.Waiting.{AnswersWaiting, WaitingHasLife, waits}
 use Rattle.osc_endpoint.specs.declared.decision.Decided.{Decided}
 use Rattle.osc_endpoint.specs.declared.server_error.AddError.TheVariants.{Full, SameLookup}
@@ -37,11 +38,11 @@ use Rattle.osc_endpoint.specs.declared.start.Start.{Start}
 use Rattle.osc_endpoint.specs.declared.start.Start.TheVariants as starts
 use Rattle.osc_handle.proofs.Senders.{sender_in_bytes, sender_there}
 use Rattle.osc_handle.proofs.Tables.{bytes_of, in_front, life_past, life_there}
-use Rattle.osc_handle.proofs.Waits.{none_waits_new, none_waits_next, remembers_begun, remembers_replied, remembers_took}
+use Rattle.osc_handle.proofs.Waits.{none_waits_new, none_waits_next, remembers_begun, remembers_notified, remembers_replied, remembers_took}
 use Rattle.osc_handle.specs.ContextBytes.{IsContext as IsContextBytes, server_in}
 use Rattle.osc_handle.specs.Held.{held}
 use Rattle.osc_handle.specs.Noting.{Notes}
-use Rattle.osc_handle.specs.ServerBytes.{AddsIn, DecidesIn, IsSameSender, Remembers, RemembersAt, RemembersLife, RepliesIn, Serves, entry_of_add}
+use Rattle.osc_handle.specs.ServerBytes.{AddsIn, DecidesIn, IsSameSender, Remembers, RemembersAt, RemembersLife, NotifiesIn, RepliesIn, Serves, entry_of_add}
 use Rattle.osc_handle.specs.SlotBytes.{IsSlotIn}
 use Rattle.osc_handle.specs.TableBytes.{IsPlaceIn, IsTableIn, bytes_at, places_in}
 use Rattle.osc_handle.specs.TableSteps.{ChangesAt, GrowsBy, HasSenderIn, RefusesToAdd, is_present_in, life_in}
@@ -369,13 +370,20 @@ reply_as of own mid room plain entry n number k kind m message_id bytes token a 
     (subst (λ x. LifeReply of n own (as_reply x message_id token mid plain) room entry) b
     (subst (λ x. LifeReply of n own (as_reply k x token mid plain) room entry) c (subst (λ x. LifeReply of n own (as_reply k m x mid plain) room entry) d row)))
 
+-- the same reply, where it is known otherwise whether it asks for an own number
+pub asked_as : (h : server.History) (t : server.TicketValues) (own asked : Bool) (mid room : ℕ) (plain : Parts) (entry : server.Entry) (s : ServerHandle) → asked ≡ own → RepliesIn h t asked mid plain room entry s
+    → RepliesIn h t own mid plain room entry s
+asked_as h t own asked mid room plain entry s e r = subst (λ o. RepliesIn h t o mid plain room entry s) e r
+
 -- a refusal of the ticket's life
 refused_row : (h : server.History) (t : server.TicketValues) (own : Bool) (p : Parts) (room : ℕ) (of : Life) (e : ReplyError) → IsPresent h t of → LifeReply of t.number own p room (server.NotReplied e)
     → ReplyAnswer h t own p room (server.NotReplied e)
 refused_row h t own p room of replies.KeeperFailed present row = absurd row
 refused_row h t own p room of replies.StaleTicket present row = absurd row
+refused_row h t own p room of replies.NotObserving present row = absurd row
 refused_row h t own p room of replies.NotThatKind present row = (of, present, row)
 refused_row h t own p room of (replies.Unsupported n) present row = (of, present, row)
+refused_row h t own p room of replies.NotNotification present row = absurd row
 refused_row h t own p room of replies.SequenceExhausted present row = (of, present, row)
 refused_row h t own p room of replies.TooLong present row = (of, present, row)
 refused_row h t own p room of replies.NoRoom present row = (of, present, row)
@@ -422,6 +430,64 @@ serves_replied s t h ticket own mid room plain bytes of u v n serves present the
         remembers = subst (λ us. Remembers us g) (sym numbers) (remembers_replied s.unanswered h ticket own mid room plain bytes u v of there present.0 present.1 removes low serves.remembers);
         answers = (serves.answers, row);
         waiting = (serves.waiting, sym (bit_says s h ticket of u serves present there) ∙ has);
+        senders = serves.senders;
+      },
+    )
+
+-- ---- a notification
+
+pub notify_stale : (s : ServerHandle) (h : server.History) (t : server.TicketValues) (room : ℕ) (plain : Parts) → Serves s h → ((of : Life) → IsPresent h t of → ⊥)
+    → NotifiesIn h t plain room (server.NotReplied replies.StaleTicket) s
+notify_stale s h t room plain serves none =
+    (none, serves_still s h _ (record { clock = refl; added = refl; lives = λ i. refl; waiting = λ i c n. refl }) (serves.answers, none) serves.waiting serves.senders serves)
+
+pub notify_unobserved : (s : ServerHandle) (h : server.History) (t : server.TicketValues) (room : ℕ) (plain : Parts) (of : Life) → Serves s h → IsPresent h t of → t.observes ≡ false
+    → NotifiesIn h t plain room (server.NotReplied replies.NotObserving) s
+notify_unobserved s h t room plain of serves present not_so =
+    let row : ServerAnswer h (server.Notify t plain room) (server.NotReplied replies.NotObserving) = (of, present, not_so) in
+    (row, serves_still s h _ (record { clock = refl; added = refl; lives = λ i. refl; waiting = λ i c n. refl }) (serves.answers, row) serves.waiting serves.senders serves)
+
+-- the request of a ticket is notified as its parts say
+pub notify_as : (of : Life) (room : ℕ) (plain : Parts) (entry : server.Entry) (n number : ℕ) (bytes token : List ℕ) → n ≡ number → bytes ≡ token
+    → LifeNotify of n (as_notification bytes plain) room entry → LifeNotify of number (as_notification token plain) room entry
+notify_as of room plain entry n number bytes token a b row =
+    subst (λ x. LifeNotify of x (as_notification token plain) room entry) a (subst (λ x. LifeNotify of n (as_notification x plain) room entry) b row)
+
+-- a refusal of the ticket's life
+unsent_row : (h : server.History) (t : server.TicketValues) (plain : Parts) (room : ℕ) (of : Life) (e : ReplyError) → IsPresent h t of → t.observes ≡ true
+    → LifeNotify of t.number (as_notification t.token plain) room (server.NotReplied e) → ServerAnswer h (server.Notify t plain room) (server.NotReplied e)
+unsent_row h t plain room of replies.KeeperFailed present so row = absurd row
+unsent_row h t plain room of replies.StaleTicket present so row = absurd row
+unsent_row h t plain room of replies.NotObserving present so row = absurd row
+unsent_row h t plain room of replies.NotThatKind present so row = (so, (of, present, row))
+unsent_row h t plain room of (replies.Unsupported n) present so row = (so, (of, present, row))
+unsent_row h t plain room of replies.NotNotification present so row = (so, (of, present, row))
+unsent_row h t plain room of replies.SequenceExhausted present so row = (so, (of, present, row))
+unsent_row h t plain room of replies.TooLong present so row = (so, (of, present, row))
+unsent_row h t plain room of replies.NoRoom present so row = (so, (of, present, row))
+
+-- what the ticket's life answers to a notification, after the history and in the bytes
+pub serves_notified : (s : ServerHandle) (contexts : ContextsHandle) (h : server.History) (t : server.TicketValues) (room : ℕ) (plain : Parts) (out : List ℕ) (r : Result ℕ ReplyError) (of : Life)
+    → (serves : Serves s h) → IsPresent h t of → t.observes ≡ true → LifeNotify of t.number (as_notification t.token plain) room (reply_entry r out)
+    → ChangesAt serves.slots (server.life h) t.context (marked (reply_mark r true) of) contexts → OnErr r (contexts ≡ s.contexts)
+    → NotifiesIn h t plain room (reply_entry r out) (record { clock = s.clock; contexts = contexts; unanswered = s.unanswered })
+serves_notified s contexts h t room plain out (Err e) of serves present so notified changes same =
+    let row = unsent_row h t plain room of e present so notified in
+    (row, serves_same s contexts _ same (serves_still s h _ (record { clock = refl; added = refl; lives = λ i. refl; waiting = λ i c n. refl }) (serves.answers, row) serves.waiting serves.senders serves))
+serves_notified s contexts h t room plain out (Ok n) of serves present so notified changes same =
+    let bytes = take n out in
+    let row : ServerAnswer h (server.Notify t plain room) (server.Replied bytes) = (so, (of, present, notified)) in
+    let agrees = changes.agrees (λ i. option_map (marked (server.reply_mark_at i t true)) (server.life h i))
+    (ap (λ o. option_map (marked (server.reply_mark_at t.context t true)) o) present.0 ∙ ap (λ m. Some (marked m of)) (mark_here t true))
+    (λ j other. same_life (server.life h j) (server.reply_mark_at j t true) (mark_other t true j other)) in (
+      row,
+      record {
+        slots = changes.new;
+        table = changes.table;
+        agrees = agrees_notified (server_of s.clock serves.slots) (server_of s.clock changes.new) h t room plain (Ok n) out serves.agrees refl changes.len agrees;
+        remembers = remembers_notified s.unanswered h t room plain bytes serves.remembers;
+        answers = (serves.answers, row);
+        waiting = serves.waiting;
         senders = serves.senders;
       },
     )

@@ -10,9 +10,9 @@ use Rattle.osc_context.specs.SecurityContext.{SecurityContext}
 use Rattle.osc_endpoint.specs.Laws.{AllAnswers}
 use Rattle.osc_endpoint.specs.Life.{Life, Mark, born, marked, renewed}
 use Rattle.osc_endpoint.specs.Replies.{as_reply}
-use Rattle.osc_endpoint.specs.ServerAnswer.{AddAnswer, Arrival, IsTaken, LifeRestart, MeetsLifeRow, MeetsNamedRow, MeetsRow, NamesNone, ReplyAnswer, SaysReply, TakeAnswer, arrival}
-use Rattle.osc_endpoint.specs.ServerHistory.{Add, Added, Advance, Advanced, Answer, BadInner, BadTag, Begin, Challenge, Datagram, Deliver, Entry, History, Malformed, NoContext, NotReplied, NotRequest, Plain, Replay, Replied, Reply, Restart, Restarted, SequenceExhausted, Then, TicketValues, Took, Undecodable, added, clock, life, mark_at, reply_mark_at}
-use Rattle.osc_endpoint.specs.declared.server_error.ReplyError.TheVariants.{StaleTicket}
+use Rattle.osc_endpoint.specs.ServerAnswer.{AddAnswer, Arrival, IsTaken, LifeRestart, MeetsLifeRow, MeetsNamedRow, MeetsRow, NamesNone, NotifyAnswer, ReplyAnswer, SaysReply, TakeAnswer, arrival, as_notification}
+use Rattle.osc_endpoint.specs.ServerHistory.{Add, Added, Advance, Advanced, Answer, BadInner, BadTag, Begin, Challenge, Datagram, Deliver, Entry, History, Malformed, NoContext, NotReplied, NotRequest, Notify, Plain, Replay, Replied, Reply, Restart, Restarted, SequenceExhausted, Then, TicketValues, Took, Undecodable, added, clock, life, mark_at, reply_mark_at}
+use Rattle.osc_endpoint.specs.declared.server_error.ReplyError.TheVariants.{NotObserving, StaleTicket}
 use Rattle.osc_endpoint.proofs.DeliveredNumbers.{none_beyond}
 use Rattle.osc_endpoint.proofs.Places.{same_life}
 use Rattle.osc_handle.specs.OneContext.{ContextsStandAlone, NamesNoOther, answer_alone, concerns, share, ticket_alone}
@@ -59,6 +59,9 @@ clock_share i (Then h (Datagram now echo mid d) (Took answer reply)) all =
 clock_share i (Then h (Reply ticket own mid plain room) (Replied bytes)) all =
     let before = clock_share i h all.0 in
     of_chosen (λ g. clock g ≡ clock h) (i == ticket.context) (Then (share i h) (Reply (ticket_alone ticket) own mid plain room) (Replied bytes)) (share i h) (λ e. before) (λ e. before)
+clock_share i (Then h (Notify ticket plain room) (Replied bytes)) all =
+    let before = clock_share i h all.0 in
+    of_chosen (λ g. clock g ≡ clock h) (i == ticket.context) (Then (share i h) (Notify (ticket_alone ticket) plain room) (Replied bytes)) (share i h) (λ e. before) (λ e. before)
 clock_share i (Then h (Restart context next) Restarted) all =
     let before = clock_share i h all.0 in
     of_chosen (λ g. clock g ≡ clock h) (i == context) (Then (share i h) (Restart 0 next) Restarted) (share i h) (λ e. before) (λ e. before)
@@ -66,6 +69,7 @@ clock_share i (Then h (Advance now) Advanced) all = ap (λ (c : ℕ). max c now)
 clock_share i (Then h (Add context start size) entry) all = clock_share i h all.0
 clock_share i (Then h (Datagram now echo mid d) entry) all = absurd all.1
 clock_share i (Then h (Reply ticket own mid plain room) entry) all = clock_share i h all.0
+clock_share i (Then h (Notify ticket plain room) entry) all = clock_share i h all.0
 clock_share i (Then h (Restart context next) entry) all = clock_share i h all.0
 clock_share i (Then h (Advance now) entry) all = absurd all.1
 
@@ -86,6 +90,10 @@ life_share i (Then h (Reply ticket own mid plain room) (Replied bytes)) =
     of_chosen (λ g. life g 0 ≡ option_map (marked (reply_mark_at i ticket own)) (life h i)) (i == ticket.context) (Then (share i h) (Reply (ticket_alone ticket) own mid plain room) (Replied bytes)) (share i h)
     (λ e. ap (λ (m : Option Mark). option_map (marked m) (life (share i h) 0)) (same_reply_mark i ticket own e) ∙ ap (option_map (marked (reply_mark_at i ticket own))) (life_share i h))
     (λ e. life_share i h ∙ sym (same_life (life h i) (reply_mark_at i ticket own) (no_reply_mark i ticket own e)))
+life_share i (Then h (Notify ticket plain room) (Replied bytes)) =
+    of_chosen (λ g. life g 0 ≡ option_map (marked (reply_mark_at i ticket true)) (life h i)) (i == ticket.context) (Then (share i h) (Notify (ticket_alone ticket) plain room) (Replied bytes)) (share i h)
+    (λ e. ap (λ (m : Option Mark). option_map (marked m) (life (share i h) 0)) (same_reply_mark i ticket true e) ∙ ap (option_map (marked (reply_mark_at i ticket true))) (life_share i h))
+    (λ e. life_share i h ∙ sym (same_life (life h i) (reply_mark_at i ticket true) (no_reply_mark i ticket true e)))
 life_share i (Then h (Restart context next) Restarted) =
     life_chosen (i == context) (Then (share i h) (Restart 0 next) Restarted) (share i h) (option_map (renewed next) (life h i)) (life h i) (λ e. ap (option_map (renewed next)) (life_share i h)) (λ e. life_share i h)
 life_share i (Then h (Advance now) Advanced) = life_share i h
@@ -106,6 +114,9 @@ none_else i j (Then h (Datagram now echo mid d) (Took answer reply)) =
 none_else i j (Then h (Reply ticket own mid plain room) (Replied bytes)) =
     of_chosen (λ g. life g (suc j) ≡ None) (i == ticket.context) (Then (share i h) (Reply (ticket_alone ticket) own mid plain room) (Replied bytes)) (share i h)
     (λ e. ap (option_map (marked (reply_mark_at (suc j) (ticket_alone ticket) own))) (none_else i j h)) (λ e. none_else i j h)
+none_else i j (Then h (Notify ticket plain room) (Replied bytes)) =
+    of_chosen (λ g. life g (suc j) ≡ None) (i == ticket.context) (Then (share i h) (Notify (ticket_alone ticket) plain room) (Replied bytes)) (share i h)
+    (λ e. ap (option_map (marked (reply_mark_at (suc j) (ticket_alone ticket) true))) (none_else i j h)) (λ e. none_else i j h)
 none_else i j (Then h (Restart context next) Restarted) =
     of_chosen (λ g. life g (suc j) ≡ None) (i == context) (Then (share i h) (Restart 0 next) Restarted) (share i h)
     (λ e. cond-false (suc j == 0) (option_map (renewed next) (life (share i h) (suc j))) (life (share i h) (suc j)) (not_first j) ∙ none_else i j h) (λ e. none_else i j h)
@@ -126,6 +137,9 @@ none_yet i (Then h (Datagram now echo mid d) (Took answer reply)) all early =
 none_yet i (Then h (Reply ticket own mid plain room) (Replied bytes)) all early =
     let before = none_yet i h all.0 early in
     of_chosen (λ g. added g ≡ 0) (i == ticket.context) (Then (share i h) (Reply (ticket_alone ticket) own mid plain room) (Replied bytes)) (share i h) (λ e. before) (λ e. before)
+none_yet i (Then h (Notify ticket plain room) (Replied bytes)) all early =
+    let before = none_yet i h all.0 early in
+    of_chosen (λ g. added g ≡ 0) (i == ticket.context) (Then (share i h) (Notify (ticket_alone ticket) plain room) (Replied bytes)) (share i h) (λ e. before) (λ e. before)
 none_yet i (Then h (Restart context next) Restarted) all early =
     let before = none_yet i h all.0 early in
     of_chosen (λ g. added g ≡ 0) (i == context) (Then (share i h) (Restart 0 next) Restarted) (share i h) (λ e. before) (λ e. before)
@@ -183,6 +197,11 @@ module _ (h g : History) (i : ℕ) (here : life g 0 ≡ life h i) (nowhere : (j 
   ticket_row t own p room (NotReplied StaleTicket) e row = λ of present. row of (ap (life h) e ∙ sym here ∙ present.0, present.1)
   ticket_row t own p room entry e (of, present, row) = (of, (here ∙ ap (life h) (sym e) ∙ present.0, present.1), row)
 
+  notify_row : (t : TicketValues) (p : Parts) (room : ℕ) (entry : Entry) → t.context ≡ i → NotifyAnswer h t p room entry → NotifyAnswer g (ticket_alone t) p room entry
+  notify_row t p room (NotReplied StaleTicket) e row = λ of present. row of (ap (life h) e ∙ sym here ∙ present.0, present.1)
+  notify_row t p room (NotReplied NotObserving) e row = (row.0, (here ∙ ap (life h) (sym e) ∙ row.1.0, row.1.1), row.2)
+  notify_row t p room entry e row = (row.0, (row.1.0, (here ∙ ap (life h) (sym e) ∙ row.1.1.0, row.1.1.1), row.1.2))
+
 -- ---- events
 
 -- the same arrival, by the same clock
@@ -227,6 +246,10 @@ answers_share i (Then h (Reply ticket own mid plain room) (Replied bytes)) all =
     of_chosen AllAnswers (i == ticket.context) (Then (share i h) (Reply (ticket_alone ticket) own mid plain room) (Replied bytes)) (share i h)
     (λ e. (answers_share i h all.0, ticket_row h (share i h) i (life_share i h) (λ j. none_else i j h) ticket own (as_reply ticket.kind ticket.message_id ticket.token mid plain) room (Replied bytes) (sym (eqb-true i ticket.context e)) all.1))
     (λ e. answers_share i h all.0)
+answers_share i (Then h (Notify ticket plain room) (Replied bytes)) all =
+    of_chosen AllAnswers (i == ticket.context) (Then (share i h) (Notify (ticket_alone ticket) plain room) (Replied bytes)) (share i h)
+    (λ e. (answers_share i h all.0, notify_row h (share i h) i (life_share i h) (λ j. none_else i j h) ticket (as_notification ticket.token plain) room (Replied bytes) (sym (eqb-true i ticket.context e)) all.1))
+    (λ e. answers_share i h all.0)
 answers_share i (Then h (Restart context next) Restarted) all =
     of_chosen AllAnswers (i == context) (Then (share i h) (Restart 0 next) Restarted) (share i h)
     (λ e. (answers_share i h all.0, subst (λ o. LifeRestart o Restarted) (sym (life_share i h ∙ ap (life h) (eqb-true i context e))) all.1)) (λ e. answers_share i h all.0)
@@ -243,5 +266,7 @@ contexts_stand_alone h i all = record {
       (take_alone h (share i h) i (life_share i h) (λ j. none_else i j h) (arrival h now echo mid d) answer reply only row);
   reply = λ ticket own mid plain room entry e row.
       ticket_row h (share i h) i (life_share i h) (λ j. none_else i j h) ticket own (as_reply ticket.kind ticket.message_id ticket.token mid plain) room entry e row;
+  notify = λ ticket plain room entry e row.
+      notify_row h (share i h) i (life_share i h) (λ j. none_else i j h) ticket (as_notification ticket.token plain) room entry e row;
   restart = λ next entry row. subst (λ o. LifeRestart o entry) (sym (life_share i h)) row;
 }

@@ -175,6 +175,10 @@ remembers_took us vs h now mid echo d new (decisions.Challenge given issued) (se
 remembers_took us vs h now mid echo d new decisions.SequenceExhausted server.SequenceExhausted reply row decides notes r = remembers_other us vs h _ (λ i. None) notes (λ i. refl) (λ i c n. refl) r
 remembers_took us vs h now mid echo d new decision answer reply row decides notes r = absurd decides
 
+pub remembers_notified : (us : List UnansweredHandle) (h : server.History) (t : server.TicketValues) (room : ℕ) (plain : Parts) (bytes : List ℕ) → Remembers us h
+    → Remembers us (server.Then h (server.Notify t plain room) (server.Replied bytes))
+remembers_notified us h t room plain bytes r = remembers_other us us h _ (λ i. server.reply_mark_at i t true) refl (λ i. refl) (λ i c n. refl) r
+
 -- ---- what is noted
 
 -- what stands where something was written

@@ -1,16 +1,22 @@
 -- To be believed: what the bytes of a client say. c are the bytes, b the bytes of one pending request, h is a history.
-use Rattle.std.specs.Prelude.{◌≡◌, ℕ, ◌≤◌, ◌<◌, ◌^◌, List, Some, map, slice_get, take}
+use Rattle.std.specs.Prelude.{◌≡◌, ℕ, ◌≤◌, ◌<◌, ◌==◌, ◌^◌, List, Some, map, slice_get, take, if◌then◌else◌}
 use Rattle.osc_endpoint.specs.Agrees.{ClientParts, TokensDiffer}
 use Rattle.osc_endpoint.specs.ClientHistory.{Asked, History, clock, context, life_ms, next, pending}
 use Rattle.osc_endpoint.specs.ClientLaws.{AllClientAnswers, RequestsCountUp, RequestsHaveTwoNonces, first_number, restarts, sealed, sealed_after}
 use Rattle.osc_endpoint.specs.Laws.{Pairwise}
+use Rattle.osc_endpoint.specs.declared.pending.Wait.{Wait}
+use Rattle.osc_endpoint.specs.declared.pending.Wait.TheVariants.{Once, Observing}
 use Rattle.osc_handle.specs.ContextBytes.{IsContext, client_in}
 use Rattle.osc_handle.specs.declared.client_handle.ClientHandle.{ClientHandle}
 use Rattle.osc_handle.specs.declared.pending_handle.PendingHandle.{PendingHandle}
 
+-- what the request waits for (own rule)
+abbrev pub wait_in : PendingHandle → Wait
+wait_in b = if b.observes == 0 then Once else Observing b.from
+
 -- a request that was sealed (own rule)
 abbrev pub asked_at : PendingHandle → Asked
-asked_at b = record { token = take b.token_len b.token; number = b.number; moment = b.moment }
+asked_at b = record { token = take b.token_len b.token; number = b.number; moment = b.moment; wait = wait_in b }
 
 -- the places that are in use (own rule)
 abbrev pub pending_in : ClientHandle → List PendingHandle
@@ -24,10 +30,16 @@ asked_in c = map asked_at (pending_in c)
 abbrev pub parts_in : ClientHandle → ClientParts
 parts_in c = record { context = client_in c.context; life_ms = c.life_ms; clock = c.clock; next = c.next; pending = asked_in c }
 
+-- bytes of a wait that a call may have written: a truth value, and no place for a request that registers nothing (own rule)
+pub record IsWait (b : PendingHandle) : Type 0 where
+  pub observes : b.observes ≤ 1
+  pub from : b.observes ≡ 0 → b.from ≡ 0
+
 -- bytes of a pending request that a call may have written (own rule)
 pub record IsPending (b : PendingHandle) : Type 0 where
   pub token : b.token_len ≤ 8
   pub number : b.number < 2 ^ 40
+  pub wait : IsWait b
 
 -- bytes of pending requests that a call may have written: at most eight, no two with the same token (RFC 7252, 5.3.1; own rule: eight)
 pub record ArePending (c : ClientHandle) : Type 0 where

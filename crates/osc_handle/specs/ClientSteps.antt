@@ -1,10 +1,9 @@
 -- How the code is seen: what a call leaves in the bytes of a client, and in a datagram. h is a history, c the bytes, p what the client is
 -- made of, d the datagram as it arrived, new what was left of it.
 use Rattle.std.specs.Prelude.{◌≡◌, ℕ, List, Contains, Option, map, take}
-use Rattle.osc_protect.specs.Protection.{responses}
 use Rattle.osc_protect.specs.Stages.{Decrypts}
 use Rattle.osc_endpoint.specs.Agrees.{ClientParts}
-use Rattle.osc_endpoint.specs.ClientAnswer.{ClientAnswer}
+use Rattle.osc_endpoint.specs.ClientAnswer.{ClientAnswer, awaited}
 use Rattle.osc_endpoint.specs.ClientDeciding.{Decides}
 use Rattle.osc_endpoint.specs.ClientHistory.{Answer, Asked, Datagram, History, Then, Took}
 use Rattle.osc_endpoint.specs.Views.{ClientShows}
@@ -29,11 +28,12 @@ pub record Keeps (before after : ClientHandle) (p : ClientParts) : Type 0 where
 
 -- opened as a response to a pending request: the payload became the plaintext, with the old tag after it; all else stayed (RFC 8613, 8.4)
 abbrev pub IsOpenedIn : ClientParts → List ℕ → List ℕ → Type 0
-IsOpenedIn p d new = (r : Asked) × Contains p.pending r × (own : Option ℕ) × (len : ℕ) × Decrypts (responses p.context r.number) d own len new
+IsOpenedIn p d new = (r : Asked) × Contains p.pending r × (own : Option ℕ) × (len : ℕ) × Decrypts (awaited p.context r) d own len new
 
--- what is left of the datagram: the datagram as it arrived, or the opened one if the plaintext is bad or delivered (RFC 8613, 8.4)
+-- what is left of the datagram: the datagram as it arrived, or the opened one if the plaintext is bad, notified or delivered (RFC 8613, 8.4)
 abbrev pub LeavesIn : ClientParts → ClientDecision → List ℕ → List ℕ → Type 0
 LeavesIn p decisions.BadInner d new = IsOpenedIn p d new
+LeavesIn p (decisions.Notified x number) d new = IsOpenedIn p d new
 LeavesIn p (decisions.Deliver x number) d new = IsOpenedIn p d new
 LeavesIn p decision d new = new ≡ d
 

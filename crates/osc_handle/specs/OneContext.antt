@@ -5,7 +5,7 @@ use Rattle.osc_coap.specs.Datagram.{Parts}
 use Rattle.osc_endpoint.specs.Laws.{AllAnswers}
 use Rattle.osc_endpoint.specs.Life.{Life}
 use Rattle.osc_endpoint.specs.ServerAnswer.{IsRequestOf, ServerAnswer}
-use Rattle.osc_endpoint.specs.ServerHistory.{Add, Added, Advance, Advanced, Answer, BadInner, Begin, Challenge, Datagram, Deliver, Entry, History, Replied, Reply, Restart, Restarted, Then, TicketValues, Took, clock, life}
+use Rattle.osc_endpoint.specs.ServerHistory.{Add, Added, Advance, Advanced, Answer, BadInner, Begin, Challenge, Datagram, Deliver, Entry, History, Notify, Replied, Reply, Restart, Restarted, Then, TicketValues, Took, clock, life}
 
 -- the answer leaves something in the life of this context (own rule)
 abbrev pub concerns : ℕ → Answer → Bool
@@ -33,6 +33,8 @@ share i (Then h (Datagram now echo mid d) (Took answer reply)) =
     if concerns i answer then Then (share i h) (Datagram now echo mid d) (Took (answer_alone answer) reply) else Then (share i h) (Advance now) Advanced
 share i (Then h (Reply ticket own mid plain room) (Replied bytes)) =
     if i == ticket.context then Then (share i h) (Reply (ticket_alone ticket) own mid plain room) (Replied bytes) else share i h
+share i (Then h (Notify ticket plain room) (Replied bytes)) =
+    if i == ticket.context then Then (share i h) (Notify (ticket_alone ticket) plain room) (Replied bytes) else share i h
 share i (Then h (Restart context next) Restarted) = if i == context then Then (share i h) (Restart 0 next) Restarted else share i h
 share i (Then h (Advance now) Advanced) = Then (share i h) (Advance now) Advanced
 share i (Then h event entry) = share i h
@@ -42,7 +44,7 @@ abbrev pub NamesNoOther : History → ℕ → List ℕ → Type 0
 NamesNoOther h i d = (j n : ℕ) (of : Life) → IsRequestOf h d j n of → j ≡ i
 
 -- the context's share is a history of answers, with the same clock and the same life; and to each datagram that names no other context, to each
--- reply and to each restart of this context, a server that has it alone gives the same answer (own rule)
+-- reply, to each notification and to each restart of this context, a server that has it alone gives the same answer (own rule)
 pub record AnswersAlone (h : History) (i : ℕ) : Type 0 where
   pub answers : AllAnswers (share i h)
   pub clock_is : clock (share i h) ≡ clock h
@@ -51,6 +53,8 @@ pub record AnswersAlone (h : History) (i : ℕ) : Type 0 where
       → ServerAnswer h (Datagram now echo mid d) (Took answer reply) → ServerAnswer (share i h) (Datagram now echo mid d) (Took (answer_alone answer) reply)
   pub reply : (ticket : TicketValues) (own : Bool) (mid : ℕ) (plain : Parts) (room : ℕ) (entry : Entry) → ticket.context ≡ i
       → ServerAnswer h (Reply ticket own mid plain room) entry → ServerAnswer (share i h) (Reply (ticket_alone ticket) own mid plain room) entry
+  pub notify : (ticket : TicketValues) (plain : Parts) (room : ℕ) (entry : Entry) → ticket.context ≡ i
+      → ServerAnswer h (Notify ticket plain room) entry → ServerAnswer (share i h) (Notify (ticket_alone ticket) plain room) entry
   pub restart : (next : ℕ) (entry : Entry) → ServerAnswer h (Restart i next) entry → ServerAnswer (share i h) (Restart 0 next) entry
 
 -- each context of a server is answered as if it were alone under the server's clock (own rule)

@@ -10,7 +10,7 @@ use Rattle.osc_endpoint.specs.Laws.{AllAnswers}
 use Rattle.osc_endpoint.specs.Life.{Life, spent}
 use Rattle.osc_endpoint.specs.Senders.{HasSameSender, SendersDiffer}
 use Rattle.osc_endpoint.specs.ServerAnswer.{IsPresent, IsTaken, ServerAnswer}
-use Rattle.osc_endpoint.specs.ServerHistory.{Add, Added, Answer, Datagram, Entry, History, NotAdded, NotReplied, Replied, Reply, Then, TicketValues, Took, added, life}
+use Rattle.osc_endpoint.specs.ServerHistory.{Add, Added, Answer, Datagram, Entry, History, NotAdded, NotReplied, Notify, Replied, Reply, Then, TicketValues, Took, added, life}
 use Rattle.osc_endpoint.specs.Views.{Shows}
 use Rattle.osc_endpoint.specs.Waiting.{AnswersWaiting, waits}
 use Rattle.osc_endpoint.specs.declared.decision.Decision.{Decision}
@@ -94,3 +94,7 @@ entry_of_reply (Err (Refused e)) out = Some (NotReplied e)
 -- after the history, the entry is the answer to the reply, and the bytes are as both say (RFC 8613, 8.3)
 abbrev pub RepliesIn : History → TicketValues → Bool → ℕ → Parts → ℕ → Entry → ServerHandle → Type 0
 RepliesIn h t own mid plain room entry s = ServerAnswer h (Reply t own mid plain room) entry × Serves s (Then h (Reply t own mid plain room) entry)
+
+-- after the history, the entry is the answer to the notification, and the bytes are as both say (RFC 8613, 8.3.1)
+abbrev pub NotifiesIn : History → TicketValues → Parts → ℕ → Entry → ServerHandle → Type 0
+NotifiesIn h t plain room entry s = ServerAnswer h (Notify t plain room) entry × Serves s (Then h (Notify t plain room) entry)

@@ -1,14 +1,14 @@
 //! A client, as bytes.
 
-ghost use Rattle.std.specs.Prelude.{◌≡◌, ◌≢◌, ◌≤◌, ℕ, IfSome, IsSome, IsNone, OnErr, IfOk, IfErr, Option, Some, true, false, length, drop, map, take, slice_get};
+ghost use Rattle.std.specs.Prelude.{◌≡◌, ◌≢◌, ◌≤◌, ℕ, IfSome, IsSome, IsNone, OnErr, IfOk, IfErr, Bool, Option, Some, true, false, length, drop, map, take, slice_get};
 ghost use Rattle.osc_coap.specs.Inner.{InnerParts};
 ghost use Rattle.osc_coap.specs.Views.{parts_of};
 ghost use Rattle.osc_context.specs.Views.{as_client, is_constant_time, number_of};
 ghost use Rattle.osc_endpoint.specs.Agrees.{HasTokensApart, client_parts};
-ghost use Rattle.osc_endpoint.specs.ClientAnswer.{ClientAnswer, Delivers, IsAmong};
+ghost use Rattle.osc_endpoint.specs.ClientAnswer.{ClientAnswer, Hears, IsAmong};
 ghost use Rattle.osc_endpoint.specs.ClientDeciding.{CanShow, ClientShowsDecided};
 ghost use Rattle.osc_endpoint.specs.ClientHistory.{History, New, Then, Advance, Advanced, Forget, Forgot, Request, Restart, Restarted};
-ghost use Rattle.osc_endpoint.specs.Views.{asked_of, client_delivery_of, request_entry};
+ghost use Rattle.osc_endpoint.specs.Views.{asked_of, client_hearing_of, request_entry};
 ghost use Rattle.osc_endpoint.specs.declared.client_outcome.ClientOutcome.{ClientOutcome as OutcomeOf};
 ghost use Rattle.osc_endpoint.specs.declared.client_outcome.RequestError.TheVariants.{KeeperFailed};
 ghost use Rattle.osc_handle.specs.ClientBytes.{ArePending, Asks, IsClient, IsPending, asked_at, asked_in, parts_in};
@@ -61,8 +61,8 @@ fn keep_requests(places: &mut [PendingHandle; 8], requests: &[Pending])
 }
 
 impl ClientHandle {
-    /// Makes a client with nothing pending. Its requests are pending for `life_ms` milliseconds and no longer. Returns `None` if the
-    /// context bytes can't have been written by a call.
+    /// Makes a client with nothing pending. Its requests are pending for `life_ms` milliseconds and no longer, except a registration
+    /// that was notified. Returns `None` if the context bytes can't have been written by a call.
     pub fn begin(context: &ContextHandle, next: Piv, life_ms: u64) -> Option<ClientHandle>
         ensures made { IfSome result (λ c. Asks c (New (client_in context.now) (number_of next) life_ms)) }
         ensures context { IfSome result (λ c. c.context ≡ context.now) }
@@ -230,11 +230,11 @@ impl ClientHandle {
         ensures accepts { IsClient self.old → IsSome result }
         ensures shown { IfSome result (λ decision. CanShow decision datagram.new) }
         ensures left { IfSome result (λ decision. LeavesIn (parts_in self.old) decision datagram.old datagram.new) }
-        // `ClientDecision::outcome` returns a delivery if and only if the datagram that was passed in is to be delivered.
-        ensures delivered { IfSome result (λ decision. (h : History) (n : ℕ) (own : Option ℕ) (m : InnerParts) (outcome : OutcomeOf) → Asks self.old h
-            → ClientShowsDecided decision datagram.new outcome → client_delivery_of outcome ≡ Some (n, own, m) → Delivers h now datagram.old n own m) }
-        ensures delivers { IfSome result (λ decision. (h : History) (n : ℕ) (own : Option ℕ) (m : InnerParts) (outcome : OutcomeOf) → Asks self.old h
-            → ClientShowsDecided decision datagram.new outcome → Delivers h now datagram.old n own m → client_delivery_of outcome ≡ Some (n, own, m)) }
+        // `ClientDecision::outcome` returns a notification, or a delivery, if and only if the datagram that was passed in is to be one.
+        ensures heard { IfSome result (λ decision. (h : History) (c : Bool) (n : ℕ) (own : Option ℕ) (m : InnerParts) (outcome : OutcomeOf) → Asks self.old h
+            → ClientShowsDecided decision datagram.new outcome → client_hearing_of outcome ≡ Some (c, n, own, m) → Hears h now datagram.old c n own m) }
+        ensures hears { IfSome result (λ decision. (h : History) (c : Bool) (n : ℕ) (own : Option ℕ) (m : InnerParts) (outcome : OutcomeOf) → Asks self.old h
+            → ClientShowsDecided decision datagram.new outcome → Hears h now datagram.old c n own m → client_hearing_of outcome ≡ Some (c, n, own, m)) }
         ensures unchanged { IsNone result → (self.new ≡ self.old) × (datagram.new ≡ datagram.old) }
     {
         let Some(context) = self.whole_context() else {
@@ -252,10 +252,10 @@ impl ClientHandle {
     pub fn take<'b>(&mut self, now: u64, datagram: &'b mut [u8]) -> Option<ClientOutcome<'b>>
         ensures answered { IfSome result (λ outcome. (h : History) → Asks self.old h
             → ClientTakesIn h now datagram.old outcome self.new) }
-        ensures delivered { IfSome result (λ outcome. (h : History) (n : ℕ) (own : Option ℕ) (m : InnerParts) → Asks self.old h
-            → client_delivery_of outcome ≡ Some (n, own, m) → Delivers h now datagram.old n own m) }
-        ensures delivers { IfSome result (λ outcome. (h : History) (n : ℕ) (own : Option ℕ) (m : InnerParts) → Asks self.old h
-            → Delivers h now datagram.old n own m → client_delivery_of outcome ≡ Some (n, own, m)) }
+        ensures heard { IfSome result (λ outcome. (h : History) (c : Bool) (n : ℕ) (own : Option ℕ) (m : InnerParts) → Asks self.old h
+            → client_hearing_of outcome ≡ Some (c, n, own, m) → Hears h now datagram.old c n own m) }
+        ensures hears { IfSome result (λ outcome. (h : History) (c : Bool) (n : ℕ) (own : Option ℕ) (m : InnerParts) → Asks self.old h
+            → Hears h now datagram.old c n own m → client_hearing_of outcome ≡ Some (c, n, own, m)) }
         ensures whole { IsSome result → IsClient self.new }
         ensures accepted { IsSome result → IsClient self.old }
         ensures accepts { IsClient self.old → IsSome result }

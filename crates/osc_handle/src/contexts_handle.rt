@@ -8,11 +8,11 @@ ghost use Rattle.osc_protect.specs.Views.{shown};
 ghost use Rattle.osc_endpoint.specs.Agrees.{TableAgrees};
 ghost use Rattle.osc_endpoint.specs.Life.{Life, born, marked, renewed};
 ghost use Rattle.osc_endpoint.specs.Replies.{as_reply};
-ghost use Rattle.osc_endpoint.specs.Replying.{reply_entry, reply_mark};
+ghost use Rattle.osc_endpoint.specs.Replying.{reply_mark};
 ghost use Rattle.osc_endpoint.specs.Restarting.{lives_after};
-ghost use Rattle.osc_endpoint.specs.ServerAnswer.{LifeReply, LifeRestart};
+ghost use Rattle.osc_endpoint.specs.ServerAnswer.{LifeNotify, LifeReply, LifeRestart, as_notification};
 ghost use Rattle.osc_endpoint.specs.Table.{FindsAt};
-ghost use Rattle.osc_endpoint.specs.Views.{restarted_entry};
+ghost use Rattle.osc_endpoint.specs.Views.{reply_entry, restarted_entry};
 ghost use Rattle.osc_endpoint.specs.declared.server_error.ReplyError.TheVariants.{KeeperFailed};
 ghost use Rattle.osc_endpoint.specs.declared.slot.Slot.{Slot as SlotOf};
 ghost use Rattle.osc_handle.specs.ContextBytes.{IsContext, server_in};
@@ -23,7 +23,7 @@ ghost use Rattle.osc_handle.specs.TableSteps.{ChangesAt, GrowsBy, HasSenderIn, R
 use crate::add_refusal::AddRefusal;
 use crate::context_handle::ContextHandle;
 use crate::slot_handle::SlotHandle;
-use osc_coap::Message;
+use osc_coap::{Message, Token};
 use osc_context::Piv;
 use osc_endpoint::siblings::{Asker, Contexts, Named, Slot, is_replay, refuse_replay};
 use osc_endpoint::{AddError, Decided, ReplyError, RestartError, Start};
@@ -169,6 +169,31 @@ impl ContextsHandle {
         ensures no_keeper_failed { IfErr result (λ e. e ≢ KeeperFailed) }
     {
         self.slots[context].reply_to(number, asker, own, mid, plain, out)
+    }
+
+    /// Seals a notification to a request of a context's present life, which registered an observation.
+    pub(crate) fn notify_at(
+        &mut self,
+        context: usize,
+        number: Piv,
+        token: &Token,
+        plain: &Message<'_>,
+        out: &mut [u8],
+    ) -> Result<usize, ReplyError>
+        requires table { IsTable self.old }
+        requires there { context < self.old.count }
+        ensures answer { (slots : List (Option SlotOf)) (lives : ℕ → Option Life) (l : Life) → IsTableIn self.old slots → TableAgrees slots lives → lives context ≡ Some l
+            → LifeNotify l (number_of number) (as_notification token.now.items (parts_of plain.now)) (length out.old) (reply_entry result out.new) }
+        ensures kept { (slots : List (Option SlotOf)) (lives : ℕ → Option Life) (l : Life) → IsTableIn self.old slots → TableAgrees slots lives → lives context ≡ Some l
+            → ChangesAt slots lives context (marked (reply_mark result true) l) self.new }
+        ensures table { IsTable self.new }
+        ensures within { IfOk result (λ n. n ≤ length out.new) }
+        ensures behind { IfOk result (λ n. drop n out.new ≡ drop n out.old) }
+        ensures unchanged { OnErr result (out.new ≡ out.old) }
+        ensures same { OnErr result (self.new ≡ self.old) }
+        ensures no_keeper_failed { IfErr result (λ e. e ≢ KeeperFailed) }
+    {
+        self.slots[context].notify_to(number, token, plain, out)
     }
 }
 

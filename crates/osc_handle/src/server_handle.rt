@@ -4,15 +4,15 @@ ghost use Rattle.std.specs.Prelude.{◌≡◌, ◌≢◌, ◌≤◌, ℕ, List, 
 ghost use Rattle.osc_coap.specs.Views.{parts_of};
 ghost use Rattle.osc_context.specs.Views.{number_of};
 ghost use Rattle.osc_endpoint.specs.Deciding.{CanShow, Leaves};
-ghost use Rattle.osc_endpoint.specs.ServerAnswer.{ServerAnswer};
+ghost use Rattle.osc_endpoint.specs.ServerAnswer.{ServerAnswer, asks_own};
 ghost use Rattle.osc_endpoint.specs.ServerHistory.{Begin, History, Restart, Then};
-ghost use Rattle.osc_endpoint.specs.Views.{restarted_entry, values_of};
+ghost use Rattle.osc_endpoint.specs.Views.{reply_entry, restarted_entry, values_of};
 ghost use Rattle.osc_endpoint.specs.declared.outcome.Outcome.TheVariants.{KeeperFailed as KeeperFailedOutcome};
 ghost use Rattle.osc_endpoint.specs.declared.server_error.ReplyError.TheVariants.{KeeperFailed};
 ghost use Rattle.osc_endpoint.specs.declared.slot.Slot.{Slot as SlotOf};
 ghost use Rattle.osc_handle.specs.ContextBytes.{IsContext, server_in};
 ghost use Rattle.osc_handle.specs.Noting.{Notes, NotesTicket};
-ghost use Rattle.osc_handle.specs.ServerBytes.{AddsIn, DecidesIn, IsSameSender, IsSpent, RepliesIn, Serves, TakesIn, entry_of_add, entry_of_reply};
+ghost use Rattle.osc_handle.specs.ServerBytes.{AddsIn, DecidesIn, IsSameSender, IsSpent, NotifiesIn, RepliesIn, Serves, TakesIn, entry_of_add, entry_of_reply};
 ghost use Rattle.osc_handle.specs.TableBytes.{IsTable, IsTableIn};
 ghost use Rattle.osc_handle.specs.TicketBytes.{IsTicket, ticket_in};
 ghost use Rattle.osc_handle.specs.declared.add_refusal.AddRefusal.TheVariants.{SameSender};
@@ -199,8 +199,9 @@ impl ServerHandle {
     }
 
     /// Seals a reply to the request of a ticket, writes it to the front of `out`, and returns how many bytes it wrote (RFC 8613,
-    /// 8.3). It uses the code, options and payload of the plain message. Refuses, in this order, bad bytes, a stale ticket, a spent
-    /// ticket, and whatever else a `Server` refuses, in the order of `ReplyError`. A refusal changes nothing.
+    /// 8.3). It uses the code, options and payload of the plain message. If the ticket's request registers an observation, the reply has
+    /// an own number in any case, and ends the observation (RFC 8613, 4.1.3.5). Refuses, in this order, bad bytes, a stale ticket, a
+    /// spent ticket, and whatever else a `Server` refuses, in the order of `ReplyError`. A refusal changes nothing.
     pub fn reply(
         &mut self,
         ticket: &TicketHandle,
@@ -212,7 +213,7 @@ impl ServerHandle {
         ensures bad { result ≡ Err BadHandle → IsTable self.old.contexts → IsTicket ticket.now → ⊥ }
         ensures accepted { result ≢ Err BadHandle → IsTable self.old.contexts × IsTicket ticket.now }
         ensures answered { (h : History) → Serves self.old h
-            → IfSome (entry_of_reply result out.new) (λ entry. RepliesIn h (ticket_in ticket.now) own mid (parts_of plain.now) (length out.old) entry self.new) }
+            → IfSome (entry_of_reply result out.new) (λ entry. RepliesIn h (ticket_in ticket.now) (asks_own (ticket_in ticket.now) own) mid (parts_of plain.now) (length out.old) entry self.new) }
         ensures spent { result ≡ Err TicketSpent → (h : History) → Serves self.old h → IsSpent h (ticket_in ticket.now) }
         ensures once { IsTable self.old.contexts → IsTicket ticket.now → (h : History) → Serves self.old h → IsSpent h (ticket_in ticket.now) → result ≡ Err TicketSpent }
         ensures bytes { IsTable self.old.contexts → IsTable self.new.contexts }
@@ -234,6 +235,7 @@ impl ServerHandle {
         if !self.unanswered[context].has(ticket.number) {
             return Err(ReplyRefusal::TicketSpent);
         }
+        let own = ticket.asks_own(own);
         match self
             .contexts
             .reply_at(context, number, &asker, own, mid, plain, out)
@@ -244,5 +246,45 @@ impl ServerHandle {
             }
             Err(error) => Err(ReplyRefusal::Refused(error)),
         }
+    }
+
+    /// Seals a notification to the request of a ticket, writes it to the front of `out`, and returns how many bytes it wrote (RFC 8613,
+    /// 8.3.1). It uses the plain message, except the token, which is the ticket's: Type and Message ID are yours. Each notification has
+    /// a new own number, so the request needn't wait for its answer, and still does if it did. Returns `None` if the bytes can't have
+    /// been written by a call. Returns the first refusal in the order of `ReplyError`; a refusal changes nothing.
+    pub fn notify(
+        &mut self,
+        ticket: &TicketHandle,
+        plain: &Message<'_>,
+        out: &mut [u8],
+    ) -> Option<Result<usize, ReplyError>>
+        ensures accepts { IsTable self.old.contexts → IsTicket ticket.now → IsSome result }
+        ensures accepted { IsSome result → IsTable self.old.contexts × IsTicket ticket.now }
+        ensures answered { IfSome result (λ r. (h : History) → Serves self.old h
+            → NotifiesIn h (ticket_in ticket.now) (parts_of plain.now) (length out.old) (reply_entry r out.new) self.new) }
+        ensures bytes { IfSome result (λ r. IsTable self.new.contexts) }
+        ensures within { IfSome result (λ r. IfOk r (λ n. n ≤ length out.new)) }
+        ensures behind { IfSome result (λ r. IfOk r (λ n. drop n out.new ≡ drop n out.old)) }
+        ensures same { IfSome result (λ r. OnErr r ((out.new ≡ out.old) × (self.new ≡ self.old))) }
+        ensures no_keeper_failed { IfSome result (λ r. IfErr r (λ e. e ≢ KeeperFailed)) }
+        ensures unchanged { result ≡ None → (self.new ≡ self.old) × (out.new ≡ out.old) }
+    {
+        if !self.contexts.is_whole() {
+            return None;
+        }
+        let Some((number, asker)) = ticket.parts() else {
+            return None;
+        };
+        let context = ticket.context;
+        if !self.contexts.is_present(context, ticket.life) {
+            return Some(Err(ReplyError::StaleTicket));
+        }
+        if !ticket.is_observing() {
+            return Some(Err(ReplyError::NotObserving));
+        }
+        let notified = self
+            .contexts
+            .notify_at(context, number, &asker.token, plain, out);
+        Some(notified)
     }
 }

@@ -1,18 +1,18 @@
 //! A server of one context, as bytes. It does what a `ServerHandle` with one context does, in the room of one context.
 
-ghost use Rattle.std.specs.Prelude.{◌≡◌, ◌≢◌, ◌≤◌, ◌∷◌, [], ℕ, List, Option, Err, IfOk, IfSome, IsSome, None, OnErr, length, take, drop};
+ghost use Rattle.std.specs.Prelude.{◌≡◌, ◌≢◌, ◌≤◌, ◌∷◌, [], ℕ, List, Option, Err, IfErr, IfOk, IfSome, IsSome, None, OnErr, length, take, drop};
 ghost use Rattle.osc_coap.specs.Views.{parts_of};
 ghost use Rattle.osc_context.specs.Views.{number_of};
 ghost use Rattle.osc_endpoint.specs.Deciding.{CanShow, Leaves};
-ghost use Rattle.osc_endpoint.specs.ServerAnswer.{ServerAnswer};
+ghost use Rattle.osc_endpoint.specs.ServerAnswer.{ServerAnswer, asks_own};
 ghost use Rattle.osc_endpoint.specs.ServerHistory.{Added, Begin, History, Restart, Then};
-ghost use Rattle.osc_endpoint.specs.Views.{restarted_entry, values_of};
+ghost use Rattle.osc_endpoint.specs.Views.{reply_entry, restarted_entry, values_of};
 ghost use Rattle.osc_endpoint.specs.declared.outcome.Outcome.TheVariants.{KeeperFailed as KeeperFailedOutcome};
 ghost use Rattle.osc_endpoint.specs.declared.server_error.ReplyError.TheVariants.{KeeperFailed};
 ghost use Rattle.osc_endpoint.specs.declared.slot.Slot.{Slot as SlotOf};
 ghost use Rattle.osc_handle.specs.ContextBytes.{IsContext, server_in};
 ghost use Rattle.osc_handle.specs.Noting.{Notes, NotesTicket};
-ghost use Rattle.osc_handle.specs.ServerBytes.{AddsIn, DecidesIn, IsSpent, RepliesIn, Serves, TakesIn, entry_of_reply};
+ghost use Rattle.osc_handle.specs.ServerBytes.{AddsIn, DecidesIn, IsSpent, NotifiesIn, RepliesIn, Serves, TakesIn, entry_of_reply};
 ghost use Rattle.osc_handle.specs.SingleServerBytes.{server_of_one, table_of};
 ghost use Rattle.osc_handle.specs.SlotBytes.{IsSlotBytes};
 ghost use Rattle.osc_handle.specs.TableBytes.{IsTableIn};
@@ -180,8 +180,9 @@ impl SingleServerHandle {
     }
 
     /// Seals a reply to the request of a ticket, writes it to the front of `out`, and returns how many bytes it wrote (RFC 8613,
-    /// 8.3). It uses the code, options and payload of the plain message. Refuses, in this order, bad bytes, a stale ticket, a spent
-    /// ticket, and whatever else a `Server` refuses, in the order of `ReplyError`. A refusal changes nothing.
+    /// 8.3). It uses the code, options and payload of the plain message. If the ticket's request registers an observation, the reply has
+    /// an own number in any case, and ends the observation (RFC 8613, 4.1.3.5). Refuses, in this order, bad bytes, a stale ticket, a
+    /// spent ticket, and whatever else a `Server` refuses, in the order of `ReplyError`. A refusal changes nothing.
     pub fn reply(
         &mut self,
         ticket: &TicketHandle,
@@ -193,7 +194,7 @@ impl SingleServerHandle {
         ensures bad { result ≡ Err BadHandle → IsSlotBytes self.old.slot → IsTicket ticket.now → ⊥ }
         ensures accepted { result ≢ Err BadHandle → IsSlotBytes self.old.slot × IsTicket ticket.now }
         ensures answered { (h : History) → Serves (server_of_one self.old) h
-            → IfSome (entry_of_reply result out.new) (λ entry. RepliesIn h (ticket_in ticket.now) own mid (parts_of plain.now) (length out.old) entry (server_of_one self.new)) }
+            → IfSome (entry_of_reply result out.new) (λ entry. RepliesIn h (ticket_in ticket.now) (asks_own (ticket_in ticket.now) own) mid (parts_of plain.now) (length out.old) entry (server_of_one self.new)) }
         ensures spent { result ≡ Err TicketSpent → (h : History) → Serves (server_of_one self.old) h → IsSpent h (ticket_in ticket.now) }
         ensures once { IsSlotBytes self.old.slot → IsTicket ticket.now → (h : History) → Serves (server_of_one self.old) h → IsSpent h (ticket_in ticket.now)
             → result ≡ Err TicketSpent }
@@ -215,6 +216,7 @@ impl SingleServerHandle {
         if !self.unanswered.has(ticket.number) {
             return Err(ReplyRefusal::TicketSpent);
         }
+        let own = ticket.asks_own(own);
         match self.slot.reply_alone(number, &asker, own, mid, plain, out) {
             Ok(len) => {
                 self.unanswered.remove(ticket.number);
@@ -222,5 +224,42 @@ impl SingleServerHandle {
             }
             Err(error) => Err(ReplyRefusal::Refused(error)),
         }
+    }
+
+    /// Seals a notification to the request of a ticket, writes it to the front of `out`, and returns how many bytes it wrote (RFC 8613,
+    /// 8.3.1). It uses the plain message, except the token, which is the ticket's: Type and Message ID are yours. Each notification has
+    /// a new own number, so the request needn't wait for its answer, and still does if it did. Returns `None` if the bytes can't have
+    /// been written by a call. Returns the first refusal in the order of `ReplyError`; a refusal changes nothing.
+    pub fn notify(
+        &mut self,
+        ticket: &TicketHandle,
+        plain: &Message<'_>,
+        out: &mut [u8],
+    ) -> Option<Result<usize, ReplyError>>
+        ensures accepts { IsSlotBytes self.old.slot → IsTicket ticket.now → IsSome result }
+        ensures accepted { IsSome result → IsSlotBytes self.old.slot × IsTicket ticket.now }
+        ensures answered { IfSome result (λ r. (h : History) → Serves (server_of_one self.old) h
+            → NotifiesIn h (ticket_in ticket.now) (parts_of plain.now) (length out.old) (reply_entry r out.new) (server_of_one self.new)) }
+        ensures bytes { IfSome result (λ r. IsSlotBytes self.new.slot) }
+        ensures within { IfSome result (λ r. IfOk r (λ n. n ≤ length out.new)) }
+        ensures behind { IfSome result (λ r. IfOk r (λ n. drop n out.new ≡ drop n out.old)) }
+        ensures same { IfSome result (λ r. OnErr r ((out.new ≡ out.old) × (self.new ≡ self.old))) }
+        ensures no_keeper_failed { IfSome result (λ r. IfErr r (λ e. e ≢ KeeperFailed)) }
+        ensures unchanged { result ≡ None → (self.new ≡ self.old) × (out.new ≡ out.old) }
+    {
+        if !self.slot.is_whole() {
+            return None;
+        }
+        let Some((number, asker)) = ticket.parts() else {
+            return None;
+        };
+        if !self.is_of(ticket) {
+            return Some(Err(ReplyError::StaleTicket));
+        }
+        if !ticket.is_observing() {
+            return Some(Err(ReplyError::NotObserving));
+        }
+        let notified = self.slot.notify_alone(number, &asker.token, plain, out);
+        Some(notified)
     }
 }

@@ -1,15 +1,15 @@
 //! One context in its present life, as the table of a server that has only this context.
 
-ghost use Rattle.std.specs.Prelude.{◌≡◌, ◌≢◌, ◌≤◌, ℕ, List, Option, Some, IfOk, IfErr, OnErr, length, drop};
+ghost use Rattle.std.specs.Prelude.{◌≡◌, ◌≢◌, ◌≤◌, ℕ, List, Option, Some, IfOk, IfErr, OnErr, true, length, drop};
 ghost use Rattle.osc_context.specs.Views.{number_of};
 ghost use Rattle.osc_coap.specs.Views.{parts_of};
 ghost use Rattle.osc_endpoint.specs.Agrees.{TableAgrees};
 ghost use Rattle.osc_endpoint.specs.Life.{Life, marked};
 ghost use Rattle.osc_endpoint.specs.Replies.{as_reply};
-ghost use Rattle.osc_endpoint.specs.Replying.{reply_entry, reply_mark};
+ghost use Rattle.osc_endpoint.specs.Replying.{reply_mark};
 ghost use Rattle.osc_endpoint.specs.Restarting.{lives_after};
-ghost use Rattle.osc_endpoint.specs.ServerAnswer.{LifeReply, LifeRestart};
-ghost use Rattle.osc_endpoint.specs.Views.{restarted_entry};
+ghost use Rattle.osc_endpoint.specs.ServerAnswer.{LifeNotify, LifeReply, LifeRestart, as_notification};
+ghost use Rattle.osc_endpoint.specs.Views.{reply_entry, restarted_entry};
 ghost use Rattle.osc_endpoint.specs.declared.server_error.ReplyError.TheVariants.{KeeperFailed};
 ghost use Rattle.osc_endpoint.specs.declared.slot.Slot.{Slot as SlotOf};
 ghost use Rattle.osc_handle.specs.Held as lemmas;
@@ -19,7 +19,7 @@ ghost use Rattle.osc_handle.specs.TableBytes.{IsTableIn, bytes_at};
 ghost use Rattle.osc_handle.specs.TableSteps.{ChangesAt};
 
 use crate::slot_handle::SlotHandle;
-use osc_coap::Message;
+use osc_coap::{Message, Token};
 use osc_context::Piv;
 use osc_endpoint::siblings::{Asker, Contexts, Named, is_replay, refuse_replay};
 use osc_endpoint::{Decided, ReplyError, RestartError};
@@ -65,6 +65,29 @@ impl SlotHandle {
         ensures no_keeper_failed { IfErr result (λ e. e ≢ KeeperFailed) }
     {
         self.reply_to(number, asker, own, mid, plain, out)
+    }
+
+    /// Seals a notification to a request of the context's present life, which registered an observation.
+    pub(crate) fn notify_alone(
+        &mut self,
+        number: Piv,
+        token: &Token,
+        plain: &Message<'_>,
+        out: &mut [u8],
+    ) -> Result<usize, ReplyError>
+        requires { IsSlotBytes self.old }
+        ensures answer { (slots : List (Option SlotOf)) (lives : ℕ → Option Life) (l : Life) → IsTableIn (table_of self.old) slots → TableAgrees slots lives → lives 0 ≡ Some l
+            → LifeNotify l (number_of number) (as_notification token.now.items (parts_of plain.now)) (length out.old) (reply_entry result out.new) }
+        ensures kept { (slots : List (Option SlotOf)) (lives : ℕ → Option Life) (l : Life) → IsTableIn (table_of self.old) slots → TableAgrees slots lives → lives 0 ≡ Some l
+            → ChangesAt slots lives 0 (marked (reply_mark result true) l) (table_of self.new) }
+        ensures bytes { IsSlotBytes self.new }
+        ensures within { IfOk result (λ n. n ≤ length out.new) }
+        ensures behind { IfOk result (λ n. drop n out.new ≡ drop n out.old) }
+        ensures unchanged { OnErr result (out.new ≡ out.old) }
+        ensures same { OnErr result (self.new ≡ self.old) }
+        ensures no_keeper_failed { IfErr result (λ e. e ≢ KeeperFailed) }
+    {
+        self.notify_to(number, token, plain, out)
     }
 }
 

@@ -9,15 +9,16 @@ ghost use Rattle.osc_protect.specs.Views.{context_of};
 ghost use Rattle.osc_endpoint.specs.Agrees.{SlotAgrees};
 ghost use Rattle.osc_endpoint.specs.Life.{Life, marked, renewed};
 ghost use Rattle.osc_endpoint.specs.Replies.{as_reply};
-ghost use Rattle.osc_endpoint.specs.Replying.{reply_entry, reply_mark};
-ghost use Rattle.osc_endpoint.specs.ServerAnswer.{LifeReply};
+ghost use Rattle.osc_endpoint.specs.Replying.{reply_mark};
+ghost use Rattle.osc_endpoint.specs.ServerAnswer.{LifeNotify, LifeReply, as_notification};
+ghost use Rattle.osc_endpoint.specs.Views.{reply_entry};
 ghost use Rattle.osc_endpoint.specs.declared.server_error.ReplyError.TheVariants.{KeeperFailed};
 ghost use Rattle.osc_handle.specs.ContextBytes.{IsContext, is_constant_time_in, server_in};
 ghost use Rattle.osc_handle.specs.SlotBytes.{HoldsIn, IsGateBytes, IsGateIn, IsHighestIn, IsSlotBytes, IsSlotIn, SameBut};
 ghost use Rattle.osc_endpoint.specs.declared.slot.Slot.{Slot as SlotOf};
 
 use crate::context_handle::ContextHandle;
-use osc_coap::Message;
+use osc_coap::{Message, Token};
 use osc_context::Piv;
 use osc_endpoint::ReplyError;
 use osc_endpoint::siblings::{Asker, Slot};
@@ -271,6 +272,39 @@ impl SlotHandle {
         };
         let mut slot = self.slot_with(gate);
         match slot.reply_to(number, asker, own, mid, plain, out) {
+            Ok(len) => {
+                self.keep(&slot);
+                Ok(len)
+            }
+            Err(error) => Err(error),
+        }
+    }
+
+    /// Seals a notification to the request of the present life with this number and this token, which registered an observation, writes
+    /// it to the front of `out`, and returns how many bytes it wrote.
+    pub(crate) fn notify_to(
+        &mut self,
+        number: Piv,
+        token: &Token,
+        plain: &Message<'_>,
+        out: &mut [u8],
+    ) -> Result<usize, ReplyError>
+        requires { IsSlotBytes self.old }
+        ensures answer { (before : SlotOf) (l : Life) → IsSlotIn self.old before → SlotAgrees before l → LifeNotify l (number_of number)
+            (as_notification token.now.items (parts_of plain.now)) (length out.old) (reply_entry result out.new) }
+        ensures kept { (before : SlotOf) (l : Life) → IsSlotIn self.old before → SlotAgrees before l → HoldsIn self.new (marked (reply_mark result true) l) }
+        ensures bytes { IsSlotBytes self.new }
+        ensures within { IfOk result (λ n. n ≤ length out.new) }
+        ensures behind { IfOk result (λ n. drop n out.new ≡ drop n out.old) }
+        ensures unchanged { OnErr result (out.new ≡ out.old) }
+        ensures same { OnErr result (self.new ≡ self.old) }
+        ensures no_keeper_failed { IfErr result (λ e. e ≢ KeeperFailed) }
+    {
+        let Some(gate) = self.gate() else {
+            unreachable!();
+        };
+        let mut slot = self.slot_with(gate);
+        match slot.notify_to(number, token, plain, out) {
             Ok(len) => {
                 self.keep(&slot);
                 Ok(len)

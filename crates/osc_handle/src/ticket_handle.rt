@@ -1,8 +1,9 @@
 //! The right to answer one request, as bytes. The bytes can be copied, but the right can't: the server keeps track of which requests
-//! are waiting for their answers.
+//! are waiting for their answers. Each notification has a new number, so the right to notify needs no track.
 
 ghost use Rattle.std.specs.Prelude.{◌≡◌, ◌≤◌, IfSome, IsSome, take, true, false};
 ghost use Rattle.osc_context.specs.Views.{number_of};
+ghost use Rattle.osc_endpoint.specs.ServerAnswer.{asks_own};
 ghost use Rattle.osc_endpoint.specs.Views.{values_of};
 ghost use Rattle.osc_handle.specs.TicketBytes.{IsTicket, kind_in, ticket_in};
 
@@ -25,6 +26,8 @@ pub struct TicketHandle {
     pub message_id: u16,
     pub token: [u8; 8],
     pub token_len: u8,
+    /// 1 if the request registers an observation, and 0 if not.
+    pub observes: u8,
 }
 
 /// Returns the number of a kind, as the Type field of a datagram has it (RFC 7252, 3).
@@ -73,6 +76,7 @@ impl TicketHandle {
             message_id: asker.message_id,
             token,
             token_len: asker.token.len() as u8,
+            observes: u8::from(ticket.observes()),
         }
     }
 
@@ -106,6 +110,9 @@ impl TicketHandle {
         ensures accepts { IsTicket self.now → IsSome result }
         ensures accepted { IsSome result → IsTicket self.now }
     {
+        if self.observes > 1 {
+            return None;
+        }
         let number = Piv::new(self.number)?;
         let asker = self.asker()?;
         Some((number, asker))
@@ -118,5 +125,19 @@ impl TicketHandle {
         ensures no { result ≡ false → IsTicket self.now → ⊥ }
     {
         self.parts().is_some()
+    }
+
+    /// Returns whether the request registers an observation, so that a notification can answer it (RFC 8613, 4.1.3.5.1).
+    pub(crate) fn is_observing(&self) -> bool
+        ensures { result ≡ (ticket_in self.now).observes }
+    {
+        self.observes != 0
+    }
+
+    /// Returns whether a reply has an own number: one is asked for, or the request registers an observation (RFC 8613, 4.1.3.5).
+    pub(crate) fn asks_own(&self, own: bool) -> bool
+        ensures { result ≡ asks_own (ticket_in self.now) own }
+    {
+        self.is_observing() || own
     }
 }

@@ -1,12 +1,12 @@
 /* What a client answers to a datagram, to a request that is asked for, and to a token that is forgotten. */
 #include "judge.h"
 
-/* Ends the requests under a token, or, where there is none, those that are older than their life. */
+/* Ends the requests under a token, or, where there is none, those that are older than their life; of those that were notified none is. */
 static void end_pending(struct client_judge *judge, const struct bytes *token) {
     size_t left = 0;
     for (size_t i = 0; i < judge->count; i++) {
         const struct pending *pending = &judge->pending[i];
-        bool ends = token ? is_same(bytes_of(&pending->token), *token) : judge->clock - pending->moment > REQUEST_LIFE_MS;
+        bool ends = token ? is_same(bytes_of(&pending->token), *token) : !pending->from && judge->clock - pending->moment > REQUEST_LIFE_MS;
         if (!ends) judge->pending[left++] = *pending;
     }
     judge->count = left;
@@ -17,18 +17,17 @@ static void advance(struct client_judge *judge, uint64_t now) {
     end_pending(judge, NULL);
 }
 
-static const struct pending *under(const struct client_judge *judge, struct bytes token) {
+static struct pending *under(struct client_judge *judge, struct bytes token) {
     for (size_t i = 0; i < judge->count; i++)
         if (is_same(bytes_of(&judge->pending[i].token), token)) return &judge->pending[i];
     return NULL;
 }
 
 /* What refuses a request before it is sealed. */
-static uint32_t refuses(const struct client_judge *judge, struct judged *judged) {
+static uint32_t refuses(struct client_judge *judge, struct judged *judged) {
     const struct seen *plain = &judged->seen;
     if (!is_request(plain->head)) return OSCORE_NOT_THAT_KIND;
-    /* A client takes no notifications, so it asks for none. */
-    judged->detail = left_out_of(&plain->body, (struct allowed){.blocks = AGREED[0].allowed.blocks});
+    judged->detail = unsupported_of(&plain->body, AGREED[0].allowed);
     if (judged->detail) return OSCORE_UNSUPPORTED;
     if (under(judge, plain->head.token)) return OSCORE_TOKEN_IN_USE;
     if (judge->count >= MOST_PENDING) return OSCORE_PENDING_FULL;
@@ -44,8 +43,10 @@ void judge_request(struct client_judge *judge, const struct asked *asked, struct
     judged->status = refuses(judge, judged);
     if (judged->status) return;
     struct head head = judged->seen.head;
-    head.code = OUTER_REQUEST;
-    seal_plain((struct sealed_as){.request = judge->next}, head, asked->plain, &judged->sealed);
+    struct sealed_as as = {.request = judge->next};
+    bool registers = is_registration(head.code, &judged->seen.body);
+    head.code = outer_code(as, count_of(&judged->seen.body, OBSERVE) > 0);
+    seal_plain(as, head, asked->plain, &judged->sealed);
     judged->has_sealed = judged->sealed.datagram.len <= asked->room;
     if (!judged->has_sealed) {
         judged->status = OSCORE_NO_ROOM;
@@ -53,12 +54,12 @@ void judge_request(struct client_judge *judge, const struct asked *asked, struct
     }
     judged->written = judged->sealed.datagram;
     struct pending *pending = &judge->pending[judge->count++];
-    *pending = (struct pending){.number = judge->next++, .moment = judge->clock};
+    *pending = (struct pending){.number = judge->next++, .moment = judge->clock, .registers = registers};
     add_bytes(&pending->token, judged->seen.head.token);
 }
 
 /* Opens a response, or tells what refuses it. */
-static uint32_t open_response(const struct client_judge *judge, struct bytes datagram, struct judged *judged) {
+static uint32_t open_response(struct client_judge *judge, struct bytes datagram, struct judged *judged, uint64_t *place) {
     struct value value;
     uint32_t fault = read_datagram(datagram, &judged->seen, &judged->detail);
     if (fault) return fault;
@@ -68,24 +69,35 @@ static uint32_t open_response(const struct client_judge *judge, struct bytes dat
     if (!count_of(&judged->seen.body, OSCORE)) return OSCORE_NO_OSCORE;
     /* A response has neither kid nor kid context; own rule. */
     if (!usable_value(&judged->seen.body, &value) || value.has_kid || value.has_kid_context) return OSCORE_UNDECODABLE;
+    *place = value.has_number ? value.number + 1 : 0;
+    if (*place < pending->from) return OSCORE_OLD;
     judged->request = pending->number;
-    judged->opened = opens((struct sealed_as){true, value.has_number, 0, pending->number, value.number}, judged->seen.body.payload);
+    judged->registers = pending->registers;
+    judged->opened = opens((struct sealed_as){true, value.has_number, 0, pending->number, value.number, false}, judged->seen.body.payload);
     return judged->opened ? OSCORE_DONE : OSCORE_TAG;
 }
 
 void judge_response(struct client_judge *judge, uint64_t now, struct bytes datagram, struct judged *judged) {
     uint8_t code = 0;
+    uint64_t place = 0;
     struct body inner;
     *judged = (struct judged){.status = OSCORE_DONE};
     advance(judge, now);
-    judged->status = open_response(judge, datagram, judged);
+    judged->status = open_response(judge, datagram, judged, &place);
     if (judged->status) return;
     /* What may not stand inside ends no request. */
-    if (!read_inner(bytes_of(&judged->opened->plaintext), allowed_as(judged->opened->as), &code, &inner) || !is_response_code(code)) {
+    struct sealed_as as = judged->opened->as;
+    as.to_registration = judged->registers;
+    if (!read_inner(bytes_of(&judged->opened->plaintext), allowed_as(as), &code, &inner) || !is_response_code(code)) {
         judged->status = OSCORE_INNER;
         return;
     }
-    end_pending(judge, &judged->seen.head.token);
+    /* Later notifications come from the next place on. */
+    judged->is_notification = judged->registers && is_notification(code, &inner);
+    if (judged->is_notification)
+        under(judge, judged->seen.head.token)->from = place + 1;
+    else
+        end_pending(judge, &judged->seen.head.token);
 }
 
 void judge_forget(struct client_judge *judge, struct bytes token, struct judged *judged) {

@@ -66,6 +66,7 @@ static bool is_state(const oscore_client *client) {
         const oscore_pending *pending = &client->pending[i];
         const struct pending *wanted = &judge.pending[i];
         if (pending->number != wanted->number || pending->moment != wanted->moment) return false;
+        if (pending->observes != wanted->registers || pending->from != wanted->from) return false;
         if (!is_same((struct bytes){pending->token, pending->token_len}, bytes_of(&wanted->token))) return false;
     }
     return true;
@@ -141,10 +142,12 @@ static void forget(void) {
 /* Asks each for a request, mostly a good one, and keeps what is sealed. */
 static void ask(void) {
     static const uint8_t kinds[8] = {CON, CON, CON, CON, NON, NON, NON, ACK};
-    uint8_t kind = kinds[below(8)], code = one_in(12) ? 0x45 : 0x01;
+    static const uint8_t codes[12] = {1, 1, 1, 1, 1, 1, 5, 5, 5, 2, 4, 0x45};
+    uint8_t kind = kinds[below(8)], code = codes[below(12)];
     struct text token = draw_token();
     bool is_cut = one_in(10);
     struct plain plain = draw_plain(kind, code, bytes_of(&token));
+    plain.has_proxy = one_in(40);
     add_echoes(requester_of_clients(), &plain);
     struct text datagram = spell_plain(&plain);
     if (is_cut) datagram.len = below(datagram.len);
@@ -165,12 +168,15 @@ static void ask(void) {
 static void respond(void) {
     static const uint8_t kinds[3] = {ACK, CON, NON}, codes[4] = {0x45, 0x44, 0x81, 0xa0};
     struct pending target = draw_target();
-    struct sealed_as as = {.is_response = true, .request = target.number};
+    struct sealed_as as = {.is_response = true, .request = target.number, .to_registration = target.registers};
     struct sealed sealed;
     as.has_own = one_in(2);
     if (as.has_own) as.own = ++next_own;
     uint8_t kind = kinds[below(3)], code = codes[below(4)];
     struct plain plain = draw_plain(kind, code, bytes_of(&target.token));
+    /* Most are notifications, where that may be; one in ten of the others has Observe all the same. */
+    plain.has_observe = target.registers ? !one_in(4) : one_in(10);
+    if (one_in(30)) as.to_registration = !as.to_registration;
     seal_by_chance(as, &plain, 0x01, &sealed);
     keep(&sealed);
 }

@@ -19,6 +19,8 @@ struct judged {
     struct seen seen;            /* the datagram that was handed in, where it is one */
     const struct sealed *opened; /* what it opened to, or NULL */
     uint64_t request;            /* the number of the request that is delivered, or answered */
+    bool registers;              /* whether that registers an observation */
+    bool is_notification;        /* whether it stays pending */
     struct text written;
     struct sealed sealed; /* where what is written was sealed */
     bool has_sealed;
@@ -84,10 +86,16 @@ struct answer {
 };
 
 void judge_reply(struct server_judge *judge, const struct answer *answer, struct judged *judged);
+/* The same of a notification, which has an own number always, and a kind and a message ID of its own. */
+void judge_notify(struct server_judge *judge, const struct answer *answer, struct judged *judged);
 
+/* A registration is notified from the place `from` on: 0 is that of a response without an own number, and each other one has its number and
+   1 (RFC 8613, 7.4.1). */
 struct pending {
     struct text token;
     uint64_t number, moment;
+    bool registers;
+    uint64_t from;
 };
 
 /* The requests that are pending, oldest first. */

@@ -7,8 +7,10 @@ struct plain draw_plain(uint8_t kind, uint8_t code, struct bytes token) {
     plain.message_id = (uint16_t)below(1 << 16);
     add_bytes(&plain.token, token);
     plain.has_host = one_in(3);
-    plain.has_observe = one_in(10);
+    plain.has_observe = one_in(6);
     plain.observe = draw_text(4);
+    /* Half of them say register, by leading zeros or none. */
+    if (one_in(2)) memset(plain.observe.at, 0, plain.observe.len);
     plain.has_block = one_in(10);
     plain.payload = draw_text(9);
     return plain;
@@ -24,6 +26,7 @@ struct text spell_plain(const struct plain *plain) {
     if (plain->has_observe) spell_option(&spelling, OBSERVE, bytes_of(&plain->observe));
     spell_option(&spelling, URI_PATH, (struct bytes){(const uint8_t *)"tv1", 3});
     if (plain->has_block) spell_option(&spelling, BLOCK1, BYTES(0x06));
+    if (plain->has_proxy) spell_option(&spelling, PROXY_SCHEME, (struct bytes){(const uint8_t *)"coap", 4});
     for (size_t i = 0; i < plain->echo_count; i++) spell_option(&spelling, ECHO, plain->echoes[i]);
     return spell_end(&spelling, bytes_of(&plain->payload));
 }
@@ -90,8 +93,8 @@ static uint64_t draw_number(struct requester *requester, const struct life *life
 }
 
 void seal_next_request(struct requester *requester, const struct life *life, struct sealed *sealed) {
-    static const uint8_t codes[4] = {1, 2, 3, 31};
-    uint8_t kind = one_in(2) ? CON : NON, code = codes[below(4)];
+    static const uint8_t codes[8] = {1, 1, 1, 5, 5, 2, 3, 31};
+    uint8_t kind = one_in(2) ? CON : NON, code = codes[below(8)];
     learn(requester, life);
     struct sealed_as as = {.context = requester->context, .request = draw_number(requester, life)};
     struct text token = draw_text(9);

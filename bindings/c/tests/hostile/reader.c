@@ -72,9 +72,31 @@ bool is_outer(uint32_t number) {
     return false;
 }
 
+bool is_registration(uint8_t code, const struct body *body) {
+    struct bytes value;
+    if ((code != 1 && code != 5) || !first_of(body, OBSERVE, &value)) return false;
+    for (size_t i = 0; i < value.len; i++)
+        if (value.at[i]) return false;
+    return true;
+}
+
+bool is_notification(uint8_t code, const struct body *body) {
+    return code >> 5 == 2 && count_of(body, OBSERVE) > 0;
+}
+
+static bool is_left_out(uint32_t number, struct allowed allowed) {
+    return (number == OBSERVE && !allowed.observe) || ((number == BLOCK2 || number == BLOCK1) && !allowed.blocks);
+}
+
 uint32_t left_out_of(const struct body *body, struct allowed allowed) {
     for (struct option option = begun(body); next_of(&option);)
-        if ((option.number == OBSERVE && !allowed.observe) || ((option.number == BLOCK2 || option.number == BLOCK1) && !allowed.blocks))
+        if (is_left_out(option.number, allowed)) return option.number;
+    return 0;
+}
+
+uint32_t unsupported_of(const struct body *body, struct allowed allowed) {
+    for (struct option option = begun(body); next_of(&option);)
+        if (is_left_out(option.number, allowed) || option.number == OSCORE || option.number == PROXY_URI || option.number == PROXY_SCHEME)
             return option.number;
     return 0;
 }

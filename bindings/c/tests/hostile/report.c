@@ -3,10 +3,10 @@
 #include <stdio.h>
 
 /* How many differences are told, and how many bytes of each. */
-enum { MOST_TOLD = 20, MOST_BYTES = 200, STATUSES = 41 };
+enum { MOST_TOLD = 20, MOST_BYTES = 200, STATUSES = OSCORE_OLD + 1 };
 
-static const char *const CALL_NAMES[CALLS] = {"oscore_server_take", "oscore_server_reply", "oscore_server_restart", "oscore_client_take",
-                                              "oscore_client_request", "oscore_client_forget", "oscore_client_restart"};
+static const char *const CALL_NAMES[CALLS] = {"oscore_server_take", "oscore_server_reply", "oscore_server_notify", "oscore_server_restart",
+                                              "oscore_client_take", "oscore_client_request", "oscore_client_forget", "oscore_client_restart"};
 
 /* The answers that have to come, ended by one that is none. */
 static const uint8_t HAVE_TO_COME[CALLS][24] = {
@@ -16,10 +16,14 @@ static const uint8_t HAVE_TO_COME[CALLS][24] = {
               OSCORE_SEQUENCE_EXHAUSTED, STATUSES},
     [REPLY] = {OSCORE_DONE, OSCORE_SHORT, OSCORE_TOKEN_CUT, OSCORE_OPTION_CUT, OSCORE_EMPTY_PAYLOAD, OSCORE_STALE_TICKET,
                OSCORE_TICKET_SPENT, OSCORE_NOT_THAT_KIND, OSCORE_UNSUPPORTED, OSCORE_SEQUENCE_EXHAUSTED, OSCORE_NO_ROOM, STATUSES},
+    [NOTIFY] = {OSCORE_DONE, OSCORE_SHORT, OSCORE_TOKEN_CUT, OSCORE_OPTION_CUT, OSCORE_EMPTY_PAYLOAD, OSCORE_STALE_TICKET,
+                OSCORE_NOT_THAT_KIND, OSCORE_UNSUPPORTED, OSCORE_SEQUENCE_EXHAUSTED, OSCORE_NO_ROOM, OSCORE_NOT_OBSERVING,
+                OSCORE_NOT_NOTIFICATION, STATUSES},
     [SERVER_RESTART] = {OSCORE_DONE, STATUSES},
     [RESPONSE] = {OSCORE_DONE, OSCORE_DATAGRAM_TOO_LONG, OSCORE_SHORT, OSCORE_VERSION, OSCORE_TOKEN_LENGTH, OSCORE_EMPTY_WITH_REST,
                   OSCORE_TOKEN_CUT, OSCORE_NIBBLE15, OSCORE_OPTION_CUT, OSCORE_NUMBER_TOO_LARGE, OSCORE_EMPTY_PAYLOAD,
-                  OSCORE_NOT_THAT_KIND, OSCORE_UNKNOWN_TOKEN, OSCORE_NO_OSCORE, OSCORE_UNDECODABLE, OSCORE_TAG, OSCORE_INNER, STATUSES},
+                  OSCORE_NOT_THAT_KIND, OSCORE_UNKNOWN_TOKEN, OSCORE_NO_OSCORE, OSCORE_UNDECODABLE, OSCORE_OLD, OSCORE_TAG, OSCORE_INNER,
+                  STATUSES},
     [REQUEST] = {OSCORE_DONE, OSCORE_SHORT, OSCORE_TOKEN_CUT, OSCORE_OPTION_CUT, OSCORE_EMPTY_PAYLOAD, OSCORE_NOT_THAT_KIND,
                  OSCORE_UNSUPPORTED, OSCORE_TOKEN_IN_USE, OSCORE_PENDING_FULL, OSCORE_SEQUENCE_EXHAUSTED, OSCORE_NO_ROOM, STATUSES},
     [FORGET] = {OSCORE_DONE, OSCORE_NOT_PENDING, STATUSES},
@@ -28,7 +32,7 @@ static const uint8_t HAVE_TO_COME[CALLS][24] = {
 
 static unsigned long steps, differences, counts[CALLS][STATUSES];
 /* What an end of the library sealed, and the other end of the library delivered. */
-static unsigned long by_library[CALLS];
+static unsigned long by_library[CALLS], notified, notified_by_library;
 
 void count_step(void) {
     steps++;
@@ -60,6 +64,9 @@ static void tell(enum call call, const char *end, const struct judged *judged, c
 void report(enum call call, const struct judged *judged, const struct came came[ENDS], struct bytes handed) {
     if (came[0].status < STATUSES) counts[call][came[0].status]++;
     by_library[call] += came[0].status == OSCORE_DONE && judged->opened && judged->opened->by_library;
+    bool is_notified = came[0].status == OSCORE_DONE && judged->is_notification;
+    notified += is_notified;
+    notified_by_library += is_notified && judged->opened->by_library;
     for (int end = 0; end < ENDS; end++)
         if (came[end].differs) tell(call, END_NAMES[end], judged, &came[end], handed);
 }
@@ -80,9 +87,10 @@ static bool tell_answers(enum call call) {
 }
 
 int end_report(void) {
-    bool all = by_library[TAKE] && by_library[RESPONSE];
+    bool all = by_library[TAKE] && by_library[RESPONSE] && notified && notified_by_library;
     for (int call = 0; call < CALLS; call++) all &= tell_answers(call);
     printf("of the library's own: %lu requests delivered, %lu responses\n", by_library[TAKE], by_library[RESPONSE]);
+    printf("notifications: %lu, of the library's own %lu\n", notified, notified_by_library);
     printf("hostile: %lu datagrams, %lu calls differ\n", steps, differences);
     return !all || differences > 0;
 }

@@ -61,12 +61,13 @@ static struct text oscore_value(struct sealed_as as) {
 
 struct allowed allowed_as(struct sealed_as as) {
     struct allowed allowed = AGREED[as.context].allowed;
-    allowed.observe = allowed.observe && !as.is_response;
+    allowed.observe = allowed.observe && (!as.is_response || as.to_registration);
     return allowed;
 }
 
 uint8_t outer_code(struct sealed_as as, bool has_observe) {
-    return as.is_response ? OUTER_RESPONSE : has_observe && allowed_as(as).observe ? OUTER_FETCH : OUTER_REQUEST;
+    bool is_observed = has_observe && allowed_as(as).observe;
+    return as.is_response ? (is_observed ? OUTER_NOTIFICATION : OUTER_RESPONSE) : is_observed ? OUTER_FETCH : OUTER_REQUEST;
 }
 
 /* Whether an option stands outside; Observe that is allowed stands there too (RFC 8613, 4.1.3.5). */
@@ -74,11 +75,13 @@ static bool stands_outside(struct sealed_as as, uint32_t number) {
     return is_outer(number) || (number == OBSERVE && allowed_as(as).observe);
 }
 
-/* The plaintext of a message: its code, its options but the outer ones, its payload (RFC 8613, 5.3). */
-static struct text plaintext_of(const struct seen *plain) {
+/* The plaintext of a message: its code, its options but the outer ones, its payload (RFC 8613, 5.3). In a response Observe is empty inside
+   (RFC 8613, 4.1.3.5.2). */
+static struct text plaintext_of(struct sealed_as as, const struct seen *plain) {
     struct spelling spelling = spell_plaintext(plain->head.code);
     for (struct option option = begun(&plain->body); next_of(&option);)
-        if (!is_outer(option.number)) spell_option(&spelling, option.number, option.value);
+        if (!is_outer(option.number))
+            spell_option(&spelling, option.number, as.is_response && option.number == OBSERVE ? (struct bytes){NULL, 0} : option.value);
     return spell_end(&spelling, plain->body.payload);
 }
 
@@ -99,7 +102,7 @@ void seal_plain(struct sealed_as as, struct head head, struct bytes plain, struc
     struct seen seen;
     size_t place;
     NEEDS(!read_datagram(plain, &seen, &place));
-    struct text plaintext = plaintext_of(&seen);
+    struct text plaintext = plaintext_of(as, &seen);
     seal_other(as, head, plain, bytes_of(&plaintext), sealed);
 }
 
@@ -123,12 +126,12 @@ static void needs_messages(void) {
         size_t len;
         const char *oscore; /* from the OSCORE option on */
     } printed[] = {
-        {{false, false, 0, 20, 0}, 17, "\x62\x09\x14\xff\x61\x2f\x10\x92\xf1\x77\x6f\x1c\x16\x68\xb3\x82\x5e"},
-        {{false, false, 1, 20, 0}, 18, "\x63\x09\x14\x00\xff\x4e\xd3\x39\xa5\xa3\x79\xb0\xb8\xbc\x73\x1f\xff\xb0"},
-        {{false, false, 2, 20, 0}, 26,
+        {{false, false, 0, 20, 0, false}, 17, "\x62\x09\x14\xff\x61\x2f\x10\x92\xf1\x77\x6f\x1c\x16\x68\xb3\x82\x5e"},
+        {{false, false, 1, 20, 0, false}, 18, "\x63\x09\x14\x00\xff\x4e\xd3\x39\xa5\xa3\x79\xb0\xb8\xbc\x73\x1f\xff\xb0"},
+        {{false, false, 2, 20, 0, false}, 26,
          "\x6b\x19\x14\x08\x37\xcb\xf3\x21\x00\x17\xa2\xd3\xff\x72\xcd\x72\x73\xfd\x33\x1a\xc4\x5c\xff\xbe\x55\xc3"},
-        {{true, false, 0, 20, 0}, 24, "\x90\xff\xdb\xaa\xd1\xe9\xa7\xe7\xb2\xa8\x13\xd3\xc3\x15\x24\x37\x83\x03\xcd\xaf\xae\x11\x91\x06"},
-        {{true, true, 0, 20, 0}, 26,
+        {{true, false, 0, 20, 0, false}, 24, "\x90\xff\xdb\xaa\xd1\xe9\xa7\xe7\xb2\xa8\x13\xd3\xc3\x15\x24\x37\x83\x03\xcd\xaf\xae\x11\x91\x06"},
+        {{true, true, 0, 20, 0, false}, 26,
          "\x92\x01\x00\xff\x4d\x4c\x13\x66\x93\x84\xb6\x73\x54\xb2\xb6\x17\x5f\xf4\xb8\x65\x8c\x66\x6a\x6c\xf8\x8e"},
     };
     for (size_t i = 0; i < sizeof printed / sizeof *printed; i++) {

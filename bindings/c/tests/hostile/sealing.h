@@ -21,11 +21,12 @@ extern const struct agreed AGREED[CONTEXTS];
 void derive(size_t place, bool of_server, bool constant_time, oscore_context *context);
 
 /* What a plaintext was sealed as: a request of the client of a context, by its place, under the number `request`; or the response to the
-   request of that number, under an own number or none. */
+   request of that number, under an own number or none. A response to a registration may be a notification (RFC 8613, 4.1.3.5.2). */
 struct sealed_as {
     bool is_response, has_own;
     size_t context;
     uint64_t request, own;
+    bool to_registration;
 };
 
 /* A datagram that was sealed, whose ciphertext stands last. */
@@ -37,9 +38,9 @@ struct sealed {
 
 /* Derives all contexts, for the sealing of both ends, and compares keys and messages with those that the RFC prints. */
 void begin_sealing(void);
-/* What a message sealed as this may have: Observe in requests alone, since neither end notifies yet. */
+/* What a message sealed as this may have: Observe in requests, and in responses to a registration (RFC 8613, 4.1.3.5). */
 struct allowed allowed_as(struct sealed_as as);
-/* The code that it has outside: 0.05 where Observe stands outside too (RFC 8613, 4.2). */
+/* The code that it has outside: 0.05 or 2.05 where Observe stands outside too (RFC 8613, 4.2). */
 uint8_t outer_code(struct sealed_as as, bool has_observe);
 /* Seals a message, as an end of a context does. The head is that of the sealed one; of the plain one code, options and payload are used. */
 void seal_plain(struct sealed_as as, struct head head, struct bytes plain, struct sealed *sealed);

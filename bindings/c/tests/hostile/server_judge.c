@@ -32,7 +32,7 @@ static void write_error(const struct handed *handed, struct judged *judged) {
 /* A challenge is 4.01 with the Echo value, sealed under an own number (RFC 8613, B.1.2). */
 static void write_challenge(const struct life *life, const struct handed *handed, struct judged *judged) {
     struct head asked = judged->seen.head;
-    struct sealed_as as = {true, true, judged->opened->as.context, judged->opened->as.request, life->next - 1};
+    struct sealed_as as = {true, true, judged->opened->as.context, judged->opened->as.request, life->next - 1, false};
     struct spelling plain = spell_datagram((struct head){.code = 0x81});
     spell_option(&plain, ECHO, (struct bytes){life->challenge.echo, sizeof life->challenge.echo});
     struct head head = reply_head(OUTER_RESPONSE, asked.kind, asked.message_id, handed->message_id, asked.token);
@@ -78,6 +78,7 @@ static uint32_t admit(struct life *life, uint64_t clock, const struct handed *ha
         spend(life, judged->request);
         return OSCORE_INNER;
     }
+    judged->registers = allowed_as(judged->opened->as).observe && is_registration(code, &inner);
     bool has_echo = first_of(&inner, ECHO, &echo);
     if (admits(life, clock, has_echo, echo)) {
         deliver_in(life, judged->request);
@@ -96,21 +97,34 @@ void judge_take(struct server_judge *judge, const struct handed *handed, struct 
     write_error(handed, judged);
 }
 
+/* What refuses a ticket, and a plain message that is none. */
+static uint32_t refuses_ticket(const struct server_judge *judge, const struct answer *answer, struct judged *judged) {
+    const oscore_ticket *ticket = &answer->ticket;
+    if (ticket->number >= NUMBER_LIMIT || ticket->observes > 1) return OSCORE_BAD_HANDLE;
+    uint32_t fault = read_datagram(answer->plain, &judged->seen, &judged->detail);
+    if (fault) return fault;
+    bool is_stale = ticket->context >= CONTEXTS || judge->lives[ticket->context].restarts != ticket->life;
+    return is_stale ? OSCORE_STALE_TICKET : OSCORE_DONE;
+}
+
+/* The answer to a registration has an own number always (RFC 8613, 4.1.3.5). */
+static bool has_own(const struct answer *answer) {
+    return answer->own || answer->ticket.observes;
+}
+
 /* What refuses an answer before it is sealed. */
 static uint32_t refuses(const struct server_judge *judge, const struct answer *answer, struct judged *judged) {
     const oscore_ticket *ticket = &answer->ticket;
-    struct seen *plain = &judged->seen;
-    if (ticket->number >= NUMBER_LIMIT) return OSCORE_BAD_HANDLE;
-    uint32_t fault = read_datagram(answer->plain, plain, &judged->detail);
-    if (fault) return fault;
-    if (ticket->context >= CONTEXTS || judge->lives[ticket->context].restarts != ticket->life) return OSCORE_STALE_TICKET;
+    const struct seen *plain = &judged->seen;
+    uint32_t refused = refuses_ticket(judge, answer, judged);
+    if (refused) return refused;
     const struct life *life = &judge->lives[ticket->context];
     if (!is_waiting(life, ticket->number)) return OSCORE_TICKET_SPENT;
     /* Of the plain head the code alone is used. */
     if (!is_response_code(plain->head.code)) return OSCORE_NOT_THAT_KIND;
-    judged->detail = left_out_of(&plain->body, allowed_as((struct sealed_as){.is_response = true, .context = ticket->context}));
+    judged->detail = unsupported_of(&plain->body, allowed_as((struct sealed_as){.is_response = true, .context = ticket->context}));
     if (judged->detail) return OSCORE_UNSUPPORTED;
-    return answer->own && life->next >= NUMBER_LIMIT ? OSCORE_SEQUENCE_EXHAUSTED : OSCORE_DONE;
+    return has_own(answer) && life->next >= NUMBER_LIMIT ? OSCORE_SEQUENCE_EXHAUSTED : OSCORE_DONE;
 }
 
 void judge_reply(struct server_judge *judge, const struct answer *answer, struct judged *judged) {
@@ -119,7 +133,8 @@ void judge_reply(struct server_judge *judge, const struct answer *answer, struct
     judged->status = refuses(judge, answer, judged);
     if (judged->status) return;
     struct life *life = &judge->lives[ticket->context];
-    struct sealed_as as = {true, answer->own, ticket->context, ticket->number, answer->own ? life->next : 0};
+    struct sealed_as as = {.is_response = true, .has_own = has_own(answer), .context = ticket->context, .request = ticket->number};
+    if (as.has_own) as.own = life->next;
     struct bytes token = {ticket->token, ticket->token_len};
     struct head head = reply_head(OUTER_RESPONSE, ticket->kind, ticket->message_id, answer->message_id, token);
     seal_plain(as, head, answer->plain, &judged->sealed);
@@ -130,5 +145,39 @@ void judge_reply(struct server_judge *judge, const struct answer *answer, struct
     }
     judged->written = judged->sealed.datagram;
     answered_in(life, ticket->number);
-    life->next += answer->own;
+    life->next += as.has_own;
+}
+
+/* What refuses a notification before it is sealed. It doesn't matter whether the request waits for its answer still. */
+static uint32_t refuses_to_notify(const struct server_judge *judge, const struct answer *answer, struct sealed_as as, struct judged *judged) {
+    const struct seen *plain = &judged->seen;
+    uint32_t refused = refuses_ticket(judge, answer, judged);
+    if (refused) return refused;
+    if (!answer->ticket.observes) return OSCORE_NOT_OBSERVING;
+    if (!is_response(plain->head)) return OSCORE_NOT_THAT_KIND;
+    judged->detail = unsupported_of(&plain->body, allowed_as(as));
+    if (judged->detail) return OSCORE_UNSUPPORTED;
+    if (!is_notification(plain->head.code, &plain->body)) return OSCORE_NOT_NOTIFICATION;
+    return judge->lives[as.context].next >= NUMBER_LIMIT ? OSCORE_SEQUENCE_EXHAUSTED : OSCORE_DONE;
+}
+
+void judge_notify(struct server_judge *judge, const struct answer *answer, struct judged *judged) {
+    const oscore_ticket *ticket = &answer->ticket;
+    struct sealed_as as = {true, true, ticket->context, ticket->number, 0, true};
+    *judged = (struct judged){.status = OSCORE_DONE};
+    judged->status = refuses_to_notify(judge, answer, as, judged);
+    if (judged->status) return;
+    struct life *life = &judge->lives[ticket->context];
+    struct head head = judged->seen.head;
+    as.own = life->next;
+    head.code = outer_code(as, true);
+    head.token = (struct bytes){ticket->token, ticket->token_len};
+    seal_plain(as, head, answer->plain, &judged->sealed);
+    judged->has_sealed = judged->sealed.datagram.len <= answer->room;
+    if (!judged->has_sealed) {
+        judged->status = OSCORE_NO_ROOM;
+        return;
+    }
+    judged->written = judged->sealed.datagram;
+    life->next++;
 }

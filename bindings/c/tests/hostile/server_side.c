@@ -15,9 +15,9 @@ static struct server_end ends[ENDS];
 static struct server_judge judge;
 static struct requester requesters[CONTEXTS];
 static uint64_t last_moment;
-/* The last tickets that were given. */
-static oscore_ticket tickets[TICKETS];
-static size_t ticket_count;
+/* The last tickets that were given, and those that observe. */
+static oscore_ticket tickets[TICKETS], observing[TICKETS];
+static size_t ticket_count, observing_count;
 
 struct requester *requester_of_clients(void) {
     return &requesters[0];
@@ -79,7 +79,7 @@ static bool is_ticket(const oscore_ticket *ticket, const struct judged *judged) 
     size_t context = judged->opened->as.context;
     return ticket->context == context && ticket->life == judge.lives[context].restarts && ticket->number == judged->request
         && ticket->kind == head.kind && ticket->message_id == head.message_id
-        && is_same((struct bytes){ticket->token, ticket->token_len}, head.token);
+        && ticket->observes == judged->registers && is_same((struct bytes){ticket->token, ticket->token_len}, head.token);
 }
 
 /* Hands a datagram to a server, behind the judge. */
@@ -105,15 +105,16 @@ static struct came take(struct server_end *end, const struct handed *handed, con
     return (struct came){status, written, differs};
 }
 
-/* Has a server seal an answer, behind the judge. A refusal writes nothing. */
-static struct came reply(struct server_end *end, const struct answer *answer, const struct judged *judged) {
+/* Has a server seal an answer or a notification, behind the judge. A refusal writes nothing. */
+static struct came reply(struct server_end *end, enum call call, const struct answer *answer, const struct judged *judged) {
     const struct room *const rooms[] = {&end->handle, &end->ticket, &end->plain, &end->out_len, &end->detail, NULL};
     const oscore_ticket *ticket = lay_bytes(&end->ticket, (struct bytes){(const uint8_t *)&answer->ticket, sizeof *ticket});
     const uint8_t *plain = lay_bytes(&end->plain, answer->plain);
     uint8_t *out = lay(&end->out, answer->room);
     size_t *out_len = lay_zeros(&end->out_len, sizeof *out_len), *detail = lay(&end->detail, sizeof *detail);
-    uint32_t status = oscore_server_reply(end->server, ticket, answer->own, answer->message_id, plain, answer->plain.len, out, answer->room,
-                                          out_len, detail);
+    uint32_t status = call == REPLY ? oscore_server_reply(end->server, ticket, answer->own, answer->message_id, plain, answer->plain.len, out,
+                                                          answer->room, out_len, detail)
+        : oscore_server_notify(end->server, ticket, plain, answer->plain.len, out, answer->room, out_len, detail);
     struct bytes written = {out, *out_len <= answer->room ? *out_len : answer->room};
     const char *differs = status != judged->status ? "answer"
         : status && *detail != judged->detail ? "detail"
@@ -159,35 +160,52 @@ static oscore_ticket draw_ticket(void) {
     case 3: ticket.context++; break;
     case 4: ticket.context = SIZE_MAX; break;
     case 5: ticket.message_id ^= 1, ticket.kind ^= 1; break;
+    case 6: ticket.observes ^= 1; break;
+    case 7: ticket.observes = 2; break;
     }
     return ticket;
 }
 
-/* Asks each for an answer, mostly a good one. */
-static void ask_for_answer(void) {
+/* Mostly a ticket that observes in a life that goes on, where there is one; half of the time the last. */
+static oscore_ticket draw_observing(void) {
+    size_t among = observing_count < TICKETS ? observing_count : TICKETS, any = below(TICKETS);
+    size_t first = one_in(2) ? observing_count + TICKETS - 1 : any;
+    bool is_any = one_in(6);
+    for (size_t i = 0; !is_any && i < among; i++) {
+        const oscore_ticket *ticket = &observing[(first + among - i) % among];
+        if (judge.lives[ticket->context].restarts == ticket->life) return *ticket;
+    }
+    return draw_ticket();
+}
+
+/* Asks each for an answer or a notification, mostly a good one. */
+static void ask_for(enum call call) {
     static const uint8_t codes[4] = {0x45, 0x44, 0x81, 0xa0};
-    uint8_t kind = (uint8_t)below(4), code = codes[below(4)];
+    uint8_t kind = (uint8_t)below(4), code = codes[below(call == NOTIFY ? 3 : 4)];
     bool is_of_request = one_in(12), is_cut = one_in(10);
     struct text token = draw_text(9);
     struct plain plain = draw_plain(kind, is_of_request ? 0x01 : code, bytes_of(&token));
+    if (call == NOTIFY) plain.has_observe = !one_in(8);
+    plain.has_proxy = one_in(40);
     struct text datagram = spell_plain(&plain);
     if (is_cut) datagram.len = below(datagram.len);
-    struct answer answer = {.ticket = draw_ticket(), .plain = bytes_of(&datagram), .room = OUT_ROOM};
+    struct answer answer = {.ticket = call == NOTIFY ? draw_observing() : draw_ticket(), .plain = bytes_of(&datagram), .room = OUT_ROOM};
     answer.own = one_in(2);
     answer.message_id = (uint16_t)below(1 << 16);
     struct server_judge copy = judge;
     struct judged judged;
     struct came came[ENDS];
-    judge_reply(&copy, &answer, &judged);
+    void (*judges)(struct server_judge *, const struct answer *, struct judged *) = call == NOTIFY ? judge_notify : judge_reply;
+    judges(&copy, &answer, &judged);
     answer.room = draw_room(judged.written.len);
-    judge_reply(&judge, &answer, &judged);
-    for (int i = 0; i < ENDS; i++) came[i] = reply(&ends[i], &answer, &judged);
-    report(REPLY, &judged, came, answer.plain);
+    judges(&judge, &answer, &judged);
+    for (int i = 0; i < ENDS; i++) came[i] = reply(&ends[i], call, &answer, &judged);
+    report(call, &judged, came, answer.plain);
     judged.sealed.by_library = true;
     if (judged.has_sealed) keep(&judged.sealed);
 }
 
-/* Makes a datagram, hands it to each, and compares what came of it; now and then asks for answers. */
+/* Makes a datagram, hands it to each, and compares what came of it; now and then asks for answers and notifications. */
 void step_servers(void) {
     size_t context = below(CONTEXTS);
     struct life *life = &judge.lives[context];
@@ -206,7 +224,9 @@ void step_servers(void) {
     report(TAKE, &judged, came, handed.datagram);
     bool is_delivered = came[0].status == OSCORE_DONE;
     if (is_delivered) memcpy(&tickets[ticket_count++ % TICKETS], ends[0].ticket.at, sizeof(oscore_ticket));
+    if (is_delivered && judged.registers) memcpy(&observing[observing_count++ % TICKETS], ends[0].ticket.at, sizeof(oscore_ticket));
     judged.sealed.by_library = true;
     if (judged.has_sealed) keep(&judged.sealed);
-    for (uint64_t times = is_delivered ? below(3) : ticket_count ? one_in(6) : 0; times > 0; times--) ask_for_answer();
+    for (uint64_t times = is_delivered ? below(3) : ticket_count ? one_in(6) : 0; times > 0; times--) ask_for(REPLY);
+    for (uint64_t times = ticket_count ? below(3) : 0; times > 0; times--) ask_for(NOTIFY);
 }

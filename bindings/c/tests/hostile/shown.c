@@ -60,11 +60,12 @@ bool is_shown(const struct shown *shown, struct bytes left, const struct judged 
     struct head head = judged->seen.head;
     const struct body *outer = &judged->seen.body;
     struct sealed_as as = judged->opened->as;
+    as.to_registration = judged->registers;
     uint64_t number = as.is_response ? as.own : as.request;
     struct body inner;
     uint8_t code;
     NEEDS(read_inner(bytes_of(&judged->opened->plaintext), allowed_as(as), &code, &inner));
-    return opened->kind == head.kind && opened->code == code && opened->message_id == head.message_id
+    return opened->is_notification == judged->is_notification && opened->kind == head.kind && opened->code == code && opened->message_id == head.message_id
         && is_same((struct bytes){opened->token, opened->token_len}, head.token)
         && opened->has_number == (!as.is_response || as.has_own) && (!opened->has_number || opened->number == number)
         && is_outside(opened->has_uri_host, opened->uri_host, opened->uri_host_len, left, outer, URI_HOST)

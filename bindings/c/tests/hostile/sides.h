@@ -11,7 +11,7 @@ enum { ENDS = 2, OPTIONS_ROOM = 2, OUT_ROOM = 128 };
 extern const char *const END_NAMES[ENDS];
 void make_end_room(struct room *room, int end, size_t most);
 
-enum call { TAKE, REPLY, SERVER_RESTART, RESPONSE, REQUEST, FORGET, CLIENT_RESTART, CALLS };
+enum call { TAKE, REPLY, NOTIFY, SERVER_RESTART, RESPONSE, REQUEST, FORGET, CLIENT_RESTART, CALLS };
 
 /* What came of a call: what it answered, what it wrote, and what differs, or NULL. */
 struct came {

@@ -103,7 +103,7 @@ static struct text turn(struct bytes datagram, uint8_t bits) {
 static struct text changed_on_its_way(bool to_client) {
     struct bytes other = any_sealed(), nothing = {NULL, 0};
     uint64_t which = below(8), trick = below(30);
-    struct bytes datagram = which < 2 ? other : which == 2 ? last_by_library(to_client) : last_sealed();
+    struct bytes datagram = which < 2 ? other : which < 4 ? last_by_library(to_client) : last_sealed();
     uint8_t bit = (uint8_t)(1 << below(8)), bits = (uint8_t)below(256);
     if (trick < 2) return splice(datagram, nothing);
     if (trick < 4) return turn(datagram, trick == 2 ? bit : bits);

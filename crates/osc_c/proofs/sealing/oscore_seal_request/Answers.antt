@@ -10,5 +10,5 @@ pub returns-in-Err-clause-refuses : goal.returns-in-Err-clause-refuses
 returns-in-Err-clause-refuses c status why reason = let same = c.in-Err.ensures.refuses status why reason in (c.code.ensures ∙ ap code same.0, same.1)
 
 pub returns-in-Err-clause-room : goal.returns-in-Err-clause-room
-returns-in-Err-clause-room c = λ none enough is.
-    request_has_room c.room_laws.ensures.length c.room_laws.ensures.order c.room_laws.ensures.most (c.args.number < 2 ^ 40) c.args.context.now c.args.number c.args.plain.now (length c.args.out.now) _ _ c.in-Err.ensures.refused none enough (sym c.code.ensures ∙ is)
+returns-in-Err-clause-room c = λ enough is.
+    request_has_room c.room_laws.ensures.length c.room_laws.ensures.order c.room_laws.ensures.most (c.args.number < 2 ^ 40) c.args.context.now c.args.number c.args.plain.now (length c.args.out.now) _ _ c.in-Err.ensures.refused enough (sym c.code.ensures ∙ is)

@@ -1,5 +1,6 @@
 use Rattle.std.proofs.Common.{◌≡◌, ℕ, ap, refl, subst, length, Result, Ok, Err, IfSome, ◌∙◌, sym}
 use Rattle.osc_coap.specs.Views.{parts_of}
+use Rattle.osc_endpoint.specs.ServerAnswer.{asks_own}
 use Rattle.osc_endpoint.specs.ServerHistory.{History}
 use Rattle.osc_handle.specs.ServerBytes.{RepliesIn, Serves, entry_of_reply}
 use Rattle.osc_handle.specs.SingleServerBytes.{server_of_one}
@@ -30,7 +31,7 @@ pub returns-in-Err-Refused-clause-refused : goal.returns-in-Err-Refused-clause-r
 returns-in-Err-Refused-clause-refused c =
     let p = parts_of c.in-Ok.message in
     let room = length c.args.out.now in
-    let Answered : ReplyRefusal → Type 0 = λ r. (h : History) → Serves (server_of_one c.args.server.now) h → IfSome (entry_of_reply (Err r) c.reply.new.out) (λ entry. RepliesIn h (ticket_in c.args.ticket.now) c.args.own c.args.mid p room entry (server_of_one c.reply.new.self)) in
+    let Answered : ReplyRefusal → Type 0 = λ r. (h : History) → Serves (server_of_one c.args.server.now) h → IfSome (entry_of_reply (Err r) c.reply.new.out) (λ entry. RepliesIn h (ticket_in c.args.ticket.now) (asks_own (ticket_in c.args.ticket.now) c.args.own) c.args.mid p room entry (server_of_one c.reply.new.self)) in
     let whole = c.in-Err-Refused.ensures.accepted (λ e. refused_alone c.in-Err-Refused.field-0 c.in-Err-Refused.error BadHandle c.in-Err-Refused.field-0-is (λ f. let f' : Refused c.in-Err-Refused.error ≡ BadHandle = f in cc) e) in
     refused (table_one c.args.server.now.slot whole.0) whole.1 p c.in-Ok.ensures.accepted c.in-Err-Refused.error c.replying_refusal.ensures
     (subst Answered c.in-Err-Refused.field-0-is c.in-Err-Refused.ensures.answered)

@@ -30,8 +30,8 @@ pub returns-clause-left : goal.returns-clause-left
 returns-clause-left c =
     subst (λ p. LeavesIn p c.decide-decision.result c.args.datagram.now c.decide-decision.new.datagram) c.recall.ensures (leaves_parts c.recall.new.client c.decide-decision.result c.args.datagram.now c.decide-decision.new.datagram c.decide-decision.ensures.left)
 
-pub returns-clause-delivered : goal.returns-clause-delivered
-returns-clause-delivered c = λ h n own m outcome a. c.decide-decision.ensures.delivered h n own m outcome (agrees_of _ h _ c.recall.ensures a)
+pub returns-clause-heard : goal.returns-clause-heard
+returns-clause-heard c = λ h on n own m outcome a. c.decide-decision.ensures.heard h on n own m outcome (agrees_of _ h _ c.recall.ensures a)
 
-pub returns-clause-delivers : goal.returns-clause-delivers
-returns-clause-delivers c = λ h n own m outcome a. c.decide-decision.ensures.delivers h n own m outcome (agrees_of _ h _ c.recall.ensures a)
+pub returns-clause-hears : goal.returns-clause-hears
+returns-clause-hears c = λ h on n own m outcome a. c.decide-decision.ensures.hears h on n own m outcome (agrees_of _ h _ c.recall.ensures a)

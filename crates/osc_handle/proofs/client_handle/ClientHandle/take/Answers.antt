@@ -10,8 +10,8 @@ returns-clause-answered c = λ h a.
       asks = s.asks;
     }
 
-pub returns-clause-delivered : goal.returns-clause-delivered
-returns-clause-delivered c = λ h n own m a. c.in-Some.ensures.delivered h n own m c.outcome.result a c.outcome.ensures
+pub returns-clause-heard : goal.returns-clause-heard
+returns-clause-heard c = λ h on n own m a. c.in-Some.ensures.heard h on n own m c.outcome.result a c.outcome.ensures
 
-pub returns-clause-delivers : goal.returns-clause-delivers
-returns-clause-delivers c = λ h n own m a. c.in-Some.ensures.delivers h n own m c.outcome.result a c.outcome.ensures
+pub returns-clause-hears : goal.returns-clause-hears
+returns-clause-hears c = λ h on n own m a. c.in-Some.ensures.hears h on n own m c.outcome.result a c.outcome.ensures
