@@ -17,6 +17,12 @@ fn show_outcome(outcome: &ClientOutcome<'_>, answer: &mut Answer) {
         ClientOutcome::Undecodable => answer.word("undecodable"),
         ClientOutcome::BadTag => answer.word("bad-tag"),
         ClientOutcome::BadInner => answer.word("bad-inner"),
+        ClientOutcome::Old => answer.word("old"),
+        ClientOutcome::Notified(opened, number) => {
+            answer.word("notified");
+            answer.print(number.number());
+            show_opened(opened, answer);
+        }
         ClientOutcome::Deliver(opened, number) => {
             answer.word("deliver");
             answer.print(number.number());

@@ -5,12 +5,12 @@ use crate::fields::Fields;
 use crate::keeper::Memory;
 use crate::kept::{KeptEnd, Way, show_restart};
 use crate::server_entry::show;
-use crate::server_steps::{answering, arrival};
+use crate::server_steps::{answering, arrival, index, notifying};
 use crate::steps::Step;
 use osc_coap::parse;
 use osc_context::Context;
-use osc_endpoint::siblings::{put_back, take_out};
-use osc_endpoint::{Answering, Arrival, Decided, Outcome, ServerEntry, Taken, Ticket};
+use osc_endpoint::siblings::{put_back, take_out, ticket_at};
+use osc_endpoint::{Answering, Arrival, Decided, Notifying, Outcome, ServerEntry, Taken, Ticket};
 use osc_kept::{
     KeptError, KeptServer, KeptServerEntry, KeptServerEvent, run_kept_server, run_kept_server_on,
 };
@@ -23,6 +23,10 @@ fn event_of(step: &Step<'_>) -> Option<KeptServerEvent> {
     match step.verb {
         "take" => Some(KeptServerEvent::Datagram(arrival(&step.fields))),
         "reply" => Some(KeptServerEvent::Reply(answering(&step.fields))),
+        "notify" => Some(KeptServerEvent::Notify(notifying(&step.fields))),
+        "drop" => Some(KeptServerEvent::Drop {
+            of: index(&step.fields, 0),
+        }),
         "restart" => Some(KeptServerEvent::Restart),
         _ => None,
     }
@@ -105,6 +109,26 @@ fn reply<'a>(
     }
 }
 
+/// Notifies the requester of an earlier event.
+fn notify<'a>(
+    server: &mut Server<'_>,
+    tickets: &[Option<Ticket>],
+    notifying: &'a mut Notifying,
+) -> ServerEntry<'a> {
+    let Some(ticket) = ticket_at(tickets, notifying.of) else {
+        return ServerEntry::NoTicket;
+    };
+    let message = match parse(&notifying.plain) {
+        Ok(message) => message,
+        Err(fault) => return ServerEntry::BadPlain(fault),
+    };
+    let out = notifying.out.as_mut_slice();
+    match server.notify(ticket, &message, out) {
+        Ok(len) => ServerEntry::Replied(Ok(&out[..len])),
+        Err(refusal) => ServerEntry::Replied(Err(refusal)),
+    }
+}
+
 /// Runs an event by calls.
 fn call<'a>(
     server: &mut Server<'_>,
@@ -119,6 +143,14 @@ fn call<'a>(
         }
         KeptServerEvent::Reply(answering) => {
             let entry = reply(server, tickets, answering);
+            (KeptServerEntry::Served(entry), None)
+        }
+        KeptServerEvent::Notify(notifying) => {
+            let entry = notify(server, tickets, notifying);
+            (KeptServerEntry::Served(entry), None)
+        }
+        KeptServerEvent::Drop { of } => {
+            let entry = ServerEntry::Dropped(take_out(tickets, *of).is_some());
             (KeptServerEntry::Served(entry), None)
         }
         KeptServerEvent::Restart => (KeptServerEntry::Restarted(server.restart()), None),

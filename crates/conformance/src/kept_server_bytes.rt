@@ -5,10 +5,10 @@ use crate::fields::NamedContext;
 use crate::kept_client_bytes::{show_save_first, show_saved};
 use crate::server::check;
 use crate::server_entry::show;
-use crate::server_steps::{answering, arrival};
+use crate::server_steps::{answering, arrival, notifying};
 use crate::steps::{Step, number, steps_of};
 use osc_coap::parse;
-use osc_endpoint::{Answering, Arrival, Decided, ServerEntry, Taken, Ticket};
+use osc_endpoint::{Answering, Arrival, Decided, Notifying, ServerEntry, Taken, Ticket};
 use osc_handle::{ContextHandle, TicketHandle};
 use osc_kept_handle::{KeptRefusal, KeptReplyRefusal, KeptServerHandle};
 use osc_window::WindowSize;
@@ -109,6 +109,34 @@ fn reply(
     }
 }
 
+/// Makes `notify STEP PLAIN ROOM`, to the requester of an earlier step.
+fn notify(
+    server: &mut KeptServerHandle,
+    tickets: &[Option<TicketHandle>],
+    step: &Step<'_>,
+    answer: &mut Answer,
+) {
+    let Notifying { of, plain, mut out } = notifying(&step.fields);
+    let Some(Some(ticket)) = tickets.get(of) else {
+        return show(&ServerEntry::NoTicket, answer);
+    };
+    let message = match parse(&plain) {
+        Ok(message) => message,
+        Err(fault) => return show(&ServerEntry::BadPlain(fault), answer),
+    };
+    match server.notify(ticket, &message, &mut out) {
+        Ok(len) => match out.get(..len) {
+            Some(sealed) => show(&ServerEntry::Replied(Ok(sealed)), answer),
+            None => step.fields.refuse(),
+        },
+        Err(KeptReplyRefusal::SaveFirst(number)) => show_save_first(number, answer),
+        Err(KeptReplyRefusal::Refused(refusal)) => {
+            show(&ServerEntry::Replied(Err(refusal)), answer);
+        }
+        Err(KeptReplyRefusal::BadHandle | KeptReplyRefusal::TicketSpent) => step.fields.refuse(),
+    }
+}
+
 /// Makes a beginning and the steps after it, one call each.
 fn by_bytes(
     steps: &[Step<'_>],
@@ -133,6 +161,7 @@ fn by_bytes(
             }
             "take" => ticket = take(&mut server, step, in_halves, answer),
             "reply" => reply(&mut server, &tickets, step, answer),
+            "notify" => notify(&mut server, &tickets, step, answer),
             _ => step.fields.refuse(),
         }
         if tickets.push(ticket).is_err() {

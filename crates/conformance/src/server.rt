@@ -8,10 +8,10 @@ use crate::server_steps::{events_of, index, is_event};
 use crate::steps::{FILLED_WITH, Step, number, steps_of};
 use osc_coap::parse;
 use osc_context::Context;
-use osc_endpoint::siblings::{put_back, take_out};
+use osc_endpoint::siblings::{put_back, take_out, ticket_at};
 use osc_endpoint::{
-    AddError, Answering, Arrival, Decided, Server, ServerEntry, ServerEvent, Start, Taken, Ticket,
-    run_server, run_server_on,
+    AddError, Answering, Arrival, Decided, Notifying, Server, ServerEntry, ServerEvent, Start,
+    Taken, Ticket, run_server, run_server_on,
 };
 use osc_window::WindowSize;
 use std::alloc::Global;
@@ -145,6 +145,26 @@ fn reply<'a>(
     }
 }
 
+/// Notifies the requester of an earlier event.
+fn notify<'a>(
+    server: &mut Server,
+    tickets: &[Option<Ticket>],
+    notifying: &'a mut Notifying,
+) -> ServerEntry<'a> {
+    let Notifying { of, plain, out } = notifying;
+    let Some(ticket) = ticket_at(tickets, *of) else {
+        return ServerEntry::NoTicket;
+    };
+    let message = match parse(plain) {
+        Ok(message) => message,
+        Err(fault) => return ServerEntry::BadPlain(fault),
+    };
+    match server.notify(ticket, &message, out) {
+        Ok(len) => ServerEntry::Replied(Ok(&out[..len])),
+        Err(refusal) => ServerEntry::Replied(Err(refusal)),
+    }
+}
+
 /// Runs an event by calls.
 fn call<'a>(
     server: &mut Server,
@@ -161,6 +181,11 @@ fn call<'a>(
             }
         }
         ServerEvent::Reply(answering) => (reply(server, tickets, answering), None),
+        ServerEvent::Notify(notifying) => (notify(server, tickets, notifying), None),
+        ServerEvent::Drop { of } => {
+            let dropped = take_out(tickets, *of);
+            (ServerEntry::Dropped(dropped.is_some()), None)
+        }
         ServerEvent::Restart { context, next } => {
             let entry = ServerEntry::Restarted(server.restart(*context, *next));
             (entry, None)
@@ -182,7 +207,8 @@ pub(crate) fn left(steps: &[Step<'_>], events: &[ServerEvent], answer: &mut Answ
         match event {
             ServerEvent::Datagram(arrival) => answer.left(step.fields.bytes(3), &arrival.bytes),
             ServerEvent::Reply(answering) => answer.rest(&answering.out, FILLED_WITH),
-            ServerEvent::Restart { .. } => {}
+            ServerEvent::Notify(notifying) => answer.rest(&notifying.out, FILLED_WITH),
+            ServerEvent::Drop { .. } | ServerEvent::Restart { .. } => {}
         }
         rest = tail;
     }

@@ -12,7 +12,7 @@ use crate::steps::Step;
 use osc_coap::{Message, parse};
 use osc_context::Piv;
 use osc_endpoint::{
-    Answering, Arrival, Decided, Fresh, RestartError, ServerEntry, ServerEvent, Taken, Ticket,
+    Answering, Arrival, Decided, Fresh, Notifying, RestartError, ServerEntry, ServerEvent, Taken, Ticket,
 };
 use osc_handle::{
     AddRefusal, ContextHandle, ReplyRefusal, ServerHandle, SingleServerHandle, TicketHandle,
@@ -114,6 +114,19 @@ impl Bytes {
             Bytes::NotBegun => Err(ReplyRefusal::BadHandle),
         }
     }
+
+    fn notify(
+        &mut self,
+        ticket: &TicketHandle,
+        plain: &Message<'_>,
+        out: &mut [u8],
+    ) -> Result<usize, ReplyRefusal> {
+        match self {
+            Bytes::Eight(server) => server.notify(ticket, plain, out),
+            Bytes::One(server) => server.notify(ticket, plain, out),
+            Bytes::NotBegun => Err(ReplyRefusal::BadHandle),
+        }
+    }
 }
 
 /// Shows the index of a context that was added, or the refusal.
@@ -200,6 +213,27 @@ fn reply<'a>(
     }
 }
 
+/// Notifies the requester of an earlier event. The ticket stays.
+fn notify<'a>(
+    server: &mut Bytes,
+    tickets: &Tickets,
+    notifying: &'a mut Notifying,
+) -> Option<ServerEntry<'a>> {
+    let Notifying { of, plain, out } = notifying;
+    let Some(Some(ticket)) = tickets.get(*of) else {
+        return Some(ServerEntry::NoTicket);
+    };
+    let message = match parse(plain) {
+        Ok(message) => message,
+        Err(fault) => return Some(ServerEntry::BadPlain(fault)),
+    };
+    match server.notify(ticket, &message, out) {
+        Ok(len) => Some(ServerEntry::Replied(Ok(out.get(..len)?))),
+        Err(ReplyRefusal::Refused(refusal)) => Some(ServerEntry::Replied(Err(refusal))),
+        Err(ReplyRefusal::BadHandle | ReplyRefusal::TicketSpent) => None,
+    }
+}
+
 /// Runs an event by calls.
 fn call<'a>(
     server: &mut Bytes,
@@ -213,6 +247,14 @@ fn call<'a>(
         ServerEvent::Reply(answering) => {
             let entry = reply(server, tickets, answering, answer)?;
             Some((entry, None))
+        }
+        ServerEvent::Notify(notifying) => {
+            let entry = notify(server, tickets, notifying)?;
+            Some((entry, None))
+        }
+        ServerEvent::Drop { of } => {
+            let dropped = tickets.get_mut(*of).and_then(|place| place.take());
+            Some((ServerEntry::Dropped(dropped.is_some()), None))
         }
         ServerEvent::Restart { context, next } => {
             let restarted = server.restart(*context, *next)?;

@@ -55,6 +55,8 @@ pub(crate) fn show(entry: &ServerEntry<'_>, answer: &mut Answer) {
             answer.word("bad-plain");
             answer.print(*fault);
         }
+        ServerEntry::Dropped(true) => answer.word("dropped"),
+        ServerEntry::Dropped(false) => answer.word("no-ticket"),
         ServerEntry::Restarted(Ok(())) => answer.word("restarted"),
         ServerEntry::Restarted(Err(refusal)) => answer.refused(*refusal),
     }

@@ -3,7 +3,7 @@
 use crate::answer::Answer;
 use crate::fields::Fields;
 use crate::steps::{FILLED_WITH, Step, number};
-use osc_endpoint::{Answering, Arrival, Fresh, ServerEvent};
+use osc_endpoint::{Answering, Arrival, Fresh, Notifying, ServerEvent};
 
 /// Returns a small number, such as an index.
 pub(crate) fn index(fields: &Fields<'_>, place: usize) -> usize {
@@ -42,11 +42,25 @@ pub(crate) fn answering(fields: &Fields<'_>) -> Answering {
     }
 }
 
+/// Reads `notify STEP PLAIN ROOM`.
+pub(crate) fn notifying(fields: &Fields<'_>) -> Notifying {
+    fields.count(3);
+    Notifying {
+        of: index(fields, 0),
+        plain: fields.copy(1),
+        out: fields.room(2, FILLED_WITH),
+    }
+}
+
 /// Returns the event of a step, if the step is one.
 fn event_of(step: &Step<'_>) -> Option<ServerEvent> {
     match step.verb {
         "take" => Some(ServerEvent::Datagram(arrival(&step.fields))),
         "reply" => Some(ServerEvent::Reply(answering(&step.fields))),
+        "notify" => Some(ServerEvent::Notify(notifying(&step.fields))),
+        "drop" => Some(ServerEvent::Drop {
+            of: index(&step.fields, 0),
+        }),
         "restart" => Some(ServerEvent::Restart {
             context: index(&step.fields, 0),
             next: number(&step.fields, 1),
@@ -70,5 +84,5 @@ pub(crate) fn events_of(steps: &[Step<'_>], answer: &mut Answer) -> Vec<ServerEv
 
 /// Returns whether runs know this step.
 pub(crate) fn is_event(step: &Step<'_>) -> bool {
-    matches!(step.verb, "take" | "reply" | "restart")
+    matches!(step.verb, "take" | "reply" | "notify" | "drop" | "restart")
 }

@@ -135,7 +135,9 @@ impl TicketHandle {
     }
 
     /// Returns whether a reply has an own number: one is asked for, or the request registers an observation (RFC 8613, 4.1.3.5).
-    pub(crate) fn asks_own(&self, own: bool) -> bool
+    #[doc(hidden)]
+    #[must_use]
+    pub fn asks_own(&self, own: bool) -> bool
         ensures { result ≡ asks_own (ticket_in self.now) own }
     {
         self.is_observing() || own

@@ -39,6 +39,7 @@ left_or_answered (server.Then h event (server.Took (server.Deliver received tick
   | inl k ↦ inl (subst (Has t) (sym is) (inr k))
   | inr k ↦ inr k
 ]
+left_or_answered (server.Then h (server.Notify ticket p room) (server.Replied bytes)) ts t (left, among) has = left_or_answered h ts t left has
 left_or_answered (server.Then h event entry) ts t left has = left_or_answered h ts t left has
 
 -- a list that has it is parted there
@@ -69,3 +70,8 @@ reply_takes once n s w h t own mid p room (server.Replied bytes) old k answers k
     let apart = once (server.Then h (server.Reply t own mid p room) (server.Replied bytes)) serves.answers serves.waiting in
     held h left.0 t left.1 has apart.0
 reply_takes once n s w h t own mid p room entry old k answers known has step = tt
+
+-- an accepted notification has a ticket that is left
+pub notify_has : (s : SecurityContext) (w : World) (h : server.History) (t : server.TicketValues) (p : Parts) (room : ℕ) (entry : server.Entry) → IsHeld h t → ServerTrusts s w h (server.Notify t p room) entry
+notify_has s w h t p room (server.Replied bytes) x = x
+notify_has s w h t p room entry x = tt

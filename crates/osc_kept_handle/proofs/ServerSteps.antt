@@ -7,16 +7,16 @@ use Rattle.osc_window.specs.declared.window_size.WindowSize.{WindowSize}
 use Rattle.osc_endpoint.specs.Agrees.{server_of}
 use Rattle.osc_endpoint.specs.Life.{Life, born, is_open_life, next_own}
 use Rattle.osc_endpoint.specs.ServerAnswer.{ServerAnswer}
-use Rattle.osc_endpoint.specs.ServerHistory.{History, Begin, Then, Add, Added, Answer, TicketValues, Datagram, Reply, Took, Replied, NotReplied, Malformed, NotRequest, Plain, Undecodable, NoContext, Replay, BadTag, BadInner, Challenge, SequenceExhausted, Deliver, added, life}
+use Rattle.osc_endpoint.specs.ServerHistory.{History, Begin, Then, Add, Added, Answer, TicketValues, Datagram, Notify, Reply, Took, Replied, NotReplied, Malformed, NotRequest, Plain, Undecodable, NoContext, Replay, BadTag, BadInner, Challenge, SequenceExhausted, Deliver, added, life}
 use Rattle.osc_endpoint.specs.declared.server_error.ReplyError.{ReplyError}
 use Rattle.osc_endpoint.specs.declared.start.Start.{Start}
 use Rattle.osc_endpoint.specs.declared.start.Start.TheVariants as starts
 use Rattle.osc_handle.proofs.Tables.{life_there}
-use Rattle.osc_handle.specs.ServerBytes.{AddsIn, RepliesIn, Serves}
+use Rattle.osc_handle.specs.ServerBytes.{NotifiesIn, AddsIn, RepliesIn, Serves}
 use Rattle.osc_handle.specs.SingleServerBytes.{server_of_one, table_of}
 use Rattle.osc_handle.specs.SlotBytes.{IsSlotBytes}
 use Rattle.osc_handle.specs.declared.single_server_handle.SingleServerHandle.{SingleServerHandle}
-use Rattle.osc_kept.proofs.ServerSteps.{IsChallenge, IsNoChallenge, reply_own, reply_refused, reply_shared, took_sealed, took_unsealed}
+use Rattle.osc_kept.proofs.ServerSteps.{IsChallenge, IsNoChallenge, notify_own, notify_refused, reply_own, reply_refused, reply_shared, took_sealed, took_unsealed}
 use Rattle.osc_kept.specs.KeptServing.{IsKept, IsStart}
 use Rattle.osc_context.specs.Reserving.{next_limit}
 use Rattle.osc_context.specs.SecurityContext.{SecurityContext}
@@ -175,6 +175,41 @@ replied k t h v true m p room bytes old w wants (row, serves) table same =
     let x = server_of t.server.clock serves.slots in
     let new = after (Use (upcoming old)) mid in
     let step = reply_own s x h v m p room bytes old mid new (kept_by k old h w) row serves.agrees drawn numbers.last (λ n. refl) in
+    record {
+      row = row;
+      new = new;
+      numbers = step.numbers;
+      serves = serves_with t new _ serves table step.kept.one step.kept.next_is (subst (AreReserved new) (sym same) (used mid (upcoming old) k.reserved numbers)) top;
+    }
+
+-- ---- notifications
+
+pub not_notified : (k t : KeptServerHandle) (h : History) (v : TicketValues) (p : Parts) (room : ℕ) (e : ReplyError) (old : Own) → ServesWith k old h
+    → (WantsSave true (upcoming old) k.reserved → ⊥) → NotifiesIn h v p room (NotReplied e) (server_of_one t.server) → IsSlotBytes t.server.slot
+    → t.reserved ≡ k.reserved → StepsServer h (Notify v p room) (NotReplied e) old t
+not_notified k t h v p room e old w wants (row, serves) table same =
+    let (mid, drawn, numbers) = drawn_by true old k.reserved w.numbers w.whole.reserved wants in
+    let top : t.reserved ≤ 2 ^ 40 = let was : k.reserved ≤ 2 ^ 40 = w.whole.reserved in omega (arith, same, was) in
+    let s = server_of k.server.clock w.serves.slots in
+    let x = server_of t.server.clock serves.slots in
+    let step = notify_refused s x h v p room e old mid (kept_by k old h w) row serves.agrees drawn in
+    record {
+      row = row;
+      new = mid;
+      numbers = step.numbers;
+      serves = serves_with t mid _ serves table step.kept.one step.kept.next_is (subst (AreReserved mid) (sym same) numbers) top;
+    }
+
+pub notified : (k t : KeptServerHandle) (h : History) (v : TicketValues) (p : Parts) (room : ℕ) (bytes : List ℕ) (old : Own) → ServesWith k old h
+    → (WantsSave true (upcoming old) k.reserved → ⊥) → NotifiesIn h v p room (Replied bytes) (server_of_one t.server) → IsSlotBytes t.server.slot
+    → t.reserved ≡ k.reserved → StepsServer h (Notify v p room) (Replied bytes) old t
+notified k t h v p room bytes old w wants (row, serves) table same =
+    let (mid, drawn, numbers) = drawn_by true old k.reserved w.numbers w.whole.reserved wants in
+    let top : t.reserved ≤ 2 ^ 40 = let was : k.reserved ≤ 2 ^ 40 = w.whole.reserved in omega (arith, same, was) in
+    let s = server_of k.server.clock w.serves.slots in
+    let x = server_of t.server.clock serves.slots in
+    let new = after (Use (upcoming old)) mid in
+    let step = notify_own s x h v p room bytes old mid new (kept_by k old h w) row serves.agrees drawn numbers.last (λ n. refl) in
     record {
       row = row;
       new = new;

@@ -10,12 +10,13 @@ ghost use Rattle.osc_context.specs.SecurityContext.{SecurityContext};
 ghost use Rattle.osc_context.specs.Views.{number_of};
 ghost use Rattle.osc_endpoint.specs.ClientHistory as asked;
 ghost use Rattle.osc_endpoint.specs.Life.{is_open_life};
+ghost use Rattle.osc_endpoint.specs.ServerAnswer.{asks_own};
 ghost use Rattle.osc_endpoint.specs.ServerHistory as served;
 ghost use Rattle.osc_endpoint.specs.declared.start.Start.{Start as StartOf};
 ghost use Rattle.osc_handle.specs.ContextBytes.{IsContext, client_in, server_in};
 ghost use Rattle.osc_handle.specs.ServerBytes.{IsSpent};
 ghost use Rattle.osc_handle.specs.TicketBytes.{IsTicket, ticket_in};
-ghost use Rattle.osc_kept.specs.CallsInWorld.{NobodyForgesTo};
+ghost use Rattle.osc_kept.specs.CallsInWorld.{HoldsTicket, NobodyForgesTo};
 ghost use Rattle.osc_kept.specs.GoingOn.{HasSavedFirst};
 ghost use Rattle.osc_kept.specs.InWorld.{IsUnseen};
 ghost use Rattle.osc_kept.specs.KeptServing.{IsStart};
@@ -137,10 +138,10 @@ pub fn reply_bytes_in_world(
 ) -> Result<usize, KeptReplyRefusal>
     ensures answered { (n : ℕ) (s : SecurityContext) (w : World) → IsLawful n s w → RunsWith s w server.old → GivesTicket s w (ticket_in ticket.now)
         → IfSome (entry_of_kept_reply result out.new) (λ entry.
-        ServerAfter n s w (served.Reply (ticket_in ticket.now) own mid (parts_of plain.now) (length out.old)) entry server.new) }
+        ServerAfter n s w (served.Reply (ticket_in ticket.now) (asks_own (ticket_in ticket.now) own) mid (parts_of plain.now) (length out.old)) entry server.new) }
     ensures refused { (number : ℕ) → result ≡ Err (replies.SaveFirst number) → (number ≡ next_limit server.old.reserved)
-        × ((h : served.History) (o : Own) → ServesWith server.old o h → WantsSave own (upcoming o) server.old.reserved) }
-    ensures refuses { (h : served.History) (o : Own) → ServesWith server.old o h → IsTicket ticket.now → WantsSave own (upcoming o) server.old.reserved
+        × ((h : served.History) (o : Own) → ServesWith server.old o h → WantsSave (asks_own (ticket_in ticket.now) own) (upcoming o) server.old.reserved) }
+    ensures refuses { (h : served.History) (o : Own) → ServesWith server.old o h → IsTicket ticket.now → WantsSave (asks_own (ticket_in ticket.now) own) (upcoming o) server.old.reserved
         → result ≡ Err (replies.SaveFirst (next_limit server.old.reserved)) }
     ensures spent { result ≡ Err replies.TicketSpent → (h : served.History) (o : Own) → ServesWith server.old o h → IsSpent h (ticket_in ticket.now) }
     ensures bad { result ≡ Err replies.BadHandle → IsKeptServer server.old → IsTicket ticket.now → ⊥ }
@@ -152,6 +153,30 @@ pub fn reply_bytes_in_world(
     answered_once();
     kept_ends_in_world();
     server.reply(ticket, own, mid, plain, out)
+}
+
+/// `KeptServerHandle::notify`, by a ticket that a delivery gave and that no reply took.
+pub fn notify_bytes_in_world(
+    server: &mut KeptServerHandle,
+    ticket: &TicketHandle,
+    plain: &Message<'_>,
+    out: &mut [u8],
+) -> Result<usize, KeptReplyRefusal>
+    ensures answered { (n : ℕ) (s : SecurityContext) (w : World) → IsLawful n s w → RunsWith s w server.old → HoldsTicket s w (ticket_in ticket.now)
+        → IfSome (entry_of_kept_reply result out.new) (λ entry.
+        ServerAfter n s w (served.Notify (ticket_in ticket.now) (parts_of plain.now) (length out.old)) entry server.new) }
+    ensures refused { (number : ℕ) → result ≡ Err (replies.SaveFirst number) → (number ≡ next_limit server.old.reserved)
+        × ((h : served.History) (o : Own) → ServesWith server.old o h → WantsSave true (upcoming o) server.old.reserved) }
+    ensures refuses { (h : served.History) (o : Own) → ServesWith server.old o h → IsTicket ticket.now → WantsSave true (upcoming o) server.old.reserved
+        → result ≡ Err (replies.SaveFirst (next_limit server.old.reserved)) }
+    ensures bad { result ≡ Err replies.BadHandle → IsKeptServer server.old → IsTicket ticket.now → ⊥ }
+    ensures accepted { result ≢ Err replies.BadHandle → IsKeptServer server.old × IsTicket ticket.now }
+    ensures within { IfOk result (λ n. n ≤ length out.new) }
+    ensures behind { IfOk result (λ n. drop n out.new ≡ drop n out.old) }
+    ensures unchanged { OnErr result ((out.new ≡ out.old) × (server.new ≡ server.old)) }
+{
+    kept_ends_in_world();
+    server.notify(ticket, plain, out)
 }
 
 /// `KeptClientHandle::begin`, where the number that was loaded isn't below the floor of that list.

@@ -6,7 +6,8 @@ ghost use Rattle.osc_context.specs.Reserving.{next_limit};
 ghost use Rattle.osc_context.specs.Views.{number_of};
 ghost use Rattle.osc_endpoint.specs.Deciding.{CanShow, Leaves};
 ghost use Rattle.osc_endpoint.specs.Life.{is_open_life};
-ghost use Rattle.osc_endpoint.specs.ServerHistory.{Add, Added, Begin, History, Reply, Then, life};
+ghost use Rattle.osc_endpoint.specs.ServerAnswer.{asks_own};
+ghost use Rattle.osc_endpoint.specs.ServerHistory.{Add, Added, Begin, History, Notify, Reply, Then, life};
 ghost use Rattle.osc_endpoint.specs.declared.outcome.Outcome.TheVariants.{KeeperFailed as KeeperFailedOutcome};
 ghost use Rattle.osc_endpoint.specs.declared.server_error.ReplyError.TheVariants.{KeeperFailed};
 ghost use Rattle.osc_endpoint.specs.declared.slot.Slot.{Slot as SlotOf};
@@ -193,7 +194,7 @@ impl KeptServerHandle {
     }
 
     /// Seals a reply to the request of a ticket, as `SingleServerHandle::reply` does, writes it to the front of `out`, and returns
-    /// how many bytes it wrote. With `own`, it needs a number. If a number has to be saved first, it returns that number. Refuses in
+    /// how many bytes it wrote. With `own`, or to a registration, it needs a number. If a number has to be saved first, it returns that number. Refuses in
     /// the order of `KeptReplyRefusal`; a refusal changes nothing.
     pub fn reply(
         &mut self,
@@ -204,14 +205,14 @@ impl KeptServerHandle {
         out: &mut [u8],
     ) -> Result<usize, KeptReplyRefusal>
         ensures answered { (h : History) (old : Own) → ServesWith self.old old h → IfSome (entry_of_kept_reply result out.new) (λ entry.
-            StepsServer h (Reply (ticket_in ticket.now) own mid (parts_of plain.now) (length out.old)) entry old self.new) }
+            StepsServer h (Reply (ticket_in ticket.now) (asks_own (ticket_in ticket.now) own) mid (parts_of plain.now) (length out.old)) entry old self.new) }
         ensures refused { (number : ℕ) → result ≡ Err (replies.SaveFirst number) → (number ≡ next_limit self.old.reserved)
-            × ((h : History) (o : Own) → ServesWith self.old o h → WantsSave own (upcoming o) self.old.reserved) }
-        ensures refuses { (h : History) (o : Own) → ServesWith self.old o h → IsTicket ticket.now → WantsSave own (upcoming o) self.old.reserved
+            × ((h : History) (o : Own) → ServesWith self.old o h → WantsSave (asks_own (ticket_in ticket.now) own) (upcoming o) self.old.reserved) }
+        ensures refuses { (h : History) (o : Own) → ServesWith self.old o h → IsTicket ticket.now → WantsSave (asks_own (ticket_in ticket.now) own) (upcoming o) self.old.reserved
             → result ≡ Err (replies.SaveFirst (next_limit self.old.reserved)) }
         ensures spent { result ≡ Err replies.TicketSpent → (h : History) (o : Own) → ServesWith self.old o h → IsSpent h (ticket_in ticket.now) }
         ensures once { IsTicket ticket.now → (h : History) (o : Own) → ServesWith self.old o h → IsSpent h (ticket_in ticket.now)
-            → (WantsSave own (upcoming o) self.old.reserved → ⊥) → result ≡ Err replies.TicketSpent }
+            → (WantsSave (asks_own (ticket_in ticket.now) own) (upcoming o) self.old.reserved → ⊥) → result ≡ Err replies.TicketSpent }
         ensures bad { result ≡ Err replies.BadHandle → IsKeptServer self.old → IsTicket ticket.now → ⊥ }
         ensures accepted { result ≢ Err replies.BadHandle → IsKeptServer self.old × IsTicket ticket.now }
         ensures limit_stays { self.new.reserved ≡ self.old.reserved }
@@ -223,7 +224,7 @@ impl KeptServerHandle {
         if !self.is_whole() || !ticket.is_whole() {
             return Err(KeptReplyRefusal::BadHandle);
         }
-        if let Some(number) = self.save_first(own) {
+        if let Some(number) = self.save_first(ticket.asks_own(own)) {
             return Err(KeptReplyRefusal::SaveFirst(number));
         }
         match self.server.reply(ticket, own, mid, plain, out) {
@@ -231,6 +232,43 @@ impl KeptServerHandle {
             Err(ReplyRefusal::TicketSpent) => Err(KeptReplyRefusal::TicketSpent),
             Err(ReplyRefusal::Refused(error)) => Err(KeptReplyRefusal::Refused(error)),
             Err(ReplyRefusal::BadHandle) => unreachable!(),
+        }
+    }
+
+    /// Seals a notification to the request of a ticket, as `SingleServerHandle::notify` does, writes it to the front of `out`, and
+    /// returns how many bytes it wrote. It needs a number. If a number has to be saved first, it returns that number. Refuses in the
+    /// order of `KeptReplyRefusal`, but never as spent; a refusal changes nothing. The ticket stays good.
+    pub fn notify(
+        &mut self,
+        ticket: &TicketHandle,
+        plain: &Message<'_>,
+        out: &mut [u8],
+    ) -> Result<usize, KeptReplyRefusal>
+        ensures answered { (h : History) (old : Own) → ServesWith self.old old h → IfSome (entry_of_kept_reply result out.new) (λ entry.
+            StepsServer h (Notify (ticket_in ticket.now) (parts_of plain.now) (length out.old)) entry old self.new) }
+        ensures refused { (number : ℕ) → result ≡ Err (replies.SaveFirst number) → (number ≡ next_limit self.old.reserved)
+            × ((h : History) (o : Own) → ServesWith self.old o h → WantsSave true (upcoming o) self.old.reserved) }
+        ensures refuses { (h : History) (o : Own) → ServesWith self.old o h → IsTicket ticket.now → WantsSave true (upcoming o) self.old.reserved
+            → result ≡ Err (replies.SaveFirst (next_limit self.old.reserved)) }
+        ensures bad { result ≡ Err replies.BadHandle → IsKeptServer self.old → IsTicket ticket.now → ⊥ }
+        ensures accepted { result ≢ Err replies.BadHandle → IsKeptServer self.old × IsTicket ticket.now }
+        ensures limit_stays { self.new.reserved ≡ self.old.reserved }
+        ensures within { IfOk result (λ n. n ≤ length out.new) }
+        ensures behind { IfOk result (λ n. drop n out.new ≡ drop n out.old) }
+        ensures unchanged { OnErr result ((out.new ≡ out.old) × (self.new ≡ self.old)) }
+        ensures never_spent { result ≢ Err replies.TicketSpent }
+        ensures no_keeper_failed { result ≢ Err (replies.Refused KeeperFailed) }
+    {
+        if !self.is_whole() || !ticket.is_whole() {
+            return Err(KeptReplyRefusal::BadHandle);
+        }
+        if let Some(number) = self.save_first(true) {
+            return Err(KeptReplyRefusal::SaveFirst(number));
+        }
+        match self.server.notify(ticket, plain, out) {
+            Some(Ok(len)) => Ok(len),
+            Some(Err(error)) => Err(KeptReplyRefusal::Refused(error)),
+            None => unreachable!(),
         }
     }
 }

@@ -9,8 +9,8 @@ mod reserving;
 
 pub use in_world::{
     begin_client_in_world, begin_server_in_world, client_saved_in_world, decide_bytes_in_world,
-    decide_response_bytes_in_world, forget_bytes_in_world, reply_bytes_in_world,
-    request_bytes_in_world, server_saved_in_world, take_bytes_in_world,
+    decide_response_bytes_in_world, forget_bytes_in_world, notify_bytes_in_world,
+    reply_bytes_in_world, request_bytes_in_world, server_saved_in_world, take_bytes_in_world,
     take_response_bytes_in_world,
 };
 pub use kept_client_handle::KeptClientHandle;

@@ -99,7 +99,7 @@ pub fn hear(client: &mut Client<8>, number: u64, datagram: &mut [u8]) -> Option<
     }
 }
 
-/// Passes a datagram to the server, which delivers it as the request with this number, and sends nothing.
+/// Passes a datagram to the server, which delivers it as the request with this number that registers nothing, and sends nothing.
 pub fn deliver(
     server: &mut Server,
     number: u64,
@@ -110,7 +110,11 @@ pub fn deliver(
 {
     let (fresh, mut out) = (Fresh { echo, mid: 0 }, [0u8; 64]);
     match server.take(0, fresh, datagram, &mut out).outcome {
-        Outcome::Deliver(_, ticket) if ticket.number().number() == number => Some(ticket),
+        Outcome::Deliver(_, ticket)
+            if ticket.number().number() == number && !ticket.observes() =>
+        {
+            Some(ticket)
+        }
         _ => None,
     }
 }

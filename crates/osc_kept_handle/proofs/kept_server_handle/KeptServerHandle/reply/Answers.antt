@@ -1,5 +1,6 @@
 use Rattle.std.proofs.Common.{◌≡◌, ◌∙◌, IfSome, Err, length, refl, subst, sym, take}
 use Rattle.osc_coap.specs.Views.{parts_of}
+use Rattle.osc_endpoint.specs.ServerAnswer.{asks_own}
 use Rattle.osc_handle.specs.ServerBytes.{RepliesIn, entry_of_reply}
 use Rattle.osc_handle.specs.SingleServerBytes.{server_of_one}
 use Rattle.osc_handle.specs.TicketBytes.{ticket_in}
@@ -14,7 +15,7 @@ returns-in-Some-clause-once c = λ ticket h o w spent none. absurd (none (c.in-S
 
 pub returns-in-Ok-clause-answered : goal.returns-in-Ok-clause-answered
 returns-in-Ok-clause-answered c = λ h old w.
-    replied c.args.self.now _ h (ticket_in c.args.ticket.now) c.args.own c.args.mid (parts_of c.args.plain.now) (length c.args.out.now) (take c.in-Ok.len c.reply.new.out) old w
+    replied c.args.self.now _ h (ticket_in c.args.ticket.now) (asks_own (ticket_in c.args.ticket.now) c.args.own) c.args.mid (parts_of c.args.plain.now) (length c.args.out.now) (take c.in-Ok.len c.reply.new.out) old w
     (c.save_first.ensures.accepted c.in_default.is h old w) (c.in-Ok.ensures.answered h w.serves) (c.in-Ok.ensures.bytes w.whole.bytes) refl
 
 pub returns-in-Ok-clause-refuses : goal.returns-in-Ok-clause-refuses
@@ -29,8 +30,8 @@ returns-in-Err-TicketSpent-clause-refuses c = λ h o w ticket wants. absurd (c.s
 pub returns-in-Err-Refused-clause-answered : goal.returns-in-Err-Refused-clause-answered
 returns-in-Err-Refused-clause-answered c = λ h old w.
     let t = ticket_in c.args.ticket.now in
-    let Answered : ReplyRefusal → Type 0 = λ r. IfSome (entry_of_reply (Err r) c.reply.new.out) (λ entry. RepliesIn h t c.args.own c.args.mid (parts_of c.args.plain.now) (length c.args.out.now) entry (server_of_one c.reply.new.self)) in
-    not_replied c.args.self.now _ h t c.args.own c.args.mid (parts_of c.args.plain.now) (length c.args.out.now) c.in-Err-Refused.error old w
+    let Answered : ReplyRefusal → Type 0 = λ r. IfSome (entry_of_reply (Err r) c.reply.new.out) (λ entry. RepliesIn h t (asks_own t c.args.own) c.args.mid (parts_of c.args.plain.now) (length c.args.out.now) entry (server_of_one c.reply.new.self)) in
+    not_replied c.args.self.now _ h t (asks_own t c.args.own) c.args.mid (parts_of c.args.plain.now) (length c.args.out.now) c.in-Err-Refused.error old w
     (c.save_first.ensures.accepted c.in_default.is h old w) (subst Answered c.in-Err-Refused.field-0-is (c.in-Err-Refused.ensures.answered h w.serves)) (c.in-Err-Refused.ensures.bytes w.whole.bytes) refl
 
 pub returns-in-Err-Refused-clause-refuses : goal.returns-in-Err-Refused-clause-refuses
