@@ -133,6 +133,12 @@ WRAP(server_reply, oscore_status, (oscore_server *server, const oscore_ticket *t
     return __real_oscore_server_reply(server, ticket, own, mid, plain, plain_len, out, out_room, out_len, detail);
 }
 
+WRAP(server_notify, oscore_status, (oscore_server *server, const oscore_ticket *ticket, const uint8_t *plain, size_t plain_len, uint8_t *out,
+                                    size_t out_room, size_t *out_len, size_t *detail)) {
+    STRUCT(server), STRUCT(ticket), BYTES(plain), SOME(out, out_room), STRUCT(out_len), STRUCT(detail);
+    return __real_oscore_server_notify(server, ticket, plain, plain_len, out, out_room, out_len, detail);
+}
+
 WRAP(server1_begin, oscore_status, (oscore_server1 *server, const oscore_context *context, bool restarted, uint64_t next,
                                     uint8_t window_places)) {
     STRUCT(server), STRUCT(context);
@@ -157,6 +163,12 @@ WRAP(server1_reply, oscore_status, (oscore_server1 *server, const oscore_ticket 
                                     size_t plain_len, uint8_t *out, size_t out_room, size_t *out_len, size_t *detail)) {
     STRUCT(server), STRUCT(ticket), BYTES(plain), SOME(out, out_room), STRUCT(out_len), STRUCT(detail);
     return __real_oscore_server1_reply(server, ticket, own, mid, plain, plain_len, out, out_room, out_len, detail);
+}
+
+WRAP(server1_notify, oscore_status, (oscore_server1 *server, const oscore_ticket *ticket, const uint8_t *plain, size_t plain_len, uint8_t *out,
+                                     size_t out_room, size_t *out_len, size_t *detail)) {
+    STRUCT(server), STRUCT(ticket), BYTES(plain), SOME(out, out_room), STRUCT(out_len), STRUCT(detail);
+    return __real_oscore_server1_notify(server, ticket, plain, plain_len, out, out_room, out_len, detail);
 }
 
 WRAP(client_begin, oscore_status, (oscore_client *client, const oscore_context *context, uint64_t next, uint64_t life_ms)) {

@@ -32,9 +32,10 @@ static const uint8_t PRK[3][32] = {{0xbf, 0x4f, 0x72, 0xde, 0x4e, 0xed, 0x44, 0x
                                     0xa6, 0xa6, 0xb8, 0xaa, 0xf6, 0x57, 0xfb, 0x57, 0xf2, 0x7f, 0x68, 0x7a, 0x56, 0x09, 0x13, 0xc4},
                                    {0xb5, 0x30, 0xac, 0xf8, 0xa6, 0x31, 0xf4, 0xa9, 0x66, 0xa1, 0xf6, 0x17, 0x89, 0x05, 0xf9, 0x2a,
                                     0x9a, 0x37, 0x08, 0x20, 0x6e, 0xff, 0x96, 0x8b, 0x7e, 0xd6, 0xba, 0x0c, 0x10, 0xf3, 0xd6, 0x8c}};
-/* PUT /lock with the token 07, and with 08; and an answer. */
+/* PUT /lock with the token 07, and with 08; an answer, and a notification. */
 static const uint8_t ASKS[2][28] = {"\x41\3\0\1\7\xb4lock\xffthe door is shut", "\x41\3\0\2\x08\xb4lock\xffthe door is shut"};
-static const uint8_t ANSWER[23] = "\x61\x44\0\1\7\xffthe door is shut", RANDOM[8] = {4, 4, 4, 4, 4, 4, 4, 4};
+static const uint8_t ANSWER[23] = "\x61\x44\0\1\7\xffthe door is shut", NOTE[24] = "\x61\x45\0\1\7\x60\xffthe door is shut",
+                     RANDOM[8] = {4, 4, 4, 4, 4, 4, 4, 4};
 
 /* Who wipes the stack behind a call: nobody, the function that made it, or the one that called that. */
 static enum { NOBODY, CALLER, ITS_CALLER } wiping;
@@ -62,7 +63,7 @@ static void fails(int line, const char *condition) {
         if (wiping == CALLER) oscore_wipe_stack(); \
         return status; \
     }
-CALL(derive, &client_end, secret, 16, SALT, 8, false, NULL, 0, NULL, 0, &ONE, 1, constant_time, false, false)
+CALL(derive, &client_end, secret, 16, SALT, 8, false, NULL, 0, NULL, 0, &ONE, 1, constant_time, false, true)
 CALL(seal_request, &client_end, NUMBER, ASKS[0], sizeof ASKS[0] - 1, out, ROOM, &out_len, &detail)
 CALL(seal_response, &server_end, NUMBER, false, 0, ANSWER, sizeof ANSWER - 1, response, ROOM, &response_len, &detail)
 CALL(open_request, &server_end, request, request_len, options, 4, &opened, &detail)
@@ -71,6 +72,7 @@ CALL(server_add, &server, &server_end, false, 0, 32, &at)
 CALL(server_restart, &server, 0, 5)
 CALL(server_take, &server, 0, RANDOM, 1, request, request_len, options, 4, &opened, &ticket, out, &out_len, &detail)
 CALL(server_reply, &server, &ticket, true, 1, ANSWER, sizeof ANSWER - 1, out, ROOM, &out_len, &detail)
+CALL(server_notify, &server, &ticket, NOTE, sizeof NOTE - 1, out, ROOM, &out_len, &detail)
 CALL(client_begin, &client, &client_end, NUMBER, LIFE)
 CALL(client_request, &client, 0, ASKS[1], sizeof ASKS[1] - 1, out, ROOM, &out_len, &detail)
 CALL(client_take, &client, 0, response, response_len, options, 4, &opened, &number, &detail)
@@ -100,6 +102,7 @@ static const row ROWS[] = {
     {"server_take, challenge", server_take, RESTARTED, OSCORE_CHALLENGE},
     {"server_take, replay", server_take, TAKEN, OSCORE_REPLAY},
     {"server_reply", server_reply, TAKEN, OSCORE_DONE},
+    {"server_notify", server_notify, TAKEN, OSCORE_DONE},
     {"client_begin", client_begin, SENT, OSCORE_DONE},
     {"client_request", client_request, SENT, OSCORE_DONE},
     {"client_take", client_take, SENT, OSCORE_DONE},
@@ -112,12 +115,14 @@ static void prepare(int which, before before) {
     uint8_t sent[ROOM];
     secret = SECRETS[which];
     CHECK(!derive());
-    CHECK(!oscore_derive(&server_end, secret, 16, SALT, 8, false, NULL, 0, &ONE, 1, NULL, 0, constant_time, false, false));
+    CHECK(!oscore_derive(&server_end, secret, 16, SALT, 8, false, NULL, 0, &ONE, 1, NULL, 0, constant_time, false, true));
     oscore_server_begin(&server);
     CHECK(!client_begin() && !seal_response() && (before == EMPTY || !server_add()));
     CHECK(!oscore_client_request(&client, 0, ASKS[0], sizeof ASKS[0] - 1, request, ROOM, &request_len, &detail));
     memcpy(sent, request, request_len);
     if (before == TAKEN) CHECK(!server_take());
+    /* As if it had registered. */
+    ticket.observes = before == TAKEN;
     memcpy(request, sent, request_len);
     if (before == TURNED) request[request_len - 1] ^= 1;
     if (before == RESTARTED) CHECK(!server_restart());

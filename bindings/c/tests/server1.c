@@ -1,6 +1,6 @@
 /* A server of one context: RFC 8613, C.4, C.7 and C.8, by tables and in constant time; the statuses that are its own; and, event by
    event, that it answers what a server does that has this context alone, and comes to the same bytes: under random requests, replays,
-   spoilt datagrams, replies, restarts and spoilt bytes. All that is handed in lies against a guard page. Built with the sanitizers by
+   spoilt datagrams, replies, notifications, restarts and spoilt bytes. All that is handed in lies against a guard page. Built with the sanitizers by
    .ci/run, and run under valgrind's memcheck with fewer rounds, which its only word says. */
 #include "guarded.h"
 #include "../oscore.h"
@@ -12,6 +12,9 @@ static const char *SEALED = "44025d1f00003974396c6f63616c686f7374620914ff612f109
 static const char *ANSWER = "64455d1f00003974ff48656c6c6f20576f726c6421";
 static const char *SEALED_ANSWERS[2] = {"64445d1f0000397490ffdbaad1e9a7e7b2a813d3c31524378303cdafae119106",
                                         "64445d1f00003974920100ff4d4c13669384b67354b2b6175ff4b8658c666a6cf88e"};
+
+/* 2.05 with Observe, as a notification. */
+static const char *NOTE = "504512346101ff48656c6c6f20576f726c6421";
 
 enum { NOW = 1000, MID = 0x1234, TICKETS = 8 };
 /* What is handed in, each at a place of its own; what both servers are given, twice. */
@@ -59,8 +62,8 @@ static void derive(bool constant_time) {
     const uint8_t *secret = guarded_copy(SECRET, bytes, hex("0102030405060708090a0b0c0d0e0f10", bytes));
     const uint8_t *salt = guarded_copy(SALT, bytes, hex("9e7ca92223786340", bytes));
     const uint8_t *none = guarded_room(ID_CONTEXT, 0), *empty = guarded_room(SENDER, 0), *server_id = guarded_copy(RECIPIENT, &one_byte, 1);
-    CHECK(!oscore_derive(client, secret, 16, salt, 8, false, none, 0, empty, 0, server_id, 1, constant_time, false, false));
-    CHECK(!oscore_derive(own, secret, 16, salt, 8, false, none, 0, server_id, 1, empty, 0, constant_time, false, false));
+    CHECK(!oscore_derive(client, secret, 16, salt, 8, false, none, 0, empty, 0, server_id, 1, constant_time, false, true));
+    CHECK(!oscore_derive(own, secret, 16, salt, 8, false, none, 0, server_id, 1, empty, 0, constant_time, false, true));
 }
 
 static void begin(bool restarted, uint64_t next, uint8_t places) {
@@ -106,6 +109,21 @@ static written take_at(bool alone, uint64_t now, const uint8_t *echo, const uint
     return w;
 }
 
+static written notify_at(bool alone, const oscore_ticket *of, const uint8_t *bytes, size_t len, size_t room) {
+    written w;
+    memset(&w, 0, sizeof w);
+    uint8_t *out = guarded(OUT, room);
+    size_t *out_len = guarded(OUT_LEN, sizeof *out_len), *detail = guarded(DETAIL, sizeof *detail);
+    const uint8_t *plain = guarded_copy(PLAIN, bytes, len);
+    *out_len = 99;
+    of = guarded_copy(ANSWERED, of, sizeof *of);
+    w.status = alone ? oscore_server1_notify(one, of, plain, len, out, room, out_len, detail)
+                     : oscore_server_notify(eight, of, plain, len, out, room, out_len, detail);
+    w.out_len = *out_len, w.detail = *detail;
+    memcpy(w.out, out, room);
+    return w;
+}
+
 static written reply_at(bool alone, const oscore_ticket *of, bool with_number, const uint8_t *bytes, size_t len, size_t room) {
     written w;
     memset(&w, 0, sizeof w);
@@ -132,6 +150,12 @@ static written both_take(uint64_t now, const uint8_t *echo, const uint8_t *bytes
 
 static written both_reply(const oscore_ticket *of, bool with_number, const uint8_t *bytes, size_t len, size_t room) {
     written w = reply_at(false, of, with_number, bytes, len, room), v = reply_at(true, of, with_number, bytes, len, room);
+    CHECK(v.status == w.status && v.out_len == w.out_len && v.detail == w.detail && !memcmp(v.out, w.out, room) && agree());
+    return v;
+}
+
+static written both_notify(const oscore_ticket *of, const uint8_t *bytes, size_t len, size_t room) {
+    written w = notify_at(false, of, bytes, len, room), v = notify_at(true, of, bytes, len, room);
     CHECK(v.status == w.status && v.out_len == w.out_len && v.detail == w.detail && !memcmp(v.out, w.out, room) && agree());
     return v;
 }
@@ -178,7 +202,7 @@ static void refuses(void) {
 }
 
 /* A random event at both. */
-static void event(oscore_ticket *tickets, uint64_t *clock, int *delivered) {
+static void event(oscore_ticket *tickets, uint64_t *clock, int *delivered, int *notified) {
     static uint8_t last[128];
     static size_t last_len;
     uint8_t echo[8], bytes[128];
@@ -189,19 +213,25 @@ static void event(oscore_ticket *tickets, uint64_t *clock, int *delivered) {
         uint64_t next = (uint64_t)(rand() % 4 ? rand() % 1000 : (int)(NUMBERS - 1));
         CHECK(oscore_server_restart(eight, 0, next) == oscore_server1_restart(one, next) && agree());
     } else if (what < 6) {
-        size_t len = hex(ANSWER, bytes), room = rand() % 8 ? 64 : (size_t)rand() % 64;
+        bool notifies = rand() % 2;
+        size_t len = hex(notifies ? NOTE : ANSWER, bytes), room = rand() % 8 ? 64 : (size_t)rand() % 64;
         oscore_ticket ticket = tickets[rand() % TICKETS];
         if (rand() % 4 == 0) ((uint8_t *)&ticket)[(size_t)rand() % sizeof ticket] ^= (uint8_t)(1 << rand() % 8);
         if (rand() % 8 == 0) bytes[(size_t)rand() % len] ^= (uint8_t)(1 << rand() % 8);
-        both_reply(&ticket, rand() % 2, bytes, len, room);
+        if (notifies)
+            *notified += !both_notify(&ticket, bytes, len, room).status;
+        else
+            both_reply(&ticket, rand() % 2, bytes, len, room);
     } else {
-        /* A GET with a token of 0 to 8 bytes, with the Echo value that is asked for in half of them. */
+        /* A GET with a token of 0 to 8 bytes; half of them register, and half have the Echo value that is asked for. */
+        bool registers = rand() % 2;
         size_t len = 4 + (size_t)(rand() % 9), *sealed_len = guarded_room(INDEX, sizeof *sealed_len), *detail = guarded_room(DETAIL, sizeof *detail);
         memcpy(bytes, (const uint8_t[]){(uint8_t)(0x40 | rand() % 2 << 4), 1, 0x5d, 0x1f}, 4);
         bytes[0] |= (uint8_t)(len - 4);
         for (size_t i = 4; i < len; i++) bytes[i] = (uint8_t)rand();
+        if (registers) bytes[len++] = 0x60;
         if (rand() % 2) {
-            memcpy(bytes + len, (const uint8_t[]){0xd8, 0xef}, 2);
+            memcpy(bytes + len, (const uint8_t[]){0xd8, registers ? 0xe9 : 0xef}, 2);
             memcpy(bytes + len + 2, one->context.echo, 8);
             len += 10;
         }
@@ -219,14 +249,14 @@ static void event(oscore_ticket *tickets, uint64_t *clock, int *delivered) {
 
 static void answers_alike(void) {
     oscore_ticket tickets[TICKETS];
-    int delivered = 0;
+    int delivered = 0, notified = 0;
     for (int life = 0; life < 8; life++) {
         uint64_t clock = 0;
         memset(tickets, 0, sizeof tickets);
         begin(life % 2, (uint64_t)life, life % 4 < 2 ? 32 : 64);
-        for (int i = 0; i < rounds / 8; i++) event(tickets, &clock, &delivered);
+        for (int i = 0; i < rounds / 8; i++) event(tickets, &clock, &delivered, &notified);
     }
-    CHECK(delivered > rounds / 16);
+    CHECK(delivered > rounds / 16 && notified > rounds / 100);
 }
 
 /* One byte of the server: where the other refuses the same bytes, so does this one. */

@@ -1,6 +1,6 @@
 -- So much room is enough: a sealing isn't refused for want of it. s are the bytes of a server before a call, c those of a
 -- client or of a context, t those of a ticket, new are the bytes afterwards, plain is the datagram of a plain message, room the length of the buffer.
-use Rattle.std.proofs.Common.{◌≡◌, ℕ, ◌+◌, ◌≤◌, Bool, true, false, List, Option, zero, suc, length, ap, sym, subst, arith, length-take}
+use Rattle.std.proofs.Common.{◌≡◌, ℕ, ◌+◌, ◌≤◌, Bool, true, List, Option, zero, suc, length, ap, sym, subst, arith, length-take}
 use Rattle.osc_coap.specs.Datagram.{Parts, IsDatagram}
 use Rattle.osc_coap.specs.Laws.{DatagramHasItsLength, OptionsAscend}
 use Rattle.osc_coap.specs.declared.message.Kind.{Kind}

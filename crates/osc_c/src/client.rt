@@ -1,6 +1,6 @@
 //! A client, for C. Its bytes belong to the caller, and each call does what the client does.
 
-ghost use Rattle.std.specs.Prelude.{◌≡◌, ◌≢◌, ◌≤◌, ◌<◌, ◌+◌, ◌^◌, ℕ, IfOk, IfErr, IsOk, OnErr, true, false, take, drop, map, length};
+ghost use Rattle.std.specs.Prelude.{◌≡◌, ◌≢◌, ◌≤◌, ◌<◌, ◌^◌, ℕ, IfOk, IfErr, IsOk, OnErr, true, false, take, drop, map, length};
 ghost use Rattle.osc_coap.specs.Datagram.{Parts, IsDatagram};
 ghost use Rattle.osc_coap.specs.Fault.{HasFault};
 ghost use Rattle.osc_coap.specs.declared.format_error.Fault.{Fault as FaultOf};

@@ -1,4 +1,4 @@
-use Rattle.std.proofs.Common.{ap, length, refl, subst, Ok, Err, Result, ℕ, take}
+use Rattle.std.proofs.Common.{ap, length, refl, subst, Result, ℕ}
 use Rattle.osc_coap.specs.Views.{parts_of}
 use Rattle.osc_endpoint.specs.ServerHistory.{History}
 use Rattle.osc_endpoint.specs.Views.{reply_entry}

@@ -1,4 +1,4 @@
-use Rattle.std.proofs.Common.{◌≡◌, ◌∙◌, ap, arith, refl, sym, length}
+use Rattle.std.proofs.Common.{◌≡◌, ap, arith, sym, length}
 use Rattle.osc_coap.specs.Views.{parts_of}
 use Rattle.osc_endpoint.specs.ServerHistory.{life}
 use Rattle.osc_endpoint.specs.Views.{reply_entry}
