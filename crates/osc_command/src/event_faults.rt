@@ -45,6 +45,18 @@ const REPLY: Form = Form {
     names: "followed by EVENT own|shared MID PLAIN",
 };
 
+const NOTIFY: Form = Form {
+    word: "notify",
+    fields: &[Field::Event, Field::Plain],
+    names: "followed by EVENT PLAIN",
+};
+
+const DROP: Form = Form {
+    word: "drop",
+    fields: &[Field::Event],
+    names: "followed by EVENT",
+};
+
 const REQUEST: Form = Form {
     word: "request",
     fields: &[Field::Now, Field::Plain],
@@ -75,19 +87,19 @@ const RESTART_ALONE: Form = Form {
     names: "followed by nothing with --numbers",
 };
 
-const SERVER_WORDS: &str = "take, reply and restart";
+const SERVER_WORDS: &str = "take, reply, notify, drop and restart";
 
 const CLIENT_WORDS: &str = "request, take, forget and restart";
 
 /// The events of a server.
 pub(crate) const SERVER: Forms = Forms {
-    forms: &[TAKE, REPLY, RESTART],
+    forms: &[TAKE, REPLY, NOTIFY, DROP, RESTART],
     words: SERVER_WORDS,
 };
 
 /// The events of a server whose numbers are kept in a file.
 pub(crate) const KEPT_SERVER: Forms = Forms {
-    forms: &[TAKE, REPLY, RESTART_ALONE],
+    forms: &[TAKE, REPLY, NOTIFY, DROP, RESTART_ALONE],
     words: SERVER_WORDS,
 };
 

@@ -21,6 +21,9 @@ Events of a server, one a line; bytes are hex, and - for none:
                                     ECHO (8 bytes) and MID (2) are drawn anew
   reply EVENT own|shared MID PLAIN  the answer to the request of an event,
                                     which is counted from 0
+  notify EVENT PLAIN                a notification to the request of an event,
+                                    with --allow observe
+  drop EVENT                        the request of an event is answered no more
   restart NEXT                      a new life, with the next own number NEXT
 
 Events of a client:

@@ -1,45 +1,27 @@
 -- What a line asks of a client is what is read of it.
-use Rattle.std.proofs.Common.{◌≡◌, ℕ, ◌^◌, List, ◌∷◌, [], ◌++◌, codes, Option, Some, None, true, option_map, refl, sym, ap, subst, ◌∙◌, inl, inr}
-use Rattle.std.specs.Prelude.{bytes_eq, unwrap_or}
+use Rattle.std.proofs.Common.{◌≡◌, ℕ, ◌^◌, List, ◌∷◌, [], ◌++◌, codes, Some, None, true, option_map, refl, sym, ap, subst, ◌∙◌, inl, inr}
+use Rattle.std.specs.Prelude.{bytes_eq}
 use Rattle.std.proofs.lemmas.Bool.{cases_Bool, cond-true, cond-false}
 use Rattle.std.proofs.lemmas.Slice.Eq.{bytes_eq-Decides}
 use Rattle.osc_text.specs.AskedEvents.{AskedEvent, Forget, Request, Restart, SpellsAsked, Take}
-use Rattle.osc_text.specs.AskedReading.{asked_read, asked_verb_read, timed_of, timed_read}
-use Rattle.osc_text.specs.InputReading.{bytes_read, number_read, split_once}
-use Rattle.osc_text.specs.Inputs.{SaysBelow, SaysBytes, parted}
-use Rattle.osc_text.proofs.InputSpellings.{IsInverse, bytes_say, map_some, no_space_number, no_space_test, number_says, says_bytes, says_number, then_some}
+use Rattle.osc_text.specs.AskedReading.{asked_read, asked_verb_read}
+use Rattle.osc_text.specs.InputReading.{bytes_read, number_read, numbered_read, split_once}
+use Rattle.osc_text.specs.Inputs.{parted}
+use Rattle.osc_text.proofs.InputSpellings.{IsInverse, bytes_say, map_some, no_space_test, number_says, numbered_says, says_bytes, says_number, says_numbered, then_some}
 use Rattle.osc_text.proofs.InputWords.{split_at, split_parts}
 
 -- ---- what is read is spelled
 
-timed_both : (a : Option ℕ) (b : Option (List ℕ)) (t : ℕ × List ℕ) → timed_of a b ≡ Some t → (a ≡ Some t.0) × (b ≡ Some t.1)
-timed_both (Some now) (Some bytes) t h =
-    let same : (now, bytes) ≡ t = ap (λ (o : Option (ℕ × List ℕ)). unwrap_or o (now, bytes)) h in
-    (ap (λ (u : ℕ × List ℕ). Some u.0) same, ap (λ (u : ℕ × List ℕ). Some u.1) same)
-timed_both (Some now) None t h = cc h
-timed_both None b t h = cc h
-
--- the fields say a moment and bytes
-abbrev SaysTimed : List ℕ → ℕ × List ℕ → Type 0
-SaysTimed fields t = (n b : List ℕ) × (fields ≡ parted (n ∷ b ∷ [])) × SaysBelow (2 ^ 64) n t.0 × SaysBytes b t.1
-
-timed_says : (fields : List ℕ) (t : ℕ × List ℕ) → timed_read fields ≡ Some t → SaysTimed fields t
-unfolding timed_read
-timed_says fields t h =
-    let p = then_some _ (split_once 32 fields) t h in
-    let both = timed_both _ _ t p.2 in
-    (p.0.0, p.0.1, (split_parts 32 fields p.0 p.1).0, number_says (2 ^ 64) p.0.0 t.0 both.0, bytes_say p.0.1 t.1 both.1)
-
-request_says : (fields : List ℕ) (e : AskedEvent) → option_map (λ t. Request t.0 t.1) (timed_read fields) ≡ Some e → SpellsAsked (codes "request" ++ 32 ∷ fields) e
+request_says : (fields : List ℕ) (e : AskedEvent) → option_map (λ t. Request t.0 t.1) (numbered_read fields) ≡ Some e → SpellsAsked (codes "request" ++ 32 ∷ fields) e
 request_says fields e h =
-    let p = map_some (λ t. Request t.0 t.1) (timed_read fields) e h in
-    let s = timed_says fields p.0 p.1 in
+    let p = map_some (λ t. Request t.0 t.1) (numbered_read fields) e h in
+    let s = numbered_says fields p.0 p.1 in
     subst (SpellsAsked (codes "request" ++ 32 ∷ fields)) p.2 (s.0, s.1, ap (λ (r : List ℕ). codes "request" ++ 32 ∷ r) s.2, s.3, s.4)
 
-take_says : (fields : List ℕ) (e : AskedEvent) → option_map (λ t. Take t.0 t.1) (timed_read fields) ≡ Some e → SpellsAsked (codes "take" ++ 32 ∷ fields) e
+take_says : (fields : List ℕ) (e : AskedEvent) → option_map (λ t. Take t.0 t.1) (numbered_read fields) ≡ Some e → SpellsAsked (codes "take" ++ 32 ∷ fields) e
 take_says fields e h =
-    let p = map_some (λ t. Take t.0 t.1) (timed_read fields) e h in
-    let s = timed_says fields p.0 p.1 in
+    let p = map_some (λ t. Take t.0 t.1) (numbered_read fields) e h in
+    let s = numbered_says fields p.0 p.1 in
     subst (SpellsAsked (codes "take" ++ 32 ∷ fields)) p.2 (s.0, s.1, ap (λ (r : List ℕ). codes "take" ++ 32 ∷ r) s.2, s.3, s.4)
 
 forget_says : (fields : List ℕ) (e : AskedEvent) → option_map Forget (bytes_read fields) ≡ Some e → SpellsAsked (codes "forget" ++ 32 ∷ fields) e
@@ -82,16 +64,12 @@ line_says line e h =
 
 -- ---- what is spelled is read
 
-says_timed : (n b : List ℕ) (now : ℕ) (bytes : List ℕ) → SaysBelow (2 ^ 64) n now → SaysBytes b bytes → timed_read (parted (n ∷ b ∷ [])) ≡ Some (now, bytes)
-unfolding timed_read
-says_timed n b now bytes says_n says_b = rw (split_at 32 n b (no_space_number _ n now says_n), says_number (2 ^ 64) n now says_n, says_bytes b bytes says_b) refl
-
 says_line : (line : List ℕ) (e : AskedEvent) → SpellsAsked line e → asked_read line ≡ Some e
 unfolding asked_read asked_verb_read
 says_line line (Request now plain) (n, p, is, says_n, says_p) =
-    rw (is, split_at 32 (codes "request") (parted (n ∷ p ∷ [])) (no_space_test (codes "request") refl), says_timed n p now plain says_n says_p) refl
+    rw (is, split_at 32 (codes "request") (parted (n ∷ p ∷ [])) (no_space_test (codes "request") refl), says_numbered n p now plain says_n says_p) refl
 says_line line (Take now datagram) (n, d, is, says_n, says_d) =
-    rw (is, split_at 32 (codes "take") (parted (n ∷ d ∷ [])) (no_space_test (codes "take") refl), says_timed n d now datagram says_n says_d) refl
+    rw (is, split_at 32 (codes "take") (parted (n ∷ d ∷ [])) (no_space_test (codes "take") refl), says_numbered n d now datagram says_n says_d) refl
 says_line line (Forget token) (t, is, says_t) = rw (is, split_at 32 (codes "forget") t (no_space_test (codes "forget") refl), says_bytes t token says_t) refl
 says_line line (Restart next) (n, is, says_n) = rw (is, split_at 32 (codes "restart") n (no_space_test (codes "restart") refl), says_number (2 ^ 40) n next says_n) refl
 

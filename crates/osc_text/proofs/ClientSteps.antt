@@ -1,9 +1,9 @@
 -- A run of a client of the code is one of the lines' events, and each has one line.
-use Rattle.std.proofs.Common.{◌≡◌, ℕ, List, [], ◌∷◌, All, map, length, refl, sym, ap, subst, ◌∙◌}
+use Rattle.std.proofs.Common.{◌≡◌, ℕ, List, [], ◌∷◌, ◌++◌, All, codes, map, length, refl, sym, ap, subst, ◌∙◌}
 use Rattle.std.proofs.lemmas.List.Elements.{All-head, All-tail}
 use Rattle.osc_coap.specs.Datagram.{Parts, IsDatagram}
 use Rattle.osc_coap.specs.Laws.{DatagramHasNoFault, DatagramHasOneFault, DatagramIsOneMessage}
-use Rattle.osc_endpoint.specs.ClientHistory.{History, Then, Event, Entry, Answer, Request, Datagram, Forget, Restart, Advance, Sent, NotSent, Took, Forgot, Restarted, Advanced, Malformed, NotResponse, UnknownToken, Unprotected, Undecodable, BadTag, BadInner, Deliver, next}
+use Rattle.osc_endpoint.specs.ClientHistory.{History, Then, Event, Entry, Answer, Request, Datagram, Forget, Restart, Advance, Sent, NotSent, Took, Forgot, Restarted, Advanced, Malformed, NotResponse, UnknownToken, Unprotected, Undecodable, BadTag, BadInner, Old, Notified, Deliver, next}
 use Rattle.osc_endpoint.specs.ClientRun.{GoesOn, RequestStep, Run, ClientRunStep}
 use Rattle.osc_endpoint.specs.Text.{request_error_text}
 use Rattle.osc_endpoint.specs.Received.{Received}
@@ -36,7 +36,9 @@ outcome_is outcomes.Unprotected Unprotected h = refl
 outcome_is outcomes.Undecodable Undecodable h = refl
 outcome_is outcomes.BadTag BadTag h = refl
 outcome_is outcomes.BadInner BadInner h = refl
-outcome_is (outcomes.Deliver opened piv) (Deliver received number) h = rw (h.1) (ap (λ (r : Received). response_text number r.number r.message) h.0)
+outcome_is outcomes.Old Old h = refl
+outcome_is (outcomes.Notified opened piv) (Notified received number) h = rw (h.1) (ap (λ (r : Received). codes "notified " ++ response_text number r.number r.message) h.0)
+outcome_is (outcomes.Deliver opened piv) (Deliver received number) h = rw (h.1) (ap (λ (r : Received). codes "deliver " ++ response_text number r.number r.message) h.0)
 outcome_is x answer h = absurd h
 
 -- a request of the code is one of the lines

@@ -15,8 +15,8 @@ use Rattle.hex.specs.Hex.{IsBytes, decode_of, decode_pairs, decode_sized, encode
 use Rattle.hex.specs.declared.error.FromHexError.{FromHexError}
 use Rattle.hex.proofs.HexLemmas.{decode_of-encode_lower, decode_of-ok, decode_of-same, decode_sized-ok, decode_sized-twice, length-encode_with}
 use Rattle.osc_text.specs.Hex.{SpellsBytes, small}
-use Rattle.osc_text.specs.InputEvents.{InputEvent, Reply, Restart, SaysMessageId, SpellsEvent, Take, own_word}
-use Rattle.osc_text.specs.InputReading.{SpellsNone, SpellsSeen, bytes_read, fixed_read, hex_decoded, number_read, split_once}
+use Rattle.osc_text.specs.InputEvents.{Drop, InputEvent, Notify, Reply, Restart, SaysMessageId, SpellsEvent, Take, own_word}
+use Rattle.osc_text.specs.InputReading.{SpellsNone, SpellsSeen, bytes_read, fixed_read, hex_decoded, number_read, numbered_of, numbered_read, split_once}
 use Rattle.osc_text.specs.Inputs.{SaysBelow, SaysBytes, parted}
 use Rattle.osc_text.specs.ServedReading.{event_read, four_read, message_id_read, own_read, reply_of, reply_read, take_of, take_read, verb_read}
 use Rattle.osc_text.specs.Numbers.{number_said}
@@ -220,6 +220,30 @@ four_parted fields w h =
     let c = split_parts 32 q.0.1 r.0 r.1 in
     subst (λ (x : Four). fields ≡ parted (x.0 ∷ x.1 ∷ x.2 ∷ x.3 ∷ [])) r.2 (a.0 ∙ ap (λ (t : List ℕ). p.0.0 ++ 32 ∷ t) (b.0 ∙ ap (λ (t : List ℕ). q.0.0 ++ 32 ∷ t) c.0))
 
+-- ---- a number and bytes
+
+numbered_both : (a : Option ℕ) (b : Option (List ℕ)) (t : ℕ × List ℕ) → numbered_of a b ≡ Some t → (a ≡ Some t.0) × (b ≡ Some t.1)
+numbered_both (Some n) (Some bytes) t h =
+    let same : (n, bytes) ≡ t = ap (λ (o : Option (ℕ × List ℕ)). unwrap_or o (n, bytes)) h in
+    (ap (λ (u : ℕ × List ℕ). Some u.0) same, ap (λ (u : ℕ × List ℕ). Some u.1) same)
+numbered_both (Some n) None t h = cc h
+numbered_both None b t h = cc h
+
+-- the fields say a number and bytes
+abbrev SaysNumbered : List ℕ → ℕ × List ℕ → Type 0
+SaysNumbered fields t = (n b : List ℕ) × (fields ≡ parted (n ∷ b ∷ [])) × SaysBelow (2 ^ 64) n t.0 × SaysBytes b t.1
+
+pub numbered_says : (fields : List ℕ) (t : ℕ × List ℕ) → numbered_read fields ≡ Some t → SaysNumbered fields t
+unfolding numbered_read
+numbered_says fields t h =
+    let p = then_some _ (split_once 32 fields) t h in
+    let both = numbered_both _ _ t p.2 in
+    (p.0.0, p.0.1, (split_parts 32 fields p.0 p.1).0, number_says (2 ^ 64) p.0.0 t.0 both.0, bytes_say p.0.1 t.1 both.1)
+
+pub says_numbered : (n b : List ℕ) (m : ℕ) (bytes : List ℕ) → SaysBelow (2 ^ 64) n m → SaysBytes b bytes → numbered_read (parted (n ∷ b ∷ [])) ≡ Some (m, bytes)
+unfolding numbered_read
+says_numbered n b m bytes says_n says_b = rw (split_at 32 n b (no_space_number _ n m says_n), says_number (2 ^ 64) n m says_n, says_bytes b bytes says_b) refl
+
 -- ---- what is read is spelled
 
 take_all : (a : Option ℕ) (b : Option (List ℕ)) (c : Option ℕ) (d : Option (List ℕ)) (e : InputEvent) → take_of a b c d ≡ Some e
@@ -252,22 +276,43 @@ reply_says fields e h =
     subst (SpellsEvent (codes "reply" ++ 32 ∷ fields)) t.8
     (w.0, w.2, w.3, ap (λ (r : List ℕ). codes "reply" ++ 32 ∷ r) words, number_says (2 ^ 64) w.0 t.0 t.4, message_id_says w.2 t.2 t.6, bytes_say w.3 t.3 t.7)
 
+notify_says : (fields : List ℕ) (e : InputEvent) → option_map (λ t. Notify t.0 t.1) (numbered_read fields) ≡ Some e → SpellsEvent (codes "notify" ++ 32 ∷ fields) e
+notify_says fields e h =
+    let p = map_some (λ t. Notify t.0 t.1) (numbered_read fields) e h in
+    let s = numbered_says fields p.0 p.1 in
+    subst (SpellsEvent (codes "notify" ++ 32 ∷ fields)) p.2 (s.0, s.1, ap (λ (r : List ℕ). codes "notify" ++ 32 ∷ r) s.2, s.3, s.4)
+
+drop_says : (fields : List ℕ) (e : InputEvent) → option_map Drop (number_read (2 ^ 64) fields) ≡ Some e → SpellsEvent (codes "drop" ++ 32 ∷ fields) e
+drop_says fields e h =
+    let p = map_some Drop (number_read (2 ^ 64) fields) e h in
+    subst (SpellsEvent (codes "drop" ++ 32 ∷ fields)) p.2 (fields, refl, number_says (2 ^ 64) fields p.0 p.1)
+
 restart_says : (fields : List ℕ) (e : InputEvent) → option_map Restart (number_read (2 ^ 40) fields) ≡ Some e → SpellsEvent (codes "restart" ++ 32 ∷ fields) e
 restart_says fields e h =
     let p = map_some Restart (number_read (2 ^ 40) fields) e h in
     subst (SpellsEvent (codes "restart" ++ 32 ∷ fields)) p.2 (fields, refl, number_says (2 ^ 40) fields p.0 p.1)
 
+-- a line of the verb that was found
+with_verb : (verb word fields : List ℕ) (e : InputEvent) → bytes_eq verb word ≡ true → SpellsEvent (word ++ 32 ∷ fields) e → SpellsEvent (verb ++ 32 ∷ fields) e
+with_verb verb word fields e is s = subst (λ (v : List ℕ). SpellsEvent (v ++ 32 ∷ fields) e) (sym ((bytes_eq-Decides verb word).0 is)) s
+
 verb_says : (verb fields : List ℕ) (e : InputEvent) → verb_read verb fields ≡ Some e → SpellsEvent (verb ++ 32 ∷ fields) e
 unfolding verb_read
 verb_says verb fields e h = elim (cases_Bool (bytes_eq verb (codes "take"))) [
-  | inl is ↦ subst (λ (v : List ℕ). SpellsEvent (v ++ 32 ∷ fields) e) (sym ((bytes_eq-Decides verb (codes "take")).0 is)) (take_says fields e (sym (cond-true _ _ _ is) ∙ h))
+  | inl is ↦ with_verb verb (codes "take") fields e is (take_says fields e (sym (cond-true _ _ _ is) ∙ h))
   | inr a ↦ elim (cases_Bool (bytes_eq verb (codes "reply"))) [
-    | inl is ↦ subst (λ (v : List ℕ). SpellsEvent (v ++ 32 ∷ fields) e) (sym ((bytes_eq-Decides verb (codes "reply")).0 is)) (reply_says fields e (sym (cond-false _ _ _ a ∙ cond-true _ _ _ is) ∙ h))
-    | inr b ↦ elim (cases_Bool (bytes_eq verb (codes "restart"))) [
-      | inl is ↦ subst (λ (v : List ℕ). SpellsEvent (v ++ 32 ∷ fields) e) (sym ((bytes_eq-Decides verb (codes "restart")).0 is)) (restart_says fields e (sym (cond-false _ _ _ a ∙ cond-false _ _ _ b ∙ cond-true _ _ _ is) ∙ h))
-      | inr c ↦
-          let bad : None ≡ Some e = sym (cond-false _ _ _ a ∙ cond-false _ _ _ b ∙ cond-false _ _ _ c) ∙ h in
-          cc bad
+    | inl is ↦ with_verb verb (codes "reply") fields e is (reply_says fields e (sym (cond-false _ _ _ a ∙ cond-true _ _ _ is) ∙ h))
+    | inr b ↦ elim (cases_Bool (bytes_eq verb (codes "notify"))) [
+      | inl is ↦ with_verb verb (codes "notify") fields e is (notify_says fields e (sym (cond-false _ _ _ a ∙ cond-false _ _ _ b ∙ cond-true _ _ _ is) ∙ h))
+      | inr c ↦ elim (cases_Bool (bytes_eq verb (codes "drop"))) [
+        | inl is ↦ with_verb verb (codes "drop") fields e is (drop_says fields e (sym (cond-false _ _ _ a ∙ cond-false _ _ _ b ∙ cond-false _ _ _ c ∙ cond-true _ _ _ is) ∙ h))
+        | inr d ↦ elim (cases_Bool (bytes_eq verb (codes "restart"))) [
+          | inl is ↦ with_verb verb (codes "restart") fields e is (restart_says fields e (sym (cond-false _ _ _ a ∙ cond-false _ _ _ b ∙ cond-false _ _ _ c ∙ cond-false _ _ _ d ∙ cond-true _ _ _ is) ∙ h))
+          | inr f ↦
+              let bad : None ≡ Some e = sym (cond-false _ _ _ a ∙ cond-false _ _ _ b ∙ cond-false _ _ _ c ∙ cond-false _ _ _ d ∙ cond-false _ _ _ f) ∙ h in
+              cc bad
+        ]
+      ]
     ]
   ]
 ]
@@ -302,6 +347,9 @@ says_event line (Reply of own mid text) (n, m, d, is, says_n, says_m, says_d) =
       says_message_id m mid says_m,
       says_bytes d text says_d,
     ) refl
+says_event line (Notify of text) (n, d, is, says_n, says_d) =
+    rw (is, split_at 32 (codes "notify") (parted (n ∷ d ∷ [])) (no_space_test (codes "notify") refl), says_numbered n d of text says_n says_d) refl
+says_event line (Drop of) (n, is, says_n) = rw (is, split_at 32 (codes "drop") n (no_space_test (codes "drop") refl), says_number (2 ^ 64) n of says_n) refl
 says_event line (Restart next) (n, is, says_n) =
     rw (is, split_at 32 (codes "restart") n (no_space_test (codes "restart") refl), says_number (2 ^ 40) n next says_n) refl
 

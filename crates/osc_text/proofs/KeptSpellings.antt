@@ -11,7 +11,7 @@ use Rattle.osc_text.specs.InputEvents as input
 use Rattle.osc_text.specs.InputReading.{split_once}
 use Rattle.osc_text.specs.KeptAskedEvents.{KeptAsked, SpellsKeptAsked}
 use Rattle.osc_text.specs.KeptAskedEvents as kept_asked
-use Rattle.osc_text.specs.KeptEvents.{KeptEvent, Reply, Restart, SpellsKept, Take}
+use Rattle.osc_text.specs.KeptEvents.{Drop, KeptEvent, Notify, Reply, Restart, SpellsKept, Take}
 use Rattle.osc_text.specs.KeptReading.{kept_asked_of, kept_asked_read, kept_of, kept_read}
 use Rattle.osc_text.specs.ServedReading.{event_read}
 use Rattle.osc_text.proofs.AskedSpellings.{client_inverse}
@@ -24,6 +24,10 @@ kept_spelled : (line : List ℕ) (x : InputEvent) (e : KeptEvent) → SpellsEven
 kept_spelled line (input.Take now echo mid datagram) e s h =
     subst (SpellsKept line) (ap (λ (o : Option KeptEvent). unwrap_or o e) h) s
 kept_spelled line (input.Reply of own mid text) e s h =
+    subst (SpellsKept line) (ap (λ (o : Option KeptEvent). unwrap_or o e) h) s
+kept_spelled line (input.Notify of text) e s h =
+    subst (SpellsKept line) (ap (λ (o : Option KeptEvent). unwrap_or o e) h) s
+kept_spelled line (input.Drop of) e s h =
     subst (SpellsKept line) (ap (λ (o : Option KeptEvent). unwrap_or o e) h) s
 kept_spelled line (input.Restart next) e s h = cc h
 
@@ -54,6 +58,8 @@ says_kept : (line : List ℕ) (e : KeptEvent) → SpellsKept line e → kept_rea
 unfolding kept_read
 says_kept line (Take now echo mid datagram) s = kept_other line (input.Take now echo mid datagram) (server_inverse.said line (input.Take now echo mid datagram) s)
 says_kept line (Reply of own mid text) s = kept_other line (input.Reply of own mid text) (server_inverse.said line (input.Reply of own mid text) s)
+says_kept line (Notify of text) s = kept_other line (input.Notify of text) (server_inverse.said line (input.Notify of text) s)
+says_kept line (Drop of) s = kept_other line (input.Drop of) (server_inverse.said line (input.Drop of) s)
 says_kept line Restart s = rw s refl
 
 pub kept_inverse : IsInverse SpellsKept kept_read

@@ -1,17 +1,18 @@
 -- A server prints one text of an input.
-use Rattle.std.proofs.Common.{◌≡◌, ℕ, List, [], ◌∷◌, ◌++◌, Bool, Option, Some, None, sym, ap, ap₂, subst, ◌∙◌, slice_set}
+use Rattle.std.proofs.Common.{◌≡◌, ℕ, List, [], ◌∷◌, ◌++◌, Option, Some, None, sym, ap, ap₂, subst, ◌∙◌, slice_set}
 use Rattle.osc_coap.specs.Datagram.{Parts, IsDatagram}
 use Rattle.osc_coap.specs.Laws.{DatagramHasNoFault, DatagramHasOneFault, DatagramIsOneMessage}
 use Rattle.osc_endpoint.specs.Laws.{AllAnswers, OneServerAnswer}
-use Rattle.osc_endpoint.specs.ServerHistory.{Datagram, Entry, Event, History, NotReplied, NotRestarted, Replied, Reply, Restarted, Then, TicketValues, Took}
+use Rattle.osc_endpoint.specs.ServerAnswer.{asks_own}
+use Rattle.osc_endpoint.specs.ServerHistory.{Datagram, Entry, Event, History, NotReplied, NotRestarted, Notify, Replied, Reply, Restarted, Then, TicketValues, Took}
 use Rattle.osc_endpoint.specs.ServerRun.{GoesOn, ticket_at, ticket_of}
 use Rattle.osc_endpoint.specs.Text.{reply_error_text, restart_error_text}
 use Rattle.osc_text.specs.InputEvents.{InputEvent}
 use Rattle.osc_text.specs.InputEvents as input
 use Rattle.osc_text.specs.EntryLines.{bad_plain_line, not_done_line, restarted_line}
 use Rattle.osc_text.specs.ServerLines.{replied_line, took_line}
-use Rattle.osc_text.specs.Serving.{EventLine, ReplyLine, RestartLine, ServerLine, reply_room}
-use Rattle.osc_text.specs.Serving.ReplyLine.{bad_plain, no_ticket, refused, replied}
+use Rattle.osc_text.specs.Serving.{AnsweredLine, EventLine, RestartLine, ServerLine, reply_room}
+use Rattle.osc_text.specs.Serving.AnsweredLine.{bad_plain, no_ticket, refused, replied}
 use Rattle.osc_text.specs.Serving.RestartLine.{refused as not_restarted, restarted}
 use Rattle.osc_text.proofs.InputTexts.{OneLine}
 
@@ -29,10 +30,10 @@ abbrev given_by : Entry → Option TicketValues
 given_by (Took answer reply) = ticket_of answer
 given_by entry = None
 
--- the tickets behind a reply
-abbrev used_by : List (Option TicketValues) → ℕ → Entry → List (Option TicketValues)
-used_by ts of (Replied bytes) = slice_set ts of None
-used_by ts of entry = ts
+-- the tickets behind what was sent, if left are the tickets when it is sealed
+abbrev used_by : (ts left : List (Option TicketValues)) → Entry → List (Option TicketValues)
+used_by ts left (Replied bytes) = left
+used_by ts left entry = ts
 
 module _ (law : OneServerAnswer) (one : DatagramIsOneMessage) (one_fault : DatagramHasOneFault) (no_fault : DatagramHasNoFault) where
   -- an event has one entry
@@ -46,41 +47,41 @@ module _ (law : OneServerAnswer) (one : DatagramIsOneMessage) (one_fault : Datag
   one_ticket : (ts : List (Option TicketValues)) (of : ℕ) (t u : TicketValues) → ticket_at ts of ≡ Some t → ticket_at ts of ≡ Some u → u ≡ t
   one_ticket ts of t u a b = let e : Some u ≡ Some t = sym b ∙ a in cc e
 
-  -- two entries of one reply
-  one_sealing : (h k l : History) (ts us vs : List (Option TicketValues)) (of : ℕ) (own : Bool) (mid : ℕ) (plain m n : List ℕ) (t u : TicketValues) (p q : Parts) (x y : Entry) → AllAnswers h
+  -- two entries of one reply or notification
+  one_sealing : (h k l : History) (ts us vs : List (Option TicketValues)) (of : ℕ) (event : TicketValues → Parts → Event) (left : List (Option TicketValues)) (plain m n : List ℕ) (t u : TicketValues) (p q : Parts) (x y : Entry) → AllAnswers h
       → ticket_at ts of ≡ Some t → ticket_at ts of ≡ Some u → IsDatagram p plain → IsDatagram q plain
-      → GoesOn h (Reply t own mid p (reply_room plain)) x k → GoesOn h (Reply u own mid q (reply_room plain)) y l
-      → m ≡ line_of x → n ≡ line_of y → us ≡ used_by ts of x → vs ≡ used_by ts of y → (m ≡ n) × (k ≡ l) × (us ≡ vs)
-  one_sealing h k l ts us vs of own mid plain m n t u p q x y all at_t at_u is_p is_q a b text text_too used used_too =
-      let goes = subst (λ (r : TicketValues). GoesOn h (Reply r own mid q (reply_room plain)) y l) (one_ticket ts of t u at_t at_u) b in
-      let same = subst (λ (r : Parts). GoesOn h (Reply t own mid r (reply_room plain)) y l) (one q p plain is_q is_p) goes in
+      → GoesOn h (event t p) x k → GoesOn h (event u q) y l
+      → m ≡ line_of x → n ≡ line_of y → us ≡ used_by ts left x → vs ≡ used_by ts left y → (m ≡ n) × (k ≡ l) × (us ≡ vs)
+  one_sealing h k l ts us vs of event left plain m n t u p q x y all at_t at_u is_p is_q a b text text_too used used_too =
+      let goes = subst (λ (r : TicketValues). GoesOn h (event r q) y l) (one_ticket ts of t u at_t at_u) b in
+      let same = subst (λ (r : Parts). GoesOn h (event t r) y l) (one q p plain is_q is_p) goes in
       let entries = one_entry h k l _ x y all a same in
-      (text ∙ ap line_of entries ∙ sym text_too, one_history h k l _ x y all a same, used ∙ ap (used_by ts of) entries ∙ sym used_too)
+      (text ∙ ap line_of entries ∙ sym text_too, one_history h k l _ x y all a same, used ∙ ap (used_by ts left) entries ∙ sym used_too)
 
-  one_reply_line : (h k l : History) (ts us vs : List (Option TicketValues)) (of : ℕ) (own : Bool) (mid : ℕ) (plain m n : List ℕ) → AllAnswers h
-      → ReplyLine h ts of own mid plain m k us → ReplyLine h ts of own mid plain n l vs → (m ≡ n) × (k ≡ l) × (us ≡ vs)
-  one_reply_line h k l ts us vs of own mid plain m n all (no_ticket none a b c) (no_ticket none_too d e f) = (a ∙ sym d, b ∙ sym e, c ∙ sym f)
-  one_reply_line h k l ts us vs of own mid plain m n all (no_ticket none a b c) (bad_plain t fault place at has d e f) = let bad : None ≡ Some t = sym none ∙ at in cc bad
-  one_reply_line h k l ts us vs of own mid plain m n all (no_ticket none a b c) (replied t p bytes at is goes d e) = let bad : None ≡ Some t = sym none ∙ at in cc bad
-  one_reply_line h k l ts us vs of own mid plain m n all (no_ticket none a b c) (refused t p x at is goes d e) = let bad : None ≡ Some t = sym none ∙ at in cc bad
-  one_reply_line h k l ts us vs of own mid plain m n all (bad_plain t fault place at has a b c) (no_ticket none d e f) = let bad : None ≡ Some t = sym none ∙ at in cc bad
-  one_reply_line h k l ts us vs of own mid plain m n all (bad_plain t fault place at has a b c) (bad_plain u other there at_too has_too d e f) =
+  one_answered_line : (h k l : History) (ts us vs : List (Option TicketValues)) (of : ℕ) (event : TicketValues → Parts → Event) (left : List (Option TicketValues)) (plain m n : List ℕ) → AllAnswers h
+      → AnsweredLine h ts of event left plain m k us → AnsweredLine h ts of event left plain n l vs → (m ≡ n) × (k ≡ l) × (us ≡ vs)
+  one_answered_line h k l ts us vs of event left plain m n all (no_ticket none a b c) (no_ticket none_too d e f) = (a ∙ sym d, b ∙ sym e, c ∙ sym f)
+  one_answered_line h k l ts us vs of event left plain m n all (no_ticket none a b c) (bad_plain t fault place at has d e f) = let bad : None ≡ Some t = sym none ∙ at in cc bad
+  one_answered_line h k l ts us vs of event left plain m n all (no_ticket none a b c) (replied t p bytes at is goes d e) = let bad : None ≡ Some t = sym none ∙ at in cc bad
+  one_answered_line h k l ts us vs of event left plain m n all (no_ticket none a b c) (refused t p x at is goes d e) = let bad : None ≡ Some t = sym none ∙ at in cc bad
+  one_answered_line h k l ts us vs of event left plain m n all (bad_plain t fault place at has a b c) (no_ticket none d e f) = let bad : None ≡ Some t = sym none ∙ at in cc bad
+  one_answered_line h k l ts us vs of event left plain m n all (bad_plain t fault place at has a b c) (bad_plain u other there at_too has_too d e f) =
       let same = one_fault plain fault other place there has has_too in
       (a ∙ ap₂ bad_plain_line same.0 same.1 ∙ sym d, b ∙ sym e, c ∙ sym f)
-  one_reply_line h k l ts us vs of own mid plain m n all (bad_plain t fault place at has a b c) (replied u p bytes at_too is goes d e) = absurd (no_fault p plain fault place is has)
-  one_reply_line h k l ts us vs of own mid plain m n all (bad_plain t fault place at has a b c) (refused u p x at_too is goes d e) = absurd (no_fault p plain fault place is has)
-  one_reply_line h k l ts us vs of own mid plain m n all (replied t p bytes at is goes a b) (no_ticket none d e f) = let bad : None ≡ Some t = sym none ∙ at in cc bad
-  one_reply_line h k l ts us vs of own mid plain m n all (replied t p bytes at is goes a b) (bad_plain u fault place at_too has d e f) = absurd (no_fault p plain fault place is has)
-  one_reply_line h k l ts us vs of own mid plain m n all (replied t p bytes at is goes a b) (replied u q others at_too is_too goes_too d e) =
-      one_sealing h k l ts us vs of own mid plain m n t u p q (Replied bytes) (Replied others) all at at_too is is_too goes goes_too a d b e
-  one_reply_line h k l ts us vs of own mid plain m n all (replied t p bytes at is goes a b) (refused u q x at_too is_too goes_too d e) =
-      one_sealing h k l ts us vs of own mid plain m n t u p q (Replied bytes) (NotReplied x) all at at_too is is_too goes goes_too a d b e
-  one_reply_line h k l ts us vs of own mid plain m n all (refused t p x at is goes a b) (no_ticket none d e f) = let bad : None ≡ Some t = sym none ∙ at in cc bad
-  one_reply_line h k l ts us vs of own mid plain m n all (refused t p x at is goes a b) (bad_plain u fault place at_too has d e f) = absurd (no_fault p plain fault place is has)
-  one_reply_line h k l ts us vs of own mid plain m n all (refused t p x at is goes a b) (replied u q others at_too is_too goes_too d e) =
-      one_sealing h k l ts us vs of own mid plain m n t u p q (NotReplied x) (Replied others) all at at_too is is_too goes goes_too a d b e
-  one_reply_line h k l ts us vs of own mid plain m n all (refused t p x at is goes a b) (refused u q y at_too is_too goes_too d e) =
-      one_sealing h k l ts us vs of own mid plain m n t u p q (NotReplied x) (NotReplied y) all at at_too is is_too goes goes_too a d b e
+  one_answered_line h k l ts us vs of event left plain m n all (bad_plain t fault place at has a b c) (replied u p bytes at_too is goes d e) = absurd (no_fault p plain fault place is has)
+  one_answered_line h k l ts us vs of event left plain m n all (bad_plain t fault place at has a b c) (refused u p x at_too is goes d e) = absurd (no_fault p plain fault place is has)
+  one_answered_line h k l ts us vs of event left plain m n all (replied t p bytes at is goes a b) (no_ticket none d e f) = let bad : None ≡ Some t = sym none ∙ at in cc bad
+  one_answered_line h k l ts us vs of event left plain m n all (replied t p bytes at is goes a b) (bad_plain u fault place at_too has d e f) = absurd (no_fault p plain fault place is has)
+  one_answered_line h k l ts us vs of event left plain m n all (replied t p bytes at is goes a b) (replied u q others at_too is_too goes_too d e) =
+      one_sealing h k l ts us vs of event left plain m n t u p q (Replied bytes) (Replied others) all at at_too is is_too goes goes_too a d b e
+  one_answered_line h k l ts us vs of event left plain m n all (replied t p bytes at is goes a b) (refused u q x at_too is_too goes_too d e) =
+      one_sealing h k l ts us vs of event left plain m n t u p q (Replied bytes) (NotReplied x) all at at_too is is_too goes goes_too a d b e
+  one_answered_line h k l ts us vs of event left plain m n all (refused t p x at is goes a b) (no_ticket none d e f) = let bad : None ≡ Some t = sym none ∙ at in cc bad
+  one_answered_line h k l ts us vs of event left plain m n all (refused t p x at is goes a b) (bad_plain u fault place at_too has d e f) = absurd (no_fault p plain fault place is has)
+  one_answered_line h k l ts us vs of event left plain m n all (refused t p x at is goes a b) (replied u q others at_too is_too goes_too d e) =
+      one_sealing h k l ts us vs of event left plain m n t u p q (NotReplied x) (Replied others) all at at_too is is_too goes goes_too a d b e
+  one_answered_line h k l ts us vs of event left plain m n all (refused t p x at is goes a b) (refused u q y at_too is_too goes_too d e) =
+      one_sealing h k l ts us vs of event left plain m n t u p q (NotReplied x) (NotReplied y) all at at_too is is_too goes goes_too a d b e
 
   one_restart_line : (h k l : History) (next : ℕ) (m n : List ℕ) → AllAnswers h → RestartLine h next m k → RestartLine h next n l → (m ≡ n) × (k ≡ l)
   one_restart_line h k l next m n all (restarted a b) (restarted c d) = (b ∙ ap line_of (one_entry h k l _ Restarted Restarted all a c) ∙ sym d, one_history h k l _ Restarted Restarted all a c)
@@ -98,8 +99,13 @@ module _ (law : OneServerAnswer) (one : DatagramIsOneMessage) (one_fault : Datag
         after ∙ ap (λ (entry : Entry). ts ++ given_by entry ∷ []) same ∙ sym after_too,
       )
   one_event_line h k l ts us vs (input.Reply of own mid plain) m n all (xs, line, after) (ys, line_too, after_too) =
-      let same = one_reply_line h k l ts xs ys of own mid plain m n all line line_too in
+      let same = one_answered_line h k l ts xs ys of (λ t p. Reply t (asks_own t own) mid p (reply_room plain)) (slice_set ts of None) plain m n all line line_too in
       (same.0, same.1, after ∙ ap (λ (zs : List (Option TicketValues)). zs ++ None ∷ []) same.2 ∙ sym after_too)
+  one_event_line h k l ts us vs (input.Notify of plain) m n all (line, after) (line_too, after_too) =
+      let same = one_answered_line h k l ts ts ts of (λ t p. Notify t p (reply_room plain)) ts plain m n all line line_too in
+      (same.0, same.1, after ∙ sym after_too)
+  one_event_line h k l ts us vs (input.Drop of) m n all (xs, (text, same, used), after) (ys, (text_too, same_too, used_too), after_too) =
+      (text ∙ sym text_too, same ∙ sym same_too, after ∙ ap (λ (zs : List (Option TicketValues)). zs ++ None ∷ []) (used ∙ sym used_too) ∙ sym after_too)
   one_event_line h k l ts us vs (input.Restart next) m n all (line, after) (line_too, after_too) =
       let same = one_restart_line h k l next m n all line line_too in
       (same.0, same.1, after ∙ sym after_too)
@@ -107,16 +113,18 @@ module _ (law : OneServerAnswer) (one : DatagramIsOneMessage) (one_fault : Datag
   all_on : (h k : History) (event : Event) (x : Entry) → AllAnswers h → GoesOn h event x k → AllAnswers k
   all_on h k event x all goes = subst AllAnswers (sym goes.1) (all, goes.0)
 
-  reply_on : (h k : History) (ts us : List (Option TicketValues)) (of : ℕ) (own : Bool) (mid : ℕ) (plain m : List ℕ) → AllAnswers h → ReplyLine h ts of own mid plain m k us → AllAnswers k
-  reply_on h k ts us of own mid plain m all (no_ticket none a b c) = subst AllAnswers (sym b) all
-  reply_on h k ts us of own mid plain m all (bad_plain t fault place at has a b c) = subst AllAnswers (sym b) all
-  reply_on h k ts us of own mid plain m all (replied t p bytes at is goes a b) = all_on h k _ _ all goes
-  reply_on h k ts us of own mid plain m all (refused t p e at is goes a b) = all_on h k _ _ all goes
+  answered_on : (h k : History) (ts us : List (Option TicketValues)) (of : ℕ) (event : TicketValues → Parts → Event) (left : List (Option TicketValues)) (plain m : List ℕ) → AllAnswers h → AnsweredLine h ts of event left plain m k us → AllAnswers k
+  answered_on h k ts us of event left plain m all (no_ticket none a b c) = subst AllAnswers (sym b) all
+  answered_on h k ts us of event left plain m all (bad_plain t fault place at has a b c) = subst AllAnswers (sym b) all
+  answered_on h k ts us of event left plain m all (replied t p bytes at is goes a b) = all_on h k _ _ all goes
+  answered_on h k ts us of event left plain m all (refused t p e at is goes a b) = all_on h k _ _ all goes
 
   -- all entries are answers afterwards too
   event_on : (h k : History) (ts us : List (Option TicketValues)) (e : InputEvent) (m : List ℕ) → AllAnswers h → EventLine h ts e m k us → AllAnswers k
   event_on h k ts us (input.Take now echo mid d) m all (x, r, goes, after, text) = all_on h k _ _ all goes
-  event_on h k ts us (input.Reply of own mid plain) m all (xs, line, after) = reply_on h k ts xs of own mid plain m all line
+  event_on h k ts us (input.Reply of own mid plain) m all (xs, line, after) = answered_on h k ts xs of (λ t p. Reply t (asks_own t own) mid p (reply_room plain)) (slice_set ts of None) plain m all line
+  event_on h k ts us (input.Notify of plain) m all (line, after) = answered_on h k ts ts of (λ t p. Notify t p (reply_room plain)) ts plain m all line
+  event_on h k ts us (input.Drop of) m all (left, (text, same, used), after) = subst AllAnswers (sym same) all
   event_on h k ts us (input.Restart next) m all (restarted goes text, after) = all_on h k _ _ all goes
   event_on h k ts us (input.Restart next) m all (not_restarted e goes text, after) = all_on h k _ _ all goes
 

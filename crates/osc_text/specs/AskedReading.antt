@@ -1,26 +1,17 @@
 -- For the proofs: how the events of a client are read, one function for each reader of the code.
-use Rattle.std.specs.Prelude.{◌≡◌, ℕ, ◌+◌, ◌^◌, List, length, codes, bytes_eq, Option, Some, None, if◌then◌else◌}
+use Rattle.std.specs.Prelude.{◌≡◌, ℕ, ◌+◌, ◌^◌, List, length, codes, bytes_eq, Option, None, if◌then◌else◌}
 use Rattle.std.specs.Option.{option_map, option_and_then}
 use Rattle.osc_context.specs.Views.{number_of}
 use Rattle.osc_endpoint.specs.declared.client_event.ClientEvent.{ClientEvent}
 use Rattle.osc_endpoint.specs.declared.client_event.ClientEvent.TheVariants as events
 use Rattle.osc_text.specs.AskedEvents.{AskedEvent, Request, Take, Forget, Restart, SpellsAsked}
-use Rattle.osc_text.specs.InputReading.{SpellsSeen, bytes_read, number_read, split_once}
-
--- a moment and bytes, from what their words say (how the code is seen)
-abbrev pub timed_of : Option ℕ → Option (List ℕ) → Option (ℕ × List ℕ)
-timed_of (Some now) (Some bytes) = Some (now, bytes)
-timed_of now bytes = None
-
--- a moment and bytes (how the code is seen)
-unfoldable pub timed_read : List ℕ → Option (ℕ × List ℕ)
-timed_read fields = option_and_then (λ w. timed_of (number_read (2 ^ 64) w.0) (bytes_read w.1)) (split_once 32 fields)
+use Rattle.osc_text.specs.InputReading.{SpellsSeen, bytes_read, number_read, numbered_read, split_once}
 
 -- the event of a verb and its fields (how the code is seen)
 unfoldable pub asked_verb_read : List ℕ → List ℕ → Option AskedEvent
 asked_verb_read verb fields =
-    if bytes_eq verb (codes "request") then option_map (λ t. Request t.0 t.1) (timed_read fields)
-    else if bytes_eq verb (codes "take") then option_map (λ t. Take t.0 t.1) (timed_read fields)
+    if bytes_eq verb (codes "request") then option_map (λ t. Request t.0 t.1) (numbered_read fields)
+    else if bytes_eq verb (codes "take") then option_map (λ t. Take t.0 t.1) (numbered_read fields)
     else if bytes_eq verb (codes "forget") then option_map Forget (bytes_read fields)
     else if bytes_eq verb (codes "restart") then option_map Restart (number_read (2 ^ 40) fields)
     else None

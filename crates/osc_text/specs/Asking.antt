@@ -1,4 +1,4 @@
--- To be believed: what `run` prints for a client and its input (RFC 8613, 8.1 and 8.4; own rule: the lines). g is what the context is
+-- To be believed: what `run` prints for a client and its input (RFC 8613, 8.1, 8.4 and 8.4.2; own rule: the lines). g is what the context is
 -- derived from, h and k are the histories before and after.
 use Rattle.std.specs.Prelude.{◌≡◌, ◌+◌, ℕ, List, Bool, length}
 use Rattle.osc_coap.specs.Datagram.{Parts, IsDatagram}

@@ -3,13 +3,13 @@
 use Rattle.std.specs.Prelude.{ℕ, Bool, true, false, List, ◌++◌, Option, codes}
 use Rattle.std.specs.Fmt.{decimal}
 use Rattle.osc_coap.specs.Inner.{InnerParts}
-use Rattle.osc_endpoint.specs.ClientHistory.{Answer, Malformed, NotResponse, UnknownToken, Unprotected, Undecodable, BadTag, BadInner, Deliver}
+use Rattle.osc_endpoint.specs.ClientHistory.{Answer, Malformed, NotResponse, UnknownToken, Unprotected, Undecodable, BadTag, BadInner, Old, Notified, Deliver}
 use Rattle.osc_text.specs.EntryLines.{entry_line, fault_text, message_text}
 use Rattle.osc_text.specs.Lines.{bytes_text, number_text}
 
--- a delivery: number, own number or a dash if there is none, code, options and payload (own rule)
+-- what a response says: number, own number or a dash if there is none, code, options and payload (own rule)
 abbrev pub response_text : (number : ℕ) (own : Option ℕ) → InnerParts → List ℕ
-response_text number own m = codes "deliver " ++ (decimal number ++ (codes " " ++ (number_text own ++ (codes " " ++ message_text m))))
+response_text number own m = decimal number ++ (codes " " ++ (number_text own ++ (codes " " ++ message_text m)))
 
 -- the text for the answer to a datagram (own rule)
 abbrev pub answer_text : Answer → List ℕ
@@ -20,7 +20,9 @@ answer_text Unprotected = codes "unprotected"
 answer_text Undecodable = codes "undecodable"
 answer_text BadTag = codes "bad-tag"
 answer_text BadInner = codes "bad-inner"
-answer_text (Deliver received number) = response_text number received.number received.message
+answer_text Old = codes "old"
+answer_text (Notified received number) = codes "notified " ++ response_text number received.number received.message
+answer_text (Deliver received number) = codes "deliver " ++ response_text number received.number received.message
 
 -- the line for the answer to a datagram (own rule)
 abbrev pub answer_line : Answer → List ℕ

@@ -4,10 +4,12 @@ use Rattle.std.specs.Int.{to_be_bytes, w16}
 use Rattle.osc_text.specs.Hex.{SpellsBytes}
 use Rattle.osc_text.specs.Inputs.{SaysBelow, SaysBytes, parted}
 
--- what a line asks of a server: to take a datagram, to answer the request of an event, or to begin a new life of the context (own rule)
+-- what a line asks of a server: to take a datagram, to answer or to notify the request of an event, to drop the ticket of an event, or to begin a new life of the context (own rule)
 pub data InputEvent : Type 0 where
   Take : (now : ℕ) (echo : List ℕ) (mid : ℕ) (datagram : List ℕ) → InputEvent
   Reply : (of : ℕ) (own : Bool) (mid : ℕ) (plain : List ℕ) → InputEvent
+  Notify : (of : ℕ) (plain : List ℕ) → InputEvent
+  Drop : (of : ℕ) → InputEvent
   Restart : (next : ℕ) → InputEvent
 
 -- the word says this Message ID: its two bytes in hex, the high one first (own rule)
@@ -31,5 +33,9 @@ SpellsEvent line (Take now echo mid datagram) =
 SpellsEvent line (Reply of own mid plain) =
     (n m p : List ℕ) × (line ≡ parted (codes "reply" ∷ n ∷ own_word own ∷ m ∷ p ∷ []))
     × SaysBelow (2 ^ 64) n of × SaysMessageId m mid × SaysBytes p plain
+SpellsEvent line (Notify of plain) =
+    (n p : List ℕ) × (line ≡ parted (codes "notify" ∷ n ∷ p ∷ [])) × SaysBelow (2 ^ 64) n of × SaysBytes p plain
+SpellsEvent line (Drop of) =
+    (n : List ℕ) × (line ≡ parted (codes "drop" ∷ n ∷ [])) × SaysBelow (2 ^ 64) n of
 SpellsEvent line (Restart next) =
     (n : List ℕ) × (line ≡ parted (codes "restart" ∷ n ∷ [])) × SaysBelow (2 ^ 40) n next

@@ -1,6 +1,7 @@
 -- For the proofs: how an input is read, one function for each reader of the code.
-use Rattle.std.specs.Prelude.{◌≡◌, ℕ, ◌+◌, ◌==◌, ◌&&◌, nat_lt, List, [], ◌∷◌, ◌++◌, length, codes, bytes_eq, Option, Some, None, Result, Ok, Err, if◌then◌else◌}
+use Rattle.std.specs.Prelude.{◌≡◌, ℕ, ◌+◌, ◌^◌, ◌==◌, ◌&&◌, nat_lt, List, [], ◌∷◌, ◌++◌, length, codes, bytes_eq, Option, Some, None, Result, Ok, Err, if◌then◌else◌}
 use Rattle.std.specs.Borrow.{Bor}
+use Rattle.std.specs.Option.{option_and_then}
 use Rattle.std.specs.Str.{all_ascii_digits}
 use Rattle.hex.specs.Hex.{decode_of, decode_sized}
 use Rattle.hex.specs.declared.error.FromHexError.{FromHexError}
@@ -33,6 +34,15 @@ unfoldable pub bytes_read : List ℕ → Option (List ℕ)
 bytes_read word =
     if length word == 0 then None
     else if bytes_eq word (codes "-") then Some [] else hex_decoded (decode_of word)
+
+-- a number and bytes, from what their words say (how the code is seen)
+abbrev pub numbered_of : Option ℕ → Option (List ℕ) → Option (ℕ × List ℕ)
+numbered_of (Some n) (Some bytes) = Some (n, bytes)
+numbered_of n bytes = None
+
+-- a number below 2 ^ 64 and bytes (how the code is seen)
+unfoldable pub numbered_read : List ℕ → Option (ℕ × List ℕ)
+numbered_read fields = option_and_then (λ w. numbered_of (number_read (2 ^ 64) w.0) (bytes_read w.1)) (split_once 32 fields)
 
 -- the n bytes of a word of hex (how the code is seen)
 unfoldable pub fixed_read : ℕ → List ℕ → Option (List ℕ)

@@ -11,7 +11,7 @@ use Rattle.osc_text.specs.InputEvents as input
 use Rattle.osc_text.specs.InputReading.{SpellsSeen}
 use Rattle.osc_text.specs.KeptAskedEvents.{KeptAsked, SpellsKeptAsked}
 use Rattle.osc_text.specs.KeptAskedEvents as kept_asked
-use Rattle.osc_text.specs.KeptEvents.{KeptEvent, Take, Reply, Restart, SpellsKept}
+use Rattle.osc_text.specs.KeptEvents.{KeptEvent, Take, Reply, Notify, Drop, Restart, SpellsKept}
 use Rattle.osc_text.specs.KeptSeen.{IsRoomy, IsRoomyAsked, kept_asked_seen, kept_seen}
 use Rattle.osc_text.specs.ServedReading.{event_read}
 
@@ -19,6 +19,8 @@ use Rattle.osc_text.specs.ServedReading.{event_read}
 abbrev pub kept_of : InputEvent → Option KeptEvent
 kept_of (input.Take now echo mid datagram) = Some (Take now echo mid datagram)
 kept_of (input.Reply of own mid plain) = Some (Reply of own mid plain)
+kept_of (input.Notify of plain) = Some (Notify of plain)
+kept_of (input.Drop of) = Some (Drop of)
 kept_of (input.Restart next) = None
 
 -- the event of a server's line (how the code is seen)

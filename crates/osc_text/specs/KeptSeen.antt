@@ -6,17 +6,20 @@ use Rattle.osc_kept.specs.declared.kept_event.KeptServerEvent.{KeptServerEvent}
 use Rattle.osc_kept.specs.declared.kept_event.KeptServerEvent.TheVariants as server
 use Rattle.osc_text.specs.KeptAskedEvents.{KeptAsked}
 use Rattle.osc_text.specs.KeptAskedEvents as asked
-use Rattle.osc_text.specs.KeptEvents.{KeptEvent, Take, Reply, Restart}
+use Rattle.osc_text.specs.KeptEvents.{KeptEvent, Take, Reply, Notify, Drop, Restart}
 
 -- an event of a server, as its line says it (how the code is seen)
 abbrev pub kept_seen : KeptServerEvent → KeptEvent
 kept_seen (server.Datagram a) = Take a.now a.fresh.echo a.fresh.mid a.bytes.items
 kept_seen (server.Reply r) = Reply r.of r.own r.mid r.plain.items
+kept_seen (server.Notify r) = Notify r.of r.plain.items
+kept_seen (server.Drop of) = Drop of
 kept_seen server.Restart = Restart
 
--- there is room for the reply: the length of its plain message plus 128 bytes (own rule)
+-- there is room for the reply or the notification: the length of its plain message plus 128 bytes (own rule)
 abbrev pub IsRoomy : KeptServerEvent → Type 0
 IsRoomy (server.Reply r) = length r.out.items ≡ length r.plain.items + 128
+IsRoomy (server.Notify r) = length r.out.items ≡ length r.plain.items + 128
 IsRoomy event = Unit {0}
 
 -- an event of a client, as its line says it (how the code is seen)

@@ -1,5 +1,5 @@
--- To be believed: what `run` prints for a server whose numbers are kept, and its input (RFC 8613, 7.2.1, 7.4, 8.2, 8.3 and B.1; own rule: the
--- lines). k says what the server's keeper tells, keeper is the keeper before the call, g what the context is derived from, c that context.
+-- To be believed: what `run` prints for a server whose numbers are kept, and its input (RFC 8613, 7.2.1, 7.4, 8.2, 8.3, 8.3.1 and B.1; own rule:
+-- the lines). k says what the server's keeper tells, keeper is the keeper before the call, g what the context is derived from, c that context.
 use Rattle.std.specs.Prelude.{◌≡◌, ◌≢◌, ℕ, [], ◌∷◌, List}
 use Rattle.osc_context.specs.ContextRefusal.{RefusesParams}
 use Rattle.osc_context.specs.SecurityContext.{SecurityContext}
@@ -26,7 +26,7 @@ use Rattle.osc_text.specs.KeptSeen.{IsRoomy, kept_seen}
 use Rattle.osc_text.specs.KeptText.{FrontText, LineOf}
 use Rattle.osc_text.specs.Lines.{refused_line}
 
--- an event and the line of its entry, which is a step of a run (RFC 8613, 7.2.1, 7.4, 8.2, 8.3 and B.1)
+-- an event and the line of its entry, which is a step of a run (RFC 8613, 7.2.1, 7.4, 8.2, 8.3, 8.3.1 and B.1)
 abbrev pub KeptLine : {K : Type 0} {k : keeper.Ghosts K} → ServerState k → KeptEvent → List ℕ → ServerState k → Type 0
 KeptLine s event line t = LineOf ServerStep kept_seen IsRoomy kept_text s event line t
 
@@ -42,7 +42,7 @@ pub data StartText {K : Type 0} (k : keeper.Ghosts K) (c : SecurityContext) (siz
       → StartText k c size keeper told lines status
   served : (s : ServerState k) → Starts k c size keeper s → told s lines status → StartText k c size keeper told lines status
 
--- what `run` prints for a server: one line for each event of the input (RFC 8613, 7.2.1, 7.4, 8.2, 8.3 and B.1)
+-- what `run` prints for a server: one line for each event of the input (RFC 8613, 7.2.1, 7.4, 8.2, 8.3, 8.3.1 and B.1)
 abbrev pub KeptServeText : {K : Type 0} (k : keeper.Ghosts K) → Agreed → WindowSize → K → List ℕ → Told
 KeptServeText k g size keeper input = InContext g.params (StartText k (agreed_server g) size keeper (λ s. InputText SpellsKept KeptLine s input))
 

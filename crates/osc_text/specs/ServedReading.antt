@@ -6,8 +6,8 @@ use Rattle.std.specs.Int.{from_be_bytes, w16}
 use Rattle.osc_context.specs.Views.{number_of}
 use Rattle.osc_endpoint.specs.declared.server_event.ServerEvent.{ServerEvent}
 use Rattle.osc_endpoint.specs.declared.server_event.ServerEvent.TheVariants as events
-use Rattle.osc_text.specs.InputEvents.{InputEvent, Take, Reply, Restart, SpellsEvent}
-use Rattle.osc_text.specs.InputReading.{SpellsSeen, bytes_read, fixed_read, number_read, split_once}
+use Rattle.osc_text.specs.InputEvents.{InputEvent, Take, Reply, Notify, Drop, Restart, SpellsEvent}
+use Rattle.osc_text.specs.InputReading.{SpellsSeen, bytes_read, fixed_read, number_read, numbered_read, split_once}
 
 -- the Message ID of a word of hex (how the code is seen)
 abbrev pub message_id_read : List ℕ → Option ℕ
@@ -44,6 +44,8 @@ unfoldable pub verb_read : List ℕ → List ℕ → Option InputEvent
 verb_read verb fields =
     if bytes_eq verb (codes "take") then take_read fields
     else if bytes_eq verb (codes "reply") then reply_read fields
+    else if bytes_eq verb (codes "notify") then option_map (λ t. Notify t.0 t.1) (numbered_read fields)
+    else if bytes_eq verb (codes "drop") then option_map Drop (number_read (2 ^ 64) fields)
     else if bytes_eq verb (codes "restart") then option_map Restart (number_read (2 ^ 40) fields)
     else None
 
@@ -59,12 +61,16 @@ four_parts w = (w.0.now, w.1.now, w.2.now, w.3.now)
 abbrev pub event_seen : ServerEvent → InputEvent
 event_seen (events.Datagram a) = Take a.now a.fresh.echo a.fresh.mid a.bytes.items
 event_seen (events.Reply r) = Reply r.of r.own r.mid r.plain.items
+event_seen (events.Notify r) = Notify r.of r.plain.items
+event_seen (events.Drop of) = Drop of
 event_seen (events.Restart context next) = Restart (number_of next)
 
--- there is room for the reply, and the context is the first (how the code is seen)
+-- there is room for the reply or the notification, and the context is the first (how the code is seen)
 abbrev pub IsOfRun : ServerEvent → Type 0
 IsOfRun (events.Datagram a) = Unit {0}
 IsOfRun (events.Reply r) = length r.out.items ≡ length r.plain.items + 128
+IsOfRun (events.Notify r) = length r.out.items ≡ length r.plain.items + 128
+IsOfRun (events.Drop of) = Unit {0}
 IsOfRun (events.Restart context next) = context ≡ 0
 
 -- the line spells the event of the code (how the code is seen)

@@ -1,6 +1,6 @@
 -- To be believed: how the entries of a server's log print, one per line (own rule: the words). context is the index of a context, number is
 -- the number of a request.
-use Rattle.std.specs.Prelude.{ℕ, List, [], ◌∷◌, ◌++◌, codes}
+use Rattle.std.specs.Prelude.{ℕ, Bool, true, false, List, [], ◌∷◌, ◌++◌, codes}
 use Rattle.std.specs.Fmt.{decimal}
 use Rattle.osc_coap.specs.Inner.{InnerParts}
 use Rattle.osc_endpoint.specs.ServerHistory.{Answer, Malformed, NotRequest, Plain, Undecodable, NoContext, Replay, BadTag, BadInner, Challenge, SequenceExhausted, Deliver}
@@ -34,10 +34,19 @@ answer_text (Deliver received ticket) = delivery_text ticket.context ticket.numb
 abbrev pub took_line : Answer → List ℕ → List ℕ
 took_line answer reply = entry_line (answer_text answer ++ reply_text reply)
 
--- the line for a sealed reply (own rule)
+-- the line for a sealed reply or notification (own rule)
 abbrev pub replied_line : List ℕ → List ℕ
 replied_line bytes = entry_line (codes "replied " ++ bytes_text bytes)
 
--- the line for a reply to an event that has no ticket left (own rule)
+-- the line for a reply or a notification to an event that has no ticket left (own rule)
 abbrev pub no_ticket_line : List ℕ
 no_ticket_line = entry_line (codes "no-ticket")
+
+-- whether there was a ticket to drop (own rule)
+abbrev pub dropped_text : Bool → List ℕ
+dropped_text true = codes "dropped"
+dropped_text false = codes "no-ticket"
+
+-- the line for a ticket that is dropped (own rule)
+abbrev pub dropped_line : Bool → List ℕ
+dropped_line there = entry_line (dropped_text there)

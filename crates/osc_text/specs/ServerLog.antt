@@ -9,7 +9,7 @@ use Rattle.osc_endpoint.specs.declared.server_event.ServerEntry.{ServerEntry}
 use Rattle.osc_endpoint.specs.declared.server_event.ServerEntry.TheVariants as entries
 use Rattle.osc_text.specs.EntryLines.{entry_line, fault_text}
 use Rattle.osc_text.specs.Lines.{bytes_text}
-use Rattle.osc_text.specs.ServerLines.{delivery_text, reply_text}
+use Rattle.osc_text.specs.ServerLines.{delivery_text, dropped_text, reply_text}
 
 -- what the server made of a datagram, as it prints (how the code is seen)
 abbrev pub seen_text : Seen → List ℕ
@@ -33,6 +33,7 @@ entry_text (entries.Replied (Ok bytes)) = codes "replied " ++ bytes_text bytes.n
 entry_text (entries.Replied (Err e)) = codes "refused: " ++ reply_error_text e
 entry_text entries.NoTicket = codes "no-ticket"
 entry_text (entries.BadPlain e) = codes "bad-plain " ++ fault_text e.fault e.place
+entry_text (entries.Dropped there) = dropped_text there
 entry_text (entries.Restarted (Ok x)) = codes "restarted"
 entry_text (entries.Restarted (Err e)) = codes "refused: " ++ restart_error_text e
 

@@ -1,6 +1,6 @@
--- To be believed: what `run` prints for a server and its input (RFC 8613, 7.4, 8.2 and 8.3; own rule: the lines). g is what the context is derived
+-- To be believed: what `run` prints for a server and its input (RFC 8613, 7.4, 8.2, 8.3 and 8.3.1; own rule: the lines). g is what the context is derived
 -- from, s that context, h and k are the histories before and after, ts and us the tickets before and after, with one place for each event.
-use Rattle.std.specs.Prelude.{◌≡◌, ◌+◌, ◌++◌, ◌∷◌, [], ℕ, List, Bool, Option, Some, None, length, slice_set, if◌then◌else◌}
+use Rattle.std.specs.Prelude.{◌≡◌, ◌+◌, ◌++◌, ◌∷◌, [], ℕ, List, Bool, Option, Some, None, is_some, length, slice_set, if◌then◌else◌}
 use Rattle.osc_coap.specs.Datagram.{Parts, IsDatagram}
 use Rattle.osc_coap.specs.Fault.{HasFault}
 use Rattle.osc_coap.specs.declared.format_error.Fault.{Fault as MessageFault}
@@ -9,8 +9,8 @@ use Rattle.osc_context.specs.ContextRefusal.{RefusesParams}
 use Rattle.osc_context.specs.declared.context_error.ContextError.{ContextError}
 use Rattle.osc_text.specs.declared.agreed.Agreed.{Agreed}
 use Rattle.osc_window.specs.declared.window_size.WindowSize.{WindowSize}
-use Rattle.osc_endpoint.specs.ServerAnswer.{ServerAnswer}
-use Rattle.osc_endpoint.specs.ServerHistory.{History, Begin, Then, Answer, TicketValues, Add, Datagram, Reply, Restart, Added, NotAdded, Took, Replied, NotReplied, Restarted, NotRestarted}
+use Rattle.osc_endpoint.specs.ServerAnswer.{ServerAnswer, asks_own}
+use Rattle.osc_endpoint.specs.ServerHistory.{History, Begin, Then, Event, Answer, TicketValues, Add, Datagram, Reply, Notify, Restart, Added, NotAdded, Took, Replied, NotReplied, Restarted, NotRestarted}
 use Rattle.osc_endpoint.specs.ServerRun.{GoesOn, ticket_at, ticket_of}
 use Rattle.osc_endpoint.specs.Text.{add_error_text, reply_error_text, restart_error_text}
 use Rattle.osc_endpoint.specs.declared.server_error.AddError.{AddError}
@@ -25,39 +25,54 @@ use Rattle.osc_text.specs.InputEvents as input
 use Rattle.osc_text.specs.InputText.{InputText}
 use Rattle.osc_text.specs.Inputs.{IsFirstBadLine}
 use Rattle.osc_text.specs.Lines.{refused_line}
-use Rattle.osc_text.specs.ServerLines.{took_line, replied_line, no_ticket_line}
+use Rattle.osc_text.specs.ServerLines.{took_line, replied_line, no_ticket_line, dropped_line}
 use Rattle.osc_text.specs.declared.serving.Serving.{Serving}
 
--- the room for each reply: the length of its plain message plus 128 bytes (own rule)
+-- the room for each reply and each notification: the length of its plain message plus 128 bytes (own rule)
 abbrev pub reply_room : List ℕ → ℕ
 reply_room plain = length plain + 128
 
--- a reply by the ticket that is left in a place, and the line of its entry; a sealed reply takes the ticket (RFC 8613, 8.3)
-pub data ReplyLine (h : History) (ts : List (Option TicketValues)) (of : ℕ) (own : Bool) (mid : ℕ) (plain line : List ℕ) (k : History)
-    (us : List (Option TicketValues)) : Type 0 where
-  no_ticket : ticket_at ts of ≡ None → line ≡ no_ticket_line → k ≡ h → us ≡ ts → ReplyLine h ts of own mid plain line k us
+-- what the application sends by the ticket that is left in a place, and the line of its entry; event says what it is, left are the tickets if it is sealed (RFC 8613, 8.3)
+pub data AnsweredLine (h : History) (ts : List (Option TicketValues)) (of : ℕ) (event : TicketValues → Parts → Event) (left : List (Option TicketValues))
+    (plain line : List ℕ) (k : History) (us : List (Option TicketValues)) : Type 0 where
+  no_ticket : ticket_at ts of ≡ None → line ≡ no_ticket_line → k ≡ h → us ≡ ts → AnsweredLine h ts of event left plain line k us
   bad_plain : (t : TicketValues) (fault : MessageFault) (place : ℕ) → ticket_at ts of ≡ Some t → HasFault plain fault place
-      → line ≡ bad_plain_line fault place → k ≡ h → us ≡ ts → ReplyLine h ts of own mid plain line k us
+      → line ≡ bad_plain_line fault place → k ≡ h → us ≡ ts → AnsweredLine h ts of event left plain line k us
   replied : (t : TicketValues) (p : Parts) (bytes : List ℕ) → ticket_at ts of ≡ Some t → IsDatagram p plain
-      → GoesOn h (Reply t own mid p (reply_room plain)) (Replied bytes) k → line ≡ replied_line bytes → us ≡ slice_set ts of None → ReplyLine h ts of own mid plain line k us
+      → GoesOn h (event t p) (Replied bytes) k → line ≡ replied_line bytes → us ≡ left → AnsweredLine h ts of event left plain line k us
   refused : (t : TicketValues) (p : Parts) (e : ReplyError) → ticket_at ts of ≡ Some t → IsDatagram p plain
-      → GoesOn h (Reply t own mid p (reply_room plain)) (NotReplied e) k → line ≡ not_done_line (reply_error_text e) → us ≡ ts → ReplyLine h ts of own mid plain line k us
+      → GoesOn h (event t p) (NotReplied e) k → line ≡ not_done_line (reply_error_text e) → us ≡ ts → AnsweredLine h ts of event left plain line k us
+
+-- a reply, which takes the ticket if it is sealed, and has an own number if the ticket's request registers an observation (RFC 8613, 4.1.3.5 and 8.3)
+abbrev pub ReplyLine : History → List (Option TicketValues) → ℕ → Bool → ℕ → List ℕ → List ℕ → History → List (Option TicketValues) → Type 0
+ReplyLine h ts of own mid plain line k us = AnsweredLine h ts of (λ t p. Reply t (asks_own t own) mid p (reply_room plain)) (slice_set ts of None) plain line k us
+
+-- a notification, which leaves the ticket (RFC 8613, 8.3.1)
+abbrev pub NotifyLine : History → List (Option TicketValues) → ℕ → List ℕ → List ℕ → History → Type 0
+NotifyLine h ts of plain line k = AnsweredLine h ts of (λ t p. Notify t p (reply_room plain)) ts plain line k ts
+
+-- a ticket that is dropped, if one is left in the place, and the line that says whether it was; the server isn't told (own rule)
+abbrev pub DropLine : History → List (Option TicketValues) → ℕ → List ℕ → History → List (Option TicketValues) → Type 0
+DropLine h ts of line k us = (line ≡ dropped_line (is_some (ticket_at ts of))) × (k ≡ h) × (us ≡ slice_set ts of None)
 
 -- a restart of the context, and the line of its entry (RFC 8613, B.1)
 pub data RestartLine (h : History) (next : ℕ) (line : List ℕ) (k : History) : Type 0 where
   restarted : GoesOn h (Restart 0 next) Restarted k → line ≡ restarted_line → RestartLine h next line k
   refused : (e : RestartError) → GoesOn h (Restart 0 next) (NotRestarted e) k → line ≡ not_done_line (restart_error_text e) → RestartLine h next line k
 
--- an event and the line of its entry, which is the server's answer (RFC 8613, 7.4, 8.2 and 8.3)
+-- an event and the line of its entry, which is the server's answer (RFC 8613, 7.4, 8.2, 8.3 and 8.3.1)
 abbrev pub EventLine : History → List (Option TicketValues) → InputEvent → List ℕ → History → List (Option TicketValues) → Type 0
 EventLine h ts (input.Take now echo mid d) line k us =
     (answer : Answer) × (reply : List ℕ) × GoesOn h (Datagram now echo mid d) (Took answer reply) k
     × (us ≡ ts ++ ticket_of answer ∷ []) × (line ≡ took_line answer reply)
 EventLine h ts (input.Reply of own mid plain) line k us =
     (left : List (Option TicketValues)) × ReplyLine h ts of own mid plain line k left × (us ≡ left ++ None ∷ [])
+EventLine h ts (input.Notify of plain) line k us = NotifyLine h ts of plain line k × (us ≡ ts ++ None ∷ [])
+EventLine h ts (input.Drop of) line k us =
+    (left : List (Option TicketValues)) × DropLine h ts of line k left × (us ≡ left ++ None ∷ [])
 EventLine h ts (input.Restart next) line k us = RestartLine h next line k × (us ≡ ts ++ None ∷ [])
 
--- the same, with the history and the tickets as one state (RFC 8613, 7.4, 8.2 and 8.3)
+-- the same, with the history and the tickets as one state (RFC 8613, 7.4, 8.2, 8.3 and 8.3.1)
 abbrev pub ServerLine : History × List (Option TicketValues) → InputEvent → List ℕ → History × List (Option TicketValues) → Type 0
 ServerLine before event line after = EventLine before.0 before.1 event line after.0 after.1
 
@@ -65,13 +80,13 @@ ServerLine before event line after = EventLine before.0 before.1 event line afte
 abbrev pub start_of : Serving → Start
 start_of serving = if serving.is_restarted then starts.Restarted serving.next else starts.Fresh serving.next
 
--- what a server prints under a context: the line of a refused start, or one line for each event of the input (RFC 8613, 7.4, 8.2 and 8.3)
+-- what a server prints under a context: the line of a refused start, or one line for each event of the input (RFC 8613, 7.4, 8.2, 8.3 and 8.3.1)
 pub data ServerText (s : SecurityContext) (start : Start) (size : WindowSize) (bytes : List ℕ) (lines : List (List ℕ)) (status : ℕ) : Type 0 where
   not_started : (e : AddError) → ServerAnswer Begin (Add s start size) (NotAdded e) → lines ≡ refused_line (add_error_text e) ∷ [] → status ≡ 2 → ServerText s start size bytes lines status
   served : (index : ℕ) → ServerAnswer Begin (Add s start size) (Added index)
       → InputText SpellsEvent ServerLine (Then Begin (Add s start size) (Added index), []) bytes lines status → ServerText s start size bytes lines status
 
--- what `run` prints for a server (RFC 8613, 7.4, 8.2 and 8.3)
+-- what `run` prints for a server (RFC 8613, 7.4, 8.2, 8.3 and 8.3.1)
 abbrev pub ServeText : Agreed → Serving → List ℕ → Told
 ServeText g serving bytes = InContext g.params (ServerText (agreed_server g) (start_of serving) serving.window bytes)
 

@@ -13,7 +13,7 @@ use osc_endpoint::{ClientEntry, ClientOutcome};
 use osc_protect::Opened;
 use std::alloc::{AllocError, Global};
 
-/// Returns the text of a delivery: the request's number, the response's own number or a dash if it has none, code, options and payload.
+/// Returns the text of a response: the request's number, its own number or a dash if it has none, code, options and payload.
 fn response_text(alloc: Global, opened: &Opened<'_>, number: Piv) -> Result<String, AllocError>
     ensures { IfOk result (λ text. string_bytes text
         ≡ response_text (number_of number) (opened_number opened.now) (message_of opened.now)) }
@@ -21,7 +21,7 @@ fn response_text(alloc: Global, opened: &Opened<'_>, number: Piv) -> Result<Stri
     let number = number.number();
     let own = number_text(alloc, opened.piv)?;
     let message = message_text(alloc, opened)?;
-    format!(in alloc; "deliver {number} {own} {message}")
+    format!(in alloc; "{number} {own} {message}")
 }
 
 /// Returns the text for what the client made of a datagram.
@@ -39,7 +39,15 @@ fn outcome_text(alloc: Global, outcome: &ClientOutcome<'_>) -> Result<String, Al
         ClientOutcome::Undecodable => String::from_str(alloc, "undecodable"),
         ClientOutcome::BadTag => String::from_str(alloc, "bad-tag"),
         ClientOutcome::BadInner => String::from_str(alloc, "bad-inner"),
-        ClientOutcome::Deliver(opened, number) => response_text(alloc, opened, *number),
+        ClientOutcome::Old => String::from_str(alloc, "old"),
+        ClientOutcome::Notified(opened, number) => {
+            let response = response_text(alloc, opened, *number)?;
+            format!(in alloc; "notified {response}")
+        }
+        ClientOutcome::Deliver(opened, number) => {
+            let response = response_text(alloc, opened, *number)?;
+            format!(in alloc; "deliver {response}")
+        }
     }
 }
 

@@ -2,38 +2,21 @@
 
 ghost use Rattle.std.specs.Prelude.{◌≡◌, ◌^◌, IfOk, IfSome, option_map};
 ghost use Rattle.osc_text.specs.AskedEvents.{Forget, Request, Restart, SpellsAsked, Take};
-ghost use Rattle.osc_text.specs.AskedReading.{HasRoom, SpellsClient, asked_read, asked_seen, asked_verb_read, timed_read};
-ghost use Rattle.osc_text.specs.InputReading.{SpellsNone, bytes_read, number_read};
+ghost use Rattle.osc_text.specs.AskedReading.{HasRoom, SpellsClient, asked_read, asked_seen, asked_verb_read};
+ghost use Rattle.osc_text.specs.InputReading.{SpellsNone, bytes_read, number_read, numbered_read};
 
 use crate::input_lines::LineEvent;
-use crate::input_words::{MOST_ADDED, read_bytes, read_moment, read_next, split_once};
+use crate::input_words::{MOST_ADDED, read_bytes, read_next, read_numbered, split_once};
 use osc_endpoint::ClientEvent;
 use std::alloc::{AllocError, Global};
-
-/// Reads a timestamp and bytes: `NOW HEX`.
-#[tactic(auto, unfolding(crate::specs::AskedReading::timed_read))]
-fn read_timed(alloc: Global, fields: &[u8]) -> Result<Option<(u64, Vec<u8>)>, AllocError>
-    ensures { IfOk result (λ timed. option_map (λ t. (t.0, t.1.items)) timed ≡ timed_read fields.now) }
-{
-    let Some((now, bytes)) = split_once(fields, b' ') else {
-        return Ok(None);
-    };
-    let Some(now) = read_moment(now) else {
-        return Ok(None);
-    };
-    let Some(bytes) = read_bytes(alloc, bytes)? else {
-        return Ok(None);
-    };
-    Ok(Some((now, bytes)))
-}
 
 /// Reads the event of a request: `NOW PLAIN`.
 fn read_request(alloc: Global, fields: &[u8]) -> Result<Option<ClientEvent>, AllocError>
     ensures seen { IfOk result (λ event. option_map asked_seen event
-        ≡ option_map (λ t. Request t.0 t.1) (timed_read fields.now)) }
+        ≡ option_map (λ t. Request t.0 t.1) (numbered_read fields.now)) }
     ensures room { IfOk result (λ event. IfSome event HasRoom) }
 {
-    let Some((now, plain)) = read_timed(alloc, fields)? else {
+    let Some((now, plain)) = read_numbered(alloc, fields)? else {
         return Ok(None);
     };
     let out = vec![in alloc; 0u8; plain.len() + MOST_ADDED]?;
@@ -43,10 +26,10 @@ fn read_request(alloc: Global, fields: &[u8]) -> Result<Option<ClientEvent>, All
 /// Reads the event of a datagram that arrives: `NOW DATAGRAM`.
 fn read_take(alloc: Global, fields: &[u8]) -> Result<Option<ClientEvent>, AllocError>
     ensures seen { IfOk result (λ event. option_map asked_seen event
-        ≡ option_map (λ t. Take t.0 t.1) (timed_read fields.now)) }
+        ≡ option_map (λ t. Take t.0 t.1) (numbered_read fields.now)) }
     ensures room { IfOk result (λ event. IfSome event HasRoom) }
 {
-    let Some((now, bytes)) = read_timed(alloc, fields)? else {
+    let Some((now, bytes)) = read_numbered(alloc, fields)? else {
         return Ok(None);
     };
     Ok(Some(ClientEvent::Datagram { now, bytes }))

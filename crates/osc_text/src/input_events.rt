@@ -1,16 +1,16 @@
 //! Reads the lines of an input as events of a server.
 
 ghost use Rattle.std.specs.Prelude.{◌≡◌, ◌^◌, IfOk, IfSome, option_map};
-ghost use Rattle.osc_text.specs.InputEvents.{Restart, SpellsEvent};
-ghost use Rattle.osc_text.specs.InputReading.{SpellsNone, number_read};
+ghost use Rattle.osc_text.specs.InputEvents.{Drop, Notify, Restart, SpellsEvent};
+ghost use Rattle.osc_text.specs.InputReading.{SpellsNone, number_read, numbered_read};
 ghost use Rattle.osc_text.specs.ServedReading.{IsOfRun, SpellsServed, event_read, event_seen, reply_read, take_read, verb_read};
 
 use crate::input_lines::LineEvent;
 use crate::input_words::{
     MOST_ADDED, four_words, read_bytes, read_fixed, read_message_id, read_moment, read_next,
-    read_own, split_once,
+    read_numbered, read_own, split_once,
 };
-use osc_endpoint::{Answering, Arrival, Fresh, ServerEvent};
+use osc_endpoint::{Answering, Arrival, Fresh, Notifying, ServerEvent};
 use std::alloc::{AllocError, Global};
 
 /// Reads the event of a datagram that arrives: `NOW ECHO MID DATAGRAM`.
@@ -66,6 +66,34 @@ fn read_reply(alloc: Global, fields: &[u8]) -> Result<Option<ServerEvent>, Alloc
     })))
 }
 
+/// Reads the event of a notification: `EVENT PLAIN`.
+fn read_notify(alloc: Global, fields: &[u8]) -> Result<Option<ServerEvent>, AllocError>
+    ensures seen { IfOk result (λ event. option_map event_seen event
+        ≡ option_map (λ r. Notify r.0 r.1) (numbered_read fields.now)) }
+    ensures room { IfOk result (λ event. IfSome event IsOfRun) }
+{
+    let Some((of, plain)) = read_numbered(alloc, fields)? else {
+        return Ok(None);
+    };
+    let out = vec![in alloc; 0u8; plain.len() + MOST_ADDED]?;
+    Ok(Some(ServerEvent::Notify(Notifying {
+        of: of as usize,
+        plain,
+        out,
+    })))
+}
+
+/// Reads the event of a ticket that is dropped: `EVENT`.
+fn read_drop(fields: &[u8]) -> Option<ServerEvent>
+    ensures seen { option_map event_seen result ≡ option_map Drop (number_read (2 ^ 64) fields.now) }
+    ensures room { IfSome result IsOfRun }
+{
+    match read_moment(fields) {
+        Some(of) => Some(ServerEvent::Drop { of: of as usize }),
+        None => None,
+    }
+}
+
 /// Reads the event of a restart: `NEXT`.
 fn read_restart(fields: &[u8]) -> Option<ServerEvent>
     ensures seen { option_map event_seen result ≡ option_map Restart (number_read (2 ^ 40) fields.now) }
@@ -88,6 +116,12 @@ fn read_fields(alloc: Global, verb: &[u8], fields: &[u8]) -> Result<Option<Serve
     }
     if verb == b"reply".as_slice() {
         return read_reply(alloc, fields);
+    }
+    if verb == b"notify".as_slice() {
+        return read_notify(alloc, fields);
+    }
+    if verb == b"drop".as_slice() {
+        return Ok(read_drop(fields));
     }
     if verb == b"restart".as_slice() {
         return Ok(read_restart(fields));

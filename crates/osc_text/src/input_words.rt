@@ -2,7 +2,7 @@
 
 ghost use Rattle.std.specs.Prelude.{◌≡◌, ◌^◌, ◌<◌, IfOk, IfSome, length, option_map};
 ghost use Rattle.std.specs.Int.{from_be_bytes, w16};
-ghost use Rattle.osc_text.specs.InputReading.{split_once, number_read, hex_decoded, bytes_read, fixed_read, parts};
+ghost use Rattle.osc_text.specs.InputReading.{split_once, number_read, numbered_read, hex_decoded, bytes_read, fixed_read, parts};
 ghost use Rattle.osc_text.specs.ServedReading.{message_id_read, own_read, four_read, four_parts};
 ghost use Rattle.osc_context.specs.Views.{number_of};
 ghost use Rattle.hex.specs.Hex.{decode_of};
@@ -111,4 +111,24 @@ pub(crate) fn read_bytes(alloc: Global, word: &[u8]) -> Result<Option<Vec<u8>>, 
         Err(FromHexError::OutOfMemory) => Err(AllocError),
         Err(_) => Ok(None),
     }
+}
+
+/// Reads a number below 2^64 and bytes: `NUMBER HEX`.
+#[tactic(auto, unfolding(crate::specs::InputReading::numbered_read))]
+pub(crate) fn read_numbered(
+    alloc: Global,
+    fields: &[u8],
+) -> Result<Option<(u64, Vec<u8>)>, AllocError>
+    ensures { IfOk result (λ read. option_map (λ r. (r.0, r.1.items)) read ≡ numbered_read fields.now) }
+{
+    let Some((number, bytes)) = split_once(fields, b' ') else {
+        return Ok(None);
+    };
+    let Some(number) = read_moment(number) else {
+        return Ok(None);
+    };
+    let Some(bytes) = read_bytes(alloc, bytes)? else {
+        return Ok(None);
+    };
+    Ok(Some((number, bytes)))
 }

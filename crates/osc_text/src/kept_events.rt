@@ -26,6 +26,8 @@ fn kept_event(event: ServerEvent) -> Option<KeptServerEvent>
     match event {
         ServerEvent::Datagram(arrival) => Some(KeptServerEvent::Datagram(arrival)),
         ServerEvent::Reply(answering) => Some(KeptServerEvent::Reply(answering)),
+        ServerEvent::Notify(notifying) => Some(KeptServerEvent::Notify(notifying)),
+        ServerEvent::Drop { of } => Some(KeptServerEvent::Drop { of }),
         ServerEvent::Restart { .. } => None,
     }
 }

@@ -93,6 +93,8 @@ fn entry_text(alloc: Global, entry: &ServerEntry<'_>) -> Result<String, AllocErr
             let fault = fault_text(alloc, *error)?;
             format!(in alloc; "bad-plain {fault}")
         }
+        ServerEntry::Dropped(true) => String::from_str(alloc, "dropped"),
+        ServerEntry::Dropped(false) => String::from_str(alloc, "no-ticket"),
         ServerEntry::Restarted(Ok(())) => String::from_str(alloc, "restarted"),
         ServerEntry::Restarted(Err(refusal)) => format!(in alloc; "refused: {refusal}"),
     }
