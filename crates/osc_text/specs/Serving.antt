@@ -32,7 +32,7 @@ use Rattle.osc_text.specs.declared.serving.Serving.{Serving}
 abbrev pub reply_room : List ℕ → ℕ
 reply_room plain = length plain + 128
 
--- what the application sends by the ticket that is left in a place, and the line of its entry; event says what it is, left are the tickets if it is sealed (RFC 8613, 8.3)
+-- what the application sends by the ticket that is left in a place, and the line of its entry; event says what it is, left are the tickets if it is sealed (RFC 8613, 8.3 and 8.3.1)
 pub data AnsweredLine (h : History) (ts : List (Option TicketValues)) (of : ℕ) (event : TicketValues → Parts → Event) (left : List (Option TicketValues))
     (plain line : List ℕ) (k : History) (us : List (Option TicketValues)) : Type 0 where
   no_ticket : ticket_at ts of ≡ None → line ≡ no_ticket_line → k ≡ h → us ≡ ts → AnsweredLine h ts of event left plain line k us
