@@ -454,10 +454,11 @@ OSCORE_MUST_USE oscore_status oscore_client_take(oscore_client *client, uint64_t
        make the same call again.
 
    In this order: a number that was told before it was saved can be used twice. Each save reserves 64 numbers. A client needs a save with
-   the first request of each life, and again after every 64 requests; a server with the first datagram of each life, and again after every
-   64 challenges and replies under own numbers. Never begin from an older save, nor an end beside another with the same context. Begin with
-   0 only if the context was never used; if it was used elsewhere, begin with a number above all that were used, and at least 1. What can't
-   be saved isn't told: then each call that needs a number answers the same once more. There is no restart: a new life is a new begin. */
+   the first request of each life, and again after every 64 requests; a server with the first datagram of each life, and again after
+   every 64 challenges, notifications and replies under own numbers. Never begin from an older save, nor an end beside another with the
+   same context. Begin with 0 only if the context was never used; if it was used elsewhere, begin with a number above all that were used,
+   and at least 1. What can't be saved isn't told: then each call that needs a number answers the same once more. There is no restart: a
+   new life is a new begin. */
 
 /* Begins a server of a context, with the number that was saved last. With 0 it never received a request, and it takes nothing before its
    first save; else it begins a new life, as a context that is added as `restarted`: no request is delivered until one brings back an
@@ -476,10 +477,17 @@ OSCORE_MUST_USE oscore_status oscore_kept_server_take(oscore_kept_server *server
                                                       size_t options_room, oscore_opened *opened, oscore_ticket *ticket,
                                                       uint8_t out[64], size_t *out_len, size_t *detail);
 
-/* Seals the answer to the request of a ticket, as `oscore_server_reply` does. It needs a number where `own` says so. */
+/* Seals the answer to the request of a ticket, as `oscore_server_reply` does. It needs a number where `own` says so, and where the ticket
+   observes. */
 OSCORE_MUST_USE oscore_status oscore_kept_server_reply(oscore_kept_server *server, const oscore_ticket *ticket, bool own, uint16_t mid,
                                                        const uint8_t *plain, size_t plain_len, uint8_t *out, size_t out_room,
                                                        size_t *out_len, size_t *detail);
+
+/* Seals a notification to the registration of a ticket, as `oscore_server_notify` does. It needs a number always. Behind a new
+   begin drop the tickets of the life before: the server can't tell them from its own. */
+OSCORE_MUST_USE oscore_status oscore_kept_server_notify(oscore_kept_server *server, const oscore_ticket *ticket, const uint8_t *plain,
+                                                        size_t plain_len, uint8_t *out, size_t out_room, size_t *out_len,
+                                                        size_t *detail);
 
 /* Begins a client with nothing pending, with the number that was saved last. A request is pending for `life_ms` milliseconds and no
    longer. A refusal is OSCORE_BAD_HANDLE or OSCORE_BAD_NUMBER, and leaves the client. */

@@ -224,6 +224,12 @@ WRAP(kept_server_reply, oscore_status, (oscore_kept_server *server, const oscore
     return __real_oscore_kept_server_reply(server, ticket, own, mid, plain, plain_len, out, out_room, out_len, detail);
 }
 
+WRAP(kept_server_notify, oscore_status, (oscore_kept_server *server, const oscore_ticket *ticket, const uint8_t *plain, size_t plain_len,
+                                         uint8_t *out, size_t out_room, size_t *out_len, size_t *detail)) {
+    STRUCT(server), STRUCT(ticket), BYTES(plain), SOME(out, out_room), STRUCT(out_len), STRUCT(detail);
+    return __real_oscore_kept_server_notify(server, ticket, plain, plain_len, out, out_room, out_len, detail);
+}
+
 WRAP(kept_client_begin, oscore_status, (oscore_kept_client *client, const oscore_context *context, uint64_t loaded, uint64_t life_ms)) {
     STRUCT(client), STRUCT(context);
     return __real_oscore_kept_client_begin(client, context, loaded, life_ms);

@@ -1,4 +1,4 @@
-/* Ends whose numbers outlive them: RFC 8613, C.4, C.7 and C.8, by tables and in constant time; each status of their calls once, and what it
+/* Ends whose numbers outlive them: RFC 8613, C.4, C.7 and C.8, and an observation, by tables and in constant time; each status of their calls once, and what it
    leaves, that a save which has to come first leaves all; what may be told as saved; the last number; a life over a file, which is killed
    anywhere and goes on from what was saved; spoilt bytes. All that is handed in lies against a guard page. Built with the sanitizers by
    .ci/run, and run under valgrind's memcheck with fewer rounds, which its only word says. */
@@ -20,6 +20,11 @@ static const char *SEALED_ANSWERS[2] = {"64445d1f0000397490ffdbaad1e9a7e7b2a813d
 static const char *ECHOED = "44015d1f00003974396c6f63616c686f737483747631d8e40102030405060708";
 /* The number 20, and a plaintext of the code 45 alone, which is a response's. */
 static const char *INNER = "44025d1f00003974920914ff256a22a25470d7a3b9";
+/* A registration with the number 20, two notifications of it, and its last answer: those of observe.c. */
+static const char *REGISTRATION = "410101014a605474656d70", *SEALED_REGISTRATION = "410501014a60320914ff61fc3090a5ed1bf69f1d661cf04b96";
+static const char *STATES[2] = {"60450101610160ff32302e31", "50457001610260ff32302e32"};
+static const char *NOTIFICATIONS[2] = {"614501014a6101320100ff4dd33bfccdd8f762dd9be55ed4da0a72", "514570014a6102320101ff5283c3f4e0130f5955ca70f2ac7560ba"};
+static const char *GONE = "50840005";
 
 enum { NOW = 1000, LIFE = 5000, MID = 0x1234, BATCH = 64 };
 /* What is handed in, each at a place of its own. */
@@ -27,7 +32,7 @@ enum { CONTEXT, OWN, CLIENT, SERVER, OPTIONS, OPENED, TICKET, OUT, SEALED_LEN, R
     TOKEN, SECRET, SALT, ONE, SIZES };
 static const uint64_t NUMBERS = 1ull << 40;
 static const uint8_t ECHO[8] = {1, 2, 3, 4, 5, 6, 7, 8};
-static bool constant_time;
+static bool constant_time, observe;
 static oscore_context *context, *own;
 static oscore_kept_client *client;
 static oscore_kept_server *server;
@@ -71,8 +76,8 @@ static void derive(void) {
     uint8_t bytes[16], one = 1;
     const uint8_t *secret = guarded_copy(SECRET, bytes, hex("0102030405060708090a0b0c0d0e0f10", bytes));
     const uint8_t *salt = guarded_copy(SALT, bytes, hex("9e7ca92223786340", bytes)), *id = guarded_copy(ONE, &one, 1);
-    CHECK(!oscore_derive(context, secret, 16, salt, 8, false, NULL, 0, NULL, 0, id, 1, constant_time, false, false));
-    CHECK(!oscore_derive(own, secret, 16, salt, 8, false, NULL, 0, id, 1, NULL, 0, constant_time, false, false));
+    CHECK(!oscore_derive(context, secret, 16, salt, 8, false, NULL, 0, NULL, 0, id, 1, constant_time, false, observe));
+    CHECK(!oscore_derive(own, secret, 16, salt, 8, false, NULL, 0, id, 1, NULL, 0, constant_time, false, observe));
 }
 
 static void begin_client(uint64_t loaded) {
@@ -150,6 +155,20 @@ static uint32_t answer(const char *text, bool by_own, size_t room) {
     uint32_t status = oscore_kept_server_reply(server, ticket, by_own, MID, guarded_copy(PLAIN, bytes, len), len, out, room, out_len, detail);
     for (size_t i = status ? 0 : *out_len; i < room; i++) CHECK(!out[i]);
     CHECK(!status || (same_server(server, &before) && *out_len == 99));
+    return status;
+}
+
+/* The same of a notification. */
+static uint32_t notify(const char *text, size_t room) {
+    uint8_t bytes[64];
+    size_t len = hex(text, bytes);
+    oscore_kept_server before = *server;
+    out = guarded(OUT, room);
+    *out_len = 99;
+    uint32_t status = oscore_kept_server_notify(server, ticket, guarded_copy(PLAIN, bytes, len), len, out, room, out_len, detail);
+    for (size_t i = status ? 0 : *out_len; i < room; i++) CHECK(!out[i]);
+    CHECK(!status || (same_server(server, &before) && *out_len == 99));
+    CHECK(status || (server->reserved == before.reserved && server->server.context.next == before.server.context.next + 1));
     return status;
 }
 
@@ -266,6 +285,71 @@ static void serves_again(void) {
     server_is_told(3 * BATCH);
     CHECK(!take_sealed(ECHOED, 21) && server->server.context.next == 2 * BATCH && opened->option_count == 2);
     CHECK(!answer(ANSWER, true, 64) && server->server.context.next == 2 * BATCH + 1 && take_text(SEALED) == OSCORE_REPLAY);
+}
+
+/* Each notification needs a number, and so does the last answer, whatever `own` says; in the order of the reasons. */
+static void notifies(void) {
+    observe = true;
+    begin_server(0);
+    CHECK(!oscore_kept_server_saved(server, BATCH) && !take_text(SEALED_REGISTRATION) && ticket->observes == 1 && ticket->number == 20);
+    oscore_ticket observing = *ticket;
+    for (unsigned i = 0; i < 2; i++) CHECK(!notify(STATES[i], 64) && is(out, *out_len, NOTIFICATIONS[i]));
+    while (server->server.context.next < BATCH) CHECK(!notify(STATES[1], 64));
+    CHECK(notify("60450101", 64) == OSCORE_SAVE_FIRST && *detail == 2 * BATCH && notify(STATES[0], 0) == OSCORE_SAVE_FIRST);
+    CHECK(answer(GONE, false, 64) == OSCORE_SAVE_FIRST && answer(GONE, true, 64) == OSCORE_SAVE_FIRST && *detail == 2 * BATCH);
+    CHECK(notify("604501", 64) == OSCORE_SHORT && *detail == 0 && notify("604501016101ff", 64) == OSCORE_EMPTY_PAYLOAD && *detail == 6);
+    ticket->life = 1;
+    CHECK(notify(STATES[0], 64) == OSCORE_SAVE_FIRST);
+    *ticket = observing, ticket->observes = 0;
+    CHECK(notify(STATES[0], 64) == OSCORE_SAVE_FIRST && !answer(ANSWER, false, 64) && server->server.context.next == BATCH);
+    ticket->observes = 2;
+    CHECK(notify(STATES[0], 64) == OSCORE_BAD_HANDLE && *detail == 0 && notify("604501", 64) == OSCORE_BAD_HANDLE);
+    *ticket = observing;
+    server_is_told(2 * BATCH);
+    /* The request has its answer, and is notified still. */
+    CHECK(answer(GONE, false, 64) == OSCORE_TICKET_SPENT && !notify(STATES[0], 27) && server->server.context.next == BATCH + 1);
+    ticket->life = 1;
+    CHECK(notify(STATES[0], 64) == OSCORE_STALE_TICKET && *detail == 0);
+    *ticket = observing, ticket->observes = 0;
+    CHECK(notify(STATES[0], 64) == OSCORE_NOT_OBSERVING);
+    *ticket = observing;
+    CHECK(notify(REQUEST, 64) == OSCORE_NOT_THAT_KIND && notify("50840000d11600", 64) == OSCORE_UNSUPPORTED && *detail == 35);
+    CHECK(notify(GONE, 64) == OSCORE_NOT_NOTIFICATION && *detail == 0 && notify(STATES[0], 26) == OSCORE_NO_ROOM);
+    server->reserved = BATCH;
+    CHECK(notify(STATES[0], 64) == OSCORE_BAD_HANDLE);
+    /* The last answer uses a number, though nobody asks for its own. */
+    begin_server(0);
+    CHECK(!oscore_kept_server_saved(server, BATCH) && !take_text(SEALED_REGISTRATION));
+    CHECK(!answer(GONE, false, 64) && server->server.context.next == 1);
+    server->server.context.next = NUMBERS, server->reserved = NUMBERS;
+    CHECK(notify(STATES[0], 64) == OSCORE_SEQUENCE_EXHAUSTED);
+    observe = false;
+}
+
+/* A registration that is notified stays pending, and an older notification isn't delivered. */
+static void is_notified(void) {
+    observe = true;
+    begin_client(20);
+    CHECK(ask(NOW, REGISTRATION, 64) == OSCORE_SAVE_FIRST && !oscore_kept_client_saved(client, 20 + BATCH));
+    CHECK(!ask(NOW, REGISTRATION, 64) && is(out, *out_len, SEALED_REGISTRATION) && client->client.pending[0].observes == 1);
+    for (unsigned i = 0; i < 2; i++) {
+        CHECK(!take_response(NOW, NOTIFICATIONS[i]) && opened->is_notification && opened->number == i && *number == 20);
+        CHECK(client->client.count == 1 && client->client.pending[0].from == i + 2 && opened->payload_len == 4);
+    }
+    CHECK(take_response(NOW, NOTIFICATIONS[0]) == OSCORE_OLD && take_response(NOW, NOTIFICATIONS[1]) == OSCORE_OLD && *detail == 0);
+    begin_server(0);
+    CHECK(!oscore_kept_server_saved(server, BATCH) && !take_text(SEALED_REGISTRATION) && !opened->is_notification);
+    CHECK(!notify(STATES[0], 64) && !notify(STATES[1], 64) && !answer(GONE, false, 64));
+    uint8_t last[64];
+    size_t len = *out_len;
+    memcpy(last, out, len);
+    datagram = guarded_copy(DATAGRAM, last, len);
+    begin_client(20);
+    CHECK(!oscore_kept_client_saved(client, 20 + BATCH) && !ask(NOW, REGISTRATION, 64));
+    opened->is_notification = 1;
+    CHECK(!oscore_kept_client_take(client, NOW, datagram, len, options, 4, opened, number, detail));
+    CHECK(!opened->is_notification && opened->number == 2 && opened->code == 0x84 && *number == 20 && client->client.count == 0);
+    observe = false;
 }
 
 static void serves_to_the_last_number(void) {
@@ -391,7 +475,7 @@ static void refuses_bytes(void) {
     begin_server(BATCH);
     oscore_kept_server kept = *server;
     server->reserved = BATCH - 1;
-    CHECK(take_text(SEALED) == OSCORE_BAD_HANDLE && answer(ANSWER, false, 64) == OSCORE_BAD_HANDLE);
+    CHECK(take_text(SEALED) == OSCORE_BAD_HANDLE && answer(ANSWER, false, 64) == OSCORE_BAD_HANDLE && notify(STATES[0], 64) == OSCORE_BAD_HANDLE);
     CHECK(oscore_kept_server_saved(server, BATCH) == OSCORE_BAD_HANDLE);
     server->reserved = NUMBERS + 1;
     CHECK(take_text(SEALED) == OSCORE_BAD_HANDLE);
@@ -441,6 +525,8 @@ int main(int count, char **words) {
             constant_time = ciphers;
             serves_fresh();
             asks();
+            notifies();
+            is_notified();
         }
         begins();
         replies();
@@ -451,7 +537,7 @@ int main(int count, char **words) {
         has_sizes();
         spoils_ends();
     }
-    printf("kept: C.4, C.7 and C.8, each status, what a save that has to come first leaves, lives over a file; behind a guard page and before one "
+    printf("kept: C.4, C.7 and C.8, an observation, each status, what a save that has to come first leaves, lives over a file; behind a guard page and before one "
            "%d spoilt ends\n", 2 * rounds);
     return 0;
 }

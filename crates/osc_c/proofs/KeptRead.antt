@@ -10,7 +10,7 @@ use Rattle.osc_endpoint.specs.ClientHistory as client
 use Rattle.osc_endpoint.specs.ClientLaws.{OneClientAnswer}
 use Rattle.osc_endpoint.specs.Laws.{OneServerAnswer}
 use Rattle.osc_endpoint.specs.Life.{is_open_life}
-use Rattle.osc_endpoint.specs.ServerAnswer.{ServerAnswer}
+use Rattle.osc_endpoint.specs.ServerAnswer.{ServerAnswer, asks_own}
 use Rattle.osc_endpoint.specs.ServerHistory as server
 use Rattle.osc_handle.specs.ServerBytes.{IsSpent}
 use Rattle.osc_handle.specs.TicketBytes.{IsTicket, ticket_in}
@@ -27,6 +27,7 @@ use Rattle.osc_c.specs.KeptClientCalls as kept_asks
 use Rattle.osc_c.specs.KeptClientCalls.RefusesKeptAsking.{bad_handle as ask_handle, malformed as ask_malformed, save_first as ask_first, refused as ask_refused}
 use Rattle.osc_c.specs.KeptClientCalls.RefusesKeptTaking.{bad_handle as take_handle, refused as take_refused}
 use Rattle.osc_c.specs.KeptServerCalls as kept_serves
+use Rattle.osc_c.specs.KeptServerCalls.RefusesKeptNotifying.{bad_handle as notify_handle, malformed as notify_malformed, save_first as notify_first, refused as notify_refused}
 use Rattle.osc_c.specs.KeptServerCalls.RefusesKeptReplying.{bad_handle as reply_handle, malformed as reply_malformed, save_first as reply_first, spent as reply_spent, refused as reply_refused}
 use Rattle.osc_c.specs.KeptServerCalls.RefusesKeptServing.{bad_handle as serve_handle, save_first as serve_first, refused as serve_refused}
 use Rattle.osc_c.specs.ServerCalls as serves
@@ -45,14 +46,14 @@ kept_serving_read one k new now mid echo d reply status result detail ticket (se
 
 pub kept_replying_read : OneServerAnswer → DatagramIsOneMessage → DatagramHasNoFault → (k new : KeptServerHandle) (t : TicketHandle) (own : Bool) (mid : ℕ) (plain : List ℕ) (room : ℕ) (status : Status) (result detail : ℕ) (text : List ℕ)
     → kept_serves.RefusesKeptReplying k new t own mid plain room status detail → result ≡ code status → (p : Parts) → IsDatagram p plain → IsTicket t → (h : server.History) (o : Own) (entry : server.Entry) → ServesWith k o h
-    → (WantsSave own (upcoming o) k.reserved → ⊥) → (IsSpent h (ticket_in t) → ⊥) → ServerAnswer h (server.Reply (ticket_in t) own mid p room) entry → serves.ReadsReplying entry result detail text
+    → (WantsSave (asks_own (ticket_in t) own) (upcoming o) k.reserved → ⊥) → (IsSpent h (ticket_in t) → ⊥) → ServerAnswer h (server.Reply (ticket_in t) (asks_own (ticket_in t) own) mid p room) entry → serves.ReadsReplying entry result detail text
 kept_replying_read one message never k new t own mid plain room status result detail text (reply_handle bad is zero) says p of ticket h o entry held none alive y = absurd (bad held.whole ticket)
 kept_replying_read one message never k new t own mid plain room status result detail text (reply_malformed a b fault place has is at) says p of ticket h o entry held none alive y = absurd (never p plain fault place of has)
 kept_replying_read one message never k new t own mid plain room status result detail text (reply_first a b q from is at wants) says p of ticket h o entry held none alive y = absurd (none (wants h o held))
 kept_replying_read one message never k new t own mid plain room status result detail text (reply_spent a b q from spent is zero) says p of ticket h o entry held none alive y = absurd (alive (spent h o held))
 kept_replying_read one message never k new t own mid plain room status result detail text (reply_refused a b q from e is holds) says p of ticket h o entry held none alive y =
-    let x = subst (λ (m : Parts). ServerAnswer h (server.Reply (ticket_in t) own mid m room) (server.NotReplied e)) (message q p plain from of) (holds h o held).row in
-    carried one (λ z. serves.ReadsReplying z result detail text) h (server.Reply (ticket_in t) own mid p room) (server.NotReplied e) entry held.serves.answers x y (status, says, is)
+    let x = subst (λ (m : Parts). ServerAnswer h (server.Reply (ticket_in t) (asks_own (ticket_in t) own) mid m room) (server.NotReplied e)) (message q p plain from of) (holds h o held).row in
+    carried one (λ z. serves.ReadsReplying z result detail text) h (server.Reply (ticket_in t) (asks_own (ticket_in t) own) mid p room) (server.NotReplied e) entry held.serves.answers x y (status, says, is)
 
 pub kept_reply_faulty : DatagramHasOneFault → DatagramHasNoFault → (k new : KeptServerHandle) (t : TicketHandle) (own : Bool) (mid : ℕ) (plain : List ℕ) (room : ℕ) (status : Status) (result detail : ℕ)
     → kept_serves.RefusesKeptReplying k new t own mid plain room status detail → result ≡ code status → IsKeptServer k → IsTicket t → (fault : Fault) (place : ℕ) → HasFault plain fault place
@@ -63,6 +64,26 @@ kept_reply_faulty first never k new t own mid plain room status result detail (r
 kept_reply_faulty first never k new t own mid plain room status result detail (reply_first a b q from is at wants) says whole ticket fault place has = absurd (never q plain fault place from has)
 kept_reply_faulty first never k new t own mid plain room status result detail (reply_spent a b q from spent is zero) says whole ticket fault place has = absurd (never q plain fault place from has)
 kept_reply_faulty first never k new t own mid plain room status result detail (reply_refused a b q from e is holds) says whole ticket fault place has = absurd (never q plain fault place from has)
+
+-- the same of a notification
+pub kept_notifying_read : OneServerAnswer → DatagramIsOneMessage → DatagramHasNoFault → (k new : KeptServerHandle) (t : TicketHandle) (plain : List ℕ) (room : ℕ) (status : Status) (result detail : ℕ) (text : List ℕ)
+    → kept_serves.RefusesKeptNotifying k new t plain room status detail → result ≡ code status → (p : Parts) → IsDatagram p plain → IsTicket t → (h : server.History) (o : Own) (entry : server.Entry) → ServesWith k o h
+    → (WantsSave true (upcoming o) k.reserved → ⊥) → ServerAnswer h (server.Notify (ticket_in t) p room) entry → serves.ReadsReplying entry result detail text
+kept_notifying_read one message never k new t plain room status result detail text (notify_handle bad is zero) says p of ticket h o entry held none y = absurd (bad held.whole ticket)
+kept_notifying_read one message never k new t plain room status result detail text (notify_malformed a b fault place has is at) says p of ticket h o entry held none y = absurd (never p plain fault place of has)
+kept_notifying_read one message never k new t plain room status result detail text (notify_first a b q from is at wants) says p of ticket h o entry held none y = absurd (none (wants h o held))
+kept_notifying_read one message never k new t plain room status result detail text (notify_refused a b q from e is holds) says p of ticket h o entry held none y =
+    let x = subst (λ (m : Parts). ServerAnswer h (server.Notify (ticket_in t) m room) (server.NotReplied e)) (message q p plain from of) (holds h o held).row in
+    carried one (λ z. serves.ReadsReplying z result detail text) h (server.Notify (ticket_in t) p room) (server.NotReplied e) entry held.serves.answers x y (status, says, is)
+
+pub kept_notify_faulty : DatagramHasOneFault → DatagramHasNoFault → (k new : KeptServerHandle) (t : TicketHandle) (plain : List ℕ) (room : ℕ) (status : Status) (result detail : ℕ)
+    → kept_serves.RefusesKeptNotifying k new t plain room status detail → result ≡ code status → IsKeptServer k → IsTicket t → (fault : Fault) (place : ℕ) → HasFault plain fault place
+    → (result ≡ code (format_status fault)) × (detail ≡ place)
+kept_notify_faulty first never k new t plain room status result detail (notify_handle bad is zero) says whole ticket fault place has = absurd (bad whole ticket)
+kept_notify_faulty first never k new t plain room status result detail (notify_malformed a b other at from is put) says whole ticket fault place has =
+    let same = first plain other fault at place from has in (says ∙ ap code (is ∙ ap format_status same.0), put ∙ same.1)
+kept_notify_faulty first never k new t plain room status result detail (notify_first a b q from is at wants) says whole ticket fault place has = absurd (never q plain fault place from has)
+kept_notify_faulty first never k new t plain room status result detail (notify_refused a b q from e is holds) says whole ticket fault place has = absurd (never q plain fault place from has)
 
 pub kept_asking_read : OneClientAnswer → DatagramIsOneMessage → DatagramHasNoFault → (k new : KeptClientHandle) (now : ℕ) (plain : List ℕ) (room : ℕ) (status : Status) (result detail : ℕ) (text : List ℕ)
     → kept_asks.RefusesKeptAsking k new now plain room status detail → result ≡ code status → (p : Parts) → IsDatagram p plain → (h : client.History) (o : Own) (entry : client.Entry) → AsksWith k o h
@@ -83,10 +104,10 @@ kept_request_faulty first never k new now plain room status result detail (ask_m
 kept_request_faulty first never k new now plain room status result detail (ask_first a same q from is at wants) says whole fault place has = absurd (never q plain fault place from has)
 kept_request_faulty first never k new now plain room status result detail (ask_refused a q from e is holds) says whole fault place has = absurd (never q plain fault place from has)
 
-pub kept_taking_read : OneClientAnswer → (k new : KeptClientHandle) (now : ℕ) (d : List ℕ) (status : Status) (result detail request : ℕ) → kept_asks.RefusesKeptTaking k new now d status detail → result ≡ code status
-    → (h : client.History) (o : Own) (entry : client.Entry) → AsksWith k o h → ClientAnswer 8 h (client.Datagram now d) entry → asks.ReadsTaking entry result detail request
-kept_taking_read one k new now d status result detail request (take_handle bad same is zero) says h o entry held y = absurd (bad held.whole)
-kept_taking_read one k new now d status result detail request (take_refused a by) says h o entry held y =
+pub kept_taking_read : OneClientAnswer → (k new : KeptClientHandle) (now : ℕ) (d : List ℕ) (status : Status) (result detail request : ℕ) (stays : Bool) → kept_asks.RefusesKeptTaking k new now d status detail → result ≡ code status
+    → (h : client.History) (o : Own) (entry : client.Entry) → AsksWith k o h → ClientAnswer 8 h (client.Datagram now d) entry → asks.ReadsTaking entry result detail request stays
+kept_taking_read one k new now d status result detail request stays (take_handle bad same is zero) says h o entry held y = absurd (bad held.whole)
+kept_taking_read one k new now d status result detail request stays (take_refused a by) says h o entry held y =
     let took = by h o held in
-    carried_too one (λ x. asks.ReadsTaking x result detail request) h (client.Datagram now d) (client.Took took.answer) entry held.asks.answers took.step.row y
-    (status_taken took.answer status result detail request took.says says)
+    carried_too one (λ x. asks.ReadsTaking x result detail request stays) h (client.Datagram now d) (client.Took took.answer) entry held.asks.answers took.step.row y
+    (status_taken took.answer status result detail request stays took.says says)

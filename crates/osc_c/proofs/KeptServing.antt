@@ -1,5 +1,5 @@
 -- What a kept end answers, as C reads it. k are its bytes after the call, h is the history before it, old are the numbers then.
-use Rattle.std.proofs.Common.{◌≡◌, ◌∙◌, ap, sym, subst, ℕ, List, Result, Err}
+use Rattle.std.proofs.Common.{◌≡◌, ◌∙◌, ap, sym, subst, ℕ, Bool, true, false, List, Result, Err}
 use Rattle.osc_context.specs.Views.{number_of}
 use Rattle.osc_context.specs.declared.partial_iv.Piv.{Piv}
 use Rattle.osc_protect.specs.declared.opened.Opened.{Opened}
@@ -53,8 +53,10 @@ client_says_too client_outcomes.NotResponse client.NotResponse status detail sho
 client_says_too client_outcomes.UnknownToken client.UnknownToken status detail shows says = says
 client_says_too client_outcomes.Unprotected client.Unprotected status detail shows says = says
 client_says_too client_outcomes.Undecodable client.Undecodable status detail shows says = says
+client_says_too client_outcomes.Old client.Old status detail shows says = says
 client_says_too client_outcomes.BadTag client.BadTag status detail shows says = says
 client_says_too client_outcomes.BadInner client.BadInner status detail shows says = says
+client_says_too (client_outcomes.Notified o n) (client.Notified received number) status detail shows says = absurd says
 client_says_too (client_outcomes.Deliver o n) (client.Deliver received number) status detail shows says = absurd says
 client_says_too outcome answer status detail shows says = absurd shows
 
@@ -63,16 +65,20 @@ pub kept_answers_by : (h : client.History) (k : KeptClientHandle) (now : ℕ) (d
 kept_answers_by h k now d outcome status detail old takes says =
     record { answer = takes.answer; says = client_says_too outcome takes.answer status detail takes.shows says; step = takes.step }
 
-kept_response_by : (h : client.History) (k : KeptClientHandle) (now : ℕ) (d : List ℕ) (o : Opened) (n : Piv) (answer : client.Answer) (old : Own) → ClientShows (client_outcomes.Deliver o n) answer
-    → StepsClient h (client.Datagram now d) (client.Took answer) old k → StepsClient h (client.Datagram now d) (client.Took (client.Deliver (received_of o) (number_of n))) old k
-kept_response_by h k now d o n (client.Deliver received number) old s x =
+kept_heard_by : (h : client.History) (k : KeptClientHandle) (now : ℕ) (d : List ℕ) (stays : Bool) (o : Opened) (n : Piv) (answer : client.Answer) (old : Own) → ClientShows (asks.shown_as stays o n) answer
+    → StepsClient h (client.Datagram now d) (client.Took answer) old k → StepsClient h (client.Datagram now d) (client.Took (asks.heard_as stays (received_of o) (number_of n))) old k
+kept_heard_by h k now d true o n (client.Notified received number) old s x =
+    subst (λ r. StepsClient h (client.Datagram now d) (client.Took (client.Notified r (number_of n))) old k) (sym s.0)
+    (subst (λ m. StepsClient h (client.Datagram now d) (client.Took (client.Notified received m)) old k) (sym s.1) x)
+kept_heard_by h k now d false o n (client.Deliver received number) old s x =
     subst (λ r. StepsClient h (client.Datagram now d) (client.Took (client.Deliver r (number_of n))) old k) (sym s.0)
     (subst (λ m. StepsClient h (client.Datagram now d) (client.Took (client.Deliver received m)) old k) (sym s.1) x)
-kept_response_by h k now d o n answer old s x = absurd s
+kept_heard_by h k now d true o n answer old s x = absurd s
+kept_heard_by h k now d false o n answer old s x = absurd s
 
-pub kept_response_to : (h : client.History) (k : KeptClientHandle) (now : ℕ) (d : List ℕ) (outcome : ClientOutcome) (o : Opened) (n : Piv) (old : Own) → outcome ≡ client_outcomes.Deliver o n
-    → ClientTakesWith h now d outcome old k → StepsClient h (client.Datagram now d) (client.Took (client.Deliver (received_of o) (number_of n))) old k
-kept_response_to h k now d outcome o n old is takes = kept_response_by h k now d o n takes.answer old (subst (λ x. ClientShows x takes.answer) is takes.shows) takes.step
+pub kept_heard_to : (h : client.History) (k : KeptClientHandle) (now : ℕ) (d : List ℕ) (outcome : ClientOutcome) (stays : Bool) (o : Opened) (n : Piv) (old : Own) → outcome ≡ asks.shown_as stays o n
+    → ClientTakesWith h now d outcome old k → StepsClient h (client.Datagram now d) (client.Took (asks.heard_as stays (received_of o) (number_of n))) old k
+kept_heard_to h k now d outcome stays o n old is takes = kept_heard_by h k now d stays o n takes.answer old (subst (λ x. ClientShows x takes.answer) is takes.shows) takes.step
 
 -- ---- refusals
 

@@ -1,13 +1,14 @@
 -- To be believed: why a call of C on a kept server does nothing, or less, row by row in the order in which the reasons are checked, and what it leaves. k are
 -- the server's bytes before, new those after, t are the bytes of a ticket, d is a datagram, plain the datagram of a plain message, room the length of the
 -- buffer.
-use Rattle.std.specs.Prelude.{◌≡◌, ℕ, List, Bool, not}
+use Rattle.std.specs.Prelude.{◌≡◌, ℕ, List, Bool, true, not}
 use Rattle.osc_coap.specs.Datagram.{Parts, IsDatagram}
 use Rattle.osc_coap.specs.Fault.{HasFault}
 use Rattle.osc_coap.specs.declared.format_error.Fault.{Fault}
 use Rattle.osc_context.specs.Reserving.{next_limit}
 use Rattle.osc_endpoint.specs.Life.{is_open_life}
-use Rattle.osc_endpoint.specs.ServerHistory.{Answer, Datagram, History, NotReplied, Reply, Took, life}
+use Rattle.osc_endpoint.specs.ServerAnswer.{asks_own}
+use Rattle.osc_endpoint.specs.ServerHistory.{Answer, Datagram, History, NotReplied, Notify, Reply, Took, life}
 use Rattle.osc_endpoint.specs.declared.server_error.ReplyError.{ReplyError}
 use Rattle.osc_handle.specs.ServerBytes.{IsSpent}
 use Rattle.osc_handle.specs.TicketBytes.{IsTicket, ticket_in}
@@ -45,9 +46,20 @@ pub data RefusesKeptReplying (k new : KeptServerHandle) (t : TicketHandle) (own 
   malformed : IsKeptServer k → IsTicket t → (fault : Fault) (place : ℕ) → HasFault plain fault place → status ≡ format_status fault → detail ≡ place
       → RefusesKeptReplying k new t own mid plain room status detail
   save_first : IsKeptServer k → IsTicket t → (p : Parts) → IsDatagram p plain → status ≡ SaveFirst → detail ≡ next_limit k.reserved
-      → ((h : History) (o : Own) → ServesWith k o h → WantsSave own (upcoming o) k.reserved) → RefusesKeptReplying k new t own mid plain room status detail
+      → ((h : History) (o : Own) → ServesWith k o h → WantsSave (asks_own (ticket_in t) own) (upcoming o) k.reserved) → RefusesKeptReplying k new t own mid plain room status detail
   spent : IsKeptServer k → IsTicket t → (p : Parts) → IsDatagram p plain → ((h : History) (o : Own) → ServesWith k o h → IsSpent h (ticket_in t))
       → status ≡ TicketSpent → detail ≡ 0 → RefusesKeptReplying k new t own mid plain room status detail
   refused : IsKeptServer k → IsTicket t → (p : Parts) → IsDatagram p plain → (e : ReplyError) → IsReplyStatus e status detail
-      → ((h : History) (old : Own) → ServesWith k old h → StepsServer h (Reply (ticket_in t) own mid p room) (NotReplied e) old new)
+      → ((h : History) (old : Own) → ServesWith k old h → StepsServer h (Reply (ticket_in t) (asks_own (ticket_in t) own) mid p room) (NotReplied e) old new)
       → RefusesKeptReplying k new t own mid plain room status detail
+
+-- why no notification is sealed; nothing changes (RFC 8613, 8.3.1 and B.1.1)
+pub data RefusesKeptNotifying (k new : KeptServerHandle) (t : TicketHandle) (plain : List ℕ) (room : ℕ) (status : Status) (detail : ℕ) : Type 0 where
+  bad_handle : (IsKeptServer k → IsTicket t → ⊥) → status ≡ BadHandle → detail ≡ 0 → RefusesKeptNotifying k new t plain room status detail
+  malformed : IsKeptServer k → IsTicket t → (fault : Fault) (place : ℕ) → HasFault plain fault place → status ≡ format_status fault → detail ≡ place
+      → RefusesKeptNotifying k new t plain room status detail
+  save_first : IsKeptServer k → IsTicket t → (p : Parts) → IsDatagram p plain → status ≡ SaveFirst → detail ≡ next_limit k.reserved
+      → ((h : History) (o : Own) → ServesWith k o h → WantsSave true (upcoming o) k.reserved) → RefusesKeptNotifying k new t plain room status detail
+  refused : IsKeptServer k → IsTicket t → (p : Parts) → IsDatagram p plain → (e : ReplyError) → IsReplyStatus e status detail
+      → ((h : History) (old : Own) → ServesWith k old h → StepsServer h (Notify (ticket_in t) p room) (NotReplied e) old new)
+      → RefusesKeptNotifying k new t plain room status detail

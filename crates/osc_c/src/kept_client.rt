@@ -10,20 +10,20 @@ ghost use Rattle.osc_context.specs.Views.{number_of};
 ghost use Rattle.osc_protect.specs.Views.{message_of};
 ghost use Rattle.osc_protect.specs.declared.opened.Opened.{Opened as OpenedOf};
 ghost use Rattle.osc_endpoint.specs.ClientAnswer.{ClientAnswer};
-ghost use Rattle.osc_endpoint.specs.ClientHistory.{Datagram, Deliver, Entry, Forget, Forgot, History, New, Request, Sent, Took};
+ghost use Rattle.osc_endpoint.specs.ClientHistory.{Datagram, Entry, Forget, Forgot, History, New, Request, Sent, Took};
 ghost use Rattle.osc_endpoint.specs.Views.{received_of};
 ghost use Rattle.osc_handle.specs.ContextBytes.{client_in, IsContext};
 ghost use Rattle.osc_kept.specs.Numbering.{Allowed, Goes, Load, Own, Reserve, after, nothing_drawn, upcoming};
 ghost use Rattle.osc_kept_handle.specs.KeptClientBytes.{AsksWith, IsKeptClient, StepsClient};
 ghost use Rattle.osc_kept_handle.specs.Reserved.{WantsSave};
-ghost use Rattle.osc_c.specs.ClientCalls.{ReadsAsking, ReadsForgetting, ReadsTaking, RefusesNumber};
+ghost use Rattle.osc_c.specs.ClientCalls.{heard_as, ReadsAsking, ReadsForgetting, ReadsTaking, RefusesNumber};
 ghost use Rattle.osc_c.specs.KeptClientCalls.{RefusesKeptAsking, RefusesKeptForgetting, RefusesKeptTaking, RefusesSaved};
 ghost use Rattle.osc_c.specs.Opened.{option_in, Shows};
 ghost use Rattle.osc_c.specs.Statuses.{code, format_status};
 ghost use Rattle.osc_c.specs.declared.status.Status.{Status as StatusOf};
 ghost use Rattle.osc_c.specs.declared.status.Status.TheVariants.{BadHandle, SaveFirst};
 
-use crate::client::{asking_refusal, delivery};
+use crate::client::{asking_refusal, hearing};
 use crate::kept_server::save_first;
 use crate::opened_view::{OpenedView, OptionView, show};
 use crate::status::{DONE, Refusal, Status};
@@ -166,16 +166,16 @@ fn take_in<'b>(
     client: &mut KeptClientHandle,
     now: u64,
     datagram: &'b mut [u8],
-) -> Result<(Opened<'b>, Piv), Refusal>
+) -> Result<(Opened<'b>, Piv, bool), Refusal>
     ensures opened { IfOk result (λ o. (h : History) (old : Own) → AsksWith client.old old h
-        → StepsClient h (Datagram now datagram.old) (Took (Deliver (received_of o.0) (number_of o.1))) old client.new) }
+        → StepsClient h (Datagram now datagram.old) (Took (heard_as o.2 (received_of o.0) (number_of o.1))) old client.new) }
     ensures refused { IfErr result (λ r. RefusesKeptTaking client.old client.new now datagram.old r.status r.detail) }
     ensures refuses { (IsKeptClient client.old → ⊥) → IfErr result (λ r. r.status ≡ BadHandle) }
     ensures accepted { IsOk result → IsKeptClient client.old }
 {
     match client.take(now, datagram) {
-        Some(outcome) => match delivery(outcome) {
-            Ok(delivered) => Ok(delivered),
+        Some(outcome) => match hearing(outcome) {
+            Ok(heard) => Ok(heard),
             Err(refusal) => Err(refusal),
         },
         None => Err(Status::BadHandle.into()),
@@ -197,17 +197,18 @@ pub extern "C" fn oscore_kept_client_take<'b>(
         × (opened.new.has_more_options ≡ false → map option_in (take opened.new.option_count options.new) ≡ (message_of o).options)
         × (opened.new.has_more_options ≡ true → map option_in options.new ≡ take (length options.old) (message_of o).options)
         × ((h : History) (old : Own) → AsksWith client.old old h
-        → StepsClient h (Datagram now datagram.old) (Took (Deliver (received_of o) request.new)) old client.new) }
+        → StepsClient h (Datagram now datagram.old) (Took (heard_as opened.new.is_notification (received_of o) request.new)) old client.new) }
     ensures refused { result ≢ 0 → (status : StatusOf) × (result ≡ code status) × RefusesKeptTaking client.old client.new now datagram.old status detail.new }
     ensures refuses { (IsKeptClient client.old → ⊥) → result ≡ code BadHandle }
     ensures answers { (h : History) (o : Own) (entry : Entry) → AsksWith client.old o h → ClientAnswer 8 h (Datagram now datagram.old) entry
-        → ReadsTaking entry result detail.new request.new }
+        → ReadsTaking entry result detail.new request.new opened.new.is_notification }
     ensures unchanged { result ≢ 0 → (opened.new ≡ opened.old) × (options.new ≡ options.old) × (request.new ≡ request.old) }
 {
     one_client_answer();
     match take_in(client, now, datagram) {
-        Ok((message, number)) => {
+        Ok((message, number, stays)) => {
             show(&message, options, opened);
+            opened.is_notification = stays;
             *request = number.number();
             DONE
         }

@@ -11,8 +11,8 @@ ghost use Rattle.osc_window.specs.declared.window_size.WindowSize.{WindowSize as
 ghost use Rattle.osc_protect.specs.Views.{message_of};
 ghost use Rattle.osc_protect.specs.declared.opened.Opened.{Opened as OpenedOf};
 ghost use Rattle.osc_endpoint.specs.Life.{is_open_life};
-ghost use Rattle.osc_endpoint.specs.ServerAnswer.{ServerAnswer};
-ghost use Rattle.osc_endpoint.specs.ServerHistory.{Add, Added, Begin, Datagram, Deliver, Entry, History, Replied, Reply, Then, Took, life};
+ghost use Rattle.osc_endpoint.specs.ServerAnswer.{ServerAnswer, asks_own};
+ghost use Rattle.osc_endpoint.specs.ServerHistory.{Add, Added, Begin, Datagram, Deliver, Entry, History, Notify, Replied, Reply, Then, Took, life};
 ghost use Rattle.osc_endpoint.specs.Views.{received_of, values_of};
 ghost use Rattle.osc_endpoint.specs.declared.start.Start.{Start as StartOf};
 ghost use Rattle.osc_handle.specs.ContextBytes.{IsContext, server_in};
@@ -23,7 +23,7 @@ ghost use Rattle.osc_kept.specs.Numbering.{Allowed, Goes, Load, Own, Reserve, af
 ghost use Rattle.osc_kept_handle.specs.KeptServerBytes.{IsKeptServer, ServesWith, StepsServer};
 ghost use Rattle.osc_kept_handle.specs.Reserved.{WantsSave};
 ghost use Rattle.osc_c.specs.ClientCalls.{RefusesNumber};
-ghost use Rattle.osc_c.specs.KeptServerCalls.{RefusesKeptReplying, RefusesKeptServing, RefusesSaved};
+ghost use Rattle.osc_c.specs.KeptServerCalls.{RefusesKeptNotifying, RefusesKeptReplying, RefusesKeptServing, RefusesSaved};
 ghost use Rattle.osc_c.specs.Opened.{option_in, Shows};
 ghost use Rattle.osc_c.specs.ServerCalls.{AreAddable, ReadsReplying, ReadsServing};
 ghost use Rattle.osc_c.specs.Statuses.{code, format_status};
@@ -201,13 +201,13 @@ fn reply_in(
     out: &mut [u8],
 ) -> Result<usize, Refusal>
     ensures sealed { IfOk result (λ n. (p : Parts) × IsDatagram p plain.now × ((h : History) (old : Own) → ServesWith server.old old h
-        → StepsServer h (Reply (ticket_in ticket.now) own mid p (length out.old)) (Replied (take n out.new)) old server.new)) }
+        → StepsServer h (Reply (ticket_in ticket.now) (asks_own (ticket_in ticket.now) own) mid p (length out.old)) (Replied (take n out.new)) old server.new)) }
     ensures accepted { IsOk result → IsKeptServer server.old × IsTicket ticket.now }
     ensures refused { IfErr result (λ r. RefusesKeptReplying server.old server.new ticket.now own mid plain.now (length out.old) r.status r.detail) }
     ensures save_first { (p : Parts) → IsDatagram p plain.now → IsTicket ticket.now → (h : History) (o : Own) → ServesWith server.old o h
-        → WantsSave own (upcoming o) server.old.reserved → IsErrAnd result (λ r. (r.status ≡ SaveFirst) × (r.detail ≡ next_limit server.old.reserved)) }
+        → WantsSave (asks_own (ticket_in ticket.now) own) (upcoming o) server.old.reserved → IsErrAnd result (λ r. (r.status ≡ SaveFirst) × (r.detail ≡ next_limit server.old.reserved)) }
     ensures once { (p : Parts) → IsDatagram p plain.now → IsTicket ticket.now → (h : History) (o : Own) → ServesWith server.old o h
-        → IsSpent h (ticket_in ticket.now) → (WantsSave own (upcoming o) server.old.reserved → ⊥) → IsErrAnd result (λ r. r.status ≡ TicketSpent) }
+        → IsSpent h (ticket_in ticket.now) → (WantsSave (asks_own (ticket_in ticket.now) own) (upcoming o) server.old.reserved → ⊥) → IsErrAnd result (λ r. r.status ≡ TicketSpent) }
     ensures within { IfOk result (λ n. n ≤ length out.new) }
     ensures behind { IfOk result (λ n. drop n out.new ≡ drop n out.old) }
     ensures unchanged { OnErr result ((out.new ≡ out.old) × (server.new ≡ server.old)) }
@@ -231,7 +231,7 @@ fn reply_in(
 }
 
 /// Seals a reply to the request of a ticket (RFC 8613, 8.3), as `oscore_server_reply` does. A reply with its own Partial IV needs a
-/// number, and at SaveFirst `detail` is the number to save, as above. A refusal is BadHandle, one of the datagram's faults with its
+/// number, also where the ticket observes, and at SaveFirst `detail` is the number to save, as above. A refusal is BadHandle, one of the datagram's faults with its
 /// place, SaveFirst, StaleTicket, TicketSpent, NotThatKind, Unsupported with the lowest number of such an option, SequenceExhausted,
 /// TooLong or NoRoom, in this order, and changes nothing.
 #[unsafe(no_mangle)]
@@ -246,19 +246,19 @@ pub extern "C" fn oscore_kept_server_reply(
     detail: &mut usize,
 ) -> u32
     ensures sealed { result ≡ 0 → (p : Parts) × IsDatagram p plain.now × ((h : History) (old : Own) → ServesWith server.old old h
-        → StepsServer h (Reply (ticket_in ticket.now) own mid p (length out.old)) (Replied (take out_len.new out.new)) old server.new) }
+        → StepsServer h (Reply (ticket_in ticket.now) (asks_own (ticket_in ticket.now) own) mid p (length out.old)) (Replied (take out_len.new out.new)) old server.new) }
     ensures refused { result ≢ 0 → (status : StatusOf) × (result ≡ code status)
         × RefusesKeptReplying server.old server.new ticket.now own mid plain.now (length out.old) status detail.new }
     ensures refuses { (IsKeptServer server.old → IsTicket ticket.now → ⊥) → result ≡ code BadHandle }
     ensures malformed { IsKeptServer server.old → IsTicket ticket.now → (fault : FaultOf) (place : ℕ) → HasFault plain.now fault place
         → (result ≡ code (format_status fault)) × (detail.new ≡ place) }
     ensures save_first { (p : Parts) → IsDatagram p plain.now → IsTicket ticket.now → (h : History) (o : Own) → ServesWith server.old o h
-        → WantsSave own (upcoming o) server.old.reserved → (result ≡ code SaveFirst) × (detail.new ≡ next_limit server.old.reserved) }
+        → WantsSave (asks_own (ticket_in ticket.now) own) (upcoming o) server.old.reserved → (result ≡ code SaveFirst) × (detail.new ≡ next_limit server.old.reserved) }
     ensures once { (p : Parts) → IsDatagram p plain.now → IsTicket ticket.now → (h : History) (o : Own) → ServesWith server.old o h
-        → IsSpent h (ticket_in ticket.now) → (WantsSave own (upcoming o) server.old.reserved → ⊥) → result ≡ code TicketSpent }
+        → IsSpent h (ticket_in ticket.now) → (WantsSave (asks_own (ticket_in ticket.now) own) (upcoming o) server.old.reserved → ⊥) → result ≡ code TicketSpent }
     ensures answers { (p : Parts) → IsDatagram p plain.now → IsTicket ticket.now → (h : History) (o : Own) (entry : Entry) → ServesWith server.old o h
-        → (WantsSave own (upcoming o) server.old.reserved → ⊥) → (IsSpent h (ticket_in ticket.now) → ⊥)
-        → ServerAnswer h (Reply (ticket_in ticket.now) own mid p (length out.old)) entry → ReadsReplying entry result detail.new (take out_len.new out.new) }
+        → (WantsSave (asks_own (ticket_in ticket.now) own) (upcoming o) server.old.reserved → ⊥) → (IsSpent h (ticket_in ticket.now) → ⊥)
+        → ServerAnswer h (Reply (ticket_in ticket.now) (asks_own (ticket_in ticket.now) own) mid p (length out.old)) entry → ReadsReplying entry result detail.new (take out_len.new out.new) }
     ensures within { result ≡ 0 → out_len.new ≤ length out.new }
     ensures behind { result ≡ 0 → drop out_len.new out.new ≡ drop out_len.new out.old }
     ensures unchanged { result ≢ 0 → (server.new ≡ server.old) × (out.new ≡ out.old) × (out_len.new ≡ out_len.old) }
@@ -266,6 +266,83 @@ pub extern "C" fn oscore_kept_server_reply(
     one_server_answer();
     one_datagram();
     match reply_in(server, ticket, own, mid, plain, out) {
+        Ok(len) => {
+            *out_len = len;
+            DONE
+        }
+        Err(refusal) => {
+            *detail = refusal.detail;
+            refusal.status.code()
+        }
+    }
+}
+
+/// Seals a plain notification, which is passed in as a datagram.
+fn notify_in(
+    server: &mut KeptServerHandle,
+    ticket: &TicketHandle,
+    plain: &[u8],
+    out: &mut [u8],
+) -> Result<usize, Refusal>
+    ensures sealed { IfOk result (λ n. (p : Parts) × IsDatagram p plain.now × ((h : History) (old : Own) → ServesWith server.old old h
+        → StepsServer h (Notify (ticket_in ticket.now) p (length out.old)) (Replied (take n out.new)) old server.new)) }
+    ensures accepted { IsOk result → IsKeptServer server.old × IsTicket ticket.now }
+    ensures refused { IfErr result (λ r. RefusesKeptNotifying server.old server.new ticket.now plain.now (length out.old) r.status r.detail) }
+    ensures save_first { (p : Parts) → IsDatagram p plain.now → IsTicket ticket.now → (h : History) (o : Own) → ServesWith server.old o h
+        → WantsSave true (upcoming o) server.old.reserved → IsErrAnd result (λ r. (r.status ≡ SaveFirst) × (r.detail ≡ next_limit server.old.reserved)) }
+    ensures within { IfOk result (λ n. n ≤ length out.new) }
+    ensures behind { IfOk result (λ n. drop n out.new ≡ drop n out.old) }
+    ensures unchanged { OnErr result ((out.new ≡ out.old) × (server.new ≡ server.old)) }
+{
+    let message = match parse(plain) {
+        Ok(message) => message,
+        Err(error) => {
+            if !server.is_whole() || !ticket.is_whole() {
+                return Err(Status::BadHandle.into());
+            }
+            return Err(error.into());
+        }
+    };
+    match server.notify(ticket, &message, out) {
+        Ok(len) => Ok(len),
+        Err(KeptReplyRefusal::BadHandle) => Err(Status::BadHandle.into()),
+        Err(KeptReplyRefusal::SaveFirst(number)) => Err(save_first(number)),
+        Err(KeptReplyRefusal::Refused(error)) => Err(replying_refusal(error)),
+        Err(KeptReplyRefusal::TicketSpent) => unreachable!(),
+    }
+}
+
+/// Seals a notification to the request of a ticket (RFC 8613, 8.3.1), as `oscore_server_notify` does. It needs a number, and at
+/// SaveFirst `detail` is the number to save, as above. A refusal is BadHandle, one of the datagram's faults with its place, SaveFirst,
+/// or one of the refusals of `oscore_server_notify` from StaleTicket on, in this order, and changes nothing.
+#[unsafe(no_mangle)]
+pub extern "C" fn oscore_kept_server_notify(
+    server: &mut KeptServerHandle,
+    ticket: &TicketHandle,
+    plain: &[u8],
+    out: &mut [u8],
+    out_len: &mut usize,
+    detail: &mut usize,
+) -> u32
+    ensures sealed { result ≡ 0 → (p : Parts) × IsDatagram p plain.now × ((h : History) (old : Own) → ServesWith server.old old h
+        → StepsServer h (Notify (ticket_in ticket.now) p (length out.old)) (Replied (take out_len.new out.new)) old server.new) }
+    ensures refused { result ≢ 0 → (status : StatusOf) × (result ≡ code status)
+        × RefusesKeptNotifying server.old server.new ticket.now plain.now (length out.old) status detail.new }
+    ensures refuses { (IsKeptServer server.old → IsTicket ticket.now → ⊥) → result ≡ code BadHandle }
+    ensures malformed { IsKeptServer server.old → IsTicket ticket.now → (fault : FaultOf) (place : ℕ) → HasFault plain.now fault place
+        → (result ≡ code (format_status fault)) × (detail.new ≡ place) }
+    ensures save_first { (p : Parts) → IsDatagram p plain.now → IsTicket ticket.now → (h : History) (o : Own) → ServesWith server.old o h
+        → WantsSave true (upcoming o) server.old.reserved → (result ≡ code SaveFirst) × (detail.new ≡ next_limit server.old.reserved) }
+    ensures answers { (p : Parts) → IsDatagram p plain.now → IsTicket ticket.now → (h : History) (o : Own) (entry : Entry) → ServesWith server.old o h
+        → (WantsSave true (upcoming o) server.old.reserved → ⊥)
+        → ServerAnswer h (Notify (ticket_in ticket.now) p (length out.old)) entry → ReadsReplying entry result detail.new (take out_len.new out.new) }
+    ensures within { result ≡ 0 → out_len.new ≤ length out.new }
+    ensures behind { result ≡ 0 → drop out_len.new out.new ≡ drop out_len.new out.old }
+    ensures unchanged { result ≢ 0 → (server.new ≡ server.old) × (out.new ≡ out.old) × (out_len.new ≡ out_len.old) }
+{
+    one_server_answer();
+    one_datagram();
+    match notify_in(server, ticket, plain, out) {
         Ok(len) => {
             *out_len = len;
             DONE

@@ -26,7 +26,7 @@ pub struct Sizes {
 /// Writes the sizes, so that a caller can compare them with the sizes that its compiler has.
 #[unsafe(no_mangle)]
 pub extern "C" fn oscore_sizes(sizes: &mut Sizes)
-    ensures { sizes.new ≡ record { context = 97; option = 24; opened = 104; request_head = 64; server = 1296; ticket = 40; client = 456; server1 = 168; kept_server = 176; kept_client = 400 } }
+    ensures { sizes.new ≡ record { context = 97; option = 24; opened = 104; request_head = 64; server = 1296; ticket = 40; client = 456; server1 = 168; kept_server = 176; kept_client = 464 } }
 {
     *sizes = Sizes {
         context: size_of::<ContextHandle>(),

@@ -1,6 +1,6 @@
 use Rattle.std.proofs.Common.{◌∙◌, ap, length, refl, subst, take}
 use Rattle.osc_coap.specs.Datagram.{Parts}
-use Rattle.osc_endpoint.specs.ServerAnswer.{ServerAnswer}
+use Rattle.osc_endpoint.specs.ServerAnswer.{ServerAnswer, asks_own}
 use Rattle.osc_endpoint.specs.ServerHistory.{Replied, Reply}
 use Rattle.osc_handle.specs.TicketBytes.{ticket_in}
 use Rattle.osc_c.specs.ServerCalls.{ReadsReplying}
@@ -27,8 +27,8 @@ returns-in-Ok-clause-answers c = λ p of ticket h o entry held none alive y.
     let text = take c.in-Ok.len c.reply_in.new.out in
     let t = ticket_in c.args.ticket.now in
     let room = length c.args.out.now in
-    let row = subst (λ (m : Parts). ServerAnswer h (Reply t c.args.own c.args.mid m room) (Replied text)) (c.one_datagram.ensures.one x.0 p c.args.plain.now x.1 of) (x.2 h o held).row in
-    carried c.one_server_answer.ensures (λ e. ReadsReplying e 0 c.args.detail.now text) h (Reply t c.args.own c.args.mid p room) (Replied text) entry held.serves.answers row y (refl, refl)
+    let row = subst (λ (m : Parts). ServerAnswer h (Reply t (asks_own t c.args.own) c.args.mid m room) (Replied text)) (c.one_datagram.ensures.one x.0 p c.args.plain.now x.1 of) (x.2 h o held).row in
+    carried c.one_server_answer.ensures (λ e. ReadsReplying e 0 c.args.detail.now text) h (Reply t (asks_own t c.args.own) c.args.mid p room) (Replied text) entry held.serves.answers row y (refl, refl)
 
 pub returns-in-Ok-clause-malformed : goal.returns-in-Ok-clause-malformed
 returns-in-Ok-clause-malformed c = λ whole ticket fault place has.

@@ -1,6 +1,7 @@
 use Rattle.std.proofs.Common.{◌≡◌, ◌∙◌, Err, IfSome, ap, length, refl, subst}
 use Rattle.osc_coap.specs.Views.{parts_of}
 use Rattle.osc_context.specs.Reserving.{next_limit}
+use Rattle.osc_endpoint.specs.ServerAnswer.{asks_own}
 use Rattle.osc_endpoint.specs.ServerHistory.{Reply}
 use Rattle.osc_handle.specs.TicketBytes.{ticket_in}
 use Rattle.osc_kept_handle.proofs.NumberSteps.{no_error}
@@ -63,7 +64,7 @@ returns-in-Err-Refused-clause-refused c =
     let e = c.in-Err-Refused.error in
     let whole = c.in-Err-Refused.ensures.accepted (apart c.in-Err-Refused.field-0 (Refused e) BadHandle is (λ f. let g : Refused e ≡ BadHandle = f in cc)) in
     refused whole.0 whole.1 p c.in-Ok.ensures.accepted e c.replying_refusal.ensures
-    (λ h old w. subst (λ (r : KeptReplyRefusal). IfSome (entry_of_kept_reply (Err r) c.reply.new.out) (λ entry. StepsServer h (Reply (ticket_in c.args.ticket.now) c.args.own c.args.mid p (length c.args.out.now)) entry old c.reply.new.self)) is
+    (λ h old w. subst (λ (r : KeptReplyRefusal). IfSome (entry_of_kept_reply (Err r) c.reply.new.out) (λ entry. StepsServer h (Reply (ticket_in c.args.ticket.now) (asks_own (ticket_in c.args.ticket.now) c.args.own) c.args.mid p (length c.args.out.now)) entry old c.reply.new.self)) is
     (c.in-Err-Refused.ensures.answered h old w))
 
 pub returns-in-Err-Refused-clause-save_first : goal.returns-in-Err-Refused-clause-save_first
