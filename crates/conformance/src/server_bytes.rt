@@ -12,7 +12,7 @@ use crate::steps::Step;
 use osc_coap::{Message, parse};
 use osc_context::Piv;
 use osc_endpoint::{
-    Answering, Arrival, Decided, Fresh, Notifying, RestartError, ServerEntry, ServerEvent, Taken, Ticket,
+    Answering, Arrival, Decided, Fresh, Notifying, ReplyError, RestartError, ServerEntry, ServerEvent, Taken, Ticket,
 };
 use osc_handle::{
     AddRefusal, ContextHandle, ReplyRefusal, ServerHandle, SingleServerHandle, TicketHandle,
@@ -120,11 +120,11 @@ impl Bytes {
         ticket: &TicketHandle,
         plain: &Message<'_>,
         out: &mut [u8],
-    ) -> Result<usize, ReplyRefusal> {
+    ) -> Option<Result<usize, ReplyError>> {
         match self {
             Bytes::Eight(server) => server.notify(ticket, plain, out),
             Bytes::One(server) => server.notify(ticket, plain, out),
-            Bytes::NotBegun => Err(ReplyRefusal::BadHandle),
+            Bytes::NotBegun => None,
         }
     }
 }
@@ -227,10 +227,9 @@ fn notify<'a>(
         Ok(message) => message,
         Err(fault) => return Some(ServerEntry::BadPlain(fault)),
     };
-    match server.notify(ticket, &message, out) {
+    match server.notify(ticket, &message, out)? {
         Ok(len) => Some(ServerEntry::Replied(Ok(out.get(..len)?))),
-        Err(ReplyRefusal::Refused(refusal)) => Some(ServerEntry::Replied(Err(refusal))),
-        Err(ReplyRefusal::BadHandle | ReplyRefusal::TicketSpent) => None,
+        Err(refusal) => Some(ServerEntry::Replied(Err(refusal))),
     }
 }
 
