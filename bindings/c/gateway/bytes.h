@@ -2,6 +2,7 @@
 #ifndef GATEWAY_BYTES_H
 #define GATEWAY_BYTES_H
 
+#include <endian.h>
 #include <stddef.h>
 #include <stdint.h>
 #include <string.h>
@@ -16,7 +17,9 @@ typedef struct reader {
 } reader;
 
 static inline void put_number(cursor *to, uint64_t number, size_t len) {
-    while (len > 0) *to->at++ = (uint8_t)(number >> 8 * --len);
+    const uint64_t high_first = htobe64(number);
+    memcpy(to->at, (const uint8_t *)&high_first + sizeof high_first - len, len);
+    to->at += len;
 }
 
 static inline void put_bytes(cursor *to, const uint8_t *bytes, size_t len) {
@@ -25,9 +28,10 @@ static inline void put_bytes(cursor *to, const uint8_t *bytes, size_t len) {
 }
 
 static inline uint64_t get_number(reader *from, size_t len) {
-    uint64_t number = 0;
-    while (len-- > 0) number = number << 8 | *from->at++;
-    return number;
+    uint64_t high_first = 0;
+    memcpy((uint8_t *)&high_first + sizeof high_first - len, from->at, len);
+    from->at += len;
+    return be64toh(high_first);
 }
 
 static inline void get_bytes(reader *from, uint8_t *bytes, size_t len) {

@@ -44,8 +44,8 @@ typedef struct item {
 static inline void item_wipe(item *of) {
     row_wipe(&of->row);
     row_bytes_wipe(&of->bytes);
-    oscore_wipe(of->datagram, of->came_len);
-    oscore_wipe(of->plain, of->plain_len);
+    explicit_bzero(of->datagram, of->came_len);
+    explicit_bzero(of->plain, of->plain_len);
     of->plain_len = 0;
 }
 

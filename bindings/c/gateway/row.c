@@ -187,11 +187,12 @@ bool row_fingerprint(const oscore_context *context, uint8_t fingerprint[FINGERPR
     return status == OSCORE_DONE;
 }
 
+/* Of each datagram, so by the C library's call, which writes more than a byte at a time. */
 void row_wipe(row *of) {
-    oscore_wipe(&of->handle, sizeof of->handle);
+    explicit_bzero(&of->handle, sizeof of->handle);
 }
 
 void row_bytes_wipe(row_bytes *of) {
-    oscore_wipe(of->state, sizeof of->state);
+    explicit_bzero(of->state, sizeof of->state);
     of->state_len = 0;
 }

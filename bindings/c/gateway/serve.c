@@ -45,7 +45,7 @@ static uint64_t monotonic_ms(void) {
     return (uint64_t)now.tv_sec * 1000 + (uint64_t)now.tv_nsec / 1000000;
 }
 
-/* Signals come in ppoll alone, here and in the workers. */
+/* Signals come in ppoll alone, here and in the provisioner. A worker leaves SIGTERM blocked, and looks for it. */
 static bool hold_signals(void) {
     const int signals[] = {SIGTERM, SIGINT, SIGCHLD};
     const struct sigaction handled = {.sa_handler = end};

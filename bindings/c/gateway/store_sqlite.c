@@ -11,6 +11,10 @@
 
 enum { BUSY_MS = 20000, PATH_ROOM = 512 };
 
+/* Of a new file. Whatever is written of a row, its whole page goes into the log at a commit, and is synced. In smaller pages than these SQLite
+   would part a row of 256 bytes. */
+#define PAGES "PRAGMA page_size=2048"
+
 typedef struct sqlite_store {
     store of;
     sqlite3 *db;
@@ -204,6 +208,12 @@ static bool open_turn(sqlite_store *s, const char *file) {
     return s->turn >= 0;
 }
 
+static bool set_up(sqlite_store *s, bool full) {
+    return sqlite3_busy_timeout(s->db, BUSY_MS) == SQLITE_OK && tell(s, PAGES) && tell(s, "PRAGMA journal_mode=WAL")
+        && tell(s, full ? "PRAGMA synchronous=FULL" : "PRAGMA synchronous=NORMAL") && tell(s, "PRAGMA cache_size=-65536")
+        && prepare(s, "BEGIN IMMEDIATE", &s->begin) && prepare(s, "COMMIT", &s->commit) && prepare(s, "ROLLBACK", &s->undo);
+}
+
 store *store_sqlite_open(const char *file, bool full) {
     sqlite_store *s = calloc(1, sizeof *s);
     if (!s) return NULL;
@@ -211,10 +221,7 @@ store *store_sqlite_open(const char *file, bool full) {
     s->turn = -1;
     int status = sqlite3_open_v2(file, &s->db, SQLITE_OPEN_READWRITE | SQLITE_OPEN_CREATE, NULL);
     if (status != SQLITE_OK) broken(s, "open");
-    if (status == SQLITE_OK && sqlite3_busy_timeout(s->db, BUSY_MS) == SQLITE_OK && open_turn(s, file) && tell(s, "PRAGMA journal_mode=WAL")
-        && tell(s, full ? "PRAGMA synchronous=FULL" : "PRAGMA synchronous=NORMAL") && tell(s, "PRAGMA cache_size=-65536")
-        && prepare(s, "BEGIN IMMEDIATE", &s->begin) && prepare(s, "COMMIT", &s->commit) && prepare(s, "ROLLBACK", &s->undo))
-        return &s->of;
+    if (status == SQLITE_OK && open_turn(s, file) && set_up(s, full)) return &s->of;
     close_sqlite(&s->of);
     return NULL;
 }

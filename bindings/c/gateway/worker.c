@@ -5,7 +5,6 @@
 #include "store.h"
 #include "trial.h"
 #include <errno.h>
-#include <poll.h>
 #include <signal.h>
 #include <stdio.h>
 #include <stdlib.h>
@@ -15,7 +14,9 @@
 
 /* A row that others write first so often in a row is left to them. */
 enum { ATTEMPTS = 1000 };
-enum { DRAIN_MS = 5000, FORWARD_LOOK_MS = 100 };
+enum { DRAIN_MS = 5000, WAIT_MS = 100 };
+/* A datagram gets so many fresh bytes. The system is asked for those of several datagrams: it gives up to 256 at once, whole. */
+enum { FRESH_LEN = 10, FRESH_AT_ONCE = 25 };
 
 typedef struct worker {
     const settings *with;
@@ -23,18 +24,13 @@ typedef struct worker {
     store *store;
     int udp, waits_on_all, waits_on_answers;
     size_t batch;
+    uint8_t fresh[FRESH_AT_ONCE][FRESH_LEN]; /* that nobody can predict; the first fresh_left are unused */
+    size_t fresh_left;
+    size_t held; /* datagrams that were read while the worker waited: 1 or none */
     oscore_server none; /* a server without contexts, which says what is said to whoever has none */
     forwarder application;
     item items[BATCH_MOST];
 } worker;
-
-/* POSIX gives a signal handler no other place. */
-static volatile sig_atomic_t stopping;
-
-static void stop(int signal) {
-    (void)signal;
-    stopping = 1;
-}
 
 static uint64_t monotonic_ms(void) {
     struct timespec now;
@@ -42,21 +38,33 @@ static uint64_t monotonic_ms(void) {
     return (uint64_t)now.tv_sec * 1000 + (uint64_t)now.tv_nsec / 1000000;
 }
 
-static void send_item(worker *w, const item *of) {
-    if (of->out_len == 0) return;
+/* False: nothing was sent. */
+static bool send_item(worker *w, const item *of) {
+    if (of->out_len == 0) return false;
     bool unprotected = of->outcome == ITEM_UNPROTECTED || of->outcome == ITEM_SPENT;
     if (unprotected && !counts_allow(w->counted, &of->from, w->with->unprotected, monotonic_ms() / 1000)) {
         count_one(w->counted, COUNT_SILENCED);
-        return;
+        return false;
     }
     if (!unprotected) trial_sent(&of->key, of->number, of->out, of->out_len);
     ssize_t sent = sendto(w->udp, of->out, of->out_len, MSG_DONTWAIT, (const struct sockaddr *)&of->from.address, of->from.len);
-    if (sent != (ssize_t)of->out_len) count_one(w->counted, COUNT_UNSENT);
-    else if (of->outcome == ITEM_DELIVERED) count_one(w->counted, COUNT_ANSWERED);
+    if (sent == (ssize_t)of->out_len) return true;
+    count_one(w->counted, COUNT_UNSENT);
+    return false;
+}
+
+/* Fresh bytes: none is handed out twice. */
+static bool draw(worker *w, uint8_t fresh[FRESH_LEN]) {
+    if (w->fresh_left == 0) {
+        if (getrandom(w->fresh, sizeof w->fresh, 0) != sizeof w->fresh) return false;
+        w->fresh_left = FRESH_AT_ONCE;
+    }
+    memcpy(fresh, w->fresh[--w->fresh_left], FRESH_LEN);
+    return true;
 }
 
 /* What the library says to a request without a context; and a ping is answered by an RST (RFC 7252, 4.3). */
-static void refuse(worker *w, item *of, const uint8_t fresh[10]) {
+static void refuse(worker *w, item *of, const uint8_t fresh[FRESH_LEN]) {
     size_t detail;
     memcpy(of->datagram, of->came, of->came_len);
     oscore_status status = oscore_server_take(&w->none, now_ms(), fresh, of->mid, of->datagram, of->came_len, of->options, OPTIONS_MOST, &of->opened,
@@ -107,7 +115,7 @@ static void judge_replay(worker *w, item *of) {
 }
 
 /* Step 3: the library takes a copy of the datagram. */
-static void judge(worker *w, item *of, const uint8_t fresh[10]) {
+static void judge(worker *w, item *of, const uint8_t fresh[FRESH_LEN]) {
     size_t detail;
     memcpy(of->datagram, of->came, of->came_len);
     oscore_status status = oscore_server1_take(&of->row.handle, now_ms(), fresh, of->mid, of->datagram, of->came_len, of->options, OPTIONS_MOST,
@@ -192,9 +200,9 @@ static bool name(item *of) {
 
 /* Steps 1 to 4. Nothing leaves the process. False: the store is broken. */
 static bool take(worker *w, item *of) {
-    uint8_t fresh[10];
+    uint8_t fresh[FRESH_LEN];
     drop(of);
-    if (getrandom(fresh, sizeof fresh, 0) != sizeof fresh) return false;
+    if (!draw(w, fresh)) return false;
     of->mid = (uint16_t)(fresh[8] << 8 | fresh[9]);
     bool named = name(of);
     for (int attempt = 0; attempt < ATTEMPTS; attempt++) {
@@ -249,7 +257,6 @@ static bool commit(worker *w) {
 static bool act(worker *w, item *of) {
     trial_reach(TRIAL_WRITTEN);
     if (trial_of() != TRIAL_ACT) trial_delivered(&of->key, of->number);
-    count_one(w->counted, COUNT_DELIVERED);
     bool answers = true;
     if (w->with->application != 0) {
         uint8_t code = forward_request(&w->application, of, monotonic_ms());
@@ -276,36 +283,47 @@ static bool answer_all(worker *w, size_t count, bool are_read) {
 }
 
 static void send_all(worker *w, size_t count) {
+    uint64_t answered = 0;
     for (size_t i = 0; i < count; i++) {
         trial_reach(TRIAL_READY);
-        send_item(w, &w->items[i]);
+        answered += send_item(w, &w->items[i]) && w->items[i].outcome == ITEM_DELIVERED;
         trial_reach(TRIAL_SENT);
         item_wipe(&w->items[i]);
     }
-    oscore_wipe_stack();
+    count_more(w->counted, COUNT_ANSWERED, answered);
 }
 
-/* Reads datagrams that are there. */
-static size_t receive(worker *w) {
-    size_t count = 0, most = w->batch;
-    if (w->with->application != 0 && most > FORWARDS - w->application.waiting) most = FORWARDS - w->application.waiting;
-    while (count < most) {
-        item *to = &w->items[count];
-        to->from.len = sizeof to->from.address;
-        ssize_t len = recvfrom(w->udp, to->came, sizeof to->came, MSG_DONTWAIT | MSG_TRUNC, (struct sockaddr *)&to->from.address, &to->from.len);
-        if (len < 0 && errno == EINTR) continue;
-        if (len < 0) break;
-        count_one(w->counted, COUNT_READ);
-        to->came_len = (size_t)len;
-        if (to->came_len > sizeof to->came) count_one(w->counted, COUNT_TOO_LONG);
-        else count++;
+/* Reads a datagram into the item behind so many. One that is too long is passed over. False: there is none, or, without MSG_DONTWAIT, none
+   came in WAIT_MS. */
+static bool receive_one(worker *w, size_t *count, int flags) {
+    item *to = &w->items[*count];
+    to->from.len = sizeof to->from.address;
+    ssize_t len = recvfrom(w->udp, to->came, sizeof to->came, flags | MSG_TRUNC, (struct sockaddr *)&to->from.address, &to->from.len);
+    if (len < 0) return errno == EINTR;
+    to->came_len = (size_t)len;
+    if (to->came_len <= sizeof to->came) {
+        ++*count;
+        return true;
     }
+    count_one(w->counted, COUNT_READ);
+    count_one(w->counted, COUNT_TOO_LONG);
+    return true;
+}
+
+/* Reads the datagrams that are there, behind the one that is held. */
+static size_t receive(worker *w) {
+    size_t count = w->held, most = w->batch;
+    if (w->with->application != 0 && most > FORWARDS - w->application.waiting) most = FORWARDS - w->application.waiting;
+    w->held = 0;
+    while (count < most && receive_one(w, &count, MSG_DONTWAIT)) {}
+    count_more(w->counted, COUNT_READ, count);
     return count;
 }
 
-/* The datagrams of one transaction. They are read when it has begun: who waits for the others' transactions meanwhile leaves what came to
-   whoever is next, and so more datagrams share one commit. */
+/* The datagrams of one transaction. All but the one that is held are read when it has begun: who waits for the others' transactions meanwhile
+   leaves what came to whoever is next, and so more datagrams share one commit. */
 static bool serve_requests(worker *w) {
+    uint64_t delivered = 0;
     if (!begin(w)) return false;
     size_t count = receive(w);
     for (size_t i = 0; i < count; i++)
@@ -313,8 +331,11 @@ static bool serve_requests(worker *w) {
     if (!commit(w)) return false;
     for (size_t i = 0; i < count; i++) {
         if (w->items[i].outcome == ITEM_CHALLENGE) count_one(w->counted, COUNT_CHALLENGED);
-        if (w->items[i].outcome == ITEM_DELIVERED && !act(w, &w->items[i])) drop(&w->items[i]);
+        if (w->items[i].outcome != ITEM_DELIVERED) continue;
+        delivered++;
+        if (!act(w, &w->items[i])) drop(&w->items[i]);
     }
+    count_more(w->counted, COUNT_DELIVERED, delivered);
     if (w->with->mode != MODE_TX && !answer_all(w, count, true)) return false;
     send_all(w, count);
     return true;
@@ -334,25 +355,39 @@ static bool serve_answers(worker *w) {
     return true;
 }
 
-/* Waits for datagrams, where there is room for them, and for the application. */
-static bool wait_for(worker *w, bool requests) {
-    struct epoll_event came[2];
-    sigset_t all_open;
-    bool waits = w->with->application != 0 && w->application.waiting > 0;
-    if (sigemptyset(&all_open)) return false;
-    int count = epoll_pwait(requests ? w->waits_on_all : w->waits_on_answers, came, 2, waits ? FORWARD_LOOK_MS : -1, &all_open);
+/* Waits for a datagram, WAIT_MS at most. With an application behind the gateway it waits for that too, and for datagrams only where there is
+   room for them. */
+static bool wait_for(worker *w, bool requests, bool *came) {
+    struct epoll_event events[2];
+    if (w->with->application == 0) {
+        *came = receive_one(w, &w->held, 0);
+        return true;
+    }
+    int count = epoll_wait(requests ? w->waits_on_all : w->waits_on_answers, events, 2, WAIT_MS);
+    *came = count > 0;
     return count >= 0 || errno == EINTR;
 }
 
+/* SIGTERM is blocked, so that it never comes between two steps. Who was told to end finds it pending. */
+static bool told_to_end(void) {
+    sigset_t pending;
+    return sigpending(&pending) || sigismember(&pending, SIGTERM);
+}
+
+/* What calls left on the stack is wiped once nothing came: until then each datagram leaves as much there again. */
 static int run(worker *w) {
     uint64_t drained_by = 0;
-    for (;;) {
+    for (bool stopping = false;;) {
         size_t waiting = w->with->application != 0 ? w->application.waiting : 0;
-        if (stopping && drained_by == 0) drained_by = monotonic_ms() + DRAIN_MS;
+        bool requests = !stopping && waiting < FORWARDS, came;
+        if (!wait_for(w, requests, &came)) return WORKER_BROKEN;
+        if (!came) oscore_wipe_stack();
+        if (!stopping && told_to_end()) {
+            stopping = true;
+            drained_by = monotonic_ms() + DRAIN_MS;
+        }
         if (stopping && (waiting == 0 || monotonic_ms() > drained_by)) return WORKER_DONE;
-        bool requests = !stopping && waiting < FORWARDS;
-        if (!wait_for(w, requests)) return WORKER_BROKEN;
-        if (requests && !stopping && !serve_requests(w)) return WORKER_BROKEN;
+        if (came && requests && !stopping && !serve_requests(w)) return WORKER_BROKEN;
         if (w->with->application != 0 && !serve_answers(w)) return WORKER_BROKEN;
     }
 }
@@ -362,14 +397,16 @@ static bool watch(int set, int socket, uint32_t events) {
     return set >= 0 && !epoll_ctl(set, EPOLL_CTL_ADD, socket, &wanted);
 }
 
-/* Of the workers that wait for a datagram one is woken. */
+/* Of the workers that wait for a datagram one is woken. A socket in an epoll set costs time whenever something is sent on it, or comes, even if
+   nobody waits; so where there is nothing else to wait for, a worker waits in recvfrom. */
 static bool begin_waiting(worker *w) {
+    const struct timeval so_long = {.tv_usec = WAIT_MS * 1000};
+    if (setsockopt(w->udp, SOL_SOCKET, SO_RCVTIMEO, &so_long, sizeof so_long)) return false;
+    if (w->with->application == 0) return true;
     w->waits_on_all = epoll_create1(EPOLL_CLOEXEC);
     w->waits_on_answers = epoll_create1(EPOLL_CLOEXEC);
-    if (!watch(w->waits_on_all, w->udp, EPOLLIN | EPOLLEXCLUSIVE) || w->waits_on_answers < 0) return false;
-    if (w->with->application == 0) return true;
-    return forward_begin(&w->application, w->with->application) && watch(w->waits_on_all, w->application.udp, EPOLLIN)
-        && watch(w->waits_on_answers, w->application.udp, EPOLLIN);
+    return watch(w->waits_on_all, w->udp, EPOLLIN | EPOLLEXCLUSIVE) && forward_begin(&w->application, w->with->application)
+        && watch(w->waits_on_all, w->application.udp, EPOLLIN) && watch(w->waits_on_answers, w->application.udp, EPOLLIN);
 }
 
 static void end_worker(worker *w) {
@@ -383,7 +420,6 @@ static void end_worker(worker *w) {
 }
 
 int worker_run(const settings *with, int udp, counts *counted, unsigned index) {
-    const struct sigaction handled = {.sa_handler = stop};
     worker *w = calloc(1, sizeof *w);
     if (!w) return WORKER_BROKEN;
     w->with = with;
@@ -393,7 +429,7 @@ int worker_run(const settings *with, int udp, counts *counted, unsigned index) {
     oscore_server_begin(&w->none);
     w->store = store_open(with->store);
     int status = WORKER_BROKEN;
-    if (w->store && begin_waiting(w) && trial_begin_worker(index) && !sigaction(SIGTERM, &handled, NULL)) {
+    if (w->store && begin_waiting(w) && trial_begin_worker(index)) {
         w->batch = w->store->calls->batches ? with->batch : 1;
         count_one(counted, COUNT_STARTS);
         status = run(w);
