@@ -12,7 +12,8 @@ use crate::steps::Step;
 use osc_coap::{Message, parse};
 use osc_context::Piv;
 use osc_endpoint::{
-    Answering, Arrival, Decided, Fresh, Notifying, ReplyError, RestartError, ServerEntry, ServerEvent, Taken, Ticket,
+    Answering, Arrival, Decided, Fresh, Notifying, ReplyError, RestartError, ServerEntry,
+    ServerEvent, Taken, Ticket,
 };
 use osc_handle::{
     AddRefusal, ContextHandle, ReplyRefusal, ServerHandle, SingleServerHandle, TicketHandle,

@@ -187,6 +187,7 @@ still_alive moment ms place token r h = by_test (bytes_eq r.token token) refl
     by_wait : (wait : Wait) → r.wait ≡ wait → is_alive moment ms (record r { wait = after_place place r.wait }) ≡ true
     by_wait Once e = rw (e) (subst (λ w. (nat_lt 0 (first_place w) || nat_le (moment - r.moment) ms) ≡ true) e h)
     by_wait (Observing from) e = rw (e) (ap (λ b. b || nat_le (moment - r.moment) ms) (positive place))
+
     by_test : (b : Bool) → bytes_eq r.token token ≡ b → is_alive moment ms (after_response token place r) ≡ true
     by_test true e = rw (e) (by_wait r.wait refl)
     by_test false e = rw (e) h
@@ -241,7 +242,7 @@ noted (y ∷ ys) zero f x r differ is x_is =
     let here : asked_of y ≡ r = let e : Some (asked_of y) ≡ Some r = is in cc in
     let zs = map asked_of ys in
     let that : rewaited r.token f r ≡ record r { wait = f r.wait } =
-        ap (λ b. if b then record r { wait = f r.wait } else r) ((bytes_eq-Decides r.token r.token).1 refl) in
+    ap (λ b. if b then record r { wait = f r.wait } else r) ((bytes_eq-Decides r.token r.token).1 refl) in
     let rest = unheard r.token f zs (λ k d less same. differ 0 (suc k) d (omega arith) (omega (arith, less)) (ap (λ (q : Asked). q.token) here ∙ sym same)) in
     ap (λ q. q ∷ zs) (x_is ∙ sym that ∙ ap (rewaited r.token f) (sym here)) ∙ ap (λ qs. rewaited r.token f (asked_of y) ∷ qs) (sym rest)
 noted (y ∷ ys) (suc i) f x r differ is x_is =

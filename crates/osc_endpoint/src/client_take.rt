@@ -13,8 +13,8 @@ use crate::observing::{is_notification, place_of};
 use crate::pending::{Found, Wait, drop_expired, find_request};
 use osc_coap::{one_datagram, parse};
 use osc_protect::{
-    DecryptedResponse, NoHead, ReadResponse, ResponseHead, decrypt_response, inspect_response, one_head,
-    one_notification, one_response, protections_show_heads,
+    DecryptedResponse, NoHead, ReadResponse, ResponseHead, decrypt_response, inspect_response,
+    one_head, one_notification, one_response, protections_show_heads,
 };
 
 impl ClientDecision {

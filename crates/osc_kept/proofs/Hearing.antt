@@ -181,7 +181,6 @@ yes_to_both false b e = absurd (let f : false ≡ true = e in cc)
 
 module _ (s : SecurityContext) (ds : List Deed) (hs : List Response) (g : client.History) (context_is : client.context g ≡ s) (sent : All (λ (r : client.Asked). IsSent ds r.number) (client.asked g))
     (known : (y : Response) → Has y hs → IsSent ds y.number) (x : Listens s ds hs g) where
-
   -- a request is sealed with a number that is above all others
   asks : (now room : ℕ) (p : Parts) (bytes : List ℕ) → ((q : Request) → Has q (sends ds) → q.number < client.next g)
       → Listens s (Sends (client.next g) (inside p) ∷ ds) hs (client.Then g (client.Request now p room) (client.Sent bytes))
@@ -250,9 +249,9 @@ module _ (s : SecurityContext) (ds : List Deed) (hs : List Response) (g : client
         let p : client.Asked → Bool = λ q. not (bytes_eq q.token received.token) in
         let xs = client.asked g in
         let others = both (λ q. Follows s ds hs q × Contains xs q) (λ q. p q ≡ true) (filter p xs)
-            (All-filter p (λ q. Follows s ds hs q × Contains xs q) xs (both (Follows s ds hs) (Contains xs) xs x.follow (All-contains_itself xs))) (filter_passes p xs) in
+        (All-filter p (λ q. Follows s ds hs q × Contains xs q) xs (both (Follows s ds hs) (Contains xs) xs x.follow (All-contains_itself xs))) (filter_passes p xs) in
         let never : (q : client.Asked) → (Follows s ds hs q × Contains xs q) × (p q ≡ true) → number ≡ q.number → ⊥ =
-            λ q f e. let none = not_from_true _ ((bytes_eq-Decides q.token received.token).1 (is_that q f.0.1 e)) in let g' : true ≡ false = sym f.1 ∙ none in cc in
+        λ q f e. let none = not_from_true _ ((bytes_eq-Decides q.token received.token).1 (is_that q f.0.1 e)) in let g' : true ≡ false = sym f.1 ∙ none in cc in
         record {
           follow = All-weaker (λ q. (Follows s ds hs q × Contains xs q) × (p q ≡ true)) (Follows s ds (response ∷ hs)) (λ q f. record {
             own = λ y. elim [
@@ -279,32 +278,32 @@ module _ (s : SecurityContext) (ds : List Deed) (hs : List Response) (g : client
         let reached : client.first_place r.wait ≤ place = subst (λ o. client.first_place r.wait ≤ place_of o) (sym receives.number) later in
         let observing = (yes_to_both (client.observes r.wait) (is_notification received.message.code received.message.options) goes).0 in
         let all = both (λ q. Follows s ds hs q × Contains xs q) (Contains ys) ys
-            (All-filter _ (λ q. Follows s ds hs q × Contains xs q) xs (both (Follows s ds hs) (Contains xs) xs x.follow (All-contains_itself xs))) (All-contains_itself ys) in
+        (All-filter _ (λ q. Follows s ds hs q × Contains xs q) xs (both (Follows s ds hs) (Contains xs) xs x.follow (All-contains_itself xs))) (All-contains_itself ys) in
         let there : (q : client.Asked) → Follows s ds hs q → Contains ys q → q.token ≡ received.token → Follows s ds (response ∷ hs) (record q { wait = client.after_place place q.wait }) =
-            λ q k has e.
-            let same : q ≡ r = one_of_token ys q r (differ_later g now differ) has at.1 (e ∙ sym token_is) in
-            let waits : client.observes q.wait ≡ true = ap (λ (z : client.Asked). client.observes z.wait) same ∙ observing in
-            let from : client.first_place q.wait ≤ place = subst (λ (z : client.Asked). client.first_place z.wait ≤ place) (sym same) reached in
-            let behind : client.first_place (client.after_place place q.wait) ≡ place + 1 = place_behind place q.wait waits in
-            record {
-              own = λ y. elim [
-                | inl e ↦ λ n. (numbered.0, ap (λ (z : Response). z.own) e ∙ numbered.1)
-                | inr h ↦ λ n. k.own y h n
-              ];
-              earlier = λ y. elim [
-                | inl e ↦ λ n. let at_place : place_of y.own ≡ place = ap (λ (z : Response). place_of z.own) e in omega (arith, at_place, behind)
-                | inr h ↦ λ n. let before = k.earlier y h n in omega (arith, before, from, behind)
-              ];
-              registered = λ o. k.registered (still_observes place q.wait o);
-            } in
+        λ q k has e.
+        let same : q ≡ r = one_of_token ys q r (differ_later g now differ) has at.1 (e ∙ sym token_is) in
+        let waits : client.observes q.wait ≡ true = ap (λ (z : client.Asked). client.observes z.wait) same ∙ observing in
+        let from : client.first_place q.wait ≤ place = subst (λ (z : client.Asked). client.first_place z.wait ≤ place) (sym same) reached in
+        let behind : client.first_place (client.after_place place q.wait) ≡ place + 1 = place_behind place q.wait waits in
+        record {
+          own = λ y. elim [
+            | inl e ↦ λ n. (numbered.0, ap (λ (z : Response). z.own) e ∙ numbered.1)
+            | inr h ↦ λ n. k.own y h n
+          ];
+          earlier = λ y. elim [
+            | inl e ↦ λ n. let at_place : place_of y.own ≡ place = ap (λ (z : Response). place_of z.own) e in omega (arith, at_place, behind)
+            | inr h ↦ λ n. let before = k.earlier y h n in omega (arith, before, from, behind)
+          ];
+          registered = λ o. k.registered (still_observes place q.wait o);
+        } in
         let other : (q : client.Asked) → Follows s ds hs q → Contains xs q → bytes_eq q.token received.token ≡ false → Follows s ds (response ∷ hs) q =
-            λ q k has none.
-            let never : number ≡ q.number → ⊥ = λ e. let g' : true ≡ false = sym ((bytes_eq-Decides q.token received.token).1 (is_that q has e)) ∙ none in cc in
-            record {
-              own = λ y. elim [ inl e ↦ λ n. absurd (never (sym (ap (λ (z : Response). z.number) e) ∙ n)) | inr h ↦ λ n. k.own y h n ];
-              earlier = λ y. elim [ inl e ↦ λ n. absurd (never (sym (ap (λ (z : Response). z.number) e) ∙ n)) | inr h ↦ λ n. k.earlier y h n ];
-              registered = k.registered;
-            } in
+        λ q k has none.
+        let never : number ≡ q.number → ⊥ = λ e. let g' : true ≡ false = sym ((bytes_eq-Decides q.token received.token).1 (is_that q has e)) ∙ none in cc in
+        record {
+          own = λ y. elim [ inl e ↦ λ n. absurd (never (sym (ap (λ (z : Response). z.number) e) ∙ n)) | inr h ↦ λ n. k.own y h n ];
+          earlier = λ y. elim [ inl e ↦ λ n. absurd (never (sym (ap (λ (z : Response). z.number) e) ∙ n)) | inr h ↦ λ n. k.earlier y h n ];
+          registered = k.registered;
+        } in
         record {
           follow = All-map (Follows s ds (response ∷ hs)) f ys (All-weaker (λ q. (Follows s ds hs q × Contains xs q) × Contains ys q) (λ q. Follows s ds (response ∷ hs) (f q)) (λ q k.
               rewaited q (λ e. there q k.0.0 k.1 ((bytes_eq-Decides q.token received.token).0 e)) (λ e. other q k.0.0 k.0.1 e)) ys all);
@@ -335,13 +334,17 @@ listens_at laws n s w g event entry i f answer x = by_event event entry i answer
   where
     context_is : AtEach (Answers n s) w → client.context g ≡ s
     context_is a = (runs n s w g a f).context_is
+
     sent_all : AtEach (Answers n s) w → All (λ (r : client.Asked). IsSent (digest s w) r.number) (client.asked g)
     sent_all a = (runs n s w g a f).all_sent
+
     known : IsLawful n s w → (y : Response) → Has y (heard w) → IsSent (digest s w) y.number
     known j y h = (heard_for laws n s w y j h).sent
+
     same : (event : client.Event) (entry : client.Entry) → client_deed (Some g) event entry ≡ Nothing → Listens s (digest s w) (hearing event entry (heard w)) (client.Then g event entry)
         → Listens s (client_deed (Some g) event entry ∷ digest s w) (hearing event entry (heard w)) (client.Then g event entry)
     same event entry is y = subst (λ d. Listens s (d ∷ digest s w) (hearing event entry (heard w)) (client.Then g event entry)) (sym is) (listens_same s (digest s w) (Nothing ∷ digest s w) _ _ refl y)
+
     by_event : (event : client.Event) (entry : client.Entry) → IsLawful n s (Then w (AtClient event entry)) → ClientAnswer n g event entry
         → Listens s (client_deed (Some g) event entry ∷ digest s w) (hearing event entry (heard w)) (client.Then g event entry)
     by_event (client.Request now p room) (client.Sent bytes) i answer =
@@ -354,7 +357,7 @@ listens_at laws n s w g event entry i f answer x = by_event event entry i answer
         let notifies = (yes_to_both (client.observes r.wait) (is_notification received.message.code received.message.options) goes).1 in
         same (client.Datagram now d) (client.Took (client.Notified received number)) refl
         (goes_on s (digest s w) (heard w) g (context_is j.answers) (sent_all j.answers) (known j) x laws.one (tokens_differ n g (lawful_client n s w g j.answers f)) now d received number r at is own receives
-            later goes (notified_own s (digest s w) (record { number = number; own = received.number; message = received.message }) received.number (all_fit laws n s w j) was.sealed notifies refl))
+        later goes (notified_own s (digest s w) (record { number = number; own = received.number; message = received.message }) received.number (all_fit laws n s w j) was.sealed notifies refl))
     by_event (client.Datagram now d) (client.Took (client.Deliver received number)) i (r, at, (is, own, later, receives, goes)) =
         let j = before n s w _ i in
         same (client.Datagram now d) (client.Took (client.Deliver received number)) refl

@@ -96,8 +96,8 @@ asked_step h (client.Datagram now d) (client.Took (client.Notified received numb
     let alive = client.alive (max (client.clock h) now) (client.life_ms h) (client.asked h) in
     All-map (λ (r : client.Asked). IsSent ds r.number) (client.after_response received.token place) alive
     (All-weaker (λ (r : client.Asked). IsSent ds r.number) (λ (r : client.Asked). IsSent ds (client.after_response received.token place r).number)
-        (λ r i. subst (IsSent ds) (sym (same_number received.token place r)) i) alive
-        (All-filter _ (λ (r : client.Asked). IsSent ds r.number) (client.asked h) a))
+    (λ r i. subst (IsSent ds) (sym (same_number received.token place r)) i) alive
+    (All-filter _ (λ (r : client.Asked). IsSent ds r.number) (client.asked h) a))
 asked_step h (client.Datagram now d) (client.Took (client.Deliver received number)) ds a = All-filter _ (λ (r : client.Asked). IsSent ds r.number) (client.asked h) a
 asked_step h (client.Forget token) entry ds a = All-filter _ (λ (r : client.Asked). IsSent ds r.number) (client.asked h) a
 asked_step h (client.Restart first) entry ds a = All-nil (λ (r : client.Asked). IsSent ds r.number)

@@ -110,9 +110,7 @@ pub fn deliver(
 {
     let (fresh, mut out) = (Fresh { echo, mid: 0 }, [0u8; 64]);
     match server.take(0, fresh, datagram, &mut out).outcome {
-        Outcome::Deliver(_, ticket)
-            if ticket.number().number() == number && !ticket.observes() =>
-        {
+        Outcome::Deliver(_, ticket) if ticket.number().number() == number && !ticket.observes() => {
             Some(ticket)
         }
         _ => None,

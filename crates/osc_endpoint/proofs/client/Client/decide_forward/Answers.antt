@@ -33,7 +33,7 @@ returns-in-Some-clause-answered g c = λ h a.
     (heads_law c.protections_show_heads.ensures.response c.protections_show_heads.ensures.notification)
     c.in-Ok-inspect_response.ensures.placed c.in-Ok-inspect_response.ensures.accepted c.in-Some.ensures refl refl refl refl
     (λ place wait_is. heard_at _ c.decrypt.new.self.pending.items c.deref_mut.result.now c.in-Ok.decrypted.1.place place _ c.index-deref_mut-found.result c.in-Some.wait was.to refl c.deref_mut.ensures.value
-        (subst TokensDiffer (sym was.agrees.table) was.agrees.differ) was.at_place wait_is refl)
+    (subst TokensDiffer (sym was.agrees.table) was.agrees.differ) was.at_place wait_is refl)
 
 pub returns-in-Some-clause-apart : goal.returns-in-Some-clause-apart
 returns-in-Some-clause-apart g c = λ d.

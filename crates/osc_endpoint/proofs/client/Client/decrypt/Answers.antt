@@ -89,8 +89,8 @@ returns-in_default-decrypt_response-clause-refused g c = λ h a.
     let p = parts_of c.in-Ok.message in
     let (r, has, token, number, wait) = there c.as_slice.result.now c.drop_expired.new.pending.items c.in-Some.found c.as_slice-2.result.now p.token c.as_slice.ensures.value c.as_slice-2.ensures.value c.in-Some.ensures.found in
     let refused = in_history (λ f. RefusesTag f c.args.datagram.now) (as_client (context_of c.args.self.now.context)) (context h) (registers c.request-request.result) (observes r.wait)
-        (request_number c.request-request.result) (number_of c.in-Some.found.number) r.number a.context_is (c.request-request.ensures.registers ∙ ap observes (sym wait))
-        c.request-request.ensures.number number c.in_default-decrypt_response.ensures.refused in
+    (request_number c.request-request.result) (number_of c.in-Some.found.number) r.number a.context_is (c.request-request.ensures.registers ∙ ap observes (sym wait))
+    c.request-request.ensures.number number c.in_default-decrypt_response.ensures.refused in
     let says = says_awaited (context h) r c.args.datagram.now c.in-Ok-read.head c.in-Some.found (p, c.in-Ok.ensures.accepted, c.in-Ok-read.ensures.head) wait (c.is_old.ensures.no (search rules)) in
     record {
       answer = BadTag;
