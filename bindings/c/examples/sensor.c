@@ -4,9 +4,9 @@
 
    It takes so many datagrams at 127.0.0.1 and ends; who observes it then gets 4.04. PORT and FILE are as lock.c has them.
 
-   One reader at a time observes it. The first notification is the ACK of its registration. Each later one is confirmable, and is sent
-   where the one before was acknowledged. Where no acknowledgment comes in time, the same bytes aren't sent again: the sensor measures, and
-   sends a notification of what is new (RFC 7641, 4.5.2). */
+   One reader at a time observes it, the one that registered last. The first notification is the ACK of its registration. Each later one
+   is confirmable, and is sent where the one before was acknowledged. Where no acknowledgment comes in time, the same bytes aren't sent
+   again: the sensor measures, and sends a notification of what is new (RFC 7641, 4.5.2). */
 #define _DEFAULT_SOURCE
 #include "number.h"
 #include "oscore.h"
@@ -124,7 +124,8 @@ static size_t seal_notification(uint8_t kind, uint16_t message_id, uint8_t out[O
     return out_len;
 }
 
-/* Seals the one reply to a request, which has no Observe. Of a registration it is the last. */
+/* Seals the one reply to a request, which has no Observe. Of a registration it is the last, and there is none where by now a request was
+   delivered whose number is 64 above: then the length is 0. */
 static size_t seal_reply(const oscore_ticket *ticket, uint8_t code, const char *what, uint8_t out[OSCORE_ROOM(MOST_PLAIN)]) {
     uint8_t plain[MOST_PLAIN];
     char temperature[16];
@@ -133,10 +134,10 @@ static size_t seal_reply(const oscore_ticket *ticket, uint8_t code, const char *
     while ((status = oscore_kept_server_reply(&server, ticket, false, next_id, plain, len, out, OSCORE_ROOM(MOST_PLAIN), &out_len,
                                               &detail)) == OSCORE_SAVE_FIRST)
         save_first(detail);
-    if (status) stop("not sealed");
+    if (status && status != OSCORE_TICKET_SPENT) stop("not sealed");
     next_id++;
     say(status, what, temperature);
-    return out_len;
+    return status ? 0 : out_len;
 }
 
 /* Sends a confirmable notification, and waits for its acknowledgment from now on. */
@@ -219,15 +220,15 @@ static uint8_t judge(const oscore_opened *request, const oscore_option *options,
     return segments != 1 || ours != 1 ? NOT_FOUND : request->code != GET ? NOT_ALLOWED : CONTENT;
 }
 
-/* Registers, cancels, or only answers. Another token than the observer's registers nothing, as long as there is one. */
+/* Registers, cancels, or only answers. Who registers takes the place of whoever observed before. */
 static void answer(const oscore_opened *request, const oscore_option *options, const oscore_ticket *ticket) {
     const oscore_ticket *held = &observation.ticket;
-    bool cancels = false, is_free = !observation.on;
+    bool cancels = false;
     bool ours = observation.on && held->token_len == ticket->token_len && !memcmp(held->token, ticket->token, ticket->token_len);
     uint8_t code = judge(request, options, &cancels);
     reply.to = received.from, reply.until = milliseconds() + EXCHANGE_LIFETIME_MS;
     memcpy(reply.message_id, received.bytes + 2, 2);
-    if (code == CONTENT && ticket->observes && (is_free || ours)) {
+    if (code == CONTENT && ticket->observes) {
         observation.on = true, observation.waits = false, observation.to = received.from, observation.ticket = *ticket;
         reply.len = request->kind == CON ? seal_notification(ACK, request->message_id, reply.bytes)
             : seal_notification(NON, next_id++, reply.bytes);
