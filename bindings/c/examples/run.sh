@@ -110,6 +110,10 @@ of_sensor_and_reader() {
     begin sensor 4 sensor.number
     behind first reader reader.number 9
     finish
+    # The answer to a cancellation is lost, so that comes again.
+    begin sensor 4 sensor.number
+    behind answer reader reader.number 1
+    finish
     echo "numbers kept: $(cat "$work/sensor.number") of the sensor, $(cat "$work/reader.number") of the reader"
 }
 
