@@ -1,10 +1,12 @@
-/* A network between a key and its lock that isn't as kind as 127.0.0.1 is, for run.sh.
+/* A network between a key and its lock, or a reader and its sensor, that isn't as kind as 127.0.0.1 is, for run.sh.
 
-       between PORT request|reply|separate
+       between PORT request|reply|separate|first|lost|late|twice|answer
 
    It says at which port it listens, and hands datagrams on to PORT, and what comes from there back to whoever sent last. The first
    request is lost, or the first reply; or a reply comes as of a lock that is slow: an empty acknowledgment, and then the response in a
-   confirmable message of its own (RFC 7252, 5.2.2), for OSCORE protects neither kind nor message ID. It ends where nothing came for ten
+   confirmable message of its own (RFC 7252, 5.2.2), for OSCORE protects neither kind nor message ID. By the last five words it says what a
+   stranger sees of what comes from PORT, and there the first notification is lost; or of the confirmable messages the first is lost, or
+   comes late, behind the second, or twice; or the second reply that is no notification is lost. It ends where nothing came for ten
    seconds. */
 #define _DEFAULT_SOURCE
 #include <arpa/inet.h>
@@ -18,8 +20,10 @@
 
 static int front, back;
 static struct sockaddr_in key;
-static uint8_t datagram[1500];
-static bool lose_request, lose_reply, separate;
+static uint8_t datagram[1500], held[1500];
+static size_t held_len;
+static bool lose_request, lose_reply, separate, is_observed, lose_first, lose_next, hold_next, double_next, lose_answer;
+static int answer_count;
 /* Of the response that comes by itself, and the key's acknowledgment of it. */
 static const uint8_t OWN_ID[2] = {0xab, 0xcd}, ACKNOWLEDGED[4] = {0x60, 0, 0xab, 0xcd};
 
@@ -48,8 +52,43 @@ static void from_key(void) {
     lose_request = false;
 }
 
+/* What a stranger sees of what the sensor sends. Observe is the first option of a notification, behind the token. */
+static void say(size_t len) {
+    static const char *const KINDS[] = {"CON", "NON", "ACK", "RST"};
+    size_t at = 4 + (datagram[0] & 15u);
+    printf("%s %u.%02u", KINDS[datagram[0] >> 4 & 3], datagram[1] >> 5, datagram[1] & 31u);
+    if (len > at && datagram[at] >> 4 == 6 && len > at + (datagram[at] & 15u)) {
+        uint32_t value = 0;
+        for (size_t i = 1; i <= (datagram[at] & 15u); i++) value = value << 8 | datagram[at + i];
+        printf(", Observe %u", (unsigned)value);
+    }
+    puts("");
+    fflush(stdout);
+}
+
+/* A confirmable message that is the first of its kind is lost, held or doubled; what was held goes behind the next one. */
+static void confirmable(size_t len) {
+    if (!lose_next && !hold_next) to_key(datagram, len);
+    if (double_next) to_key(datagram, len);
+    if (held_len > 0) to_key(held, held_len);
+    held_len = hold_next ? len : 0;
+    memcpy(held, datagram, held_len);
+    lose_next = hold_next = double_next = false;
+}
+
 static void from_lock(void) {
     ssize_t len = recv(back, datagram, sizeof datagram, 0);
+    if (len >= 4 && is_observed) say((size_t)len);
+    if (len >= 4 && (datagram[0] & 0x30) == 0) {
+        confirmable((size_t)len);
+        return;
+    }
+    /* 2.05 is what a notification says outside, and 2.04 what any other response says (RFC 8613, 4.2). */
+    if (lose_first && len >= 4 && datagram[1] == 69) {
+        lose_first = false;
+        return;
+    }
+    if (lose_answer && len >= 4 && datagram[1] == 68 && ++answer_count == 2) return;
     if (len >= 4 && separate) {
         const uint8_t ack[] = {0x60, 0, datagram[2], datagram[3]};
         to_key(ack, sizeof ack);
@@ -61,8 +100,11 @@ static void from_lock(void) {
 }
 
 int main(int count, char **words) {
-    if (count != 3) stop("between PORT request|reply|separate");
+    if (count != 3) stop("between PORT request|reply|separate|first|lost|late|twice|answer");
     lose_request = !strcmp(words[2], "request"), lose_reply = !strcmp(words[2], "reply"), separate = !strcmp(words[2], "separate");
+    lose_first = !strcmp(words[2], "first"), lose_next = !strcmp(words[2], "lost"), hold_next = !strcmp(words[2], "late");
+    double_next = !strcmp(words[2], "twice"), lose_answer = !strcmp(words[2], "answer");
+    is_observed = lose_first || lose_next || hold_next || double_next || lose_answer;
     struct sockaddr_in own = loopback(0), lock = loopback((uint16_t)atoi(words[1]));
     socklen_t own_len = sizeof own;
     front = socket(AF_INET, SOCK_DGRAM, 0), back = socket(AF_INET, SOCK_DGRAM, 0);

@@ -1,5 +1,5 @@
-/* A number in a file, for lock.c and key.c, which a power cut doesn't take back: it is written beside the file, and then takes its place.
-   The file is digits and one newline. One program at a time keeps its number in it. */
+/* A number in a file, for lock.c, key.c, sensor.c and reader.c, which a power cut doesn't take back: it is written beside the file, and
+   then takes its place. The file is digits and one newline. One program at a time keeps its number in it. */
 #ifndef NUMBER_H
 #define NUMBER_H
 

@@ -1,39 +1,41 @@
 #!/usr/bin/env bash
-# Builds the lock and its key, lets them speak over 127.0.0.1, and compares what they print with `expected`. Words are passed on to the
-# C compiler. Where tshark is installed, it opens what the key sent, from the same secret by its own OSCORE; where it isn't, this says so.
+# Builds the lock and its key, and the sensor and its reader, lets them speak over 127.0.0.1, and compares what they print with `expected`.
+# Words are passed on to the C compiler. Where tshark is installed, it opens what the key sent, from the same secret by its own OSCORE;
+# where it isn't, this says so.
 set -euo pipefail
 cd "$(dirname "$0")"
 work=$(mktemp -d)
 library=${OSCORE_LIBRARY:-../../../crates/osc_c/out/libosc_c.a}
-lock='' between=''
+server='' between=''
 # What was said is shown also where it ends too early.
-trap '[ ! -e "$work/said" ] || cat "$work/said" >&2; [ -z "$lock$between" ] || kill $lock $between 2> /dev/null || true; rm -rf "$work"' EXIT
+trap '[ ! -e "$work/said" ] || cat "$work/said" >&2; [ -z "$server$between" ] || kill $server $between 2> /dev/null || true; rm -rf "$work"' EXIT
 # What is lost is sent again after three to four and a half seconds, so that on a slow machine nothing is that is only late.
-for name in lock key between; do
+for name in lock key sensor reader between; do
     cc -std=c11 -Wall -Wextra -Werror -O1 -D ACK_TIMEOUT_MS=3000 -I .. "$@" "$name.c" "$library" -o "$work/$name"
 done
 mkfifo "$work/says"
 
-# Starts a lock for so many datagrams; its first line says its port.
+# Starts a lock or a sensor for so many datagrams; its first line says its port.
 begin() {
-    echo "== lock $*"
-    (cd "$work" && exec ./lock 0 "$@") > "$work/says" &
-    lock=$!
+    echo "== $*"
+    (cd "$work" && exec "./$1" 0 "${@:2}") > "$work/says" &
+    server=$! serves=$1
     exec 3< "$work/says"
     read -r -t 10 _ port <&3
 }
 
-# Shows what the lock printed until it ended.
+# Shows what it printed until it ended.
 finish() {
-    timeout 20 cat <&3 | sed 's/^/lock: /'
+    timeout 20 cat <&3 | sed "s/^/$serves: /"
     exec 3<&-
-    wait "$lock"
-    lock=
+    wait "$server"
+    server=
 }
 
-key() {
-    echo "-- key $*"
-    (cd "$work" && timeout 20 ./key "$port" "$@") | sed 's/^/key: /'
+# Lets a key or a reader speak.
+ask() {
+    echo "-- $*"
+    (cd "$work" && timeout 30 "./$1" "$port" "${@:2}") | sed "s/^/$1: /"
 }
 
 # Sends a datagram once more, as somebody who overheard it and has no key can. All that is read of the reply is its code: 2.04 where it
@@ -48,46 +50,82 @@ replay() {
     printf 'overheard: %u.%02u\n' "$((code >> 5))" "$((code & 31))"
 }
 
-# Lets the key speak to the lock through a network that loses its first request, or the first reply, or makes the reply two.
-key_behind() {
+# Lets them speak through a network that is as between.c says.
+behind() {
     local port=$port how=$1
     echo "-- between $how"
     exec 5< <(exec "$work/between" "$port" "$how")
     between=$!
     read -r -t 10 _ port <&5
-    key "${@:2}"
+    ask "${@:2}"
     [ "$how" != separate ] || { read -r -t 10 line <&5 && echo "between: $line"; }
     kill "$between"
     between=
+    sed 's/^/between: /' <&5
     exec 5<&-
 }
 
-says() {
-    begin 3 lock.number
-    key key.number shut
-    key key.number open sent
+of_lock_and_key() {
+    begin lock 3 lock.number
+    ask key key.number shut
+    ask key key.number open sent
     replay sent.64
     finish
     # A lock that ran before knows it by its number.
-    begin 4 lock.number
+    begin lock 4 lock.number
     replay sent.64
-    key key.number shut sent
+    ask key key.number shut sent
     replay sent.64
     finish
     # A datagram that is lost: the door opens once, and the key learns it. The second one's request comes twice.
-    begin 6 lock.number
-    key key.number shut
-    key_behind request key.number open
-    key_behind reply key.number shut
-    key_behind separate key.number open
+    begin lock 6 lock.number
+    ask key key.number shut
+    behind request key key.number open
+    behind reply key key.number shut
+    behind separate key key.number open
     finish
     echo "numbers kept: $(cat "$work/lock.number") of the lock, $(cat "$work/key.number") of the key"
+}
+
+of_sensor_and_reader() {
+    # The sensor ends the observation.
+    begin sensor 4 sensor.number
+    ask reader reader.number 9
+    finish
+    # The reader ends it. A fourth notification is on its way then.
+    begin sensor 5 sensor.number
+    ask reader reader.number 3
+    finish
+    # A notification is lost, comes behind a newer one, or twice.
+    begin sensor 4 sensor.number
+    behind lost reader reader.number 9
+    finish
+    begin sensor 5 sensor.number
+    behind late reader reader.number 9
+    finish
+    begin sensor 5 sensor.number
+    behind twice reader reader.number 9
+    finish
+    # The ACK of the registration is lost: what comes next is heard all the same.
+    begin sensor 4 sensor.number
+    behind first reader reader.number 9
+    finish
+    # The answer to a cancellation is lost, so that comes again.
+    begin sensor 4 sensor.number
+    behind answer reader reader.number 1
+    finish
+    echo "numbers kept: $(cat "$work/sensor.number") of the sensor, $(cat "$work/reader.number") of the reader"
+}
+
+says() {
+    of_lock_and_key
+    of_sensor_and_reader
 }
 
 says > "$work/said"
 cat "$work/said"
 mv "$work/said" "$work/shown"
-diff expected "$work/shown" || { echo "bindings/c/examples: the lock and the key don't print what is expected"; exit 1; }
+diff expected "$work/shown" || { echo "bindings/c/examples: they don't print what is expected"; exit 1; }
 
 # Wireshark's names: the key is the sender. Each datagram that was kept is a packet of its own.
 opened() {
@@ -100,7 +138,7 @@ opened() {
         | sed -n '/^Object Security/,/^    End of options/p' | sed -nE 's/^    (Code: |    Uri-Path: )/\1/p' | sed 's/^ *//' | paste -d ' ' - - | sed 's/^/tshark: /'
 }
 
-{ command -v tshark && command -v text2pcap; } > /dev/null || { echo "lock and key: as expected; no tshark here, so it did not open what was sent"; exit; }
+{ command -v tshark && command -v text2pcap; } > /dev/null || { echo "lock and key, sensor and reader: as expected; no tshark here, so it did not open what was sent"; exit; }
 opened > "$work/opened" || true
 cat "$work/opened"
 diff - "$work/opened" <<'LINES' || { echo "bindings/c/examples: tshark doesn't show what was sent"; exit 1; }
@@ -108,4 +146,4 @@ tshark: Code: PUT (3) Uri-Path: lock
 tshark: Code: PUT (3) Uri-Path: lock
 tshark: Code: PUT (3) Uri-Path: lock
 LINES
-echo "lock and key: as expected, and tshark opens what was sent"
+echo "lock and key, sensor and reader: as expected, and tshark opens what the key sent"
