@@ -1,4 +1,5 @@
-"""aiocoap's client and server over UDP, as rows.py speaks with them: each is the program aiocoap_end.py in a process of its own."""
+"""aiocoap's client and server over UDP, as rows.py and observe_rows.py speak with them: each is the program aiocoap_end.py, or
+aiocoap_observe.py, in a process of its own."""
 
 from __future__ import annotations
 
@@ -8,14 +9,15 @@ import os
 import pathlib
 import subprocess
 import sys
-import threading
 from typing import Iterator, List, Tuple
 
-from bench import GIVEN_UP_S, METHODS, PAYLOAD_LENGTHS, SPLIT_LENGTH, WITHOUT_PAYLOAD, Bench, Words, answer_code, ended, free_port
+from bench import (GIVEN_UP_S, METHODS, PAYLOAD_LENGTHS, SPLIT_LENGTH, WITHOUT_PAYLOAD, Bench, Observer, Words, answer_code, ended,
+                   free_port, line_of)
+from relay import Relay
 
 MOST_PAYLOAD = 1024
 """As aiocoap_end.py has it."""
-PROGRAM = pathlib.Path(__file__).with_name("aiocoap_end.py")
+PROGRAM, OBSERVING = (pathlib.Path(__file__).with_name(f"aiocoap_{name}.py") for name in ("end", "observe"))
 
 
 def bytes_of(word: str) -> bytes:
@@ -37,12 +39,7 @@ class End:
         self.process = process
 
     def line(self) -> str:
-        timer = threading.Timer(2 * GIVEN_UP_S, self.process.kill)
-        timer.start()
-        try:
-            return self.process.stdout.readline().strip()
-        finally:
-            timer.cancel()
+        return line_of(self.process, 2 * GIVEN_UP_S)
 
     def ask(self, kind: str, method: str, path: str, payload: bytes, token_len: int, more: str = "") -> Tuple[str, bytes]:
         """The code and the payload that came, or what failed."""
@@ -52,6 +49,27 @@ class End:
         if len(words) == 2 and words[0] != "failed":
             return words[0], bytes_of(words[1])
         return " ".join(words) or "no answer", b""
+
+
+class Observed:
+    """A process of aiocoap_observe.py that is observed, and notifies by messages of one kind."""
+
+    def __init__(self, end: End, port: int, kind: str):
+        self.end, self.port, self.kind = end, port, kind
+
+    def say(self, line: str) -> None:
+        self.end.process.stdin.write(line + "\n")
+        self.end.process.stdin.flush()
+
+    def measure(self, temperature: str) -> None:
+        self.say(f"{self.kind} {temperature}")
+
+    def delete(self) -> None:
+        self.say("gone")
+
+    def is_alone(self, relay: Relay) -> bool:
+        """Whether it had one observer, and has none any more."""
+        return [self.end.line(), self.end.line()] == ["observers 1", "observers 0"]
 
 
 class Aiocoap:
@@ -66,6 +84,7 @@ class Aiocoap:
     blocks_otherwise: dict = {}
     can_be_told = False
     orders = {"1 0": "DD", "0 2 0": "DDR", "2 3 2": "DDR"}
+    forged_notification, shows_old, can_cancel, numbers_its_end = "failed ProtectionInvalid", False, False, True
 
     def __init__(self, bench: Bench):
         self.bench = bench
@@ -107,9 +126,9 @@ class Aiocoap:
         return folder
 
     @contextlib.contextmanager
-    def end(self, role: str, name: str, words: Words, port: int) -> Iterator[End]:
-        folder = self.folder(name, words, role == "client")
-        process = subprocess.Popen([sys.executable, str(PROGRAM), role, str(folder), str(port)], stdin=subprocess.PIPE,
+    def end(self, role: str, name: str, words: Words, port: int, program: pathlib.Path = PROGRAM, *more: str) -> Iterator[End]:
+        folder = self.folder(name, words, role in ("client", "observer"))
+        process = subprocess.Popen([sys.executable, str(program), role, str(folder), str(port), *more], stdin=subprocess.PIPE,
                                    stdout=subprocess.PIPE, text=True)
         with ended(process):
             end = End(process)
@@ -126,3 +145,15 @@ class Aiocoap:
         port = free_port()
         with self.end("server", f"server.{name}", words, port) as end:
             yield port, end
+
+    @contextlib.contextmanager
+    def observer(self, name: str, words: Words, port: int, token_len: int, count: int = 0) -> Iterator[Observer]:
+        """Which cancels behind so many, or never."""
+        with self.end("observer", f"client.{name}", words, port, OBSERVING, str(token_len), str(count)) as end:
+            yield Observer(end.process)
+
+    @contextlib.contextmanager
+    def observed(self, name: str, words: Words, kind: str) -> Iterator[Observed]:
+        port = free_port()
+        with self.end("observed", f"server.{name}", words, port, OBSERVING) as end:
+            yield Observed(end, port, kind)

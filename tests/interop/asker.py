@@ -35,7 +35,7 @@ class Calls:
 
     def __init__(self, program: str, words: Words, number: int = 0, allows_blocks: bool = False):
         self.library, self.number = Library(program), number
-        ends = f"{int(allows_blocks)} {words.secret} {words.salt} {words.id_context} {words.client} {words.server}"
+        ends = f"{int(allows_blocks)} 0 {words.secret} {words.salt} {words.id_context} {words.client} {words.server}"
         self.library.ask([f"derive {CLIENT + cipher} {cipher} {ends}" for cipher in range(len(CIPHERS))])
 
     def answer_to(self, line: str):

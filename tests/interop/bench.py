@@ -1,5 +1,5 @@
-"""What the exchanges over UDP share: the contexts, the count of what was looked at, and our programs as servers on 127.0.0.1. Each program
-that waits is given up after some seconds, so that nothing rests on how fast they are."""
+"""What the exchanges over UDP share: the contexts, the count of what was looked at, our programs as servers on 127.0.0.1, and what a peer's
+observer shows. Each program that waits is given up after some seconds, so that nothing rests on how fast they are."""
 
 from __future__ import annotations
 
@@ -8,8 +8,9 @@ import pathlib
 import random
 import socket
 import subprocess
+import threading
 import time
-from typing import Iterator, List, NamedTuple, Sequence, Tuple
+from typing import Callable, Iterator, List, NamedTuple, Sequence, Tuple
 
 GIVEN_UP_S = 20
 METHODS = ("get", "post", "put", "delete", "fetch", "patch", "ipatch")
@@ -83,6 +84,39 @@ def ended(process: subprocess.Popen) -> Iterator[subprocess.Popen]:
     finally:
         process.kill()
         process.wait()
+
+
+@contextlib.contextmanager
+def given_up(process: subprocess.Popen, given_up_s: float = GIVEN_UP_S) -> Iterator[None]:
+    """A program that is read from, and is killed where that takes too long."""
+    timer = threading.Timer(given_up_s, process.kill)
+    timer.start()
+    try:
+        yield
+    finally:
+        timer.cancel()
+
+
+def line_of(process: subprocess.Popen, given_up_s: float = GIVEN_UP_S) -> str:
+    """The next line that a program prints, "" where it has ended."""
+    with given_up(process, given_up_s):
+        return process.stdout.readline().strip()
+
+
+class Observer:
+    """A client of a peer's that observes. Its lines are the payload of each success, the code of any other response, or "failed" and how;
+    `spell` makes that of a line in other words."""
+
+    def __init__(self, process: subprocess.Popen, spell: Callable[[str], str] = str):
+        self.process, self.spell = process, spell
+
+    def heard(self) -> str:
+        return self.spell(line_of(self.process))
+
+    def rest(self) -> List[str]:
+        """What it shows until it ends."""
+        with given_up(self.process):
+            return [self.spell(line) for line in self.process.stdout.read().splitlines() if line]
 
 
 class TooMany(Exception):

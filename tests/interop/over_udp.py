@@ -1,7 +1,7 @@
 """Exchanges over UDP on 127.0.0.1 with a peer, both ways.
 
-    over_udp.py library|library-blocks OURS PEER [THEIRS]
-        OURS holds our programs lock, key, mirror and calls
+    over_udp.py library|library-blocks|library-observe OURS PEER [THEIRS]
+        OURS holds our programs lock, key, mirror and calls, or sensor, reader, and a sensor in the folder hasty that waits less
     over_udp.py command|command-blocks OSCORE PEER [THEIRS]
         OSCORE is our program of that name
 
@@ -20,10 +20,11 @@ from bench import Bench
 from block_rows import BlockRows, CommandBlockRows
 from command_rows import CommandRows
 from libcoap import Libcoap
+from observe_rows import ObserveRows
 from rows import Rows
 
 ROWS = {"library": (Rows, "the library"), "library-blocks": (BlockRows, "the library's blocks"), "command": (CommandRows, "the command"),
-        "command-blocks": (CommandBlockRows, "the command's blocks")}
+        "command-blocks": (CommandBlockRows, "the command's blocks"), "library-observe": (ObserveRows, "the library's observations")}
 """The rows of each first word, and whose they are."""
 
 

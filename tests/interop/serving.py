@@ -84,7 +84,7 @@ class CallsServer(UdpServer):
         super().__init__()
         self.library, self.resource, self.statuses = Library(program), resource, []
         ends = f"{words.secret} {words.salt} {words.id_context} {words.server} {words.client}"
-        self.library.ask([f"derive {self.SLOT} 0 {int(allows_blocks)} {ends}", f"serve {self.SLOT} {int(was_restarted)}"])
+        self.library.ask([f"derive {self.SLOT} 0 {int(allows_blocks)} 0 {ends}", f"serve {self.SLOT} {int(was_restarted)}"])
 
     def __exit__(self, *_: object) -> None:
         super().__exit__()
