@@ -7,7 +7,7 @@ import contextlib
 import dataclasses
 import re
 import subprocess
-from typing import Iterator, List, NamedTuple, Sequence, Tuple
+from typing import Iterator, List, NamedTuple, Optional, Sequence, Tuple
 
 import coap_reading
 import oscore_reading
@@ -36,7 +36,7 @@ def heard(*ats: int) -> List[str]:
 def without_numbers(lines: Sequence[str]) -> List[str]:
     """What an end of ours said, but for its own numbers, and for those that it saved."""
     kept = [line for line in lines if not re.match(r"saved |next own number ", line)]
-    return [re.sub(r"^\d+: | under number \d+$", "", line) for line in kept]
+    return [re.sub(r"^(\d+|no number of its own): | under number \d+$", "", line) for line in kept]
 
 
 class AtSensor(NamedTuple):
@@ -104,12 +104,13 @@ class Observing(Rows):
         self.check(f"{what}: the last response", [last], ends.observer.rest())
         self.check(f"{what}: what the sensor says", wanted, without_numbers(self.bench.told(ends.sensor)))
 
-    def reader_says(self, what: str, ends: AtServer, wanted: List[str]) -> List[int]:
-        """Until it has ended. Answers the numbers of the notifications that it heard."""
+    def reader_says(self, what: str, ends: AtServer, wanted: List[str]) -> List[Optional[int]]:
+        """Until it has ended. Answers the numbers of the notifications that it heard, None where one has none of its own."""
         ends.relay.pass_all(ends.reader)
         told = self.bench.told(ends.reader)
         self.check(f"{what}: what the reader says", ["registers"] + [CHALLENGED, "registers"] * self.asks() + wanted, without_numbers(told))
-        return [int(line.split(":")[0]) for line in told if re.match(r"\d+: ", line)]
+        numbers = [re.match(r"(?:(\d+)|no number of its own): ", line) for line in told]
+        return [int(number[1]) if number[1] else None for number in numbers if number]
 
     def tokens(self, relay: Relay) -> List[bytes]:
         """Those of the requests."""
