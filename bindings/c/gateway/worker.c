@@ -5,6 +5,7 @@
 #include "store.h"
 #include "trial.h"
 #include <errno.h>
+#include <sched.h>
 #include <signal.h>
 #include <stdio.h>
 #include <stdlib.h>
@@ -15,6 +16,10 @@
 /* A row that others write first so often in a row is left to them. */
 enum { ATTEMPTS = 1000 };
 enum { DRAIN_MS = 5000, WAIT_MS = 100 };
+/* Where the next datagram comes sooner than SOON_US, a worker looks for it up to LOOKS_MOST times before it sleeps. */
+enum { SOON_US = 200, LOOKS_MOST = 512, LOOKS_STEP = 64 };
+/* Of so many turns that each brought datagrams, one asks whether the worker was told to end. */
+enum { TURNS_BETWEEN = 32 };
 /* A datagram gets so many fresh bytes. The system is asked for those of several datagrams: it gives up to 256 at once, whole. */
 enum { FRESH_LEN = 10, FRESH_AT_ONCE = 25 };
 
@@ -26,16 +31,21 @@ typedef struct worker {
     size_t batch;
     uint8_t fresh[FRESH_AT_ONCE][FRESH_LEN]; /* that nobody can predict; the first fresh_left are unused */
     size_t fresh_left;
-    size_t held; /* datagrams that were read while the worker waited: 1 or none */
+    size_t held;    /* datagrams that were read while the worker waited: 1 or none */
+    unsigned looks; /* how often it looks for a datagram before it sleeps */
     oscore_server none; /* a server without contexts, which says what is said to whoever has none */
     forwarder application;
     item items[BATCH_MOST];
 } worker;
 
-static uint64_t monotonic_ms(void) {
+static uint64_t monotonic_us(void) {
     struct timespec now;
     if (clock_gettime(CLOCK_MONOTONIC, &now)) return 0;
-    return (uint64_t)now.tv_sec * 1000 + (uint64_t)now.tv_nsec / 1000000;
+    return (uint64_t)now.tv_sec * 1000000 + (uint64_t)now.tv_nsec / 1000;
+}
+
+static uint64_t monotonic_ms(void) {
+    return monotonic_us() / 1000;
 }
 
 /* False: nothing was sent. */
@@ -355,12 +365,27 @@ static bool serve_answers(worker *w) {
     return true;
 }
 
+/* Waits for a datagram, WAIT_MS at most. Who sends to a worker that sleeps spends more on waking it than on sending; so under load it looks
+   for a while before it sleeps, and gives its processor to whoever wants it in between. How often it looks follows from how long it slept. */
+static bool wait_for_datagram(worker *w) {
+    for (unsigned i = 0; i < w->looks; i++) {
+        if (receive_one(w, &w->held, MSG_DONTWAIT)) return true;
+        (void)sched_yield();
+    }
+    uint64_t began = monotonic_us();
+    bool came = receive_one(w, &w->held, 0);
+    bool soon = monotonic_us() - began < SOON_US;
+    if (!soon) w->looks /= 2;
+    else if (w->looks < LOOKS_MOST) w->looks += LOOKS_STEP;
+    return came;
+}
+
 /* Waits for a datagram, WAIT_MS at most. With an application behind the gateway it waits for that too, and for datagrams only where there is
    room for them. */
 static bool wait_for(worker *w, bool requests, bool *came) {
     struct epoll_event events[2];
     if (w->with->application == 0) {
-        *came = receive_one(w, &w->held, 0);
+        *came = wait_for_datagram(w);
         return true;
     }
     int count = epoll_wait(requests ? w->waits_on_all : w->waits_on_answers, events, 2, WAIT_MS);
@@ -377,12 +402,15 @@ static bool told_to_end(void) {
 /* What calls left on the stack is wiped once nothing came: until then each datagram leaves as much there again. */
 static int run(worker *w) {
     uint64_t drained_by = 0;
+    unsigned turns = 0; /* since it asked whether it was told to end */
     for (bool stopping = false;;) {
         size_t waiting = w->with->application != 0 ? w->application.waiting : 0;
         bool requests = !stopping && waiting < FORWARDS, came;
         if (!wait_for(w, requests, &came)) return WORKER_BROKEN;
         if (!came) oscore_wipe_stack();
-        if (!stopping && told_to_end()) {
+        bool asks = !came || ++turns >= TURNS_BETWEEN;
+        if (asks) turns = 0;
+        if (!stopping && asks && told_to_end()) {
             stopping = true;
             drained_by = monotonic_ms() + DRAIN_MS;
         }
