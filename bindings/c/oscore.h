@@ -490,7 +490,8 @@ OSCORE_MUST_USE oscore_status oscore_kept_server_notify(oscore_kept_server *serv
                                                         size_t *detail);
 
 /* Begins a client with nothing pending, with the number that was saved last. A request is pending for `life_ms` milliseconds and no
-   longer. A refusal is OSCORE_BAD_HANDLE or OSCORE_BAD_NUMBER, and leaves the client. */
+   longer; a registration that was notified, until its last response or `oscore_kept_client_forget`. A refusal is OSCORE_BAD_HANDLE or
+   OSCORE_BAD_NUMBER, and leaves the client. */
 OSCORE_MUST_USE oscore_status oscore_kept_client_begin(oscore_kept_client *client, const oscore_context *context, uint64_t loaded,
                                                        uint64_t life_ms);
 

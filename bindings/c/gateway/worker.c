@@ -18,8 +18,6 @@ enum { ATTEMPTS = 1000 };
 enum { DRAIN_MS = 5000, WAIT_MS = 100 };
 /* Where the next datagram comes sooner than SOON_US, a worker looks for it up to LOOKS_MOST times before it sleeps. */
 enum { SOON_US = 200, LOOKS_MOST = 512, LOOKS_STEP = 64 };
-/* Of so many turns that each brought datagrams, one asks whether the worker was told to end. */
-enum { TURNS_BETWEEN = 32 };
 /* A datagram gets so many fresh bytes. The system is asked for those of several datagrams: it gives up to 256 at once, whole. */
 enum { FRESH_LEN = 10, FRESH_AT_ONCE = 25 };
 
@@ -401,20 +399,20 @@ static bool told_to_end(void) {
 
 /* What calls left on the stack is wiped once nothing came: until then each datagram leaves as much there again. */
 static int run(worker *w) {
-    uint64_t drained_by = 0;
-    unsigned turns = 0; /* since it asked whether it was told to end */
+    uint64_t drained_by = 0, asks_at = 0; /* when it next asks whether it was told to end: that costs a call of the system */
     for (bool stopping = false;;) {
         size_t waiting = w->with->application != 0 ? w->application.waiting : 0;
         bool requests = !stopping && waiting < FORWARDS, came;
         if (!wait_for(w, requests, &came)) return WORKER_BROKEN;
         if (!came) oscore_wipe_stack();
-        bool asks = !came || ++turns >= TURNS_BETWEEN;
-        if (asks) turns = 0;
-        if (!stopping && asks && told_to_end()) {
+        uint64_t ms = monotonic_ms();
+        bool asks = !stopping && ms >= asks_at;
+        if (asks) asks_at = ms + WAIT_MS;
+        if (asks && told_to_end()) {
             stopping = true;
-            drained_by = monotonic_ms() + DRAIN_MS;
+            drained_by = ms + DRAIN_MS;
         }
-        if (stopping && (waiting == 0 || monotonic_ms() > drained_by)) return WORKER_DONE;
+        if (stopping && (waiting == 0 || ms > drained_by)) return WORKER_DONE;
         if (came && requests && !stopping && !serve_requests(w)) return WORKER_BROKEN;
         if (w->with->application != 0 && !serve_answers(w)) return WORKER_BROKEN;
     }

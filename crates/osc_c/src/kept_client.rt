@@ -35,8 +35,8 @@ use osc_kept_handle::{KeptClientHandle, KeptRequestRefusal};
 use osc_protect::Opened;
 
 /// Begins a client with nothing pending (RFC 8613, 8.1). `loaded` is the number that was saved last, or 0 if none ever was. Its
-/// requests are pending for `life_ms` milliseconds and no longer. A refusal is BadHandle or BadNumber, in this order, and changes
-/// nothing.
+/// requests are pending for `life_ms` milliseconds and no longer, except a registration that was notified. A refusal is BadHandle or
+/// BadNumber, in this order, and changes nothing.
 #[unsafe(no_mangle)]
 pub extern "C" fn oscore_kept_client_begin(
     client: &mut KeptClientHandle,

@@ -26,7 +26,8 @@ impl<const N: usize> Client<N> {
     ghost use Rattle.osc_endpoint.specs.ClientAnswer.{ClientAnswer};
     ghost use Rattle.osc_endpoint.specs.ClientHistory.{History, New, Then, Advance, Advanced, Forget, Forgot, Restart, Restarted};
 
-    /// Makes a client with nothing pending. Its requests are pending for `life_ms` milliseconds and no longer.
+    /// Makes a client with nothing pending. Its requests are pending for `life_ms` milliseconds and no longer, except a registration that
+    /// was notified.
     #[must_use]
     pub fn new(context: Context, next: Piv, life_ms: u64) -> Client<N>
         ensures { ClientAgrees result (New (as_client context) (number_of next) life_ms) }

@@ -36,9 +36,9 @@ pub enum ClientDecision {
     UnknownToken,
     Unprotected,
     Undecodable,
+    Old,
     BadTag,
     BadInner,
-    Old,
     Notified(ReadResponse, Piv),
     Deliver(ReadResponse, Piv),
 }

@@ -74,6 +74,9 @@ fn registers_read(features: Features, datagram: &[u8], read: ReadRequest) -> boo
     requires { (x : DecryptedRequest) × CanLendRequest datagram.now x read }
     ensures { OfWhatWasRead datagram.now read (λ m. result ≡ registering features m.code m.options) }
 {
+    if !features.observe {
+        return false;
+    }
     one_request();
     let opened = read.opened(datagram);
     registers(features, opened.code, &opened.inner())

@@ -32,7 +32,8 @@ pub struct KeptClient<K: Keeper, const N: usize> {
 
 impl<K: Keeper, const N: usize> KeptClient<K, N> {
     /// Starts a client of a context at the number that the keeper loads, with nothing pending. Each request is pending for `life_ms`
-    /// milliseconds. Returns the first refusal in the order of `KeptError`; a refusal gives the keeper back and drops the context.
+    /// milliseconds, except a registration that was notified. Returns the first refusal in the order of `KeptError`; a refusal gives the
+    /// keeper back and drops the context.
     pub fn start(
         context: Context,
         keeper: K,

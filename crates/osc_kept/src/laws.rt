@@ -15,9 +15,9 @@ use osc_protect::{one_cipher_input, one_notification, sealed_opens};
 /// States what holds for each list of what happens at both ends and between them, including restarts and lost memory of either end. A
 /// request is delivered at most once, and the client sealed it. A response is delivered for the very request that it answers, and the
 /// server sealed it for that request. Each response is delivered at most once, and those to one request in the order in which they were
-/// sealed. A notification is delivered for a request that registers an observation. No end seals twice under one nonce. The list has to meet the premises (`IsLawful`): both ends
-/// answer by their tables, nobody else makes texts that open, Echo values are new, numbers are kept, and a server starts fresh only
-/// while nothing was delivered.
+/// sealed. A notification is delivered for a request that registers an observation. No end seals twice under one nonce. The list has to
+/// meet the premises (`IsLawful`): both ends answer by their tables, nobody else makes texts that open, Echo values are new, numbers are
+/// kept, and a server starts fresh only while nothing was delivered.
 pub fn both_ends()
     ensures { TwoEnds }
 {

@@ -33,8 +33,8 @@ pub struct KeptClientHandle {
 
 impl KeptClientHandle {
     /// Makes a client of a context that starts at the number that was loaded, with nothing pending. Each request is pending for
-    /// `life_ms` milliseconds. Returns `None` if the context bytes can't have been written by a call. For a new life, make a new
-    /// client: there is no other restart.
+    /// `life_ms` milliseconds, except a registration that was notified. Returns `None` if the context bytes can't have been written by a
+    /// call. For a new life, make a new client: there is no other restart.
     pub fn begin(context: &ContextHandle, loaded: Piv, life_ms: u64) -> Option<KeptClientHandle>
         ensures begins { IfSome result (λ k. (floor : ℕ) → floor ≤ number_of loaded
             → AsksWith k (after (Load (number_of loaded)) (nothing_drawn floor)) (New (client_in context.now) (number_of loaded) life_ms)) }

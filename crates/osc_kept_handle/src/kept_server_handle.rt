@@ -194,8 +194,8 @@ impl KeptServerHandle {
     }
 
     /// Seals a reply to the request of a ticket, as `SingleServerHandle::reply` does, writes it to the front of `out`, and returns
-    /// how many bytes it wrote. With `own`, or to a registration, it needs a number. If a number has to be saved first, it returns that number. Refuses in
-    /// the order of `KeptReplyRefusal`; a refusal changes nothing.
+    /// how many bytes it wrote. With `own`, or to a registration, it needs a number. If a number has to be saved first, it returns
+    /// that number. Refuses in the order of `KeptReplyRefusal`; a refusal changes nothing.
     pub fn reply(
         &mut self,
         ticket: &TicketHandle,
