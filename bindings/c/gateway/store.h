@@ -28,6 +28,7 @@ typedef struct waiting_line {
 typedef struct store_calls {
     const char *name;
     bool batches; /* whether several datagrams may share a transaction */
+    bool is_within; /* whether the worker does its work, and no server, which wants a processor for it */
     store_answer (*get)(store *, const row_key *, row_bytes *);
     store_answer (*put)(store *, const row_key *, const row_bytes *);
     store_answer (*add)(store *, const row_key *, const uint8_t fingerprint[FINGERPRINT_LEN], const row_bytes *);

@@ -229,7 +229,7 @@ static void pass_over(void *unused, const char *note) {
 }
 
 store *store_postgres_open(const char *conninfo, bool on) {
-    static const store_calls CALLS = {"pg", false, get, put, add, next, clear, refuse, make, begin, commit, undo, close_postgres};
+    static const store_calls CALLS = {"pg", false, false, get, put, add, next, clear, refuse, make, begin, commit, undo, close_postgres};
     postgres_store *s = calloc(1, sizeof *s);
     if (!s) return NULL;
     s->of.calls = &CALLS;

@@ -9,7 +9,9 @@
 #include <sys/file.h>
 #include <unistd.h>
 
-enum { BUSY_MS = 20000, PATH_ROOM = 512 };
+/* What is in the log goes into the file after so many pages of it. Each page goes there once, however often it changed, and then both are synced:
+   the rarer, the less there is to write. */
+enum { BUSY_MS = 20000, PATH_ROOM = 512, LOG_PAGES = 4000 };
 
 /* Of a new file. Whatever is written of a row, its whole page goes into the log at a commit, and is synced. In smaller pages than these SQLite
    would part a row of 256 bytes. */
@@ -197,7 +199,7 @@ static void close_sqlite(store *of) {
     free(s);
 }
 
-static const store_calls CALLS = {"sqlite", true, get, put, add, next, clear, refuse, make, begin, commit, undo, close_sqlite};
+static const store_calls CALLS = {"sqlite", true, true, get, put, add, next, clear, refuse, make, begin, commit, undo, close_sqlite};
 
 static bool open_turn(sqlite_store *s, const char *file) {
     char path[PATH_ROOM];
@@ -209,7 +211,8 @@ static bool open_turn(sqlite_store *s, const char *file) {
 }
 
 static bool set_up(sqlite_store *s, bool full) {
-    return sqlite3_busy_timeout(s->db, BUSY_MS) == SQLITE_OK && tell(s, PAGES) && tell(s, "PRAGMA journal_mode=WAL")
+    return sqlite3_busy_timeout(s->db, BUSY_MS) == SQLITE_OK && sqlite3_wal_autocheckpoint(s->db, LOG_PAGES) == SQLITE_OK
+        && tell(s, PAGES) && tell(s, "PRAGMA journal_mode=WAL")
         && tell(s, full ? "PRAGMA synchronous=FULL" : "PRAGMA synchronous=NORMAL") && tell(s, "PRAGMA cache_size=-65536")
         && prepare(s, "BEGIN IMMEDIATE", &s->begin) && prepare(s, "COMMIT", &s->commit) && prepare(s, "ROLLBACK", &s->undo);
 }

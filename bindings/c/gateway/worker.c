@@ -364,7 +364,8 @@ static bool serve_answers(worker *w) {
 }
 
 /* Waits for a datagram, WAIT_MS at most. Who sends to a worker that sleeps spends more on waking it than on sending; so under load it looks
-   for a while before it sleeps, and gives its processor to whoever wants it in between. How often it looks follows from how long it slept. */
+   for a while before it sleeps, and gives its processor to whoever wants it in between. How often it looks follows from how long it slept.
+   Beside a database's server it doesn't look: that wants each processor that the workers leave. */
 static bool wait_for_datagram(worker *w) {
     for (unsigned i = 0; i < w->looks; i++) {
         if (receive_one(w, &w->held, MSG_DONTWAIT)) return true;
@@ -374,7 +375,7 @@ static bool wait_for_datagram(worker *w) {
     bool came = receive_one(w, &w->held, 0);
     bool soon = monotonic_us() - began < SOON_US;
     if (!soon) w->looks /= 2;
-    else if (w->looks < LOOKS_MOST) w->looks += LOOKS_STEP;
+    else if (w->store->calls->is_within && w->looks < LOOKS_MOST) w->looks += LOOKS_STEP;
     return came;
 }
 
