@@ -55,7 +55,7 @@ uint8_t forward_request(forwarder *with, const item *of, uint64_t ms) {
     while (to < with->of + FORWARDS - 1 && to->used) to++;
     if (to->used) return BAD_GATEWAY;
     if (of->opened.has_more_options) return BAD_OPTION;
-    *to = (forward){.from = of->from, .key = of->key, .number = of->number, .hash = of->hash, .ticket = of->ticket, .mid = of->mid};
+    *to = (forward){.from = of->from, .key = of->stored.key, .number = of->number, .hash = of->hash, .ticket = of->ticket, .mid = of->mid};
     to->serial = with->serial++;
     to->message_id = with->message_id++;
     to->tries = 1;
@@ -70,7 +70,7 @@ uint8_t forward_request(forwarder *with, const item *of, uint64_t ms) {
 /* The item is then as its request left it, but for what was opened. */
 static void begin_item(item *to, const forward *of) {
     to->from = of->from;
-    to->key = of->key;
+    to->stored.key = of->key;
     to->number = of->number;
     to->hash = of->hash;
     to->ticket = of->ticket;

@@ -18,7 +18,7 @@ static int usage(const char *what) {
             "gateway: %s\n"
             "gateway provision STORE [FILE]\n"
             "gateway serve STORE PORT [NAME=VALUE ..]\n"
-            "    address=127.0.0.1  application=0, a port on 127.0.0.1  mode=tx|strict|lazy  workers=1  batch=32, or 1 with pg\n"
+            "    address=127.0.0.1  application=0, a port on 127.0.0.1  mode=tx|strict|lazy  workers=1  batch=32\n"
             "    era=0  unprotected=10, replies a second to an address  metrics=PATH, a socket\n"
             "    provision=1, seconds between two looks at the table provision\n"
             "gateway era\n"
@@ -75,11 +75,10 @@ static bool read_word(char *word, settings *to) {
 }
 
 static int serve_words(char **words, int count) {
-    settings with = {.store = words[0], .address = "127.0.0.1", .mode = MODE_TX, .workers = 1, .unprotected = 10, .provision = 1};
+    settings with = {.store = words[0], .address = "127.0.0.1", .mode = MODE_TX, .workers = 1, .batch = 32, .unprotected = 10, .provision = 1};
     uint64_t port;
     if (!number(words[1], UINT16_MAX, &port)) return usage("that is no port");
     with.port = (uint16_t)port;
-    with.batch = strncmp(with.store, "pg", 2) ? 32 : 1;
     for (int i = 2; i < count; i++)
         if (!read_word(words[i], &with)) return usage(words[i]);
     if (with.application != 0 && with.mode == MODE_TX) return usage("such an application acts outside the transaction: mode=strict or mode=lazy");

@@ -3,9 +3,10 @@
 #define GATEWAY_ITEM_H
 
 #include "peer.h"
-#include "row.h"
+#include "store.h"
 
-enum { OPTIONS_MOST = 32 };
+/* A datagram gets so many fresh bytes: of an Echo value, and of a message ID. */
+enum { OPTIONS_MOST = 32, FRESH_LEN = 10 };
 
 typedef enum outcome {
     ITEM_SILENT,      /* nothing is sent */
@@ -21,13 +22,15 @@ typedef struct item {
     uint8_t came[DATAGRAM_MOST]; /* the datagram as it came: a lost swap begins with it again */
     size_t came_len;
     bool confirmable;
-    row_key key;
     uint64_t number, hash;
+    uint8_t fresh[FRESH_LEN];
     uint16_t mid; /* a new message ID, where the reply needs one */
     outcome outcome;
 
+    bool settled;     /* whether nothing is left to be read or written */
+    bool is_read;     /* whether the row is the one that was written last, and need not be read */
+    store_row stored; /* the row as it was read, with its version, and then as it is written */
     row row;
-    row_bytes bytes; /* the row as it was read, with its version, and then as it is written */
 
     uint8_t datagram[DATAGRAM_MOST]; /* in which the request is opened */
     oscore_opened opened;
@@ -43,7 +46,7 @@ typedef struct item {
 /* What a request says and a reply answers, and the keys, are wiped when the item is done. */
 static inline void item_wipe(item *of) {
     row_wipe(&of->row);
-    row_bytes_wipe(&of->bytes);
+    row_bytes_wipe(&of->stored.bytes);
     explicit_bzero(of->datagram, of->came_len);
     explicit_bzero(of->plain, of->plain_len);
     of->plain_len = 0;

@@ -74,7 +74,7 @@ bool provision_waiting(store *to, provisioned *taken) {
     oscore_wipe(&line, sizeof line);
     if (answer != STORE_DONE) return answer == STORE_NOT;
     if (!to->calls->begin(to)) return false;
-    for (size_t count = to->calls->batches ? LINES_MOST : 1; count > 0 && answer == STORE_DONE; count--) {
+    for (size_t count = to->calls->one_writes ? LINES_MOST : 1; count > 0 && answer == STORE_DONE; count--) {
         answer = to->calls->next(to, &line);
         if (answer == STORE_NOT) break;
         if (answer == STORE_DONE && take(to, &line, taken) != STORE_DONE) answer = STORE_BROKEN;

@@ -38,6 +38,12 @@ void row_key_of_context(row_key *key, const oscore_context *context) {
     if (!row_key_of(key, &head)) key->len = 0;
 }
 
+int row_key_compare(const row_key *one, const row_key *other) {
+    size_t len = one->len < other->len ? one->len : other->len;
+    int order = memcmp(one->bytes, other->bytes, len);
+    return order ? order : (int)one->len - (int)other->len;
+}
+
 /* The names of a context are those of its key. */
 static bool read_key(oscore_context *context, const row_key *key) {
     if (key->len < 1 || key->bytes[0] > KID_MOST || key->len < 1 + key->bytes[0]) return false;

@@ -47,6 +47,9 @@ bool row_key_of(row_key *key, const oscore_request_head *head);
 /* The key of a context. */
 void row_key_of_context(row_key *key, const oscore_context *context);
 
+/* The order of keys, as a database has it: below 0 where the first is before the second, 0 where they are the same. */
+int row_key_compare(const row_key *one, const row_key *other);
+
 /* Spells a row; its version is left to the caller. */
 void row_write(const row *from, const row_key *key, row_bytes *to);
 

@@ -1,5 +1,6 @@
 #include "serve.h"
 #include "counts.h"
+#include "monotonic.h"
 #include "provisioner.h"
 #include "store.h"
 #include "trial.h"
@@ -16,7 +17,6 @@
 #include <sys/stat.h>
 #include <sys/un.h>
 #include <sys/wait.h>
-#include <time.h>
 #include <unistd.h>
 
 /* A process that ended by itself found its store broken: the next one begins after a pause. One that was killed is replaced at once. */
@@ -37,12 +37,6 @@ static volatile sig_atomic_t ending;
 
 static void end(int signal) {
     if (signal != SIGCHLD) ending = 1;
-}
-
-static uint64_t monotonic_ms(void) {
-    struct timespec now;
-    if (clock_gettime(CLOCK_MONOTONIC, &now)) return 0;
-    return (uint64_t)now.tv_sec * 1000 + (uint64_t)now.tv_nsec / 1000000;
 }
 
 /* Signals come in ppoll alone, here and in the provisioner. A worker leaves SIGTERM blocked, and looks for it. */
@@ -195,20 +189,18 @@ static void run(parent *p) {
     end_all(p);
 }
 
-/* Says at the start what the processes would say again and again: that there is no store, no table in it, or none that batches. */
+/* Says at the start what the processes would say again and again: that there is no store, or no table in it. */
 static bool store_opens(const settings *with) {
     static const row_key none = {.len = 0};
     row_bytes nothing;
     waiting_line line;
     store *opened = store_open(with->store);
     if (!opened) return false;
-    bool shares = opened->calls->batches || with->batch <= 1;
-    if (!shares) fputs("serve: this store takes one datagram a transaction: batch=1\n", stderr);
     bool reads = opened->calls->get(opened, &none, &nothing) == STORE_NOT
         && (with->provision == 0 || opened->calls->next(opened, &line) != STORE_BROKEN);
     oscore_wipe(&line, sizeof line);
     opened->calls->close(opened);
-    return shares && reads;
+    return reads;
 }
 
 /* The first line says which port was given. */

@@ -17,7 +17,7 @@ typedef struct settings {
     const char *store, *address, *metrics; /* no metrics: NULL */
     uint16_t port, application;            /* application 0 is the built-in one */
     reply_mode mode;
-    size_t workers, batch; /* datagrams a transaction; 0: as the store has it */
+    size_t workers, batch; /* datagrams a transaction */
     uint64_t era;
     uint32_t unprotected; /* replies a second to one address */
     uint64_t provision;   /* seconds between two looks at the table `provision`; 0: it isn't looked at */

@@ -32,3 +32,23 @@ store *store_open(const char *name) {
     fprintf(stderr, "store: a store is one of %s\n", store_names);
     return NULL;
 }
+
+bool store_get_all(store *of, store_row *rows[], size_t count) {
+    if (count > 1 && of->calls->get_all) return of->calls->get_all(of, rows, count);
+    bool good = true;
+    for (size_t i = 0; good && i < count; i++) {
+        rows[i]->answer = of->calls->get(of, &rows[i]->key, &rows[i]->bytes);
+        good = rows[i]->answer != STORE_BROKEN;
+    }
+    return good;
+}
+
+bool store_put_all(store *of, store_row *rows[], size_t count) {
+    if (count > 1 && of->calls->put_all) return of->calls->put_all(of, rows, count);
+    bool good = true;
+    for (size_t i = 0; good && i < count; i++) {
+        rows[i]->answer = of->calls->put(of, &rows[i]->key, &rows[i]->bytes);
+        good = rows[i]->answer != STORE_BROKEN;
+    }
+    return good;
+}

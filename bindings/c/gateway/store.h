@@ -15,6 +15,13 @@ typedef enum store_answer {
 
 typedef struct store store;
 
+/* One of several rows that are read or written by one call. */
+typedef struct store_row {
+    row_key key;
+    row_bytes bytes;
+    store_answer answer; /* DONE or NOT */
+} store_row;
+
 /* A line of the table `provision`, into which contexts are inserted by SQL: its number and its columns. A column that is no text, or has no
    room here, is a word that no column may have. */
 enum { LINE_COLUMNS = 8, WORD_ROOM = 160 };
@@ -27,10 +34,15 @@ typedef struct waiting_line {
 
 typedef struct store_calls {
     const char *name;
-    bool batches; /* whether several datagrams may share a transaction */
+    bool one_writes; /* whether one transaction writes at a time: then several steps may share one, and none waits for another inside of it */
     bool is_within; /* whether the worker does its work, and no server, which wants a processor for it */
     store_answer (*get)(store *, const row_key *, row_bytes *);
     store_answer (*put)(store *, const row_key *, const row_bytes *);
+    /* Of a store that has several rows sooner at once than one after the other; any other has NULL. put_all is a transaction of its own: once
+       it answers, what is DONE is written for good. NOT may mean, too, that the database undid all of it. The keys of the rows ascend: two who
+       write some of the same rows then never wait for each other. False: BROKEN. */
+    bool (*get_all)(store *, store_row *rows[], size_t count);
+    bool (*put_all)(store *, store_row *rows[], size_t count);
     store_answer (*add)(store *, const row_key *, const uint8_t fingerprint[FINGERPRINT_LEN], const row_bytes *);
     store_answer (*next)(store *, waiting_line *);                    /* the first line that waits; between begin and commit nobody else has it */
     store_answer (*clear)(store *, int64_t number);                   /* removes a line */
@@ -51,6 +63,10 @@ struct store {
    What is behind the colon may hold a password, so it is never printed. */
 store *store_open(const char *name);
 extern const char *const store_names;
+
+/* Read, or write, so many rows: by one call, where the store has one, else one after the other. False: BROKEN. */
+bool store_get_all(store *of, store_row *rows[], size_t count);
+bool store_put_all(store *of, store_row *rows[], size_t count);
 
 store *store_sqlite_open(const char *file, bool full);
 store *store_postgres_open(const char *conninfo, bool on);

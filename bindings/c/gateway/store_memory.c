@@ -122,7 +122,7 @@ static void close_memory(store *of) {
 }
 
 store *store_memory_open(const char *file) {
-    static const store_calls CALLS = {"memory", true, true, get, put, add, no_line, no_clear, no_refuse, nothing, nothing, nothing, nothing, close_memory};
+    static const store_calls CALLS = {"memory", true, true, get, put, NULL, NULL, add, no_line, no_clear, no_refuse, nothing, nothing, nothing, nothing, close_memory};
     memory_store *s = calloc(1, sizeof *s);
     int at = open(file, O_RDWR | O_CREAT | O_CLOEXEC, 0600);
     void *made = MAP_FAILED;

@@ -1,5 +1,5 @@
-/* The store over PostgreSQL: any number of workers on any number of machines. Each write is a transaction of its own, and is answered once
-   its commit is. Two transactions of several rows each could wait for each other, so there are none. */
+/* The store over PostgreSQL: any number of workers on any number of machines. What is written is answered once its commit is. Several rows go
+   by a pipeline: all is asked for before the first answer is waited for. */
 #include "store.h"
 #include "bytes.h"
 #include <libpq-fe.h>
@@ -13,6 +13,9 @@ typedef struct postgres_store {
 } postgres_store;
 
 enum { BYTEA = 17, INT8 = 20, TEXT = 25, MOST_VALUES = 4 };
+
+/* What each value is, and each answer: no text. */
+static const int BINARY[MOST_VALUES] = {1, 1, 1, 1};
 
 /* A statement's values, each as bytes. */
 typedef struct values {
@@ -50,6 +53,18 @@ static bool tell(postgres_store *s, const char *sql) {
     return done;
 }
 
+static bool undo(store *of) {
+    return tell((postgres_store *)of, "ROLLBACK");
+}
+
+/* A transaction that failed is ended by COMMIT too, but not as a commit. */
+static bool committed(postgres_store *s, PGresult *result) {
+    bool done = PQresultStatus(result) == PGRES_COMMAND_OK && !strcmp(PQcmdStatus(result), "COMMIT");
+    if (!done) report("commit", s->connection, result);
+    PQclear(result);
+    return done;
+}
+
 static bool prepare(postgres_store *s, const char *name, const char *sql, int count, const Oid *types) {
     PGresult *result = PQprepare(s->connection, name, sql, count, types);
     bool done = PQresultStatus(result) == PGRES_COMMAND_OK;
@@ -64,7 +79,8 @@ static bool prepare_all(postgres_store *s) {
     s->prepared = prepare(s, "get", "SELECT v, h, r FROM contexts WHERE k = $1", 1, (const Oid[]){BYTEA})
         && prepare(s, "put", "UPDATE contexts SET v = v + 1, h = $1, r = $2 WHERE k = $3 AND v = $4", 4, (const Oid[]){BYTEA, BYTEA, BYTEA, INT8})
         && prepare(s, "add", "INSERT INTO contexts (k, v, f, h, r) VALUES ($1, 0, $2, $3, $4) ON CONFLICT DO NOTHING", 4,
-                   (const Oid[]){BYTEA, BYTEA, BYTEA, BYTEA});
+                   (const Oid[]){BYTEA, BYTEA, BYTEA, BYTEA})
+        && prepare(s, "begin", "BEGIN ISOLATION LEVEL READ COMMITTED", 0, NULL) && prepare(s, "commit", "COMMIT", 0, NULL);
     return s->prepared;
 }
 
@@ -80,7 +96,6 @@ static bool prepare_lines(postgres_store *s) {
 }
 
 static PGresult *run(postgres_store *s, const char *name, const values *of) {
-    static const int BINARY[MOST_VALUES] = {1, 1, 1, 1};
     return PQexecPrepared(s->connection, name, of->count, of->bytes, of->lens, BINARY, 1);
 }
 
@@ -102,11 +117,8 @@ static bool take_row(const PGresult *from, row_bytes *row) {
         && take_column(from, 2, row->reply, sizeof row->reply, &row->reply_len);
 }
 
-static store_answer get(store *of, const row_key *key, row_bytes *row) {
-    postgres_store *s = (postgres_store *)of;
-    values with = {.count = 0};
-    add_value(&with, key->bytes, key->len);
-    PGresult *result = prepare_all(s) ? run(s, "get", &with) : NULL;
+/* What a look-up came to. */
+static store_answer look(postgres_store *s, PGresult *result, row_bytes *row) {
     store_answer answer = STORE_BROKEN;
     if (PQresultStatus(result) == PGRES_TUPLES_OK && PQntuples(result) == 0) answer = STORE_NOT;
     else if (PQresultStatus(result) == PGRES_TUPLES_OK && take_row(result, row)) answer = STORE_DONE;
@@ -115,9 +127,20 @@ static store_answer get(store *of, const row_key *key, row_bytes *row) {
     return answer;
 }
 
-/* Runs a statement that writes one row, or none. */
-static store_answer write_one(postgres_store *s, bool is_prepared, const char *name, const values *with) {
-    PGresult *result = is_prepared ? run(s, name, with) : NULL;
+static values values_of_get(const row_key *key) {
+    values with = {.count = 0};
+    add_value(&with, key->bytes, key->len);
+    return with;
+}
+
+static store_answer get(store *of, const row_key *key, row_bytes *row) {
+    postgres_store *s = (postgres_store *)of;
+    values with = values_of_get(key);
+    return look(s, prepare_all(s) ? run(s, "get", &with) : NULL, row);
+}
+
+/* What a statement that writes one row, or none, came to. */
+static store_answer written(postgres_store *s, const char *name, PGresult *result) {
     store_answer answer = STORE_BROKEN;
     if (PQresultStatus(result) == PGRES_COMMAND_OK) answer = !strcmp(PQcmdTuples(result), "1") ? STORE_DONE : STORE_NOT;
     else report(name, s->connection, result);
@@ -125,15 +148,101 @@ static store_answer write_one(postgres_store *s, bool is_prepared, const char *n
     return answer;
 }
 
-static store_answer put(store *of, const row_key *key, const row_bytes *row) {
-    postgres_store *s = (postgres_store *)of;
-    uint8_t version[VERSION_LEN];
+static store_answer write_one(postgres_store *s, bool is_prepared, const char *name, const values *with) {
+    return written(s, name, is_prepared ? run(s, name, with) : NULL);
+}
+
+static values values_of_put(const row_key *key, const row_bytes *row, uint8_t version[VERSION_LEN]) {
     values with = {.count = 0};
     add_value(&with, row->state, row->state_len);
     add_reply(&with, row);
     add_value(&with, key->bytes, key->len);
     add_number(&with, version, row->version);
+    return with;
+}
+
+static store_answer put(store *of, const row_key *key, const row_bytes *row) {
+    uint8_t version[VERSION_LEN];
+    postgres_store *s = (postgres_store *)of;
+    values with = values_of_put(key, row, version);
     return write_one(s, prepare_all(s), "put", &with);
+}
+
+/* Asks for what a prepared statement says; its answer comes later. */
+static bool ask(postgres_store *s, const char *name, const values *of) {
+    return PQsendQueryPrepared(s->connection, name, of->count, of->bytes, of->lens, BINARY, 1) == 1;
+}
+
+/* The answer to what was asked for next; NULL where there is none. */
+static PGresult *answer_of(postgres_store *s) {
+    PGresult *result = PQgetResult(s->connection);
+    if (result) PQclear(PQgetResult(s->connection)); /* the end of that answer, NULL */
+    return result;
+}
+
+/* All was asked for. What comes behind the last answer says that the server is through. */
+static bool end_pipeline(postgres_store *s) {
+    PGresult *result = PQgetResult(s->connection);
+    bool through = PQresultStatus(result) == PGRES_PIPELINE_SYNC && PQexitPipelineMode(s->connection);
+    if (!through) report("pipeline", s->connection, result);
+    PQclear(result);
+    return through;
+}
+
+/* Each question is short: the system has room for all of them while the server waits until its answers are taken. */
+static bool ask_to_get(postgres_store *s, store_row *rows[], size_t count) {
+    bool good = prepare_all(s) && PQenterPipelineMode(s->connection);
+    for (size_t i = 0; good && i < count; i++) {
+        values with = values_of_get(&rows[i]->key);
+        good = ask(s, "get", &with);
+    }
+    return good && PQpipelineSync(s->connection);
+}
+
+static bool get_all(store *of, store_row *rows[], size_t count) {
+    postgres_store *s = (postgres_store *)of;
+    bool good = ask_to_get(s, rows, count);
+    if (!good) report("read", s->connection, NULL);
+    for (size_t i = 0; good && i < count; i++) good = (rows[i]->answer = look(s, answer_of(s), &rows[i]->bytes)) != STORE_BROKEN;
+    return good && end_pipeline(s);
+}
+
+/* Here the answers are short. */
+static bool ask_to_put(postgres_store *s, store_row *rows[], size_t count) {
+    static const values NONE = {.count = 0};
+    uint8_t version[VERSION_LEN];
+    bool good = prepare_all(s) && PQenterPipelineMode(s->connection) && ask(s, "begin", &NONE);
+    for (size_t i = 0; good && i < count; i++) {
+        values with = values_of_put(&rows[i]->key, &rows[i]->bytes, version);
+        good = ask(s, "put", &with);
+    }
+    return good && ask(s, "commit", &NONE) && PQpipelineSync(s->connection);
+}
+
+/* What the next statement of a transaction came to. `undone`: it waited for another transaction, which waited for it (40P01). That undid it all,
+   and what was asked for behind it is passed over. */
+static store_answer next_written(postgres_store *s, const char *name, bool *undone) {
+    PGresult *result = answer_of(s);
+    const char *state = PQresultErrorField(result, PG_DIAG_SQLSTATE);
+    bool undoes = state && !strcmp(state, "40P01"), passed_over = *undone && PQresultStatus(result) == PGRES_PIPELINE_ABORTED;
+    if (!undoes && !passed_over) return written(s, name, result);
+    if (undoes) report(name, s->connection, result);
+    PQclear(result);
+    *undone = true;
+    return STORE_NOT;
+}
+
+/* Workers can't undo each other's, but who writes several rows by SQL can. */
+static bool put_all(store *of, store_row *rows[], size_t count) {
+    postgres_store *s = (postgres_store *)of;
+    bool undone = false, good = ask_to_put(s, rows, count);
+    if (!good) report("write", s->connection, NULL);
+    good = good && next_written(s, "begin", &undone) != STORE_BROKEN;
+    for (size_t i = 0; good && i < count; i++) good = (rows[i]->answer = next_written(s, "put", &undone)) != STORE_BROKEN;
+    if (!good) return false;
+    if (!undone) return committed(s, answer_of(s)) && end_pipeline(s);
+    for (size_t i = 0; i < count; i++) rows[i]->answer = STORE_NOT;
+    return next_written(s, "commit", &undone) != STORE_BROKEN && end_pipeline(s) && undo(of);
 }
 
 static store_answer add(store *of, const row_key *key, const uint8_t fingerprint[FINGERPRINT_LEN], const row_bytes *row) {
@@ -203,18 +312,9 @@ static bool begin(store *of) {
     return tell((postgres_store *)of, "BEGIN");
 }
 
-/* A transaction that failed is ended by COMMIT too, but not as a commit. */
 static bool commit(store *of) {
     postgres_store *s = (postgres_store *)of;
-    PGresult *result = PQexec(s->connection, "COMMIT");
-    bool done = PQresultStatus(result) == PGRES_COMMAND_OK && !strcmp(PQcmdStatus(result), "COMMIT");
-    if (!done) report("commit", s->connection, result);
-    PQclear(result);
-    return done;
-}
-
-static bool undo(store *of) {
-    return tell((postgres_store *)of, "ROLLBACK");
+    return committed(s, PQexec(s->connection, "COMMIT"));
 }
 
 static void close_postgres(store *of) {
@@ -229,7 +329,7 @@ static void pass_over(void *unused, const char *note) {
 }
 
 store *store_postgres_open(const char *conninfo, bool on) {
-    static const store_calls CALLS = {"pg", false, false, get, put, add, next, clear, refuse, make, begin, commit, undo, close_postgres};
+    static const store_calls CALLS = {"pg", false, false, get, put, get_all, put_all, add, next, clear, refuse, make, begin, commit, undo, close_postgres};
     postgres_store *s = calloc(1, sizeof *s);
     if (!s) return NULL;
     s->of.calls = &CALLS;

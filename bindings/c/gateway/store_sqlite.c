@@ -199,7 +199,7 @@ static void close_sqlite(store *of) {
     free(s);
 }
 
-static const store_calls CALLS = {"sqlite", true, true, get, put, add, next, clear, refuse, make, begin, commit, undo, close_sqlite};
+static const store_calls CALLS = {"sqlite", true, true, get, put, NULL, NULL, add, next, clear, refuse, make, begin, commit, undo, close_sqlite};
 
 static bool open_turn(sqlite_store *s, const char *file) {
     char path[PATH_ROOM];

@@ -1,7 +1,7 @@
 /* The gateway's parts alone: that a row comes back as it was written, with names of all lengths and replies of any; that no row has more than
    256 bytes; that a server whose bytes go through a row at each event answers what one does that is left alone; that spoilt bytes are refused,
-   or read as a row, and nothing else; that fingerprints tell Sender Keys apart; and what the bound on unprotected replies and the era say.
-   Built with the sanitizers. */
+   or read as a row, and nothing else; how keys are ordered; that fingerprints tell Sender Keys apart; and what the bound on unprotected replies
+   and the era say. Built with the sanitizers. */
 #include "../counts.h"
 #include "../era.h"
 #include "../row.h"
@@ -208,6 +208,17 @@ static void spoilt_bytes(void) {
     CHECK(accepted > 0 && accepted < SPOILT);
 }
 
+/* As a database sorts them: by their bytes, and of two that begin alike the shorter one is first. */
+static void order_of_keys(void) {
+    const row_key ascending[] = {{{0}, 1}, {{0, 1, 5}, 3}, {{1, 0}, 2}, {{1, 0, 1, 5}, 4}, {{1, 0, 2, 0, 0}, 5}, {{1, 200}, 2}, {{2, 0, 0}, 3}};
+    const int count = sizeof ascending / sizeof ascending[0];
+    for (int i = 0; i < count; i++)
+        for (int j = 0; j < count; j++) {
+            int order = row_key_compare(&ascending[i], &ascending[j]);
+            CHECK((order < 0) == (i < j) && (order > 0) == (i > j));
+        }
+}
+
 static void fingerprints(void) {
     uint8_t a[FINGERPRINT_LEN], b[FINGERPRINT_LEN];
     oscore_context one = make_context(1, 2, 0, false), two = make_context(1, 3, 0, false), three = make_context(2, 1, 0, false);
@@ -252,6 +263,7 @@ int main(void) {
     features();
     one_history();
     spoilt_bytes();
+    order_of_keys();
     fingerprints();
     bound();
     eras();
