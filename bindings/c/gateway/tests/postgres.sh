@@ -19,7 +19,7 @@ contexts() {
 without_postgres() {
     local why
     why=$(without pg_config psql)
-    pkg-config --exists libpq 2> /dev/null || why=${why:-"there is no libpq-dev here"}
+    pkg-config --exists 'libpq >= 14' 2> /dev/null || why=${why:-"there is no libpq-dev of PostgreSQL 14 or later here"}
     [ -x "$bin/initdb" ] || why=${why:-"there is no PostgreSQL server here"}
     [ "$(id -u)" != 0 ] || id postgres > /dev/null 2>&1 || why=${why:-"there is no user postgres here"}
     echo "$why"
