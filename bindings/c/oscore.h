@@ -436,9 +436,11 @@ OSCORE_MUST_USE oscore_status oscore_client_request(oscore_client *client, uint6
    pending, and the caller keeps waiting, until 0, the end of `life_ms`, `oscore_client_forget` or `oscore_client_restart`. Anyone
    may have sent what is refused, and anyone can send an error without protection; OSCORE_INNER alone says that it was sealed with the
    server's Sender Key.
-   A server that asks for an Echo value answers 0 with the code 129, 4.01, and the option 252: the request wasn't obeyed, and is asked
-   anew with that option's value (RFC 9175, 2.3). Empty messages are OSCORE_NOT_THAT_KIND here: by their message ID they tell the caller
-   that a request arrived (ACK), so that it isn't sent again, or that it isn't answered (RST), so that it can be forgotten.
+   A server that asks for an Echo value answers 0 with the code 129, 4.01, and the option 252. It lost what it knew, so this doesn't say
+   that the request wasn't obeyed: the server may have obeyed it before its restart, and may yet obey a copy of it that comes late. Where
+   what is asked for may be done twice, ask anew with that option's value (RFC 9175, 2.3): that is another request, and is obeyed too.
+   Empty messages are OSCORE_NOT_THAT_KIND here: by their message ID they tell the caller that a request arrived (ACK), so that it isn't
+   sent again, or that it isn't answered (RST), so that it can be forgotten.
    Behind 0 and OSCORE_INNER the datagram holds what was inside, and the old tag behind it; else it is as it came. (What it holds is
    tested, and proved of the call behind this one.) */
 OSCORE_MUST_USE oscore_status oscore_client_take(oscore_client *client, uint64_t now, uint8_t *datagram, size_t datagram_len,

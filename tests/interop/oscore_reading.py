@@ -53,7 +53,8 @@ class Context:
     observe: bool = False
 
     def refused(self, may_observe: bool = True) -> Tuple[int, ...]:
-        """A response may have Observe only if its request registers an observation (RFC 7641, 3.1)."""
+        """A response may have Observe only if its request registers an observation (RFC 7641, 3.1); one that is sealed, only if its code is of
+        class 2, too (RFC 7641, 4.2)."""
         allowed = (BLOCKS if self.blocks else ()) + ((OBSERVE,) if self.observe and may_observe else ())
         return tuple(number for number in REFUSED if number not in allowed)
 
@@ -162,10 +163,11 @@ def seal(context: Context, nonce: bytes, additional_data: bytes, value: bytes, c
          may_observe: bool = True) -> bytes:
     """Parts a message into what goes inside and what stays outside (RFC 8613, 4.1 and 5.3), and protects the first. Observe goes to both
     sides: of a request with its value, of a response with its value outside and empty inside (RFC 8613, 4.1.3.5)."""
-    for number in sorted(number for number, _ in message.options):
-        if number in context.refused(may_observe):
-            raise Refused("Unsupported", number)
     is_response = codes == RESPONSE_CODES
+    refused = context.refused(may_observe and not (is_response and message.code >> 5 != 2))
+    for number in sorted(number for number, _ in message.options):
+        if number in refused:
+            raise Refused("Unsupported", number)
     inner = [(number, b"" if is_response and number == OBSERVE else said) for number, said in message.options if number not in OUTSIDE]
     outer = [option for option in message.options if option[0] in (*OUTSIDE, OBSERVE)]
     code = codes[first(message.options, OBSERVE) is not None]

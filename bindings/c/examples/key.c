@@ -4,7 +4,8 @@
 
    FILE is where it keeps a number over its runs, ahead of each number that it uses, so that a crash doesn't lose it. It seals PUT /lock,
    says under which number, sends the datagram to 127.0.0.1, and says what came back. Where the lock asks for an Echo value (RFC 9175), it
-   asks once more with the value, under the number behind. Each datagram that it sends is kept in SENT.NUMBER.
+   asks once more with the value, under the number behind. The lock may have obeyed the first request too, before it was restarted, so
+   only what may be done twice is asked for in this way. Each datagram that it sends is kept in SENT.NUMBER.
 
    While neither a reply nor an acknowledgment comes it sends the same bytes again (RFC 7252, 4.2), which the lock knows by the message
    ID: a request that is sealed anew would be another one, and be obeyed once more. */

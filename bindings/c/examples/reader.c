@@ -4,7 +4,7 @@
 
    FILE is where it keeps a number over its runs, as key.c does. It registers for GET /temperature at 127.0.0.1 and says what it hears.
    After COUNT notifications it cancels the observation, and says what the answer is. Where the sensor asks for an Echo value (RFC 9175),
-   it registers once more with the value.
+   it registers once more with the value: a GET may be done twice.
 
    A notification that comes behind a newer one, or twice, is old: the library tells by its number. */
 #define _DEFAULT_SOURCE

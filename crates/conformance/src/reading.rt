@@ -89,6 +89,14 @@ pub(crate) fn first_option(fields: &Fields<'_>, answer: &mut Answer) {
     }
 }
 
+/// Shows the value of the option with this number as an end interprets it, among a datagram's options.
+pub(crate) fn interpreted_option(fields: &Fields<'_>, answer: &mut Answer) {
+    fields.count(2);
+    if let Some(message) = fields.message(0) {
+        answer.part(message.options().interpreted(fields.short(1)));
+    }
+}
+
 pub(crate) fn class(fields: &Fields<'_>, answer: &mut Answer) {
     fields.count(1);
     answer.word(match class_of(fields.short(0)) {

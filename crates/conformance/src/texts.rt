@@ -13,7 +13,8 @@ pub(crate) struct Texts {
 }
 
 impl Texts {
-    /// Reads the texts. After a backslash, `n` stands for a newline, `r` for a carriage return, and every other character for itself.
+    /// Reads the texts. After a backslash, `n` stands for a newline, `r` for a carriage return, `e` for U+001B, the escape character, `o` for
+    /// U+202E, the right-to-left override, and every other character for itself.
     pub(crate) fn read(alloc: Global, call: &str) -> Texts {
         let mut texts = Texts {
             done: Vec::new(alloc),
@@ -35,6 +36,8 @@ impl Texts {
             self.push(match character {
                 'n' => '\n',
                 'r' => '\r',
+                'e' => '\u{1b}',
+                'o' => '\u{202e}',
                 other => other,
             });
         } else if character == '\\' {

@@ -52,6 +52,7 @@ fn of_options(verb: &str, fields: &Fields<'_>, contexts: &[NamedContext<'_>], an
         "class" => reading::class(fields, answer),
         "option-number" => reading::option_number(fields, answer),
         "first-option" => reading::first_option(fields, answer),
+        "interpreted-option" => reading::interpreted_option(fields, answer),
         _ => of_contexts(verb, fields, contexts, answer),
     }
 }

@@ -1,4 +1,5 @@
 mod Moved
+mod LeftBytes
 mod Names
 mod Taking
 mod Serving

@@ -1,8 +1,9 @@
 -- So much room is enough: a sealing isn't refused for want of it. s are the bytes of a server before a call, c those of a
 -- client or of a context, t those of a ticket, new are the bytes afterwards, plain is the datagram of a plain message, room the length of the buffer.
-use Rattle.std.proofs.Common.{◌≡◌, ℕ, ◌+◌, ◌≤◌, Bool, true, List, Option, zero, suc, length, ap, sym, subst, arith, length-take}
+use Rattle.std.proofs.Common.{◌≡◌, ℕ, ◌+◌, ◌≤◌, Bool, true, false, List, Option, zero, suc, length, ap, sym, subst, arith, length-take}
 use Rattle.osc_coap.specs.Datagram.{Parts, IsDatagram}
 use Rattle.osc_coap.specs.Laws.{DatagramHasItsLength, OptionsAscend}
+use Rattle.osc_coap.specs.Search.{has_number}
 use Rattle.osc_coap.specs.declared.message.Kind.{Kind}
 use Rattle.osc_coap.specs.declared.format_error.Fault.{Fault}
 use Rattle.osc_coap.specs.declared.format_error.Fault.TheVariants as faults
@@ -10,10 +11,14 @@ use Rattle.osc_context.specs.Features.{unobserved}
 use Rattle.osc_context.specs.Laws.{ValueMostLen}
 use Rattle.osc_context.specs.OscoreValue.{IsOscoreValue, kid_context_bytes}
 use Rattle.osc_context.specs.SecurityContext.{SecurityContext}
+use Rattle.osc_context.specs.declared.features.Features.{Features}
+use Rattle.osc_protect.specs.OptionSets.{is_unsupported}
 use Rattle.osc_protect.specs.Protection.{Protection, as_it_is, as_notified, notifications, requests, responses}
 use Rattle.osc_protect.specs.SealRefusals.{RefusesToSeal}
 use Rattle.osc_protect.specs.Usage.{value_of_request, value_of_response}
 use Rattle.osc_protect.specs.declared.protect_error.ProtectError.TheVariants as seals
+use Rattle.osc_protect.proofs.Supported.{sealing_supported}
+use Rattle.osc_endpoint.proofs.SealedReplies.{replied_features}
 use Rattle.osc_endpoint.specs.ClientHistory as client
 use Rattle.osc_endpoint.specs.Replies.{reply_id, reply_kind}
 use Rattle.osc_endpoint.specs.ServerAnswer.{as_notification}
@@ -77,7 +82,8 @@ response_room : DatagramHasItsLength → OptionsAscend → ValueMostLen → (s :
 response_room long ascend most s asked own p kind message_id token plain room of few enough refuses =
     let value = refuses.1.0 in
     let short = response_value most s asked own value refuses.1.1 in
-    let size = sealed_growth long ascend (unobserved s.features) as_it_is p plain value short_as_it_is of refuses.0.1 (omega (arith, short)) kind message_id token in
+    let supported = subst (λ (x : Features). has_number (is_unsupported x) p.options ≡ false) (replied_features s asked p) refuses.0.1 in
+    let size = sealed_growth long ascend (unobserved s.features) as_it_is p plain value short_as_it_is of supported (omega (arith, short)) kind message_id token in
     let none = none_twice p.options in
     let less = refuses.1.2.1 in
     omega (arith, size, none, short, less, few, enough)
@@ -88,7 +94,8 @@ notification_room : DatagramHasItsLength → OptionsAscend → ValueMostLen → 
 notification_room long ascend most s asked own p token plain room of few enough refuses =
     let value = refuses.1.0 in
     let short = response_value most s asked own value refuses.1.1 in
-    let size = sealed_growth long ascend s.features as_notified p plain value short_as_notified of refuses.0.1 (omega (arith, short)) p.kind p.message_id token in
+    let supported = sealing_supported (notifications s asked).usage s.features p.code p.options refuses.0.1 in
+    let size = sealed_growth long ascend s.features as_notified p plain value short_as_notified of supported (omega (arith, short)) p.kind p.message_id token in
     let twice = most_twice s.features.observe p.options in
     let less = refuses.1.2.1 in
     let fits = enough p of in

@@ -4,11 +4,12 @@ ghost use Rattle.std.specs.Prelude.{◌≡◌, ◌≢◌, ◌<◌, ◌^◌, ℕ,
 ghost use Rattle.osc_protect.specs.Opening.{Opens};
 ghost use Rattle.osc_protect.specs.Protection.{ProtectsRequest, ProtectsResponse, requests, responses};
 ghost use Rattle.osc_coap.specs.Inner.{InnerParts};
+ghost use Rattle.osc_protect.specs.StageViews.{LendsRequest, LendsResponse};
 ghost use Rattle.osc_protect.specs.Views.{message_of};
 ghost use Rattle.osc_protect.specs.declared.opened.Opened.{Opened as OpenedOf};
 ghost use Rattle.osc_c.specs.Calls.{RefusesOpening};
 ghost use Rattle.osc_handle.specs.ContextBytes.{client_in, server_in, IsContext};
-ghost use Rattle.osc_c.specs.Opened.{option_in, Shows};
+ghost use Rattle.osc_c.specs.Opened.{LeavesRequestIn, LeavesResponseIn, option_in, Shows};
 ghost use Rattle.osc_c.specs.Statuses.{code};
 ghost use Rattle.osc_c.specs.declared.status.Status.{Status as StatusOf};
 
@@ -16,24 +17,22 @@ use crate::opened_view::{OpenedView, OptionView, show};
 use crate::status::{DONE, Refusal, Status};
 use osc_context::Piv;
 use osc_handle::ContextHandle;
-use osc_protect::{Opened, RequestRef, open_request, open_response};
+use osc_protect::{ReadRequest, ReadResponse, RequestRef, unprotect_request, unprotect_response};
 
-/// Opens a request as the context's server.
-fn open_request_in<'b>(
-    context: &ContextHandle,
-    datagram: &'b mut [u8],
-) -> Result<Opened<'b>, Refusal>
-    ensures opened { IfOk result (λ o. Opens (requests (server_in context.now)) datagram.old o) }
+/// Opens a request as the context's server, and borrows nothing.
+fn open_request_in(context: &ContextHandle, datagram: &mut [u8]) -> Result<ReadRequest, Refusal>
+    ensures lends { IfOk result (λ x. LendsRequest (requests (server_in context.now)) datagram.old x datagram.new) }
     ensures accepts { (n : ℕ) (m : InnerParts) → IsContext context.now → ProtectsRequest (server_in context.now) n m datagram.old → IsOk result }
     ensures refused { IfErr result (λ r. RefusesOpening (IsContext context.now) Unit (requests (server_in context.now)) datagram.old r.status r.detail) }
     ensures refuses { (status : StatusOf) (why : ℕ) → RefusesOpening (IsContext context.now) Unit (requests (server_in context.now)) datagram.old status why
         → IsErrAnd result (λ r. (r.status ≡ status) × (r.detail ≡ why)) }
+    ensures left { IfErr result (λ r. LeavesRequestIn (requests (server_in context.now)) datagram.old r.status datagram.new) }
 {
     let Some(context) = context.context() else {
         return Err(Status::BadHandle.into());
     };
-    match open_request(&context, datagram) {
-        Ok(opened) => Ok(opened),
+    match unprotect_request(&context, datagram) {
+        Ok(read) => Ok(read),
         Err(error) => Err(error.into()),
     }
 }
@@ -41,7 +40,7 @@ fn open_request_in<'b>(
 /// Opens a request in its datagram (RFC 8613, 8.2), as the context's server. `options` has room for a number of options; `view` says
 /// whether there are more. A refusal is BadHandle, one of the datagram's faults with its place, NotThatKind, NoOscore, Undecodable,
 /// WrongContext, Tag or Inner, in this order. At Inner and when it is done, the payload has become the plaintext, with the old tag
-/// after it. Any refusal before Inner leaves the datagram unchanged.
+/// after it. Any refusal before Inner leaves the datagram unchanged: `open_request_in` says so, since this call lends its bytes.
 #[unsafe(no_mangle)]
 pub extern "C" fn oscore_open_request<'b>(
     context: &ContextHandle,
@@ -61,8 +60,8 @@ pub extern "C" fn oscore_open_request<'b>(
     ensures unchanged { result ≢ 0 → (view.new ≡ view.old) × (options.new ≡ options.old) }
 {
     match open_request_in(context, datagram) {
-        Ok(opened) => {
-            show(&opened, options, view);
+        Ok(read) => {
+            show(&read.opened(datagram), options, view);
             DONE
         }
         Err(refusal) => {
@@ -72,18 +71,19 @@ pub extern "C" fn oscore_open_request<'b>(
     }
 }
 
-/// Opens a response as the context's client.
-fn open_response_in<'b>(
+/// Opens a response as the context's client, and borrows nothing.
+fn open_response_in(
     context: &ContextHandle,
     request: u64,
-    datagram: &'b mut [u8],
-) -> Result<Opened<'b>, Refusal>
-    ensures opened { IfOk result (λ o. Opens (responses (client_in context.now) request) datagram.old o) }
+    datagram: &mut [u8],
+) -> Result<ReadResponse, Refusal>
+    ensures lends { IfOk result (λ x. LendsResponse (responses (client_in context.now) request) datagram.old x datagram.new) }
     ensures accepts { (own : Option ℕ) (m : InnerParts) → IsContext context.now → request < 2 ^ 40
         → ProtectsResponse (client_in context.now) request own m datagram.old → IsOk result }
     ensures refused { IfErr result (λ r. RefusesOpening (IsContext context.now) (request < 2 ^ 40) (responses (client_in context.now) request) datagram.old r.status r.detail) }
     ensures refuses { (status : StatusOf) (why : ℕ) → RefusesOpening (IsContext context.now) (request < 2 ^ 40) (responses (client_in context.now) request) datagram.old status why
         → IsErrAnd result (λ r. (r.status ≡ status) × (r.detail ≡ why)) }
+    ensures left { IfErr result (λ r. LeavesResponseIn (responses (client_in context.now) request) datagram.old r.status datagram.new) }
 {
     let Some(context) = context.context() else {
         return Err(Status::BadHandle.into());
@@ -91,8 +91,8 @@ fn open_response_in<'b>(
     let Some(request) = Piv::new(request) else {
         return Err(Status::BadNumber.into());
     };
-    match open_response(&context, &RequestRef::new(request), datagram) {
-        Ok(opened) => Ok(opened),
+    match unprotect_response(&context, &RequestRef::new(request), datagram) {
+        Ok(read) => Ok(read),
         Err(error) => Err(error.into()),
     }
 }
@@ -120,8 +120,8 @@ pub extern "C" fn oscore_open_response<'b>(
     ensures unchanged { result ≢ 0 → (view.new ≡ view.old) × (options.new ≡ options.old) }
 {
     match open_response_in(context, request, datagram) {
-        Ok(opened) => {
-            show(&opened, options, view);
+        Ok(read) => {
+            show(&read.opened(datagram), options, view);
             DONE
         }
         Err(refusal) => {

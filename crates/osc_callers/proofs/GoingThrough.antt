@@ -4,6 +4,7 @@ use Rattle.std.proofs.Math.Dec.{eqb-suc-zero}
 use Rattle.std.proofs.lemmas.Bool.{eqb-true}
 use Rattle.osc_coap.specs.Class.{class, inner_options, is_inner}
 use Rattle.osc_coap.specs.Datagram.{Parts}
+use Rattle.osc_coap.specs.Interpreted.{interpreted, valid_of}
 use Rattle.osc_coap.specs.OptionNumbers as options
 use Rattle.osc_coap.specs.OptionSpelling.{Entry}
 use Rattle.osc_coap.specs.Search.{first_of, values_at}
@@ -53,9 +54,9 @@ echo_inside (entry ∷ entries) =
 pub no_echo_inside : (p : Parts) → first_of (values_at options.echo p.options) ≡ None → HasNoEcho p
 no_echo_inside p none = ap first_of (echo_inside p.options) ∙ none
 
-pub carries_none : (p : Parts) (echo : List ℕ) → HasNoEcho p → first_of (values_at options.echo (inside p).options) ≡ Some echo → ⊥
+pub carries_none : (p : Parts) (echo : List ℕ) → HasNoEcho p → interpreted options.echo (inside p).options ≡ Some echo → ⊥
 carries_none p echo none carries =
-    let both : None ≡ Some echo = sym none ∙ carries in cc
+    let both : None ≡ Some echo = sym (ap (valid_of options.echo) none) ∙ carries in cc
 
 -- ---- the server's one context
 

@@ -7,6 +7,7 @@ pub mod Fault
 pub mod Text
 pub mod Code
 pub mod Search
+pub mod Interpreted
 pub mod Class
 pub mod Writing
 pub mod Laws

@@ -16,6 +16,7 @@ mod code;
 mod format_error;
 mod head;
 mod inner;
+mod interpreted;
 mod laws;
 mod message;
 mod option_header;

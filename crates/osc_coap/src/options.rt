@@ -2,11 +2,13 @@
 
 ghost use Rattle.std.specs.Prelude.{◌≡◌, ◌<◌, [], ◌∷◌, IfNone, IfSome};
 ghost use Rattle.std.specs.Option.{option_copied};
+ghost use Rattle.osc_coap.specs.Interpreted.{interpreted};
 ghost use Rattle.osc_coap.specs.Reading.{option_at, Gives, AreOptions, options_in};
 ghost use Rattle.osc_coap.specs.Seen.{seen_item};
 ghost use Rattle.osc_coap.specs.Search.{first_of, values_at};
 
 use crate::format_error::Fault;
+use crate::interpreted::is_valid_length;
 use crate::option_header::{RESERVED_NIBBLE, pieces_of};
 
 /// The largest number of an option. Own rule: what two bytes can hold.
@@ -101,6 +103,19 @@ impl<'a> Options<'a> {
             }
         }
         None
+    }
+
+    /// Returns the value of the option with this number as an end interprets it: that of the first, if it has a length that the option may
+    /// have. Another value, and further options with the number, are as if the option weren't known (RFC 7252, 5.4.3 and 5.4.5): Observe,
+    /// Block2 and Block1 have at most 3 bytes, and Echo has 1 to 40.
+    #[must_use]
+    pub fn interpreted(&self, number: u16) -> Option<&'a [u8]>
+        ensures { option_copied result ≡ interpreted number (options_left self.now) }
+    {
+        match self.first(number) {
+            Some(value) if is_valid_length(number, value.len()) => Some(value),
+            _ => None,
+        }
     }
 }
 

@@ -9,6 +9,7 @@
 mod context_words;
 mod event_faults;
 mod fault_text;
+mod quoting;
 mod run_words;
 mod running;
 mod words;

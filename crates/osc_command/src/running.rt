@@ -6,6 +6,7 @@ ghost use Rattle.clap.specs.Matches.{has_subcommand};
 use crate::context_words::ContextWords;
 use crate::event_faults::{CLIENT, Forms, KEPT_CLIENT, KEPT_SERVER, SERVER, event_fault};
 use crate::fault_text::{put_fault, put_help, usage_text};
+use crate::quoting::quoted_words;
 use crate::run_words::{read_asking, read_input, read_life, read_serving, read_window};
 use crate::words::{input_fault, optional_number, read_words, required_bytes};
 use clap::error::ErrorKind;
@@ -187,8 +188,23 @@ fn run_called<R: Read, W: Write, K: Keeper + Drop, F: FnOnce(&str) -> K + Drop>(
     }
 }
 
+/// Returns the fault of words that are no call. clap quotes a word as it was read. So the words are read once more, spelled as a fault
+/// quotes them: they are no call then either.
+fn usage_fault(alloc: Global, words: &[String]) -> Result<Fault, Fault> {
+    let words = quoted_words(alloc, words)?;
+    match read_words(alloc, words.as_slice()) {
+        Ok(_) => Ok(input_fault("the call", Wrong::Unknown)),
+        Err(error) => Ok(Fault::Usage(usage_text(alloc, &error)?)),
+    }
+}
+
 /// Prints the help or the version that was asked for, or returns the fault of the words.
-fn answer_no_call<W: Write>(alloc: Global, error: &Error, out: &mut W) -> Result<u8, Fault>
+fn answer_no_call<W: Write>(
+    alloc: Global,
+    words: &[String],
+    error: &Error,
+    out: &mut W,
+) -> Result<u8, Fault>
     ensures { IfOk result (λ s. s ≡ 0) }
 {
     match error.kind() {
@@ -197,7 +213,7 @@ fn answer_no_call<W: Write>(alloc: Global, error: &Error, out: &mut W) -> Result
             put_help(alloc, error, out)?;
             Ok(0)
         }
-        _ => Err(Fault::Usage(usage_text(alloc, error)?)),
+        _ => Err(usage_fault(alloc, words)?),
     }
 }
 
@@ -214,7 +230,7 @@ fn run<R: Read, W: Write, K: Keeper + Drop, F: FnOnce(&str) -> K + Drop>(
 {
     match read_words(alloc, words) {
         Ok(matches) => run_called(alloc, &matches, input, out, make),
-        Err(error) => answer_no_call(alloc, &error, out),
+        Err(error) => answer_no_call(alloc, words, &error, out),
     }
 }
 

@@ -36,3 +36,12 @@ pub mod ClientEntriesStand
 pub mod RequestNumbers
 pub mod Waiting
 pub mod SenderNonces
+pub mod Inside
+pub mod Plainness
+pub mod Arriving
+pub mod AskedNumbers
+pub mod InForce
+pub mod ExchangeLives
+pub mod Exchange
+pub mod ExchangeRuns
+pub mod Shares

@@ -15,6 +15,11 @@ pub mod Senders
 pub mod ClientLaws
 pub mod Headline
 pub mod ClientHeadline
+pub mod Plainness
+pub mod Arriving
+pub mod Exchange
+pub mod ExchangeRuns
+pub mod OneContext
 pub mod Text
 -- how the code is seen
 pub mod Views

@@ -10,7 +10,7 @@ use Rattle.osc_window.specs.Views.{places_of}
 use Rattle.osc_window.specs.Window.{IsNew}
 use Rattle.osc_window.specs.Gate.{challenge_in_force}
 use Rattle.osc_coap.specs.OptionNumbers as numbers
-use Rattle.osc_coap.specs.Search.{values_at, first_of}
+use Rattle.osc_coap.specs.Interpreted.{interpreted}
 use Rattle.osc_endpoint.specs.declared.start.Start.{Start}
 use Rattle.osc_endpoint.specs.declared.start.Start.TheVariants.{Fresh, Restarted}
 
@@ -100,10 +100,10 @@ IsNewIn l n = IsNew (places_of l.size) (floor l.open_at_birth l.marks) (spent l.
 abbrev pub in_force : Life → ℕ → Option (List ℕ × ℕ)
 in_force l clock = if is_open l then None else challenge_in_force (challenge l.marks) clock
 
--- the message's first inner Echo option is the challenge's value (RFC 9175, 2.3)
+-- the message's inner Echo option, as it is interpreted, is the challenge's value (RFC 7252, 5.4.3; RFC 9175, 2.3)
 abbrev pub Carries : Option (List ℕ × ℕ) → InnerParts → Type 0
 Carries None m = ⊥
-Carries (Some challenge) m = first_of (values_at numbers.echo m.options) ≡ Some challenge.0
+Carries (Some challenge) m = interpreted numbers.echo m.options ≡ Some challenge.0
 
 -- the request isn't a replay: the life is closed, or the number is new (RFC 8613, 7.4)
 abbrev pub Passes : Life → ℕ → Type 0

@@ -1,14 +1,14 @@
 -- To be believed: which requests register an observation, and which responses are notifications (RFC 7641, 2 and 3.2; RFC 8613, 4.1.3.5). x is
 -- what a context takes part in, code the code of a message, options its options in order.
 use Rattle.std.specs.Prelude.{ℕ, ◌+◌, ◌/◌, ◌==◌, ◌||◌, ◌&&◌, Bool, true, false, List, [], ◌∷◌, Option, Some, None, is_some}
+use Rattle.osc_coap.specs.Interpreted.{interpreted}
 use Rattle.osc_coap.specs.OptionNumbers.{observe}
 use Rattle.osc_coap.specs.OptionSpelling.{Entry}
-use Rattle.osc_coap.specs.Search.{first_of, values_at}
 use Rattle.osc_context.specs.declared.features.Features.{Features}
 
--- the value of the first Observe option, if there is one (RFC 7641, 2)
+-- the value of Observe as it is interpreted, if there is one: that of the first, if it has at most 3 bytes (RFC 7252, 5.4.3; RFC 7641, 2)
 abbrev pub observe_value : List Entry → Option (List ℕ)
-observe_value options = first_of (values_at observe options)
+observe_value options = interpreted observe options
 
 -- the bytes are the number 0, with any count of leading zero bytes (RFC 7252, 3.2)
 abbrev pub is_zero : List ℕ → Bool

@@ -1,15 +1,22 @@
 //! What holds for every history of a server, or of a client, whose entries are all its answers. Calling one of these functions does
 //! nothing: its contract is there for the proof of its caller.
 
+ghost use Rattle.osc_endpoint.specs.Arriving.{WhatIsSealedArrives};
 ghost use Rattle.osc_endpoint.specs.ClientLaws.{ClientNoncesOnce, OneClientAnswer, RequestNumbersOnce};
+ghost use Rattle.osc_endpoint.specs.Exchange.{HonestExchange};
+ghost use Rattle.osc_endpoint.specs.ExchangeRuns.{RunsAreHonest};
 ghost use Rattle.osc_endpoint.specs.Laws.{DeliveredOnce, OneServerAnswer, OwnNumbersOnce, ServerNoncesOnce, TicketOnce};
+ghost use Rattle.osc_endpoint.specs.OneContext.{ContextsStandAlone};
+ghost use Rattle.osc_endpoint.specs.Plainness.{EndsArePlain};
 ghost use Rattle.osc_endpoint.specs.Senders.{ServerKeysOrNoncesOnce, WaitingKeysOrNoncesOnce};
 ghost use Rattle.osc_endpoint.specs.Waiting.{AnsweredOnce, WaitingHasLife, WaitingNoncesOnce};
 
+use crate::headlines::{client_rows, server_headline, server_rows};
 use osc_coap::{one_datagram, one_text};
 use osc_context::{one_nonce, one_option_value};
 use osc_protect::{
     one_head, one_notification, one_request, one_response, one_sealed, protections_show_heads,
+    sealed_opens,
 };
 
 /// States that an event has at most one answer after each history of answers: the rows of the table don't overlap, and each row fixes its
@@ -94,3 +101,44 @@ pub fn keys_or_nonces_once()
     answered_once();
     protections_show_heads();
 }
+
+/// States what both ends do whose contexts take no part in Observe: no ticket observes, nothing is notified, each request waits for one
+/// response, and none is old (RFC 8613, 4.1.3.5).
+pub fn ends_are_plain()
+    ensures { EndsArePlain }
+{}
+
+/// States that what one end seals the other end delivers: a request whose number or Echo value is admitted, the response to a pending
+/// request, and an awaited notification to a pending registration (RFC 8613, 8.2, 8.4 and 8.4.2).
+pub fn what_is_sealed_arrives()
+    ensures { WhatIsSealedArrives }
+{
+    sealed_opens();
+    protections_show_heads();
+}
+
+/// States what becomes of the requests, replies and notifications of two applications over a network that loses, delays, swaps and repeats
+/// their datagrams, and brings others, from a client and a server on that are in step. A request that the network brings is delivered, as
+/// it was said, if and only if its number is new or, after a restart of the server, it carries the value of the challenge in force; else a
+/// restarted server challenges it. A reply or a notification that the network brings is heard, as it was said, if and only if the client
+/// still waits for it. A new client and a context that is added fresh are in step, and both ends stay so. The logs of `run_client` and
+/// `run_server` are such an exchange, and show what arrived (RFC 8613, 7.4, 8.1 to 8.4 and B.1.2).
+pub fn honest_exchange()
+    ensures exchange { HonestExchange }
+    ensures runs { RunsAreHonest }
+{
+    what_is_sealed_arrives();
+    server_rows();
+    client_rows();
+    server_headline();
+    sealed_opens();
+    protections_show_heads();
+    one_request();
+    one_datagram();
+}
+
+/// States that each context of a server is answered as if it were alone under the server's clock: what happens to the others leaves its life
+/// and its answers as they are, but for the moment that each datagram sets.
+pub fn contexts_stand_alone()
+    ensures { ContextsStandAlone }
+{}

@@ -43,8 +43,9 @@ pub use client_run::{run_client, run_client_on};
 pub use decision::{ClientDecision, Decided, Decision};
 pub use headlines::{client_headline, client_rows, server_headline, server_rows};
 pub use laws::{
-    answered_once, delivered_once, keys_or_nonces_once, nonces_once, one_client_answer,
-    one_server_answer, own_numbers_once, ticket_once,
+    answered_once, contexts_stand_alone, delivered_once, ends_are_plain, honest_exchange,
+    keys_or_nonces_once, nonces_once, one_client_answer, one_server_answer, own_numbers_once,
+    ticket_once, what_is_sealed_arrives,
 };
 pub use outcome::{Outcome, Taken};
 pub use server::Server;

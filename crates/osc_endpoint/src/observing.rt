@@ -17,25 +17,26 @@ fn is_zero(value: &[u8]) -> bool
     value.iter().all(|byte| *byte == 0)
 }
 
-/// Returns whether a request with this code and these options registers an observation: a GET or FETCH whose first Observe option is 0,
-/// under a context that takes part in Observe.
+/// Returns whether a request with this code and these options registers an observation: a GET or FETCH whose first Observe option is 0, in at
+/// most 3 bytes, under a context that takes part in Observe.
 pub(crate) fn registers(features: Features, code: u8, options: &Options<'_>) -> bool
     ensures { result ≡ registering features code (options_left options.now) }
 {
     if !features.observe || (code != 1 && code != 5) {
         return false;
     }
-    match options.first(OBSERVE) {
+    match options.interpreted(OBSERVE) {
         Some(value) => is_zero(value),
         None => false,
     }
 }
 
-/// Returns whether a response with this code and these options continues an observation: of class 2, with an Observe option.
+/// Returns whether a response with this code and these options continues an observation: of class 2, with an Observe option of at most 3
+/// bytes.
 pub(crate) fn is_notification(code: u8, options: &Options<'_>) -> bool
     ensures { result ≡ notification code (options_left options.now) }
 {
-    code / 32 == 2 && options.first(OBSERVE).is_some()
+    code / 32 == 2 && options.interpreted(OBSERVE).is_some()
 }
 
 /// Returns the place of a response among those to a registration: 0 without an own number, and else that number plus 1.

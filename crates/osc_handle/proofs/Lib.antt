@@ -6,4 +6,3 @@ pub mod Waits
 pub mod Senders
 pub mod Servers
 pub mod Singles
-pub mod Shares

@@ -7,7 +7,6 @@ pub mod TicketBytes
 pub mod SingleServerBytes
 pub mod ClientBytes
 pub mod ServerLaws
-pub mod OneContext
 -- how the code is seen
 pub mod ServerBytes
 pub mod ClientSteps

@@ -24,7 +24,7 @@ pub use contexts_handle::ContextsHandle;
 pub use pending_handle::PendingHandle;
 pub use reply_refusal::ReplyRefusal;
 pub use server_handle::ServerHandle;
-pub use server_laws::{contexts_stand_alone, server_keys_or_nonces_once, server_nonces_once};
+pub use server_laws::{server_keys_or_nonces_once, server_nonces_once};
 pub use single_server_handle::SingleServerHandle;
 pub use slot_handle::{SlotHandle, size_with};
 pub use ticket_handle::TicketHandle;

@@ -1,7 +1,6 @@
 //! What holds for a server in bytes, with no premise on tickets. A call does nothing: its contract is there for the proof of its
 //! caller.
 
-ghost use Rattle.osc_handle.specs.OneContext.{ContextsStandAlone};
 ghost use Rattle.osc_handle.specs.ServerLaws.{HandleAnswersOnce, HandleKeysOrNoncesOnce, HandleNoncesOnce};
 
 use osc_endpoint::{answered_once, keys_or_nonces_once};
@@ -22,9 +21,3 @@ pub fn server_keys_or_nonces_once()
 {
     keys_or_nonces_once();
 }
-
-/// States that each context of a server is answered as if it were alone under the server's clock: what happens to the others leaves its life
-/// and its answers as they are, but for the moment that each datagram sets. A server of one context is a [`crate::SingleServerHandle`].
-pub fn contexts_stand_alone()
-    ensures { ContextsStandAlone }
-{}

@@ -5,8 +5,8 @@ use Rattle.std.specs.Prelude.{◌≢◌, All, cond, unwrap_or}
 use Rattle.std.proofs.lemmas.Bool.{cases_Bool}
 use Rattle.std.proofs.lemmas.List.Elements.{All-head, All-tail}
 use Rattle.osc_coap.specs.Inner.{InnerParts}
+use Rattle.osc_coap.specs.Interpreted.{interpreted}
 use Rattle.osc_coap.specs.OptionNumbers as options
-use Rattle.osc_coap.specs.Search.{first_of, values_at}
 use Rattle.osc_context.specs.SecurityContext.{SecurityContext}
 use Rattle.osc_endpoint.specs.declared.start.Start.{Start}
 use Rattle.osc_endpoint.specs.declared.start.Start.TheVariants as starts
@@ -91,7 +91,7 @@ owns (d ∷ ds) = owns ds
 -- ---- what each wants
 
 abbrev pub carried : InnerParts → Option (List ℕ)
-carried m = first_of (values_at options.echo m.options)
+carried m = interpreted options.echo m.options
 
 abbrev pub AllBelow : List ℕ → ℕ → Type 0
 AllBelow ns n = (m : ℕ) → Has m ns → m < n

@@ -4,8 +4,8 @@ use Rattle.std.specs.Prelude.{All, max}
 use Rattle.std.proofs.lemmas.List.Elements.{All-cons, All-contains, All-filter, All-nil}
 use Rattle.osc_coap.specs.Datagram.{Parts}
 use Rattle.osc_coap.specs.Inner.{InnerParts}
+use Rattle.osc_coap.specs.Interpreted.{interpreted}
 use Rattle.osc_coap.specs.OptionNumbers as options
-use Rattle.osc_coap.specs.Search.{first_of, values_at}
 use Rattle.osc_coap.specs.Laws.{DatagramIsOneMessage}
 use Rattle.osc_context.specs.Reserving.{next_limit}
 use Rattle.osc_context.specs.SecurityContext.{SecurityContext}
@@ -22,7 +22,7 @@ use Rattle.osc_endpoint.specs.ServerHistory as server
 use Rattle.osc_kept.specs.Examples.{Asked, CarriesValue, Ends, ForgeryBreaks, NumberOutOfOrderBreaks, PremisesCanBeMet, RepeatedValueBreaks, asks, challenges, delivers, exchange, restarts, start_client, start_server, ticket_of}
 use Rattle.osc_kept.specs.Premises.{Answers, NobodyForgesRequests, NobodyForgesResponses, SealedByServer}
 use Rattle.osc_kept.specs.World.{World, Begin, Then, Client, Server, Draws, Reserves, AtClient, AtServer, Has, Request, answered, client_history, sent, server_history}
-use Rattle.osc_kept.proofs.Inside.{as_notification}
+use Rattle.osc_endpoint.proofs.Inside.{as_notification}
 use Rattle.osc_kept.proofs.Lives.{some_is}
 
 -- what is used of the layers below
@@ -33,7 +33,7 @@ pub record OpeningLaws : Type 0 where
 
 -- ---- what a kept end sealed is no forgery
 
-sent_opens : OpeningLaws → (s : SecurityContext) (w : World) (d : List ℕ) (k : ℕ) (q : Parts) → SealsRequest s k q d → Has (record { number = k; message = inside q }) (sent s w)
+pub sent_opens : OpeningLaws → (s : SecurityContext) (w : World) (d : List ℕ) (k : ℕ) (q : Parts) → SealsRequest s k q d → Has (record { number = k; message = inside q }) (sent s w)
     → NobodyForgesRequests s w d
 sent_opens laws s w d k q seals has n m p =
     let alone = laws.opens.request s k q d seals in
@@ -70,7 +70,7 @@ answered_under laws s w a k own q b number other m seals has is p =
       text_is = ap (λ (x : Parts). x.payload) (laws.one alone.opens.outer p.outer a alone.opens.datagram p.datagram);
     }
 
-answered_opens : OpeningLaws → (s : SecurityContext) (w : World) (a : List ℕ) (k : ℕ) (own : Option ℕ) (q : Parts) (pending : List client.Asked) → SealsResponse s k own q a
+pub answered_opens : OpeningLaws → (s : SecurityContext) (w : World) (a : List ℕ) (k : ℕ) (own : Option ℕ) (q : Parts) (pending : List client.Asked) → SealsResponse s k own q a
     → Has (record { number = k; own = own; message = inside q }) (answered s w) → All (λ (r : client.Asked). r.number ≡ k) pending → NobodyForgesResponses s w pending a
 answered_opens laws s w a k own q pending seals has all r other m among p =
     answered_under laws s w a k own q (client.observes r.wait) r.number other m seals has (All-contains (λ (x : client.Asked). x.number ≡ k) pending r all among) p
@@ -88,7 +88,7 @@ answers_one laws s w h only a own q e one seals has g f =
 
 -- ---- what both ends sealed
 
-asked_seals : (n : ℕ) (s : SecurityContext) (w : World) (q : Asked) (h : client.History) (k : ℕ) → client_history s w ≡ Some h → client.context h ≡ s → client.next h ≡ k
+pub asked_seals : (n : ℕ) (s : SecurityContext) (w : World) (q : Asked) (h : client.History) (k : ℕ) → client_history s w ≡ Some h → client.context h ≡ s → client.next h ≡ k
     → Answers n s w (AtClient (client.Request 0 q.plain q.room) (client.Sent q.bytes)) → SealsRequest s k q.plain q.bytes
 asked_seals n s w q h k e c f a =
     let same : a.0 ≡ h = some_is (sym a.1 ∙ e) in
@@ -127,7 +127,7 @@ challenged_seals n s w k own echo d reply h l e there c f x =
 
 -- ---- none can be left out
 
-zero_small : (x : Ends) → number_of x.zero_number < 2 ^ 40
+pub zero_small : (x : Ends) → number_of x.zero_number < 2 ^ 40
 zero_small x = let e : number_of x.zero_number ≡ 0 = x.is_zero in omega (arith, e)
 
 pub forgery_breaks : ForgeryBreaks
@@ -139,7 +139,7 @@ forgery_breaks n s x r echo d a = (
 )
 
 -- the numbers of a server that starts at 0, and of its restart at 64
-floor_of : (x : Ends) → next_limit (number_of x.zero_number) ≤ 64
+pub floor_of : (x : Ends) → next_limit (number_of x.zero_number) ≤ 64
 floor_of x = let e : number_of x.zero_number ≡ 0 = x.is_zero in omega (arith, e)
 
 pub repeated_value_breaks : OpeningLaws → RepeatedValueBreaks
@@ -175,8 +175,8 @@ repeated_value_breaks laws n s x q r k echo c a =
     )
 
 -- none of these requests carries the value
-none_carries : (q : Asked) (k : ℕ) (echo : List ℕ) (r : Request) → (CarriesValue q echo → ⊥) → r ≡ record { number = k; message = inside q.plain } → first_of (values_at options.echo r.message.options) ≡ Some echo → ⊥
-none_carries q k echo r f e carries = f (subst (λ (y : Request). first_of (values_at options.echo y.message.options) ≡ Some echo) e carries)
+pub none_carries : (q : Asked) (k : ℕ) (echo : List ℕ) (r : Request) → (CarriesValue q echo → ⊥) → r ≡ record { number = k; message = inside q.plain } → interpreted options.echo r.message.options ≡ Some echo → ⊥
+none_carries q k echo r f e carries = f (subst (λ (y : Request). interpreted options.echo y.message.options ≡ Some echo) e carries)
 
 pub number_out_of_order_breaks : OpeningLaws → NumberOutOfOrderBreaks
 number_out_of_order_breaks laws n s x q later r k m echo c free a =

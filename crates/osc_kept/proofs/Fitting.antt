@@ -5,10 +5,13 @@ use Rattle.std.specs.List.{AllByRecursion}
 use Rattle.osc_coap.specs.Datagram.{Parts}
 use Rattle.osc_coap.specs.Inner.{InnerParts}
 use Rattle.osc_coap.specs.Laws.{DatagramIsOneMessage}
+use Rattle.osc_coap.specs.Search.{has_number}
 use Rattle.osc_context.specs.Features.{unobserved}
 use Rattle.osc_context.specs.Laws.{OneNonce, ValueNumberInRange}
 use Rattle.osc_context.specs.SecurityContext.{SecurityContext, IsUsable}
+use Rattle.osc_context.specs.declared.features.Features.{Features}
 use Rattle.osc_protect.specs.CipherLaws.{OneRequestInput, OneResponseInput, request_seal}
+use Rattle.osc_protect.specs.OptionSets.{is_unsupported}
 use Rattle.osc_protect.specs.Protection.{ProtectsRequest}
 use Rattle.osc_window.specs.Gate.{challenge_in_force}
 use Rattle.osc_window.specs.declared.window_size.WindowSize.{WindowSize}
@@ -25,7 +28,8 @@ use Rattle.osc_kept.specs.Premises.{AtEach, Answers, EchoIsNew, FreshWhileNothin
 use Rattle.osc_kept.specs.World.{World, Event, Begin, Then, Client, Server, ServerStarts, AtClient, AtServer, Has, client_effect, client_history, sent, server_life}
 use Rattle.osc_kept.proofs.Deeds.{AllBelow, AllFit, Begins, CarriesLast, Challenges, Deed, Delivers, Fits, Holds, Renews, Replies, Spoils, carried, given, life_in, owns, replied, sends}
 use Rattle.osc_kept.proofs.Digest.{client_deed, delivered_is, digest, sent_is, server_deed}
-use Rattle.osc_kept.proofs.Inside.{unnotified}
+use Rattle.osc_endpoint.proofs.Inside.{unnotified}
+use Rattle.osc_endpoint.proofs.SealedReplies.{replied_features}
 use Rattle.osc_kept.proofs.Lives.{Stands, life_known, own_use, some_is, stands}
 use Rattle.osc_kept.proofs.Owned.{effect_is, own_used, sent_used}
 use Rattle.osc_kept.proofs.Rising.{use_above}
@@ -96,12 +100,12 @@ has_more [] ys u t k = inr k
 has_more (x ∷ xs) ys u t (inl e) = inl e
 has_more (x ∷ xs) ys u t (inr k) = inr (has_more xs ys u t k)
 
-has_middle : (xs ys : List server.TicketValues) (u : server.TicketValues) → Has u (xs ++ u ∷ ys)
+pub has_middle : (xs ys : List server.TicketValues) (u : server.TicketValues) → Has u (xs ++ u ∷ ys)
 has_middle [] ys u = inl refl
 has_middle (x ∷ xs) ys u = inr (has_middle xs ys u)
 
 -- the tickets that are left were given
-left_given : (h : server.History) (ts : List server.TicketValues) (t : server.TicketValues) → AreLeft h ts → Has t ts → Has t (delivered h)
+pub left_given : (h : server.History) (ts : List server.TicketValues) (t : server.TicketValues) → AreLeft h ts → Has t ts → Has t (delivered h)
 left_given server.Begin ts t a k = subst (λ xs. Has t xs) a k
 left_given (server.Then h event (server.Took (server.Deliver received ticket) reply)) ts t a k =
     elim (subst (λ xs. Has t xs) a.2 k) [
@@ -113,7 +117,7 @@ left_given (server.Then h (server.Reply u own mid p room) (server.Replied bytes)
 left_given (server.Then h (server.Notify u p room) (server.Replied bytes)) ts t a k = left_given h ts t a.0 k
 left_given (server.Then h event entry) ts t a k = left_given h ts t a k
 
-all_at : (P : server.TicketValues → Type 0) (xs : List server.TicketValues) (x : server.TicketValues) → AllByRecursion P xs → Has x xs → P x
+pub all_at : (P : server.TicketValues → Type 0) (xs : List server.TicketValues) (x : server.TicketValues) → AllByRecursion P xs → Has x xs → P x
 all_at P [] x a k = absurd k
 all_at P (y ∷ ys) x a (inl e) = subst P (sym e) a.0
 all_at P (y ∷ ys) x a (inr k) = all_at P ys x a.1 k
@@ -160,7 +164,7 @@ born_context : (s : SecurityContext) (start : Start) (size : WindowSize) → (bo
 born_context s (starts.Fresh first) size = refl
 born_context s (starts.Restarted first) size = refl
 
-context_in : (s : SecurityContext) (ds : List Deed) → (life_in s ds).context ≡ s
+pub context_in : (s : SecurityContext) (ds : List Deed) → (life_in s ds).context ≡ s
 context_in s [] = refl
 context_in s (Begins start size ∷ ds) = born_context s start size
 context_in s (Replies t own m ∷ ds) = replied_context own (life_in s ds) ∙ context_in s ds
@@ -222,7 +226,8 @@ fits_reply laws n s w t true mid room p bytes y = (
 )
 fits_reply laws n s w t false mid room p bytes y = (
   held laws.tickets s (digest s w) y.answer.0 t false mid room p bytes (at_stands n s w _ _ y) y.answer.2 y.answer.4,
-  unnotified (unobserved y.answer.2.0.context.features) p refl y.answer.2.2.1.supported,
+  unnotified (unobserved y.answer.2.0.context.features) p refl
+      (subst (λ (x : Features). has_number (is_unsupported x) p.options ≡ false) (replied_features y.answer.2.0.context t.number p) y.answer.2.2.1.supported),
 )
 
 fits_notify : LawsBelow → (n : ℕ) (s : SecurityContext) (w : World) (t : server.TicketValues) (room : ℕ) (p : Parts) (bytes : List ℕ)

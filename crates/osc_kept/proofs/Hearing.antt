@@ -23,14 +23,16 @@ use Rattle.osc_endpoint.specs.Observing.{is_notification, place_of, registers}
 use Rattle.osc_endpoint.specs.Received.{Received, Receives}
 use Rattle.osc_endpoint.proofs.Asking.{contains_filter, differ_later, differ_mapped, one_of, one_of_token}
 use Rattle.osc_endpoint.proofs.OneClientAnswers.{tokens_differ}
-use Rattle.osc_kept.specs.Claims.{AnswersThatRequest, BothEnds, DeliversOnce, HearsInOrder, IsAfter, IsForThatRequest, IsNext, NotifiesRegistrations, SealsUnderNewNonce}
+use Rattle.osc_kept.specs.Claims.{AnswersThatRequest, BothEnds, DeliversOnce, HearsInOrder, HearsNoMore, HearsPlainOnce, ended, IsAfter, IsForThatRequest, IsNext, IsUnheard, NotifiesRegistrations, SealsUnderNewNonce}
+use Rattle.osc_kept.specs.Freshness.{OpensFresh}
 use Rattle.osc_kept.specs.Premises.{AtEach, Answers, IsLawful}
-use Rattle.osc_kept.specs.World.{World, Event, Begin, Then, ClientStarts, AtClient, AtServer, Has, Request, Response, client_history, heard, server_life}
+use Rattle.osc_kept.specs.World.{World, Event, Begin, Then, ClientStarts, AtClient, AtServer, Has, Request, Response, client_history, heard, sent, server_life}
 use Rattle.osc_kept.proofs.Claims.{answers_that, delivers_once, seals_new}
 use Rattle.osc_kept.proofs.Deeds.{AllFit, Challenges, Deed, IsSent, Nothing, Notifies, Replies, Sends, answers, owned, owns, sends}
 use Rattle.osc_kept.proofs.Digest.{answered_is, client_deed, deed, digest, sends_server, sent_is}
 use Rattle.osc_kept.proofs.Fitting.{LawsBelow, all_fit, before, fits_client}
-use Rattle.osc_kept.proofs.Inside.{registers_inside}
+use Rattle.osc_kept.proofs.Freshness.{opens_fresh}
+use Rattle.osc_endpoint.proofs.Inside.{registers_inside}
 use Rattle.osc_kept.proofs.Lives.{some_is}
 use Rattle.osc_kept.proofs.Owned.{runs, same_number, still_sent}
 
@@ -431,6 +433,114 @@ notifies_registrations laws n s w (AtClient (client.Datagram now d) (client.Took
     follows.registered observing q (subst (λ rs. Has q rs) (sent_is s w) has) (same ∙ is)
 notifies_registrations laws n s w event i = tt
 
+unheard : LawsBelow → (n : ℕ) (s : SecurityContext) (w : World) (h : client.History) (now number : ℕ) (d : List ℕ) (r : client.Asked) → IsLawful n s w → client_history s w ≡ Some h
+    → IsAnswerTo h (max (client.clock h) now) d r → number ≡ r.number → IsUnheard s w number
+unheard laws n s w h now number d r i f at is = λ q has same plain y was y_is. by_wait q has same plain y was y_is r.wait refl
+  where
+    was_asked : Contains (client.asked h) r
+    was_asked = contains_filter (client.is_alive (max (client.clock h) now) (client.life_ms h)) (client.asked h) r at.1
+
+    follows : Follows s (digest s w) (heard w) r
+    follows = All-contains (Follows s (digest s w) (heard w)) (client.asked h) r (listens laws n s w h i f).follow was_asked
+
+    by_wait : (q : Request) → Has q (sent s w) → q.number ≡ number → registers s.features q.message.code q.message.options ≡ false
+        → (y : Response) → Has y (heard w) → y.number ≡ number → (wait : Wait) → r.wait ≡ wait → ⊥
+    by_wait q has same plain y was y_is Once e =
+        let before : place_of y.own < client.first_place r.wait = follows.earlier y was (y_is ∙ is) in
+        let none : client.first_place r.wait ≡ 0 = ap client.first_place e in
+        omega (arith, before, none)
+    by_wait q has same plain y was y_is (Observing from) e =
+        let registering = follows.registered (ap client.observes e) q (subst (λ rs. Has q rs) (sent_is s w) has) (same ∙ is) in
+        let g : true ≡ false = sym registering ∙ plain in cc
+
+hears_plain_once : LawsBelow → (n : ℕ) (s : SecurityContext) (w : World) (event : Event) → IsLawful n s (Then w event) → HearsPlainOnce s w event
+hears_plain_once laws n s w (AtClient (client.Datagram now d) (client.Took (client.Notified received number))) i =
+    let (r, at, (is, own, later, receives, goes)) = i.answers.1.2 in
+    unheard laws n s w i.answers.1.0 now number d r (before n s w _ i) i.answers.1.1 at is
+hears_plain_once laws n s w (AtClient (client.Datagram now d) (client.Took (client.Deliver received number))) i =
+    let (r, at, (is, own, later, receives, goes)) = i.answers.1.2 in
+    unheard laws n s w i.answers.1.0 now number d r (before n s w _ i) i.answers.1.1 at is
+hears_plain_once laws n s w event i = tt
+
+-- ---- behind the last response
+
+ended_heard : (w : World) (k : ℕ) → Has k (ended w) → (y : Response) × Has y (heard w) × (y.number ≡ k)
+ended_heard (Then w (AtClient (client.Datagram now d) (client.Took (client.Deliver received number)))) k (inl e) = (record { number = number; own = received.number; message = received.message }, inl refl, sym e)
+ended_heard (Then w (AtClient (client.Datagram now d) (client.Took (client.Deliver received number)))) k (inr h) = let (y, has, is) = ended_heard w k h in (y, inr has, is)
+ended_heard (Then w (AtClient (client.Datagram now d) (client.Took (client.Notified received number)))) k h = let (y, has, is) = ended_heard w k h in (y, inr has, is)
+ended_heard (Then w event) k h = ended_heard w k h
+ended_heard Begin k h = absurd h
+
+abbrev IsOpen : List ℕ → client.Asked → Type 0
+IsOpen es r = Has r.number es → ⊥
+
+open_after : LawsBelow → (n : ℕ) (s : SecurityContext) (w : World) (g : client.History) (event : client.Event) (entry : client.Entry) → IsLawful n s (Then w (AtClient event entry))
+    → client_history s w ≡ Some g → ClientAnswer n g event entry → All (IsOpen (ended w)) (client.asked g)
+    → All (IsOpen (ended (Then w (AtClient event entry)))) (client.asked (client.Then g event entry))
+open_after laws n s w g (client.Request now p room) (client.Sent bytes) i f answer x =
+    let j = before n s w _ i in
+    let above = fits_client n s w (Some g) (client.Request now p room) (client.Sent bytes) f i.kept.0 i.kept.1 in
+    All-push (IsOpen (ended w)) (client.asked g) _ x (λ has.
+    let (y, was, is) = ended_heard w _ has in
+    let sent_is = (heard_for laws n s w y j was).sent in
+    let less = above sent_is.0 sent_is.1 in
+    let same = sent_is.2 in
+    omega (arith, less, same, is))
+open_after laws n s w g (client.Datagram now d) (client.Took (client.Notified received number)) i f answer x =
+    let ys = client.pending_at g (max (client.clock g) now) in
+    let change = client.after_response received.token (place_of received.number) in
+    All-map (IsOpen (ended w)) change ys
+    (All-weaker (IsOpen (ended w)) (λ q. IsOpen (ended w) (change q)) (λ q k has. k (subst (λ z. Has z (ended w)) (same_number received.token (place_of received.number) q) has)) ys
+    (All-filter (client.is_alive (max (client.clock g) now) (client.life_ms g)) (IsOpen (ended w)) (client.asked g) x))
+open_after laws n s w g (client.Datagram now d) (client.Took (client.Deliver received number)) i f (r, at, (is, own, later, receives, goes)) x =
+    let j = before n s w _ i in
+    let a = j.answers in
+    let p : client.Asked → Bool = λ q. not (bytes_eq q.token received.token) in
+    let xs = client.asked g in
+    let ctx = (runs n s w g a f).context_is in
+    let all_sent = (runs n s w g a f).all_sent in
+    let known : (y : Response) → Has y (heard w) → IsSent (digest s w) y.number = λ y h. (heard_for laws n s w y j h).sent in
+    let listening = listens laws n s w g j f in
+    let differ = tokens_differ n g (lawful_client n s w g a f) in
+    All-weaker (λ q. (IsOpen (ended w) q × Contains xs q) × (p q ≡ true)) (IsOpen (number ∷ ended w)) (λ q k. elim [
+      | inl e ↦
+          let token = is_that s (digest s w) (heard w) g ctx all_sent known listening laws.one differ now d received number r at is own receives q k.0.1 (sym e) in
+          let none = not_from_true _ ((bytes_eq-Decides q.token received.token).1 token) in
+          let g' : true ≡ false = sym k.1 ∙ none in cc
+      | inr h ↦ k.0.0 h
+    ]) (filter p xs)
+    (both (λ q. IsOpen (ended w) q × Contains xs q) (λ q. p q ≡ true) (filter p xs)
+    (All-filter p (λ q. IsOpen (ended w) q × Contains xs q) xs (both (IsOpen (ended w)) (Contains xs) xs x (All-contains_itself xs))) (filter_passes p xs))
+open_after laws n s w g (client.Forget token) entry i f answer x = All-filter (λ q. not (bytes_eq q.token token)) (IsOpen (ended w)) (client.asked g) x
+open_after laws n s w g (client.Restart first) entry i f answer x = All-nil (IsOpen (ended w))
+open_after laws n s w g event entry i f answer x = x
+
+open_at : LawsBelow → (n : ℕ) (s : SecurityContext) (w : World) (h : client.History) → IsLawful n s w → client_history s w ≡ Some h → All (IsOpen (ended w)) (client.asked h)
+open_at laws n s Begin h i e = let f : None ≡ Some h = e in cc
+open_at laws n s (Then w (ClientStarts loaded ms)) h i e = subst (λ g. All (IsOpen (ended w)) (client.asked g)) (some_is e) (All-nil (IsOpen (ended w)))
+open_at laws n s (Then w (AtClient event entry)) h i e =
+    let g = i.answers.1.0 in
+    let f = i.answers.1.1 in
+    let same : client.Then g event entry ≡ h = some_is (sym (ap (λ x. option_map (λ k. client.Then k event entry) x) f) ∙ e) in
+    subst (λ k. All (IsOpen (ended (Then w (AtClient event entry)))) (client.asked k)) same
+    (open_after laws n s w g event entry i f i.answers.1.2 (open_at laws n s w g (before n s w _ i) f))
+open_at laws n s (Then w event) h i e = open_at laws n s w h (before n s w event i) e
+
+still_open : LawsBelow → (n : ℕ) (s : SecurityContext) (w : World) (h : client.History) (now number : ℕ) (d : List ℕ) (r : client.Asked) → IsLawful n s w → client_history s w ≡ Some h
+    → IsAnswerTo h (max (client.clock h) now) d r → number ≡ r.number → Has number (ended w) → ⊥
+still_open laws n s w h now number d r i f at is has =
+    All-contains (IsOpen (ended w)) (client.asked h) r (open_at laws n s w h i f)
+    (contains_filter (client.is_alive (max (client.clock h) now) (client.life_ms h)) (client.asked h) r at.1) (subst (λ z. Has z (ended w)) is has)
+
+hears_no_more : LawsBelow → (n : ℕ) (s : SecurityContext) (w : World) (event : Event) → IsLawful n s (Then w event) → HearsNoMore w event
+hears_no_more laws n s w (AtClient (client.Datagram now d) (client.Took (client.Notified received number))) i =
+    let (r, at, (is, own, later, receives, goes)) = i.answers.1.2 in
+    still_open laws n s w i.answers.1.0 now number d r (before n s w _ i) i.answers.1.1 at is
+hears_no_more laws n s w (AtClient (client.Datagram now d) (client.Took (client.Deliver received number))) i =
+    let (r, at, (is, own, later, receives, goes)) = i.answers.1.2 in
+    still_open laws n s w i.answers.1.0 now number d r (before n s w _ i) i.answers.1.1 at is
+hears_no_more laws n s w event i = tt
+
 -- ---- all of it
 
 each : (P : World → Event → Type 0) (n : ℕ) (s : SecurityContext) → ((w : World) (event : Event) → IsLawful n s (Then w event) → P w event) → (w : World) → IsLawful n s w → AtEach P w
@@ -445,4 +555,7 @@ both_ends_hold laws n s w i =
       nonces = each (SealsUnderNewNonce s) n s (seals_new laws n s) w i;
       in_order = each (HearsInOrder s) n s (hears_in_order laws n s) w i;
       registered = each (NotifiesRegistrations s) n s (notifies_registrations laws n s) w i;
+      plain_once = each (HearsPlainOnce s) n s (hears_plain_once laws n s) w i;
+      no_more = each HearsNoMore n s (hears_no_more laws n s) w i;
+      opens_fresh = each (OpensFresh s) n s (opens_fresh laws n s) w i;
     }

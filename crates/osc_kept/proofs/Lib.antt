@@ -7,9 +7,9 @@ pub mod Digest
 pub mod Rising
 pub mod Lives
 pub mod Owned
-pub mod Inside
 pub mod Fitting
 pub mod Claims
+pub mod Freshness
 pub mod Hearing
 pub mod Saving
 pub mod GoingOn
@@ -17,4 +17,10 @@ pub mod InWorld
 pub mod RunTickets
 pub mod RunsInWorld
 pub mod Examples
+pub mod Observation
+pub mod Needed
+pub mod KeptPlainness
 pub mod CallsInWorld
+pub mod SharedTickets
+pub mod Among
+pub mod Likeness

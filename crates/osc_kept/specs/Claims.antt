@@ -1,6 +1,6 @@
 -- To be believed: what holds of a world that meets the premises, at each event over the events before it (RFC 8613, 5.2, 7.4 and 8.4).
 -- s is the security context, w the world before the event.
-use Rattle.std.specs.Prelude.{◌≡◌, ◌⊎◌, ℕ, List, [], ◌∷◌, true, Option, Some}
+use Rattle.std.specs.Prelude.{◌≡◌, ◌⊎◌, ℕ, List, [], ◌∷◌, true, false, Option, Some}
 use Rattle.osc_coap.specs.Inner.{InnerParts}
 use Rattle.osc_context.specs.Nonce.{nonce_of}
 use Rattle.osc_context.specs.SecurityContext.{SecurityContext}
@@ -10,8 +10,9 @@ use Rattle.osc_endpoint.specs.Life.{Life}
 use Rattle.osc_endpoint.specs.Observing.{registers}
 use Rattle.osc_endpoint.specs.ServerAnswer.{own_number}
 use Rattle.osc_endpoint.specs.ServerHistory as server
+use Rattle.osc_kept.specs.Freshness.{OpensFresh}
 use Rattle.osc_kept.specs.Premises.{AtEach, IsLawful}
-use Rattle.osc_kept.specs.World.{World, Event, AtClient, AtServer, Has, Request, Response, client_history, server_life, sent, answered, delivered, heard}
+use Rattle.osc_kept.specs.World.{World, Event, Begin, Then, AtClient, AtServer, Has, Request, Response, client_history, server_life, sent, answered, delivered, heard}
 
 -- a request that is delivered was sealed by the client before, with that code, those inner options and that payload, and it wasn't delivered before, in
 -- any life (RFC 8613, 7.4)
@@ -77,6 +78,29 @@ NotifiesRegistrations s w (AtClient (client.Datagram now d) (client.Took (client
     (r : Request) → Has r (sent s w) → r.number ≡ number → registers s.features r.message.code r.message.options ≡ true
 NotifiesRegistrations s w event = Unit {0}
 
+-- a request that registers nothing has no response yet: nothing was heard for its number, in any life (RFC 7252, 5.3.2)
+abbrev pub IsUnheard : SecurityContext → World → ℕ → Type 0
+IsUnheard s w number = (q : Request) → Has q (sent s w) → q.number ≡ number → registers s.features q.message.code q.message.options ≡ false
+    → (y : Response) → Has y (heard w) → y.number ≡ number → ⊥
+
+-- a request that registers nothing has at most one response, over all lives (RFC 7252, 5.3.2)
+abbrev pub HearsPlainOnce : SecurityContext → World → Event → Type 0
+HearsPlainOnce s w (AtClient (client.Datagram now d) (client.Took (client.Notified received number))) = IsUnheard s w number
+HearsPlainOnce s w (AtClient (client.Datagram now d) (client.Took (client.Deliver received number))) = IsUnheard s w number
+HearsPlainOnce s w event = Unit {0}
+
+-- the numbers of the requests whose last response was delivered, over all lives (RFC 7641, 3.2)
+abbrev pub ended : World → List ℕ
+ended Begin = []
+ended (Then w (AtClient (client.Datagram now d) (client.Took (client.Deliver received number)))) = number ∷ ended w
+ended (Then w event) = ended w
+
+-- behind the last response to a request nothing is heard for it (RFC 7252, 5.3.2; RFC 7641, 3.2)
+abbrev pub HearsNoMore : World → Event → Type 0
+HearsNoMore w (AtClient (client.Datagram now d) (client.Took (client.Notified received number))) = Has number (ended w) → ⊥
+HearsNoMore w (AtClient (client.Datagram now d) (client.Took (client.Deliver received number))) = Has number (ended w) → ⊥
+HearsNoMore w event = Unit {0}
+
 -- what holds of two ends over all their lives (RFC 8613, 5.2, 7.4 and 8.4)
 pub record BothEnds (s : SecurityContext) (w : World) : Type 0 where
   pub once : AtEach (DeliversOnce s) w
@@ -84,6 +108,9 @@ pub record BothEnds (s : SecurityContext) (w : World) : Type 0 where
   pub nonces : AtEach (SealsUnderNewNonce s) w
   pub in_order : AtEach (HearsInOrder s) w
   pub registered : AtEach (NotifiesRegistrations s) w
+  pub plain_once : AtEach (HearsPlainOnce s) w
+  pub no_more : AtEach HearsNoMore w
+  pub opens_fresh : AtEach (OpensFresh s) w
 
 -- whatever happens at both ends and between them, this holds if it meets the premises (RFC 8613, 5.2, 7.4 and 8.4)
 abbrev pub TwoEnds : Type 0

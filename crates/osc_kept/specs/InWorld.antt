@@ -2,8 +2,8 @@
 -- world after, s the security context, n is how many pending requests the client has room for; h is a history, old and new are an end, or its numbers,
 -- before and after.
 use Rattle.std.specs.Prelude.{◌≡◌, ℕ, ◌≤◌, List, Some, max}
+use Rattle.osc_coap.specs.Interpreted.{interpreted}
 use Rattle.osc_coap.specs.OptionNumbers as options
-use Rattle.osc_coap.specs.Search.{first_of, values_at}
 use Rattle.osc_context.specs.SecurityContext.{SecurityContext}
 use Rattle.osc_window.specs.declared.window_size.WindowSize.{WindowSize}
 use Rattle.osc_endpoint.specs.declared.start.Start.{Start}
@@ -23,7 +23,7 @@ use Rattle.osc_kept.specs.World.{World, Then, Client, Server, ClientStarts, AtCl
 
 -- no request that was sealed so far carries this Echo value (RFC 9175, 2.3)
 abbrev pub IsUnseen : SecurityContext → World → List ℕ → Type 0
-IsUnseen s w echo = (r : Request) → Has r (sent s w) → first_of (values_at options.echo r.message.options) ≡ Some echo → ⊥
+IsUnseen s w echo = (r : Request) → Has r (sent s w) → interpreted options.echo r.message.options ≡ Some echo → ⊥
 
 -- a delivery gave the ticket, and no accepted reply took it (own rule)
 abbrev pub IsHeld : server.History → server.TicketValues → Type 0
@@ -46,10 +46,11 @@ ClientTrusts s w h event entry = Unit {0}
 
 -- ---- steps of the world
 
--- an end that runs still runs, with the same history and numbers (own rule)
+-- a server that runs still runs, with the same history and numbers (own rule)
 abbrev pub ServerStays : SecurityContext → World → World → Type 0
 ServerStays s w v = (h : server.History) (own : Own) → ServerRuns s w h own → ServerRuns s v h own
 
+-- a client that runs still runs, with the same history and numbers (own rule)
 abbrev pub ClientStays : SecurityContext → World → World → Type 0
 ClientStays s w v = (h : client.History) (own : Own) → ClientRuns s w h own → ClientRuns s v h own
 

@@ -6,7 +6,10 @@ pub mod KeptAsking
 pub mod KeptRuns
 pub mod World
 pub mod Premises
+pub mod Freshness
 pub mod Claims
+pub mod Among
+pub mod KeptPlainness
 pub mod GoingOn
 pub mod InWorld
 pub mod RunsInWorld

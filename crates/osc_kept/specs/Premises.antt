@@ -3,8 +3,8 @@
 -- requests the client has room for.
 use Rattle.std.specs.Prelude.{◌≡◌, ℕ, Bool, ◌≤◌, List, [], Option, Some, None, Contains, max}
 use Rattle.osc_coap.specs.Inner.{InnerParts}
+use Rattle.osc_coap.specs.Interpreted.{interpreted}
 use Rattle.osc_coap.specs.OptionNumbers as options
-use Rattle.osc_coap.specs.Search.{first_of, values_at}
 use Rattle.osc_context.specs.SecurityContext.{SecurityContext, IsUsable}
 use Rattle.osc_protect.specs.CipherLaws.{CipherInput, request_seal, response_seal}
 use Rattle.osc_protect.specs.Protection.{Protects, ProtectsRequest, responses_to}
@@ -83,7 +83,7 @@ NobodyForges s w event = Unit {0}
 abbrev pub EchoIsNew : SecurityContext → World → Event → Type 0
 EchoIsNew s w (AtServer (server.Datagram now echo mid d) (server.Took (server.Challenge i n given issued) reply)) =
     (h : server.History) (of : Life) → server_history s w ≡ Some h → server.life h i ≡ Some of → in_force of (max (server.clock h) now) ≡ None
-    → (r : Request) → Has r (sent s w) → first_of (values_at options.echo r.message.options) ≡ Some given → ⊥
+    → (r : Request) → Has r (sent s w) → interpreted options.echo r.message.options ≡ Some given → ⊥
 EchoIsNew s w event = Unit {0}
 
 -- ---- N: whoever writes a keeper sees to it; KeptServer and KeptClient see to the rest

@@ -19,6 +19,7 @@ use Rattle.osc_kept.specs.KeptAsking as asking
 use Rattle.osc_kept.specs.KeptServing as serving
 use Rattle.osc_kept.specs.Numbering.{Own, Effect, Stay, Draw, Reserve, Load, after, nothing_drawn, use_of}
 
+-- one of the two ends (own rule)
 pub data End : Type 0 where
   Client : End
   Server : End
@@ -63,12 +64,13 @@ server_life s w = option_and_then (λ h. server.life h 0) (server_history s w)
 
 -- ---- the numbers of both ends
 
--- what an event does to the numbers of a running end: a restart loads one, and any other event may use one (RFC 8613, 7.2.1)
+-- what an event does to the numbers of a running client: a restart loads one, and any other event may use one (RFC 8613, 7.2.1)
 abbrev pub client_effect : Option client.History → client.Event → client.Entry → Effect
 client_effect None event entry = Stay
 client_effect (Some h) (client.Restart next) client.Restarted = Load next
 client_effect (Some h) event entry = use_of (asking.uses h event entry)
 
+-- the same for a running server (RFC 8613, 7.2.1)
 abbrev pub server_effect : Option server.History → server.Event → server.Entry → Effect
 server_effect None event entry = Stay
 server_effect (Some h) (server.Restart context next) server.Restarted = Load next
@@ -104,15 +106,18 @@ pub record Response : Type 0 where
   pub own : Option ℕ
   pub message : InnerParts
 
+-- the request that a running client seals, if a client runs: it has the next number (RFC 8613, 8.1)
 abbrev pub request_in : Option client.History → Parts → List Request
 request_in None p = []
 request_in (Some h) p = record { number = client.next h; message = inside p } ∷ []
 
+-- the requests that the client sealed, over all lives (RFC 8613, 8.1)
 abbrev pub sent : SecurityContext → World → List Request
 sent s Begin = []
 sent s (Then w (AtClient (client.Request now p room) (client.Sent bytes))) = request_in (client_history s w) p ++ sent s w
 sent s (Then w event) = sent s w
 
+-- the response to request n that a running server seals, if its context has a life, with the next own number if one is asked for (RFC 8613, 8.3)
 abbrev pub response_in : Option Life → ℕ → Bool → Parts → List Response
 response_in None n own p = []
 response_in (Some of) n own p = record { number = n; own = own_number own of; message = inside p } ∷ []

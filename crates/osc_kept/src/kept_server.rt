@@ -136,7 +136,8 @@ impl<K: Keeper> KeptServer<K> {
     }
 
     /// Takes a datagram in place, as `Server::take` does: it calls `decide`, and returns the decision as an outcome. KeeperFailed
-    /// comes before all other outcomes; then only the clock has moved, and `out` and the datagram are unchanged.
+    /// comes before all other outcomes; then only the clock has moved, and `out` is unchanged. Of the datagram, which is lent, a clause of
+    /// `decide` says what it holds; of this call it is only tested.
     pub fn take<'b>(
         &mut self,
         now: u64,

@@ -1,21 +1,25 @@
 //! What holds of both ends of a security context over all their lives (RFC 8613, 5.2, 7.2.1, 7.4 and 8.4), and how the calls of the
 //! kept ends add to a list of what happens at both ends. These functions exist only for their contracts.
 
+ghost use Rattle.osc_kept.specs.Among.{EachContext, StaysLike};
 ghost use Rattle.osc_kept.specs.Claims.{TwoEnds};
-ghost use Rattle.osc_kept.specs.Examples.{NoneCanBeLeftOut, PremisesCanBeMet};
+ghost use Rattle.osc_kept.specs.Examples.{NoneCanBeLeftOut, ObservationCanBeMet, PremisesCanBeMet};
 ghost use Rattle.osc_kept.specs.GoingOn.{ClientBegins, ClientGoesOn, FreshBySaving, ServerBegins, ServerGoesOn};
 ghost use Rattle.osc_kept.specs.InWorld.{ClientInWorld, ClientStartsInWorld, ServerInWorld, ServerStartsInWorld};
+ghost use Rattle.osc_kept.specs.KeptPlainness.{KeptEndsArePlain};
 ghost use Rattle.osc_kept.specs.RunsInWorld.{ClientRunInWorld, ServerRunInWorld};
 
 use osc_coap::one_datagram;
 use osc_context::{Keeper, one_nonce, one_option_value};
-use osc_endpoint::ticket_once;
+use osc_endpoint::{contexts_stand_alone, ends_are_plain, ticket_once};
 use osc_protect::{one_cipher_input, one_notification, sealed_opens};
 
 /// States what holds for each list of what happens at both ends and between them, including restarts and lost memory of either end. A
 /// request is delivered at most once, and the client sealed it. A response is delivered for the very request that it answers, and the
 /// server sealed it for that request. Each response is delivered at most once, and those to one request in the order in which they were
-/// sealed. A notification is delivered for a request that registers an observation. No end seals twice under one nonce. The list has to
+/// sealed. A notification is delivered for a request that registers an observation. A request that registers nothing has at most one response,
+/// and behind the last response to a request nothing is delivered for it. What opens a restarted life of the server was sealed at most 30,000
+/// ms before, by the server's clock. No end seals twice under one nonce. The list has to
 /// meet the premises (`IsLawful`): both ends answer by their tables, nobody else makes texts that open, Echo values are new, numbers are
 /// kept, and a server starts fresh only while nothing was delivered.
 pub fn both_ends()
@@ -26,6 +30,33 @@ pub fn both_ends()
     one_cipher_input();
     one_option_value();
     one_nonce();
+}
+
+/// States the same of each context of a server of many, and of its client (`IsLawfulAmong`). What happens to the context is its share of what
+/// happens to that server, whose replies take tickets that its deliveries gave. A context may be added at any time; its clock is then set to
+/// the server's.
+pub fn each_context()
+    ensures { EachContext }
+{
+    contexts_stand_alone();
+    both_ends();
+}
+
+/// States that the share of a context that is added to a server of many is like the history of a server that has the context alone, once
+/// the clock of that is set, and stays so by whatever happens: `each_context` asks for that.
+pub fn shares_stay_like()
+    ensures { StaysLike }
+{
+    contexts_stand_alone();
+}
+
+/// States what both ends of a context that takes no part in Observe do, over all their lives: no ticket observes, nothing is notified,
+/// a reply has an own number exactly if one is asked for, each request waits for one response, and no response is old or a
+/// notification. Of the premises this takes one alone: both ends answer by their tables (`Answers`).
+pub fn kept_ends_are_plain()
+    ensures { KeptEndsArePlain }
+{
+    ends_are_plain();
 }
 
 /// States that a call of a kept end adds zero or one draw to such a list, and then its event, and that the numbers stay kept (RFC
@@ -49,17 +80,20 @@ pub fn fresh_by_saving()
 {}
 
 /// States that the premises can be met. An exchange, a restart of both ends, and a challenge with a delivery through it meet them
-/// all, over any datagrams that both ends answer in this way.
+/// all, over any datagrams that both ends answer in this way. So does an observation: a registration, three notifications of which
+/// one is lost, one heard and one so late that it is old, and a last response.
 pub fn premises_can_be_met()
-    ensures { PremisesCanBeMet }
+    ensures plain { PremisesCanBeMet }
+    ensures registering { ObservationCanBeMet }
 {
     one_datagram();
     sealed_opens();
     one_notification();
 }
 
-/// States that three of the premises are needed. With forged requests alone, with an Echo value that a request carried before, or
-/// with numbers that are each used once but out of order, what `both_ends` says fails of a list that meets all the others.
+/// States that four of the premises are needed. With forged requests alone, with an Echo value that a request carried before, with
+/// numbers out of order (of the client, each used once, or of both ends), or with a server that starts fresh again, what `both_ends`
+/// says fails of a list that meets all the others.
 pub fn premises_are_needed()
     ensures { NoneCanBeLeftOut }
 {

@@ -24,7 +24,8 @@ pub use kept_error::KeptError;
 pub use kept_event::{KeptClientEntry, KeptClientEvent, KeptServerEntry, KeptServerEvent};
 pub use kept_server::KeptServer;
 pub use laws::{
-    both_ends, fresh_by_saving, kept_ends_begin, kept_ends_go_on, kept_ends_in_world,
-    kept_runs_in_world, premises_are_needed, premises_can_be_met,
+    both_ends, each_context, fresh_by_saving, kept_ends_are_plain, kept_ends_begin,
+    kept_ends_go_on, kept_ends_in_world, kept_runs_in_world, premises_are_needed,
+    premises_can_be_met, shares_stay_like,
 };
 pub use server_run::{run_kept_server, run_kept_server_on};

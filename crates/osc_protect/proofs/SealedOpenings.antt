@@ -18,11 +18,8 @@ use Rattle.osc_protect.specs.Laws.{OneMessage, OneNotification, OneRequest, OneR
 use Rattle.osc_protect.specs.declared.usage.Usage.{Usage}
 use Rattle.osc_protect.specs.declared.usage.Usage.TheVariants.{Request, Response}
 use Rattle.osc_protect.proofs.Protections.{KeepsNumbers, of_outer_code, requests_keep, responses_keep}
-use Rattle.osc_protect.proofs.Splits.{chosen, neither, supported}
-
-both_false : (a b : Bool) → a ≡ false → b ≡ false → (a || b) ≡ false
-both_false true b h k = h
-both_false false b h k = k
+use Rattle.osc_protect.proofs.Splits.{both_false, chosen, neither, supported}
+use Rattle.osc_protect.proofs.Supported.{sealing_supported}
 
 -- an option that stands inside doesn't stand outside
 not_outer : (k : Class) → is_inner k ≡ true → is_outer k ≡ false
@@ -85,16 +82,17 @@ module _ {I : Type 0} (f : Protection I) (keeps : KeepsNumbers f) (i : I) (p : P
   pub seals_protect : Protects f i (inside (f.says p)) d
   seals_protect =
       let of_usage = used_outside f.usage f.features p.options p.kind p.code x.used in
+      let supported = sealing_supported f.usage f.features p.code p.options x.supported in
       record {
         outer = outside f.features p (outer_code_of f.usage f.features p.options) x.value (f.cipher i (x.holds.0));
         datagram = x.holds.2;
         used = of_usage.0;
         value = x.value;
-        single = outer_values f.features p.options x.value x.supported;
+        single = outer_values f.features p.options x.value supported;
         reads = x.reads;
-        direct = outer_direct f.features p.options x.value x.supported;
+        direct = outer_direct f.features p.options x.value supported;
         code = ap (is_code_of f.usage) (keeps.code p) ∙ of_usage.1;
-        allowed = inner_allowed f.features (f.says p).options (keeps.numbers (is_unsupported f.features) p ∙ x.supported);
+        allowed = inner_allowed f.features (f.says p).options (keeps.numbers (is_unsupported f.features) p ∙ supported);
         plaintext = x.holds.0;
         spells = x.holds.1;
         sealed = refl;

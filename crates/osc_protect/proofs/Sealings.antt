@@ -4,7 +4,7 @@ use Rattle.osc_coap.specs.Datagram.{Parts, IsDatagram}
 use Rattle.osc_context.specs.Laws.{OneSpelling}
 use Rattle.osc_context.specs.OscoreValue.{IsOscoreValue}
 use Rattle.osc_protect.specs.Protection.{Protection}
-use Rattle.osc_protect.specs.Sealed.{HoldsSealed, IsSealed, outside, sealed_length}
+use Rattle.osc_protect.specs.Sealed.{HoldsSealed, IsSealed, features_for, outside, sealed_length}
 use Rattle.osc_protect.specs.SealRefusals.{CanBeSealed, FitsToSeal, RefusesSize, RefusesPlain, RefusesToSeal}
 use Rattle.osc_protect.specs.Halves.{Makes}
 use Rattle.osc_protect.specs.Usage.{outer_code_of}
@@ -19,8 +19,8 @@ module _ {I : Type 0} (f : Protection I) (i : I) (p : Parts) where
 
   -- what is made was not refused
   pub made_never : OneSpelling → (room len : ℕ) (e : ProtectError) → Makes f i p room len → RefusesToSeal f i p room e → ⊥
-  made_never one room len NotThatKind made r = never_refused f.usage f.features p NotThatKind made.0 r
-  made_never one room len (Unsupported k) made r = never_refused f.usage f.features p (Unsupported k) made.0 r
+  made_never one room len NotThatKind made r = never_refused f.usage (features_for f p) p NotThatKind made.0 r
+  made_never one room len (Unsupported k) made r = never_refused f.usage (features_for f p) p (Unsupported k) made.0 r
   made_never one room len TooLong made r =
       let same = same_length one (made.1) (r.1.0) made.2 r.1.1 in
       let is = made.3 in let short = made.4 in let long = r.1.2 in omega (arith, same, is, short, long)
@@ -30,29 +30,29 @@ module _ {I : Type 0} (f : Protection I) (i : I) (p : Parts) where
 
   -- what fits was not refused
   fits_never : (room : ℕ) (e : ProtectError) → FitsToSeal f i p room → RefusesToSeal f i p room e → ⊥
-  fits_never room NotThatKind fits r = never_refused f.usage f.features p NotThatKind fits.0 r
-  fits_never room (Unsupported k) fits r = never_refused f.usage f.features p (Unsupported k) fits.0 r
+  fits_never room NotThatKind fits r = never_refused f.usage (features_for f p) p NotThatKind fits.0 r
+  fits_never room (Unsupported k) fits r = never_refused f.usage (features_for f p) p (Unsupported k) fits.0 r
   fits_never room TooLong fits r = let short = (fits.1 (r.1.0) r.1.1).0 in let long = r.1.2 in omega (arith, short, long)
   fits_never room NoRoom fits r = let short = (fits.1 (r.1.0) r.1.1).1 in let long = r.1.2.1 in omega (arith, short, long)
 
   -- there is one refusal
   pub one_seal_refusal : OneSpelling → (room : ℕ) (e g : ProtectError) → RefusesToSeal f i p room e → RefusesToSeal f i p room g → e ≡ g
   one_seal_refusal one room NotThatKind NotThatKind h k = refl
-  one_seal_refusal one room NotThatKind (Unsupported m) h k = one_refusal f.usage f.features p NotThatKind (Unsupported m) h k
-  one_seal_refusal one room NotThatKind TooLong h k = absurd (never_refused f.usage f.features p NotThatKind k.0 h)
-  one_seal_refusal one room NotThatKind NoRoom h k = absurd (never_refused f.usage f.features p NotThatKind k.0 h)
-  one_seal_refusal one room (Unsupported m) NotThatKind h k = one_refusal f.usage f.features p (Unsupported m) NotThatKind h k
-  one_seal_refusal one room (Unsupported m) (Unsupported l) h k = one_refusal f.usage f.features p (Unsupported m) (Unsupported l) h k
-  one_seal_refusal one room (Unsupported m) TooLong h k = absurd (never_refused f.usage f.features p (Unsupported m) k.0 h)
-  one_seal_refusal one room (Unsupported m) NoRoom h k = absurd (never_refused f.usage f.features p (Unsupported m) k.0 h)
-  one_seal_refusal one room TooLong NotThatKind h k = absurd (never_refused f.usage f.features p NotThatKind h.0 k)
-  one_seal_refusal one room TooLong (Unsupported m) h k = absurd (never_refused f.usage f.features p (Unsupported m) h.0 k)
+  one_seal_refusal one room NotThatKind (Unsupported m) h k = one_refusal f.usage (features_for f p) p NotThatKind (Unsupported m) h k
+  one_seal_refusal one room NotThatKind TooLong h k = absurd (never_refused f.usage (features_for f p) p NotThatKind k.0 h)
+  one_seal_refusal one room NotThatKind NoRoom h k = absurd (never_refused f.usage (features_for f p) p NotThatKind k.0 h)
+  one_seal_refusal one room (Unsupported m) NotThatKind h k = one_refusal f.usage (features_for f p) p (Unsupported m) NotThatKind h k
+  one_seal_refusal one room (Unsupported m) (Unsupported l) h k = one_refusal f.usage (features_for f p) p (Unsupported m) (Unsupported l) h k
+  one_seal_refusal one room (Unsupported m) TooLong h k = absurd (never_refused f.usage (features_for f p) p (Unsupported m) k.0 h)
+  one_seal_refusal one room (Unsupported m) NoRoom h k = absurd (never_refused f.usage (features_for f p) p (Unsupported m) k.0 h)
+  one_seal_refusal one room TooLong NotThatKind h k = absurd (never_refused f.usage (features_for f p) p NotThatKind h.0 k)
+  one_seal_refusal one room TooLong (Unsupported m) h k = absurd (never_refused f.usage (features_for f p) p (Unsupported m) h.0 k)
   one_seal_refusal one room TooLong TooLong h k = refl
   one_seal_refusal one room TooLong NoRoom h k =
       let same = same_length one (h.1.0) (k.1.0) h.1.1 k.1.1 in
       let long = h.1.2 in let short = k.1.2.0 in absurd (omega (arith, same, long, short))
-  one_seal_refusal one room NoRoom NotThatKind h k = absurd (never_refused f.usage f.features p NotThatKind h.0 k)
-  one_seal_refusal one room NoRoom (Unsupported m) h k = absurd (never_refused f.usage f.features p (Unsupported m) h.0 k)
+  one_seal_refusal one room NoRoom NotThatKind h k = absurd (never_refused f.usage (features_for f p) p NotThatKind h.0 k)
+  one_seal_refusal one room NoRoom (Unsupported m) h k = absurd (never_refused f.usage (features_for f p) p (Unsupported m) h.0 k)
   one_seal_refusal one room NoRoom TooLong h k =
       let same = same_length one (h.1.0) (k.1.0) h.1.1 k.1.1 in
       let short = h.1.2.0 in let long = k.1.2 in absurd (omega (arith, same, long, short))
@@ -70,21 +70,21 @@ module _ {I : Type 0} (f : Protection I) (i : I) (p : Parts) where
   refuses_all one room (Err g) made refused e h = ap Err (one_seal_refusal one room g e refused h)
 
   -- a refusal of kind, code or options is one to seal
-  pub plain_refuses : (room : ℕ) (e : ProtectError) → RefusesPlain f.usage f.features p e → RefusesToSeal f i p room e
+  pub plain_refuses : (room : ℕ) (e : ProtectError) → RefusesPlain f.usage (features_for f p) p e → RefusesToSeal f i p room e
   plain_refuses room NotThatKind h = h
   plain_refuses room (Unsupported k) h = h
   plain_refuses room TooLong h = absurd h
   plain_refuses room NoRoom h = absurd h
 
   -- one of the length too
-  length_refuses : (room : ℕ) (value : List ℕ) (e : ProtectError) → CanBeSealed f.usage f.features p → IsOscoreValue (f.parts i) value → RefusesSize (sealed_length f.features f.says p value) room e → RefusesToSeal f i p room e
+  length_refuses : (room : ℕ) (value : List ℕ) (e : ProtectError) → CanBeSealed f.usage (features_for f p) p → IsOscoreValue (f.parts i) value → RefusesSize (sealed_length f.features f.says p value) room e → RefusesToSeal f i p room e
   length_refuses room value NotThatKind can reads h = absurd h
   length_refuses room value (Unsupported k) can reads h = absurd h
   length_refuses room value TooLong can reads h = (can, (value, reads, h))
   length_refuses room value NoRoom can reads h = (can, (value, reads, h))
 
   -- what holds of a message that can be sealed, once its length is judged
-  pub all_sealed : (value out : List ℕ) (cipher : List ℕ → List ℕ) (r : Result ℕ ProtectError) → CanBeSealed f.usage f.features p → IsOscoreValue (f.parts i) value → ((m : List ℕ) → cipher m ≡ f.cipher i m)
+  pub all_sealed : (value out : List ℕ) (cipher : List ℕ → List ℕ) (r : Result ℕ ProtectError) → CanBeSealed f.usage (features_for f p) p → IsOscoreValue (f.parts i) value → ((m : List ℕ) → cipher m ≡ f.cipher i m)
       → IfOk r (λ n. HoldsSealed f.features f.says p (outer_code_of f.usage f.features p.options) value cipher (take n out)) → IfOk r (λ n. IsSealed f i p (take n out))
   all_sealed value out cipher (Err e) can reads same holds = tt
   all_sealed value out cipher (Ok n) can reads same holds = record {
@@ -95,12 +95,12 @@ module _ {I : Type 0} (f : Protection I) (i : I) (p : Parts) where
     holds = (holds.0, holds.1, subst (λ (z : List ℕ). IsDatagram (outside f.features p (outer_code_of f.usage f.features p.options) value z) (take n out)) (same (holds.0)) holds.2);
   }
 
-  pub all_made : (value : List ℕ) (room : ℕ) (r : Result ℕ ProtectError) → CanBeSealed f.usage f.features p → IsOscoreValue (f.parts i) value
+  pub all_made : (value : List ℕ) (room : ℕ) (r : Result ℕ ProtectError) → CanBeSealed f.usage (features_for f p) p → IsOscoreValue (f.parts i) value
       → IfOk r (λ n. n ≡ sealed_length f.features f.says p value) → IfOk r (λ n. n ≤ 65535) → IfOk r (λ n. n ≤ room) → IfOk r (λ n. Makes f i p room n)
   all_made value room (Err e) can reads len fits in_room = tt
   all_made value room (Ok n) can reads len fits in_room = (can, value, reads, len, fits, in_room)
 
-  pub all_refused : (value : List ℕ) (room : ℕ) (r : Result ℕ ProtectError) → CanBeSealed f.usage f.features p → IsOscoreValue (f.parts i) value
+  pub all_refused : (value : List ℕ) (room : ℕ) (r : Result ℕ ProtectError) → CanBeSealed f.usage (features_for f p) p → IsOscoreValue (f.parts i) value
       → IfErr r (λ e. RefusesSize (sealed_length f.features f.says p value) room e) → IfErr r (λ e. RefusesToSeal f i p room e)
   all_refused value room (Ok n) can reads refused = tt
   all_refused value room (Err e) can reads refused = length_refuses room value e can reads refused

@@ -27,6 +27,10 @@ pub neither : (a b : Bool) → (a || b) ≡ false → (a ≡ false) × (b ≡ fa
 neither true b h = absurd (cc)
 neither false b h = (refl, h)
 
+pub both_false : (a b : Bool) → a ≡ false → b ≡ false → (a || b) ≡ false
+both_false true b h k = h
+both_false false b h k = k
+
 -- one or none
 pub or_none : (b : Bool) → (b || false) ≡ b
 or_none true = refl

@@ -112,6 +112,16 @@ module _ {I : Type 0} (f : Protection I) (laws : OneMessage f) (d : List ℕ) wh
   exactly_all (Ok o) h k e y = absurd (laws.never_both d h.number (message_of o) e h.protects y)
   exactly_all (Err g) h k e y = ap Err (laws.refusal d g e k y)
 
+  -- the same of what borrows nothing
+  pub accepts_all : {X : Type 0} (r : Result X UnprotectError) → IfErr r (λ e. RefusesToOpen f d e) → (i : I) (m : InnerParts) → Protects f i m d → IsOk r
+  accepts_all (Ok x) k i m y = refl
+  accepts_all (Err e) k i m y = absurd (laws.never_both d i m e y k)
+
+  pub refuses_all : {X : Type 0} (r : Result X UnprotectError) → IfOk r (λ x. (i : I) × (m : InnerParts) × Protects f i m d) → IfErr r (λ e. RefusesToOpen f d e)
+      → (e : UnprotectError) → RefusesToOpen f d e → IsErrOf r e
+  refuses_all (Ok x) h k e y = absurd (laws.never_both d h.0 h.1 e h.2 y)
+  refuses_all (Err g) h k e y = ap Err (laws.refusal d g e k y)
+
   -- the same of reading alone
   pub only_read : (r : Result Opened BadInner) → IfOk r (λ o. Opens f d o) → OnErr r (RefusesPlaintext f d)
       → (i : I) (m : InnerParts) → Protects f i m d → IsOkAnd r (λ o. (opened_number o ≡ (f.parts i).piv) × (message_of o ≡ m))

@@ -11,7 +11,7 @@ use Rattle.osc_context.specs.declared.features.Features.{Features}
 use Rattle.osc_protect.specs.OptionSets.{is_barred}
 use Rattle.osc_protect.specs.Usage.{is_code_of}
 use Rattle.osc_protect.specs.Protection.{Protection}
-use Rattle.osc_protect.specs.Sealed.{sealed_length}
+use Rattle.osc_protect.specs.Sealed.{features_for, sealed_length}
 use Rattle.osc_protect.specs.SealRefusals.{CanBeSealed}
 use Rattle.osc_protect.specs.Refusals.{IsBadInner}
 use Rattle.osc_protect.specs.Opening.{ShowsOuter}
@@ -21,7 +21,7 @@ use Rattle.osc_protect.specs.declared.opened.Opened.{Opened}
 
 -- a message can be sealed under the number, the result has this length, and there is room for it (how the code is seen)
 abbrev pub Makes : {I : Type 0} → Protection I → I → Parts → ℕ → ℕ → Type 0
-Makes f i p room len = CanBeSealed f.usage f.features p × (value : List ℕ) × IsOscoreValue (f.parts i) value × (len ≡ sealed_length f.features f.says p value) × (len ≤ 65535) × (len ≤ room)
+Makes f i p room len = CanBeSealed f.usage (features_for f p) p × (value : List ℕ) × IsOscoreValue (f.parts i) value × (len ≡ sealed_length f.features f.says p value) × (len ≤ 65535) × (len ≤ room)
 
 -- the datagram is a message with a payload of this length (RFC 7252, 3)
 pub record HasPayload (p : Parts) (d : List ℕ) (len : ℕ) : Type 0 where

@@ -10,7 +10,7 @@ use Rattle.osc_context.specs.declared.features.Features.{Features}
 use Rattle.osc_protect.specs.OptionSets.{is_unsupported}
 use Rattle.osc_protect.specs.Usage.{is_used}
 use Rattle.osc_protect.specs.Protection.{Protection}
-use Rattle.osc_protect.specs.Sealed.{sealed_length}
+use Rattle.osc_protect.specs.Sealed.{features_for, sealed_length}
 use Rattle.osc_protect.specs.declared.usage.Usage.{Usage}
 use Rattle.osc_protect.specs.declared.usage.Usage.TheVariants.{Request, Response}
 use Rattle.osc_protect.specs.declared.protect_error.ProtectError.{ProtectError}
@@ -62,12 +62,12 @@ RefusesRoom f i p room e = (value : List ℕ) × IsOscoreValue (f.parts i) value
 
 -- the condition of each refusal to seal, which excludes the earlier ones (RFC 8613, 8.1 and 8.3)
 abbrev pub RefusesToSeal : {I : Type 0} → Protection I → I → Parts → ℕ → ProtectError → Type 0
-RefusesToSeal f i p room NotThatKind = RefusesPlain f.usage f.features p NotThatKind
-RefusesToSeal f i p room (Unsupported k) = RefusesPlain f.usage f.features p (Unsupported k)
-RefusesToSeal f i p room TooLong = CanBeSealed f.usage f.features p × RefusesRoom f i p room TooLong
-RefusesToSeal f i p room NoRoom = CanBeSealed f.usage f.features p × RefusesRoom f i p room NoRoom
+RefusesToSeal f i p room NotThatKind = RefusesPlain f.usage (features_for f p) p NotThatKind
+RefusesToSeal f i p room (Unsupported k) = RefusesPlain f.usage (features_for f p) p (Unsupported k)
+RefusesToSeal f i p room TooLong = CanBeSealed f.usage (features_for f p) p × RefusesRoom f i p room TooLong
+RefusesToSeal f i p room NoRoom = CanBeSealed f.usage (features_for f p) p × RefusesRoom f i p room NoRoom
 
 -- the message can be sealed, and there is room for it (RFC 8613, 8.1 and 8.3)
 abbrev pub FitsToSeal : {I : Type 0} → Protection I → I → Parts → ℕ → Type 0
-FitsToSeal f i p room = CanBeSealed f.usage f.features p
+FitsToSeal f i p room = CanBeSealed f.usage (features_for f p) p
     × ((value : List ℕ) → IsOscoreValue (f.parts i) value → (sealed_length f.features f.says p value ≤ 65535) × (sealed_length f.features f.says p value ≤ room))

@@ -13,7 +13,7 @@ use Rattle.osc_coap.specs.Search.{has_number}
 use Rattle.osc_coap.specs.OptionNumbers.{oscore}
 use Rattle.osc_context.specs.declared.features.Features.{Features}
 use Rattle.osc_protect.specs.OptionSets.{is_outside, is_unsupported}
-use Rattle.osc_protect.specs.Usage.{is_used, outer_code_of}
+use Rattle.osc_protect.specs.Usage.{is_used, outer_code_of, sealing_features}
 use Rattle.osc_protect.specs.Protection.{Protection, notifications, requests, responses}
 
 -- the part of a message that goes inside: its code, the options of class E and Both, and its payload (RFC 8613, 5.3)
@@ -36,10 +36,14 @@ sealed_length x says p value = datagram_length (outside x p p.code value []) + (
 abbrev pub HoldsSealed : Features → (Parts → Parts) → Parts → ℕ → List ℕ → (List ℕ → List ℕ) → List ℕ → Type 0
 HoldsSealed x says p code value cipher d = (plaintext : List ℕ) × IsInner (inside (says p)) plaintext × IsDatagram (outside x p code value (cipher plaintext)) d
 
+-- the features that say which options a message may have that is sealed: a response whose code isn't of class 2 has no Observe (RFC 7641, 4.2)
+abbrev pub features_for : {I : Type 0} → Protection I → Parts → Features
+features_for f p = sealing_features f.usage f.features p.code
+
 -- the datagram is the plain message, sealed under the number i (RFC 8613, 8.1 and 8.3)
 pub record IsSealed {I : Type 0} (f : Protection I) (i : I) (p : Parts) (d : List ℕ) : Type 0 where
   pub used : is_used f.usage p.kind p.code ≡ true
-  pub supported : has_number (is_unsupported f.features) p.options ≡ false
+  pub supported : has_number (is_unsupported (features_for f p)) p.options ≡ false
   pub value : List ℕ
   pub reads : IsOscoreValue (f.parts i) value
   pub holds : HoldsSealed f.features f.says p (outer_code_of f.usage f.features p.options) value (f.cipher i) d

@@ -1,6 +1,6 @@
 -- How the code is seen: the values that the stages of opening pass on. s is a security context, n a request's number, r whether that request
--- registers an observation, d, old and new are datagrams, o is the opened message.
-use Rattle.std.specs.Prelude.{◌≡◌, ℕ, Bool, List, Option}
+-- registers an observation, d, old and new are datagrams, o is the opened message, e a refusal.
+use Rattle.std.specs.Prelude.{◌≡◌, ◌≢◌, ℕ, Bool, List, Option}
 use Rattle.std.specs.Option.{option_map}
 use Rattle.osc_coap.specs.Inner.{InnerParts}
 use Rattle.osc_context.specs.SecurityContext.{SecurityContext}
@@ -16,6 +16,8 @@ use Rattle.osc_protect.specs.declared.stages.ReadRequest.{ReadRequest}
 use Rattle.osc_protect.specs.declared.stages.ReadResponse.{ReadResponse}
 use Rattle.osc_protect.specs.declared.stages.SealedRequest.{SealedRequest}
 use Rattle.osc_protect.specs.declared.stages.SealedResponse.{SealedResponse}
+use Rattle.osc_protect.specs.declared.unprotect_error.UnprotectError.{UnprotectError}
+use Rattle.osc_protect.specs.declared.unprotect_error.UnprotectError.TheVariants.{Inner}
 use Rattle.osc_protect.specs.declared.usage.Usage.TheVariants.{Request, Response}
 
 -- the value comes from the datagram's head, which names the context (how the code is seen)
@@ -74,3 +76,21 @@ CanLendRequest d x r = (r.number ≡ x.number) × (r.len ≡ x.len) × HasPlaint
 -- the same for a response (how the code is seen)
 abbrev pub CanLendResponse : List ℕ → DecryptedResponse → ReadResponse → Type 0
 CanLendResponse d x r = (r.number ≡ x.number) × (r.len ≡ x.len) × HasPlaintext Response x.features d r.len r.payload_len
+
+-- the old datagram was decrypted to the new one, and the value was read from that (how the code is seen)
+abbrev pub LendsRequest : Protection ℕ → List ℕ → ReadRequest → List ℕ → Type 0
+LendsRequest f old x new = (y : DecryptedRequest) × DecryptsRequest f old y new × CanLendRequest new y x
+
+-- the same for a response (how the code is seen)
+abbrev pub LendsResponse : Protection (Option ℕ) → List ℕ → ReadResponse → List ℕ → Type 0
+LendsResponse f old x new = (y : DecryptedResponse) × DecryptsResponse f old y new × CanLendResponse new y x
+
+-- what a refusal to open a request leaves: the datagram as it was, but at Inner it was decrypted to the bad plaintext (RFC 8613, 8.2)
+pub record LeavesRequest (f : Protection ℕ) (old : List ℕ) (e : UnprotectError) (new : List ℕ) : Type 0 where
+  pub same : e ≢ Inner → new ≡ old
+  pub decrypted : e ≡ Inner → (y : DecryptedRequest) × DecryptsRequest f old y new
+
+-- the same for a response (RFC 8613, 8.4)
+pub record LeavesResponse (f : Protection (Option ℕ)) (old : List ℕ) (e : UnprotectError) (new : List ℕ) : Type 0 where
+  pub same : e ≢ Inner → new ≡ old
+  pub decrypted : e ≡ Inner → (y : DecryptedResponse) × DecryptsResponse f old y new

@@ -1,9 +1,10 @@
 -- To be believed: what tells a request from a response (RFC 8613, 4.1.3.5, 4.2 and 8): Type and codes, and the parts that its OSCORE option
 -- says. u is a usage, x features, entries are the options of a plain message.
-use Rattle.std.specs.Prelude.{ℕ, ◌&&◌, Bool, List, Option, Some, None, is_none, is_some, if◌then◌else◌}
+use Rattle.std.specs.Prelude.{ℕ, ◌/◌, ◌==◌, ◌&&◌, Bool, List, Option, Some, None, is_none, is_some, if◌then◌else◌}
 use Rattle.osc_coap.specs.declared.message.Kind.{Kind}
 use Rattle.osc_coap.specs.OptionSpelling.{Entry}
 use Rattle.osc_coap.specs.Search.{has_number}
+use Rattle.osc_context.specs.Features.{unobserved}
 use Rattle.osc_context.specs.OscoreValue.{OscoreParts}
 use Rattle.osc_context.specs.declared.features.Features.{Features}
 use Rattle.osc_coap.specs.Code.{is_request, is_request_code, is_response, is_response_code}
@@ -20,6 +21,11 @@ is_used Response kind code = is_response kind code
 abbrev pub is_code_of : Usage → ℕ → Bool
 is_code_of Request code = is_request_code code
 is_code_of Response code = is_response_code code
+
+-- the features with which a message of this code is sealed: a response whose code isn't of class 2 has no Observe (RFC 7641, 4.2)
+abbrev pub sealing_features : Usage → Features → ℕ → Features
+sealing_features Request x code = x
+sealing_features Response x code = if code / 32 == 2 then x else unobserved x
 
 -- the outer code of a sealed message without Observe: 0.02, POST, or 2.04, Changed (RFC 8613, 4.2)
 abbrev pub plain_code_of : Usage → ℕ

@@ -25,7 +25,8 @@ pub fn check_request(plain: &Message<'_>, features: Features) -> Result<(), Prot
 
 /// Checks whether a context with these features can seal a message as a response, whatever its length. It must be CON, NON or ACK with a
 /// response code, and must have none of the options that a request may not have. For a response to a request that registers no observation,
-/// pass the features without Observe, as [`Features::unobserved`] returns them (RFC 8613, 4.1.3.5 and 8.3; own rule: the options).
+/// and for one whose code isn't of class 2, pass the features without Observe, as [`Features::unobserved`] returns them (RFC 7641, 4.2;
+/// RFC 8613, 4.1.3.5 and 8.3; own rule: the options).
 pub fn check_response(plain: &Message<'_>, features: Features) -> Result<(), ProtectError>
     ensures accepted { IsOk result → IsPlainResponse features (parts_of plain.now) }
     ensures accepts { IsPlainResponse features (parts_of plain.now) → IsOk result }

@@ -13,10 +13,13 @@ ghost use Rattle.osc_protect.specs.declared.unprotect_error.UnprotectError.TheVa
 use crate::context_cipher::KeptSchedule;
 use crate::ends::{Recipient, Sender};
 use crate::opened::Opened;
-use crate::opening::{open_request_by, open_response_by};
+use crate::opening::{
+    open_request_by, open_response_by, unprotect_request_by, unprotect_response_by,
+};
 use crate::protect_error::ProtectError;
 use crate::request_ref::RequestRef;
 use crate::sealing::{seal_request_by, seal_response_by};
+use crate::stages::{ReadRequest, ReadResponse};
 use crate::unprotect_error::UnprotectError;
 use osc_coap::Message;
 use osc_context::{Context, Piv};
@@ -47,6 +50,7 @@ impl KeyedContext {
     ghost use Rattle.osc_protect.specs.Refusals.{RefusesToOpen};
     ghost use Rattle.osc_protect.specs.Sealed.{IsSealed, SealsRequest};
     ghost use Rattle.osc_protect.specs.SealRefusals.{FitsToSeal, RefusesToSeal};
+    ghost use Rattle.osc_protect.specs.StageViews.{LeavesRequest, LeavesResponse, LendsRequest, LendsResponse};
     ghost use Rattle.osc_protect.specs.Views.{context_of, message_of, opened_number, opened_requests, opened_responses, sealed_requests, sealed_responses};
 
     /// Makes both schedules, and keeps them.
@@ -171,6 +175,33 @@ impl KeyedContext {
         ensures no_wrong_context { IfErr result (λ e. e ≢ WrongContext) }
     {
         open_response_by(self.recipient(), request, datagram)
+    }
+
+    /// Opens a request as [`crate::unprotect_request`] does, under the kept schedule or under one that it makes.
+    pub fn unprotect_request(&self, datagram: &mut [u8]) -> Result<ReadRequest, UnprotectError>
+        ensures lends { IfOk result (λ x. LendsRequest (opened_requests (context_of self.now)) datagram.old x datagram.new) }
+        ensures accepts { (n : ℕ) (m : InnerParts) → ProtectsRequest (as_server (context_of self.now)) n m datagram.old → IsOk result }
+        ensures refused { IfErr result (λ e. RefusesToOpen (opened_requests (context_of self.now)) datagram.old e) }
+        ensures refuses { (e : UnprotectError) → RefusesToOpen (opened_requests (context_of self.now)) datagram.old e → IsErrOf result e }
+        ensures left { IfErr result (λ e. LeavesRequest (opened_requests (context_of self.now)) datagram.old e datagram.new) }
+    {
+        unprotect_request_by(self.recipient(), datagram)
+    }
+
+    /// Opens a response as [`crate::unprotect_response`] does, under the kept schedule or under one that it makes.
+    pub fn unprotect_response(
+        &self,
+        request: &RequestRef,
+        datagram: &mut [u8],
+    ) -> Result<ReadResponse, UnprotectError>
+        ensures lends { IfOk result (λ x. LendsResponse (opened_responses (context_of self.now) request.now) datagram.old x datagram.new) }
+        ensures accepts { (own : Option ℕ) (m : InnerParts) → Protects (opened_responses (context_of self.now) request.now) own m datagram.old → IsOk result }
+        ensures refused { IfErr result (λ e. RefusesToOpen (opened_responses (context_of self.now) request.now) datagram.old e) }
+        ensures refuses { (e : UnprotectError) → RefusesToOpen (opened_responses (context_of self.now) request.now) datagram.old e → IsErrOf result e }
+        ensures no_wrong_context { IfErr result (λ e. e ≢ WrongContext) }
+        ensures left { IfErr result (λ e. LeavesResponse (opened_responses (context_of self.now) request.now) datagram.old e datagram.new) }
+    {
+        unprotect_response_by(self.recipient(), request, datagram)
     }
 }
 

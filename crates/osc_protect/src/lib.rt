@@ -52,7 +52,7 @@ pub use laws::{
     one_request, one_response, one_sealed, options_left_out, protections_show_heads, sealed_opens,
 };
 pub use opened::Opened;
-pub use opening::{open_request, open_response};
+pub use opening::{open_request, open_response, unprotect_request, unprotect_response};
 pub use protect_error::ProtectError;
 pub use reading::{inspect_request, inspect_response, read_request, read_response};
 pub use request_head::{RequestHead, head_of_request};

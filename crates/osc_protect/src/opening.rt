@@ -1,27 +1,27 @@
 //! Opens a request or a response in the datagram that carries it (RFC 8613, 8.2 and 8.4). Each call runs the stages one after the other
 //! over a context, and makes the schedule of one of its keys.
 
-ghost use Rattle.std.specs.Prelude.{◌≡◌, ◌≢◌, ℕ, Bool, List, Option, Some, IfOk, IfErr, IsOkAnd, IsErrOf};
+ghost use Rattle.std.specs.Prelude.{◌≡◌, ◌≢◌, ℕ, Bool, List, Option, Some, IfOk, IfErr, IsOk, IsOkAnd, IsErrOf};
 ghost use Rattle.osc_coap.specs.Inner.{InnerParts};
 ghost use Rattle.osc_context.specs.SecurityContext.{SecurityContext};
 ghost use Rattle.osc_context.specs.Views.{as_server};
 ghost use Rattle.osc_protect.specs.Opening.{Opens};
 ghost use Rattle.osc_protect.specs.Protection.{Protects, ProtectsRequest, responses_to};
 ghost use Rattle.osc_protect.specs.Refusals.{RefusesToOpen};
-ghost use Rattle.osc_protect.specs.StageViews.{IsSealedRequest, IsSealedResponse};
+ghost use Rattle.osc_protect.specs.StageViews.{IsSealedRequest, IsSealedResponse, LeavesRequest, LeavesResponse, LendsRequest, LendsResponse};
 ghost use Rattle.osc_protect.specs.Views.{message_of, opened_number, opened_requests, opened_responses};
 ghost use Rattle.osc_protect.specs.declared.unprotect_error.UnprotectError.{UnprotectError};
-ghost use Rattle.osc_protect.specs.declared.unprotect_error.UnprotectError.TheVariants.{WrongContext};
+ghost use Rattle.osc_protect.specs.declared.unprotect_error.UnprotectError.TheVariants.{Inner, WrongContext};
 
 use crate::decrypting::{decrypt_request_forward, decrypt_response_forward};
 use crate::ends::Recipient;
 use crate::laws::{one_notification, one_request, one_response};
 use crate::opened::Opened;
-use crate::reading::{read_request, read_response};
+use crate::reading::{inspect_request, inspect_response};
 use crate::request_head::head_of_request;
 use crate::request_ref::RequestRef;
 use crate::response_head::head_of_response;
-use crate::stages::{SealedRequest, SealedResponse};
+use crate::stages::{ReadRequest, ReadResponse, SealedRequest, SealedResponse};
 use crate::unprotect_error::UnprotectError;
 use osc_context::Context;
 
@@ -92,7 +92,7 @@ pub(crate) fn open_response_by<'b>(
     open_response_forward(recipient, request, datagram)
 }
 
-/// Runs the stages of a request, one after the other.
+/// Opens the request, and lends slices of the datagram.
 fn open_request_forward<'b>(
     recipient: Recipient<'_>,
     datagram: &'b mut [u8],
@@ -100,17 +100,63 @@ fn open_request_forward<'b>(
     ensures opened { IfOk result (λ o. Opens (opened_requests recipient.entry.context.now) datagram.old o) }
     ensures refused { IfErr result (λ e. RefusesToOpen (opened_requests recipient.entry.context.now) datagram.old e) }
 {
+    match unprotect_request_forward(recipient, datagram) {
+        Ok(read) => Ok(read.opened(datagram)),
+        Err(error) => Err(error),
+    }
+}
+
+/// Opens a request in its datagram as [`open_request`] does, and borrows nothing: `ReadRequest::opened` lends what was read, without reading
+/// it again. A refusal leaves the datagram as it was; for `Inner` it was decrypted, as [`crate::decrypt_request`] says.
+pub fn unprotect_request(
+    context: &Context,
+    datagram: &mut [u8],
+) -> Result<ReadRequest, UnprotectError>
+    ensures lends { IfOk result (λ x. LendsRequest (opened_requests context.now) datagram.old x datagram.new) }
+    ensures accepts { (n : ℕ) (m : InnerParts) → ProtectsRequest (as_server context.now) n m datagram.old → IsOk result }
+    ensures refused { IfErr result (λ e. RefusesToOpen (opened_requests context.now) datagram.old e) }
+    ensures refuses { (e : UnprotectError) → RefusesToOpen (opened_requests context.now) datagram.old e → IsErrOf result e }
+    ensures left { IfErr result (λ e. LeavesRequest (opened_requests context.now) datagram.old e datagram.new) }
+{
+    unprotect_request_by(Recipient::of(context), datagram)
+}
+
+/// Opens a request under the recipient's key, and borrows nothing.
+pub(crate) fn unprotect_request_by(
+    recipient: Recipient<'_>,
+    datagram: &mut [u8],
+) -> Result<ReadRequest, UnprotectError>
+    ensures lends { IfOk result (λ x. LendsRequest (opened_requests recipient.entry.context.now) datagram.old x datagram.new) }
+    ensures accepts { (n : ℕ) (m : InnerParts) → ProtectsRequest (as_server recipient.entry.context.now) n m datagram.old → IsOk result }
+    ensures refused { IfErr result (λ e. RefusesToOpen (opened_requests recipient.entry.context.now) datagram.old e) }
+    ensures refuses { (e : UnprotectError) → RefusesToOpen (opened_requests recipient.entry.context.now) datagram.old e → IsErrOf result e }
+    ensures left { IfErr result (λ e. LeavesRequest (opened_requests recipient.entry.context.now) datagram.old e datagram.new) }
+{
+    one_request();
+    unprotect_request_forward(recipient, datagram)
+}
+
+/// Runs the stages of a request, one after the other, and borrows nothing.
+fn unprotect_request_forward(
+    recipient: Recipient<'_>,
+    datagram: &mut [u8],
+) -> Result<ReadRequest, UnprotectError>
+    ensures lends { IfOk result (λ x. LendsRequest (opened_requests recipient.entry.context.now) datagram.old x datagram.new) }
+    ensures accepted { IfOk result (λ x. (n : ℕ) × (m : InnerParts) × ProtectsRequest (as_server recipient.entry.context.now) n m datagram.old) }
+    ensures refused { IfErr result (λ e. RefusesToOpen (opened_requests recipient.entry.context.now) datagram.old e) }
+    ensures left { IfErr result (λ e. LeavesRequest (opened_requests recipient.entry.context.now) datagram.old e datagram.new) }
+{
     let sealed = find_request(recipient.context, datagram)?;
     let Ok(decrypted) = decrypt_request_forward(recipient, datagram, sealed) else {
         return Err(UnprotectError::Tag);
     };
-    match read_request(datagram, decrypted) {
-        Ok(opened) => Ok(opened),
+    match inspect_request(datagram, decrypted) {
+        Ok(read) => Ok(read),
         Err(_) => Err(UnprotectError::Inner),
     }
 }
 
-/// Runs the stages of a response, one after the other.
+/// Opens the response, and lends slices of the datagram.
 fn open_response_forward<'b>(
     recipient: Recipient<'_>,
     request: &RequestRef,
@@ -120,12 +166,65 @@ fn open_response_forward<'b>(
     ensures refused { IfErr result (λ e. RefusesToOpen (opened_responses recipient.entry.context.now request.now) datagram.old e) }
     ensures no_wrong_context { IfErr result (λ e. e ≢ WrongContext) }
 {
+    match unprotect_response_forward(recipient, request, datagram) {
+        Ok(read) => Ok(read.opened(datagram)),
+        Err(error) => Err(error),
+    }
+}
+
+/// Opens a response in its datagram as [`open_response`] does, and borrows nothing: `ReadResponse::opened` lends what was read, without
+/// reading it again. A refusal leaves the datagram as it was; for `Inner` it was decrypted, as [`crate::decrypt_request`] says.
+pub fn unprotect_response(
+    context: &Context,
+    request: &RequestRef,
+    datagram: &mut [u8],
+) -> Result<ReadResponse, UnprotectError>
+    ensures lends { IfOk result (λ x. LendsResponse (opened_responses context.now request.now) datagram.old x datagram.new) }
+    ensures accepts { (own : Option ℕ) (m : InnerParts) → Protects (opened_responses context.now request.now) own m datagram.old → IsOk result }
+    ensures refused { IfErr result (λ e. RefusesToOpen (opened_responses context.now request.now) datagram.old e) }
+    ensures refuses { (e : UnprotectError) → RefusesToOpen (opened_responses context.now request.now) datagram.old e → IsErrOf result e }
+    ensures no_wrong_context { IfErr result (λ e. e ≢ WrongContext) }
+    ensures left { IfErr result (λ e. LeavesResponse (opened_responses context.now request.now) datagram.old e datagram.new) }
+{
+    unprotect_response_by(Recipient::of(context), request, datagram)
+}
+
+/// Opens a response under the recipient's key, and borrows nothing.
+pub(crate) fn unprotect_response_by(
+    recipient: Recipient<'_>,
+    request: &RequestRef,
+    datagram: &mut [u8],
+) -> Result<ReadResponse, UnprotectError>
+    ensures lends { IfOk result (λ x. LendsResponse (opened_responses recipient.entry.context.now request.now) datagram.old x datagram.new) }
+    ensures accepts { (own : Option ℕ) (m : InnerParts) → Protects (opened_responses recipient.entry.context.now request.now) own m datagram.old → IsOk result }
+    ensures refused { IfErr result (λ e. RefusesToOpen (opened_responses recipient.entry.context.now request.now) datagram.old e) }
+    ensures refuses { (e : UnprotectError) → RefusesToOpen (opened_responses recipient.entry.context.now request.now) datagram.old e → IsErrOf result e }
+    ensures no_wrong_context { IfErr result (λ e. e ≢ WrongContext) }
+    ensures left { IfErr result (λ e. LeavesResponse (opened_responses recipient.entry.context.now request.now) datagram.old e datagram.new) }
+{
+    one_response();
+    one_notification();
+    unprotect_response_forward(recipient, request, datagram)
+}
+
+/// Runs the stages of a response, one after the other, and borrows nothing.
+fn unprotect_response_forward(
+    recipient: Recipient<'_>,
+    request: &RequestRef,
+    datagram: &mut [u8],
+) -> Result<ReadResponse, UnprotectError>
+    ensures lends { IfOk result (λ x. LendsResponse (opened_responses recipient.entry.context.now request.now) datagram.old x datagram.new) }
+    ensures accepted { IfOk result (λ x. (own : Option ℕ) × (m : InnerParts) × Protects (opened_responses recipient.entry.context.now request.now) own m datagram.old) }
+    ensures refused { IfErr result (λ e. RefusesToOpen (opened_responses recipient.entry.context.now request.now) datagram.old e) }
+    ensures no_wrong_context { IfErr result (λ e. e ≢ WrongContext) }
+    ensures left { IfErr result (λ e. LeavesResponse (opened_responses recipient.entry.context.now request.now) datagram.old e datagram.new) }
+{
     let sealed = find_response(datagram)?;
     let Ok(decrypted) = decrypt_response_forward(recipient, request, datagram, sealed) else {
         return Err(UnprotectError::Tag);
     };
-    match read_response(datagram, decrypted) {
-        Ok(opened) => Ok(opened),
+    match inspect_response(datagram, decrypted) {
+        Ok(read) => Ok(read),
         Err(_) => Err(UnprotectError::Inner),
     }
 }
@@ -134,6 +233,7 @@ fn open_response_forward<'b>(
 fn find_request(context: &Context, datagram: &[u8]) -> Result<SealedRequest, UnprotectError>
     ensures found { IfOk result (λ x. IsSealedRequest (opened_requests context.now) datagram.now x) }
     ensures refused { IfErr result (λ e. RefusesToOpen (opened_requests context.now) datagram.now e) }
+    ensures early { IfErr result (λ e. e ≢ Inner) }
 {
     let head = match head_of_request(datagram) {
         Ok(head) => head,
@@ -151,6 +251,7 @@ fn find_response(datagram: &[u8]) -> Result<SealedResponse, UnprotectError>
     ensures found { IfOk result (λ x. (s : SecurityContext) (r : Bool) (n : ℕ) → IsSealedResponse (responses_to s r n) datagram.now x) }
     ensures refused { IfErr result (λ e. (s : SecurityContext) (r : Bool) (n : ℕ) → RefusesToOpen (responses_to s r n) datagram.now e) }
     ensures no_wrong_context { IfErr result (λ e. e ≢ WrongContext) }
+    ensures early { IfErr result (λ e. e ≢ Inner) }
 {
     match head_of_response(datagram) {
         Ok(head) => Ok(head.sealed()),

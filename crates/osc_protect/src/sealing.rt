@@ -30,7 +30,7 @@ use crate::lengths::judge_length;
 use crate::protect_error::ProtectError;
 use crate::request_ref::RequestRef;
 use crate::split::{Side, write_side};
-use crate::usage::{Usage, outer_code};
+use crate::usage::{Usage, outer_code, sealing_features};
 use arrayvec::ArrayVec;
 use osc_ccm::protection_length;
 use osc_coap::option_numbers::OSCORE;
@@ -208,8 +208,8 @@ pub fn seal_request(
 
 /// Seals a response to a request, with the server's own Partial IV or else with the request's nonce. Returns how many bytes it takes at
 /// the front of `out`; the bytes after them stay unchanged. Type, Message ID and token are the plain message's; the outer code is 2.04, or
-/// 2.05 if the message has Observe. A response may have Observe only if the request registers an observation; its value then stands
-/// outside alone. Returns the first refusal in the order of `ProtectError`. A refusal leaves `out` unchanged. The caller keeps the own
+/// 2.05 if the message has Observe. A response may have Observe only if its code is of class 2 and the request registers an observation; its
+/// value then stands outside alone. Returns the first refusal in the order of `ProtectError`. A refusal leaves `out` unchanged. The caller keeps the own
 /// number fresh, and seals at most one response without one to each request (RFC 8613, 4.1.3.5.2 and 8.3).
 pub fn seal_response(
     context: &Context,
@@ -322,7 +322,8 @@ fn seal_response_forward(
         features: request.features(context),
         notifies: request.registers,
     };
-    check_response(plain, family.features)?;
+    let features = sealing_features(Usage::Response, family.features, plain.code);
+    check_response(plain, features)?;
     let client = context.recipient();
     let mut value = ArrayVec::new();
     write_response_value(own, &mut value);

@@ -27,7 +27,7 @@ pub(crate) enum Usage {
     Response,
 }
 
-ghost use Rattle.osc_protect.specs.Usage.{is_code_of, is_complete, is_used, outer_code_of};
+ghost use Rattle.osc_protect.specs.Usage.{is_code_of, is_complete, is_used, outer_code_of, sealing_features};
 
 /// Returns whether the code belongs to this usage.
 pub(crate) fn is_code_of(usage: Usage, code: u8) -> bool
@@ -46,6 +46,16 @@ pub(crate) fn is_used(usage: Usage, message: &Message<'_>) -> bool
     match usage {
         Usage::Request => message.is_request(),
         Usage::Response => message.is_response(),
+    }
+}
+
+/// Returns the features with which a message of this code is sealed: a response whose code isn't of class 2 has no Observe (RFC 7641, 4.2).
+pub(crate) fn sealing_features(usage: Usage, features: Features, code: u8) -> Features
+    ensures { result ≡ sealing_features usage features code }
+{
+    match usage {
+        Usage::Response if code / 32 != 2 => features.unobserved(),
+        Usage::Request | Usage::Response => features,
     }
 }
 

@@ -8,8 +8,8 @@ struct plain draw_plain(uint8_t kind, uint8_t code, struct bytes token) {
     add_bytes(&plain.token, token);
     plain.has_host = one_in(3);
     plain.has_observe = one_in(6);
-    plain.observe = draw_text(4);
-    /* Half of them say register, by leading zeros or none. */
+    plain.observe = draw_text(5);
+    /* Half of them say register, by leading zeros or none, where they have at most 3 bytes. */
     if (one_in(2)) memset(plain.observe.at, 0, plain.observe.len);
     plain.has_block = one_in(10);
     plain.payload = draw_text(9);

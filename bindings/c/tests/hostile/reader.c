@@ -72,16 +72,22 @@ bool is_outer(uint32_t number) {
     return false;
 }
 
+/* The first Observe, if it has at most 3 bytes. Any other one is as if the option weren't known (RFC 7252, 5.4.3 and 5.4.5; RFC 7641, 2). */
+static bool observe_of(const struct body *body, struct bytes *value) {
+    return first_of(body, OBSERVE, value) && value->len <= 3;
+}
+
 bool is_registration(uint8_t code, const struct body *body) {
     struct bytes value;
-    if ((code != 1 && code != 5) || !first_of(body, OBSERVE, &value)) return false;
+    if ((code != 1 && code != 5) || !observe_of(body, &value)) return false;
     for (size_t i = 0; i < value.len; i++)
         if (value.at[i]) return false;
     return true;
 }
 
 bool is_notification(uint8_t code, const struct body *body) {
-    return code >> 5 == 2 && count_of(body, OBSERVE) > 0;
+    struct bytes value;
+    return code >> 5 == 2 && observe_of(body, &value);
 }
 
 static bool is_left_out(uint32_t number, struct allowed allowed) {

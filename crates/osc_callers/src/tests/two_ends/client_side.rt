@@ -57,7 +57,8 @@ pub fn take_response(
     }
 }
 
-/// Notes a response that the client delivered. After a challenge, its request is to be sealed again with the Echo value.
+/// Notes a response that the client delivered. After a challenge, this client asks again with the Echo value, by a new
+/// request: here nothing is lost by doing a request twice.
 fn deliver(rt: &impl Abort, world: &mut World, front: Front, request: u64, opened: &Opened<'_>) {
     let payload = Payload::read(opened.payload);
     world.note(

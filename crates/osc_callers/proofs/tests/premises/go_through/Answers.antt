@@ -51,4 +51,4 @@ returns c = λ is_some.
       asks_again = c.in_ok-len-5.ensures.answered;
       admits = c.in_ok-deliver.ensures;
     } in
-    goes_through c.premises_can_be_met.ensures course
+    goes_through c.premises_can_be_met.ensures.plain course

@@ -15,7 +15,7 @@ use Rattle.osc_endpoint.specs.ServerHistory.{Add, Added, Advance, Advanced, Answ
 use Rattle.osc_endpoint.specs.declared.server_error.ReplyError.TheVariants.{NotObserving, StaleTicket}
 use Rattle.osc_endpoint.proofs.DeliveredNumbers.{none_beyond}
 use Rattle.osc_endpoint.proofs.Places.{same_life}
-use Rattle.osc_handle.specs.OneContext.{ContextsStandAlone, NamesNoOther, answer_alone, concerns, share, ticket_alone}
+use Rattle.osc_endpoint.specs.OneContext.{ContextsStandAlone, NamesNoOther, answer_alone, concerns, share, ticket_alone}
 
 -- ---- what an answer leaves
 

@@ -7,6 +7,7 @@ use Rattle.std.proofs.lemmas.Bool.{eqb-true}
 use Rattle.osc_coap.specs.Class.{class, inner_options, is_inner}
 use Rattle.osc_coap.specs.Datagram.{Parts}
 use Rattle.osc_coap.specs.Inner.{InnerParts}
+use Rattle.osc_coap.specs.Interpreted.{valid_of}
 use Rattle.osc_coap.specs.OptionNumbers.{observe}
 use Rattle.osc_coap.specs.OptionSpelling.{Entry}
 use Rattle.osc_coap.specs.Search.{first_of, has_number, values_at}
@@ -42,7 +43,7 @@ pub registers_inside : (x : Features) (p : Parts) → registers x (inside p).cod
 registers_inside x p = ap (λ vs. registers_by x p.code vs) (values_inside observe refl p.options)
   where
     registers_by : Features → ℕ → List (List ℕ) → Bool
-    registers_by x code vs = x.observe && (is_observable code && says_register (first_of vs))
+    registers_by x code vs = x.observe && (is_observable code && says_register (valid_of observe (first_of vs)))
 
 pub neither : (a b : Bool) → (a || b) ≡ false → (a ≡ false) × (b ≡ false)
 neither true b e = absurd (let f : true ≡ false = e in cc)
@@ -65,7 +66,7 @@ no_value x (entry ∷ entries) off none =
 -- and is no notification
 pub unnotified : (x : Features) (p : Parts) → x.observe ≡ false → has_number (is_unsupported x) p.options ≡ false → is_notification p.code (inside p).options ≡ false
 unnotified x p off none =
-    let value : observe_value (inside p).options ≡ None = ap first_of (values_inside observe refl p.options) ∙ no_value x p.options off none in
+    let value : observe_value (inside p).options ≡ None = ap (λ vs. valid_of observe (first_of vs)) (values_inside observe refl p.options) ∙ no_value x p.options off none in
     ap (λ o. (p.code / 32 == 2) && is_some o) value ∙ and-false (p.code / 32 == 2)
 
 -- ---- what protects a message as a response protects it as a notification

@@ -1,4 +1,4 @@
--- To be believed: what one context of a server has to do with the others: nothing. The contract of server_laws.rt. h is a history, i the
+-- To be believed: what one context of a server has to do with the others: nothing. The contract of laws.rt. h is a history, i the
 -- index of a context.
 use Rattle.std.specs.Prelude.{◌≡◌, ℕ, ◌==◌, Bool, false, List, if◌then◌else◌}
 use Rattle.osc_coap.specs.Datagram.{Parts}
