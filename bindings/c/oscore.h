@@ -107,16 +107,16 @@ typedef enum oscore_status {
 /* What calls return has the bytes of a uint32_t. */
 OSCORE_ASSERT(sizeof(oscore_status) == 4, "a status has 4 bytes: compile without -fshort-enums");
 
-/* So many bytes of `out` are enough to seal a plain datagram of so many bytes that has Observe at most once, in at most 3 bytes, as
-   RFC 7641, 2 has it; whatever its other options are, and the context, and the number: by a context, a server or a client that calls
-   wrote, no call then answers OSCORE_NO_ROOM. That is proved (docs/PROVED.md), but of the calls of kept ends, which seal by the same code.
+/* So many bytes of `out` are enough to seal a plain datagram of so many bytes, whatever its options are, and the context, and the number:
+   by a context, a server or a client that calls wrote, no call then answers OSCORE_NO_ROOM. That is proved (docs/PROVED.md), but of the
+   calls of kept ends, which seal by the same code.
    63 are: 48 of the OSCORE option (RFC 8613, 6.1: its option byte, one more byte for its length, the flags, 5 of a Partial IV, a length
    and 32 of a kid context, 7 of a kid); 10 of the marker, the code inside and the tag; 1, since an inner option may come after Uri-Port in
    the plain datagram, and after nothing inside, so that its delta is up to 7 more, and that can take an extended byte more (RFC 7252,
-   3.1); and 4 of Observe, which stands outside and inside where the context allows it (RFC 8613, 4.1.3.5). A response has no kid, so its
-   option has at most 7 bytes, and the server puts the request's token of up to 8 bytes into it. Some requests with Observe take all 63,
-   and without it 59. A longer Observe, or one more, takes what it takes in the plain datagram once more. The sealed message has at most
-   65,535 bytes. */
+   3.1); and 4 of Observe, which stands outside and inside where the context allows it (RFC 8613, 4.1.3.5), in at most 3 bytes: a longer
+   one, and one more, stand inside alone (RFC 7252, 5.4.3 and 5.4.5; RFC 7641, 2). A response has no kid, so its option has at most 7
+   bytes, and the server puts the request's token of up to 8 bytes into it. Some requests with Observe take all 63, and without it 59. The
+   sealed message has at most 65,535 bytes. */
 #define OSCORE_ROOM(plain_len) ((plain_len) + 63)
 
 /* A context as one of its two ends holds it (RFC 8613, 3.1): plain bytes, to be made by `oscore_derive` and copied as you like.

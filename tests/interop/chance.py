@@ -8,7 +8,7 @@ from typing import Iterator, List, NamedTuple, Optional, Tuple
 
 import oscore_reading
 from coap_reading import ACK, CON, NON, Message
-from oscore_reading import BLOCKS, Context
+from oscore_reading import BLOCKS, OBSERVE, Context
 
 MESSAGES_OF_A_CONTEXT = 8
 OPTIONS = (1, 3, 4, 5, 7, 8, 11, 12, 14, 15, 17, 20, 28, 60, 252, 258)
@@ -44,9 +44,9 @@ def make_pair(chance: random.Random) -> Pair:
     sender = recipient = bytes_up_to(chance, 7)
     while recipient == sender:
         recipient = bytes_up_to(chance, 7)
-    blocks = chance.random() < 0.5
+    blocks, observe = chance.random() < 0.5, chance.random() < 0.5
     ends = [oscore_reading.derive(secret, salt, id_context, *names) for names in ((sender, recipient), (recipient, sender))]
-    return Pair(secret, salt, *(replace(end, blocks=blocks) for end in ends))
+    return Pair(secret, salt, *(replace(end, blocks=blocks, observe=observe) for end in ends))
 
 
 def make_number(chance: random.Random) -> int:
@@ -60,12 +60,15 @@ def make_length(chance: random.Random) -> int:
     return chance.choice((chance.randint(0, 12), chance.randint(0, 12), chance.randint(0, 20), chance.choice((13, 268, 269, 300))))
 
 
-def make_options(chance: random.Random, context: Context) -> List[Tuple[int, bytes]]:
+def make_options(chance: random.Random, context: Context, is_request: bool) -> List[Tuple[int, bytes]]:
+    """Half of the requests that may have Observe have it: once or more, of each length that it may have and of others."""
     options, known = [], OPTIONS + (BLOCKS if context.blocks else ())
     for _ in range(chance.randint(0, 6)):
         number = chance.choice(known) if chance.random() < 0.8 else chance.getrandbits(chance.randint(1, 16))
-        if number not in context.refused():
+        if number not in context.refused(is_request) and number != OBSERVE:
             options += [(number, chance.randbytes(make_length(chance))) for _ in range(chance.choice((1, 1, 2, 3)))]
+    if is_request and context.observe and chance.random() < 0.5:
+        options += [(OBSERVE, bytes_up_to(chance, 4) if chance.random() < 0.8 else chance.randbytes(269)) for _ in range(chance.choice((1, 1, 2, 3)))]
     return sorted(options, key=lambda option: option[0])
 
 
@@ -74,7 +77,7 @@ def make_trial(chance: random.Random, context: Context) -> Trial:
     code = chance.choice((*range(1, 8), chance.randint(1, 31))) if is_request else chance.choice((2, 4, 5)) << 5 | chance.randint(0, 31)
     kind = chance.choice((CON, NON) if is_request else (CON, NON, ACK))
     payload = b"" if chance.random() < 0.2 else chance.randbytes(chance.choice((chance.randint(1, 64), chance.randint(1, 1200))))
-    message = Message(kind, code, chance.getrandbits(16), bytes_up_to(chance, 8), tuple(make_options(chance, context)), payload)
+    message = Message(kind, code, chance.getrandbits(16), bytes_up_to(chance, 8), tuple(make_options(chance, context, is_request)), payload)
     own = None if is_request or chance.random() < 0.5 else make_number(chance)
     return Trial(is_request, make_number(chance), own, message)
 

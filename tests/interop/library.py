@@ -64,7 +64,7 @@ class Library:
         """Derives the context of a client and that of its server, each twice. Answers the words that came."""
         ends = [(CLIENT, client.sender, client.recipient), (SERVER, client.recipient, client.sender)]
         lines = [
-            f"derive {slot + cipher} {cipher} {int(client.blocks)} 0 {shown(secret)} {shown(salt)} {shown(client.id_context)} {shown(own)} {shown(other)}"
+            f"derive {slot + cipher} {cipher} {int(client.blocks)} {int(client.observe)} {shown(secret)} {shown(salt)} {shown(client.id_context)} {shown(own)} {shown(other)}"
             for slot, own, other in ends for cipher in range(len(CIPHERS))
         ]
         return [answer.split() for answer in self.ask(lines)]

@@ -26,6 +26,8 @@ REFUSED = (OBSERVE, OSCORE, *BLOCKS, PROXY_URI, PROXY_SCHEME)
 POST, FETCH, CHANGED, CONTENT = 0x02, 0x05, 0x44, 0x45
 REQUEST_CODES, RESPONSE_CODES = (POST, FETCH), (CHANGED, CONTENT)
 """The codes outside, of a message without Observe and of one with it: 0.02 and 0.05, 2.04 and 2.05 (RFC 8613, 4.1.3.5 and 4.2)."""
+MOST_OBSERVE = 3
+"""The most bytes of Observe (RFC 7641, 2)."""
 AES_CCM_16_64_128 = 10
 KEY_LEN, NONCE_LEN, TAG_LEN, PARTIAL_IV_LEN = 16, 13, 8, 5
 KID_FLAG, KID_CONTEXT_FLAG, PARTIAL_IV_LENGTH_MASK = 0x08, 0x10, 0x07
@@ -162,15 +164,18 @@ def read_option(value: bytes) -> Tuple[bytes, Optional[bytes], Optional[bytes]]:
 def seal(context: Context, nonce: bytes, additional_data: bytes, value: bytes, codes: Tuple[int, int], message: Message,
          may_observe: bool = True) -> bytes:
     """Parts a message into what goes inside and what stays outside (RFC 8613, 4.1 and 5.3), and protects the first. Observe goes to both
-    sides: of a request with its value, of a response with its value outside and empty inside (RFC 8613, 4.1.3.5)."""
+    sides: of a request with its value, of a response with its value outside and empty inside (RFC 8613, 4.1.3.5). An Observe that doesn't
+    count is one of class E, as any option that isn't known (RFC 8613, 4.1)."""
     is_response = codes == RESPONSE_CODES
     refused = context.refused(may_observe and not (is_response and message.code >> 5 != 2))
     for number in sorted(number for number, _ in message.options):
         if number in refused:
             raise Refused("Unsupported", number)
-    inner = [(number, b"" if is_response and number == OBSERVE else said) for number, said in message.options if number not in OUTSIDE]
-    outer = [option for option in message.options if option[0] in (*OUTSIDE, OBSERVE)]
-    code = codes[first(message.options, OBSERVE) is not None]
+    observe = observe_that_counts(message.options)
+    inner = [(number, b"" if is_response and place == observe else said)
+             for place, (number, said) in enumerate(message.options) if number not in OUTSIDE]
+    outer = [option for place, option in enumerate(message.options) if option[0] in OUTSIDE or place == observe]
+    code = codes[observe is not None]
     plaintext = bytes([message.code]) + coap_reading.write_rest(inner, message.payload)
     ciphertext = AESCCM(context.sender_key, TAG_LEN).encrypt(nonce, plaintext, additional_data)
     outer.append((OSCORE, value))
@@ -198,6 +203,12 @@ def seal_response(context: Context, request: int, own: Optional[int], message: M
         value = write_option(own_piv, None, None)
     additional_data = additional_data_of(context.recipient, request_piv)
     return seal(context, nonce, additional_data, value, RESPONSE_CODES, message, registers)
+
+
+def observe_that_counts(options: Options) -> Optional[int]:
+    """Its place: the first Observe, if its length is valid. Another one is as if unknown (RFC 7252, 5.4.3 and 5.4.5)."""
+    place = next((place for place, (number, _) in enumerate(options) if number == OBSERVE), None)
+    return place if place is not None and len(options[place][1]) <= MOST_OBSERVE else None
 
 
 def first(options: Options, number: int) -> Optional[bytes]:

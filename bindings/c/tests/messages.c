@@ -472,12 +472,13 @@ static size_t growth(const uint8_t *bytes, size_t len, bool request, uint64_t nu
 /* What a message without Observe grows by at most. */
 enum { PLAIN_GROWTH = 59 };
 
-/* Observe stands twice in a request where the context allows it, and takes 1 to 4 bytes more for a value of at most 3. With Uri-Port and an
-   option 19 behind it all of the room is taken, for 3 all that the header says: 19 has a delta of 12 in the plain message, and of 13 inside. */
+/* Observe stands twice in a request where the context allows it, and takes 1 to 4 bytes more for a value of at most 3; a longer one stands
+   inside alone. With Uri-Port and an option 19 behind it all of the room is taken, for 3 all that the header says: 19 has a delta of 12 in
+   the plain message, and of 13 inside. */
 static void has_room_for_observe(void) {
-    for (size_t value_len = 0; value_len <= 3; value_len++) {
+    for (size_t value_len = 0; value_len <= 5; value_len++) {
         uint8_t bytes[16] = {0x40, 1, 0, 1, (uint8_t)(0x60 | value_len)};
-        size_t len = 7 + value_len, most = len + PLAIN_GROWTH + 1 + value_len;
+        size_t len = 7 + value_len, twice = value_len <= 3 ? 1 + value_len : 0, most = len + PLAIN_GROWTH + twice;
         bytes[len - 2] = 0x10, bytes[len - 1] = 0xc0;
         oscore_context *context = guarded_copy(HANDLE, clients[C1], sizeof *context);
         context->sender_len = 7, context->recipient_len = 0, context->id_context_len = 32, context->observe = 1;
@@ -485,7 +486,7 @@ static void has_room_for_observe(void) {
         CHECK(oscore_seal_request(context, (1ull << 40) - 1, plain, len, out, most - 1, out_len, detail) == OSCORE_NO_ROOM);
         out = guarded_room(OUT, most);
         CHECK(!oscore_seal_request(context, (1ull << 40) - 1, plain, len, out, most, out_len, detail) && *out_len == most);
-        CHECK(most <= OSCORE_ROOM(len) && (value_len < 3 || most == OSCORE_ROOM(len)));
+        CHECK(most <= OSCORE_ROOM(len) && (value_len != 3 || most == OSCORE_ROOM(len)));
     }
 }
 

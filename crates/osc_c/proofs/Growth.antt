@@ -1,6 +1,6 @@
--- How much longer what is sealed is than its plain message. entries are options, x the features of the context, d is the number before the
+-- How much longer what is sealed is than its plain message. entries are options, x the features of the context, sought says that they have Observe and that none came yet, d is the number before the
 -- first of them, o that before the first outside, i that before the first inside, p the plain message, value that of the OSCORE option.
-use Rattle.std.proofs.Common.{◌≡◌, ℕ, ◌+◌, ◌-◌, ◌<◌, ◌≤◌, ◌==◌, ◌||◌, ◌&&◌, ◌⊎◌, ◌∙◌, Bool, true, false, List, [], ◌∷◌, length, map, refl, ap, inl, inr, arith}
+use Rattle.std.proofs.Common.{◌≡◌, ℕ, ◌+◌, ◌-◌, ◌<◌, ◌≤◌, ◌==◌, ◌||◌, ◌⊎◌, ◌∙◌, Bool, true, false, List, [], ◌∷◌, length, refl, ap, inl, inr, arith}
 use Rattle.std.specs.Prelude.{cond}
 use Rattle.osc_coap.specs.Class.{class, inner_options, is_inner, is_outer}
 use Rattle.osc_coap.specs.Datagram.{Parts, IsDatagram}
@@ -12,10 +12,11 @@ use Rattle.osc_coap.specs.declared.class.Class.{Class}
 use Rattle.osc_coap.specs.declared.message.Kind.{Kind}
 use Rattle.osc_coap.specs.declared.class.Class.TheVariants.{E, U, Both}
 use Rattle.osc_context.specs.declared.features.Features.{Features}
-use Rattle.osc_protect.specs.OptionSets.{is_left_out, is_observe, is_proxy, is_unsupported}
+use Rattle.osc_protect.specs.OptionSets.{counts_as_observe, is_left_out, is_observe, is_proxy, is_unsupported, sought_behind}
 use Rattle.osc_protect.specs.Protection.{as_it_is, as_notified, emptied}
 use Rattle.osc_protect.specs.Sealed.{options_outside, sealed_length}
-use Rattle.osc_c.specs.Calls.{twice_length}
+use Rattle.osc_c.specs.Calls.{observe_room}
+use Rattle.osc_protect.proofs.Splits.{both_hold, observe_number}
 use Rattle.osc_c.proofs.OptionLists.{spelled_append}
 
 chosen : (b : Bool) → (b ≡ true) ⊎ (b ≡ false)
@@ -61,60 +62,64 @@ or_none : (a b : Bool) → a ≡ false → b ≡ false → (a || b) ≡ false
 or_none true b h k = absurd (cc)
 or_none false b h k = k
 
--- where an option of class U goes, Observe that is allowed, and any other
-one_outside : (x : Features) (e : Entry) (entries : List Entry) → is_outer (class e.0) ≡ true → (options_outside x (e ∷ entries) ≡ e ∷ options_outside x entries) × (inner_options (e ∷ entries) ≡ inner_options entries)
-one_outside x e entries is =
+-- where an option of class U goes, the Observe that counts, and any other
+one_outside : (sought : Bool) (e : Entry) (entries : List Entry) → is_outer (class e.0) ≡ true → (options_outside sought (e ∷ entries) ≡ e ∷ options_outside (sought_behind sought e) entries) × (inner_options (e ∷ entries) ≡ inner_options entries)
+one_outside sought e entries is =
     let isnt = outside_alone (class e.0) is in
-    let out = or_right (x.observe && is_observe e.0) (is_outer (class e.0)) is in
+    let out = or_right (counts_as_observe sought e) (is_outer (class e.0)) is in
     (rw out refl, rw isnt refl)
 
-one_twice : (x : Features) (e : Entry) (entries : List Entry) → is_outer (class e.0) ≡ false → (x.observe && is_observe e.0) ≡ true
-    → (options_outside x (e ∷ entries) ≡ e ∷ options_outside x entries) × (inner_options (e ∷ entries) ≡ e ∷ inner_options entries)
-    × (twice_length x.observe (e ∷ entries) ≡ option_length 0 (length e.1) + twice_length x.observe entries)
-one_twice x e entries isnt seen =
+one_twice : (sought : Bool) (e : Entry) (entries : List Entry) → is_outer (class e.0) ≡ false → counts_as_observe sought e ≡ true
+    → (options_outside sought (e ∷ entries) ≡ e ∷ options_outside (sought_behind sought e) entries) × (inner_options (e ∷ entries) ≡ e ∷ inner_options entries)
+one_twice sought e entries isnt seen =
     let is = inside_alone (class e.0) isnt in
-    let out = or_left (x.observe && is_observe e.0) (is_outer (class e.0)) seen in
-    (rw out refl, rw is refl, rw seen refl)
-
-one_inside : (x : Features) (e : Entry) (entries : List Entry) → is_outer (class e.0) ≡ false → (x.observe && is_observe e.0) ≡ false
-    → (options_outside x (e ∷ entries) ≡ options_outside x entries) × (inner_options (e ∷ entries) ≡ e ∷ inner_options entries)
-one_inside x e entries isnt unseen =
-    let is = inside_alone (class e.0) isnt in
-    let out = or_none (x.observe && is_observe e.0) (is_outer (class e.0)) unseen isnt in
+    let out = or_left (counts_as_observe sought e) (is_outer (class e.0)) seen in
     (rw out refl, rw is refl)
 
--- Observe comes before Uri-Port
-seen_low : (allowed : Bool) (n : ℕ) → (allowed && is_observe n) ≡ true → n ≤ 7
-seen_low true n h = grind (arith, h)
-seen_low false n h = absurd (cc)
+one_inside : (sought : Bool) (e : Entry) (entries : List Entry) → is_outer (class e.0) ≡ false → counts_as_observe sought e ≡ false
+    → (options_outside sought (e ∷ entries) ≡ options_outside (sought_behind sought e) entries) × (inner_options (e ∷ entries) ≡ e ∷ inner_options entries)
+one_inside sought e entries isnt unseen =
+    let is = inside_alone (class e.0) isnt in
+    let out = or_none (counts_as_observe sought e) (is_outer (class e.0)) unseen isnt in
+    (rw out refl, rw is refl)
 
 -- behind Uri-Port all options that can be sealed are inside alone
-all_inside : (x : Features) (d : ℕ) (entries : List Entry) → 7 < d → Ascends d entries → has_number (is_unsupported x) entries ≡ false → (options_outside x entries ≡ []) × (inner_options entries ≡ entries)
-all_inside x d [] behind up none = (refl, refl)
-all_inside x d (e ∷ entries) behind up none =
+all_inside : (x : Features) (sought : Bool) (d : ℕ) (entries : List Entry) → 7 < d → Ascends d entries → has_number (is_unsupported x) entries ≡ false → (options_outside sought entries ≡ []) × (inner_options entries ≡ entries)
+all_inside x sought d [] behind up none = (refl, refl)
+all_inside x sought d (e ∷ entries) behind up none =
     let both = neither (is_unsupported x e.0) (has_number (is_unsupported x) entries) none in
     let first = up.0 in
     elim (chosen (is_outer (class e.0))) [
       | inl is ↦ let small = low x e.0 is both.0 in absurd (omega (arith, small, first, behind))
-      | inr isnt ↦ elim (chosen (x.observe && is_observe e.0)) [
-        | inl seen ↦ let small = seen_low x.observe e.0 seen in absurd (omega (arith, small, first, behind))
+      | inr isnt ↦ elim (chosen (counts_as_observe sought e)) [
+        | inl seen ↦ let small = observe_number sought e seen in absurd (omega (arith, small, first, behind))
         | inr unseen ↦
-            let rest = all_inside x e.0 entries (omega (arith, first, behind)) up.2 both.1 in
-            let here = one_inside x e entries isnt unseen in
+            let rest = all_inside x (sought_behind sought e) e.0 entries (omega (arith, first, behind)) up.2 both.1 in
+            let here = one_inside sought e entries isnt unseen in
             (here.0 ∙ rest.0, here.1 ∙ ap (λ (z : List Entry). e ∷ z) rest.1)
       ]
     ]
 
 -- ---- Observe
 
--- where it isn't allowed it takes nothing twice, and where it is it takes most
-pub none_twice : (entries : List Entry) → twice_length false entries ≡ 0
-none_twice [] = refl
-none_twice (e ∷ entries) = omega (arith, none_twice entries)
+-- behind an option it takes no more
+pub room_behind : (sought : Bool) (e : Entry) → observe_room (sought_behind sought e) ≤ observe_room sought
+room_behind true e = elim (chosen (is_observe e.0)) [
+  | inl is ↦ rw is (omega arith)
+  | inr isnt ↦ rw isnt (omega arith)
+]
+room_behind false e = omega arith
 
-pub most_twice : (allowed : Bool) (entries : List Entry) → twice_length allowed entries ≤ twice_length true entries
-most_twice true entries = omega arith
-most_twice false entries = let none = none_twice entries in omega (arith, none)
+-- what counts takes 3 bytes, and behind it there is none
+one_counts : (sought : Bool) (e : Entry) → counts_as_observe sought e ≡ true → (length e.1 ≤ 3) × (observe_room sought ≡ 4) × (observe_room (sought_behind sought e) ≡ 0)
+one_counts false e seen = absurd (cc)
+one_counts true e seen =
+    let (is, valid) = both_hold (is_observe e.0) _ seen in
+    (grind (arith, valid), refl, rw is refl)
+
+pub most_room : (allowed : Bool) → observe_room allowed ≤ observe_room true
+most_room true = omega arith
+most_room false = omega arith
 
 -- ---- how long they are
 
@@ -126,41 +131,45 @@ none_extended n less = grind (arith)
 one_extended : (n m : ℕ) → n ≤ m + 7 → extended_length n ≤ extended_length m + 1
 one_extended n m le = grind (arith)
 
--- the two sides take one byte more at most than the whole, and what Observe takes twice
-sides_grow : (x : Features) (d o i : ℕ) (entries : List Entry) → d ≤ 7 → o ≤ d → i ≤ d → Ascends d entries → has_number (is_unsupported x) entries ≡ false
-    → spelling_length o (options_outside x entries) + spelling_length i (inner_options entries) ≤ spelling_length d entries + (1 + twice_length x.observe entries)
-sides_grow x d o i [] low_d le_o le_i up none = omega arith
-sides_grow x d o i (e ∷ entries) low_d le_o le_i up none =
+-- the two sides take one byte more at most than the whole, and what Observe takes outside
+sides_grow : (x : Features) (sought : Bool) (d o i : ℕ) (entries : List Entry) → d ≤ 7 → o ≤ d → i ≤ d → Ascends d entries → has_number (is_unsupported x) entries ≡ false
+    → spelling_length o (options_outside sought entries) + spelling_length i (inner_options entries) ≤ spelling_length d entries + (1 + observe_room sought)
+sides_grow x sought d o i [] low_d le_o le_i up none = omega arith
+sides_grow x sought d o i (e ∷ entries) low_d le_o le_i up none =
     let both = neither (is_unsupported x e.0) (has_number (is_unsupported x) entries) none in
     let first = up.0 in
+    let behind = sought_behind sought e in
+    let less = room_behind sought e in
     elim (chosen (is_outer (class e.0))) [
       | inl is ↦
           let small = low x e.0 is both.0 in
-          let here = one_outside x e entries is in
-          let rest = sides_grow x e.0 e.0 i entries small (omega arith) (omega (arith, first, le_i)) up.2 both.1 in
+          let here = one_outside sought e entries is in
+          let rest = sides_grow x behind e.0 e.0 i entries small (omega arith) (omega (arith, first, le_i)) up.2 both.1 in
           let whole = none_extended (e.0 - d) (omega (arith, small)) in
           let part = none_extended (e.0 - o) (omega (arith, small)) in
-          omega (arith, ap (spelling_length o) here.0, ap (spelling_length i) here.1, rest, whole, part)
-      | inr isnt ↦ elim (chosen (x.observe && is_observe e.0)) [
+          omega (arith, ap (spelling_length o) here.0, ap (spelling_length i) here.1, rest, whole, part, less)
+      | inr isnt ↦ elim (chosen (counts_as_observe sought e)) [
         | inl seen ↦
-            let small = seen_low x.observe e.0 seen in
-            let here = one_twice x e entries isnt seen in
-            let rest = sides_grow x e.0 e.0 e.0 entries small (omega arith) (omega arith) up.2 both.1 in
+            let is = observe_number sought e seen in
+            let small : e.0 ≤ 7 = omega (arith, is) in
+            let here = one_twice sought e entries isnt seen in
+            let rest = sides_grow x behind e.0 e.0 e.0 entries small (omega arith) (omega arith) up.2 both.1 in
             let whole = none_extended (e.0 - d) (omega (arith, small)) in
             let part = none_extended (e.0 - o) (omega (arith, small)) in
             let within = none_extended (e.0 - i) (omega (arith, small)) in
-            let twice = here.2 in
-            omega (arith, ap (spelling_length o) here.0, ap (spelling_length i) here.1, twice, rest, whole, part, within)
+            let (short, four, gone) = one_counts sought e seen in
+            let long = none_extended (length e.1) (omega (arith, short)) in
+            omega (arith, ap (spelling_length o) here.0, ap (spelling_length i) here.1, rest, whole, part, within, short, four, gone, long)
         | inr unseen ↦
-            let here = one_inside x e entries isnt unseen in
+            let here = one_inside sought e entries isnt unseen in
             elim (compared e.0 7) [
               | inl small ↦
-                  let rest = sides_grow x e.0 o e.0 entries small (omega (arith, first, le_o)) (omega arith) up.2 both.1 in
+                  let rest = sides_grow x behind e.0 o e.0 entries small (omega (arith, first, le_o)) (omega arith) up.2 both.1 in
                   let whole = none_extended (e.0 - d) (omega (arith, small)) in
                   let part = none_extended (e.0 - i) (omega (arith, small)) in
-                  omega (arith, ap (spelling_length o) here.0, ap (spelling_length i) here.1, rest, whole, part)
+                  omega (arith, ap (spelling_length o) here.0, ap (spelling_length i) here.1, rest, whole, part, less)
               | inr large ↦
-                  let rest = all_inside x e.0 entries large up.2 both.1 in
+                  let rest = all_inside x behind e.0 entries large up.2 both.1 in
                   let more = one_extended (e.0 - i) (e.0 - d) (omega (arith, first, low_d, le_i)) in
                   omega (arith, ap (spelling_length o) (here.0 ∙ rest.0), ap (spelling_length i) here.1, ap (spelling_length e.0) rest.1, more)
             ]
@@ -195,30 +204,33 @@ shorter d n v w xs ys one rest more = step (is_inner (class n)) where
   step true = omega (arith, one, more)
   step false = rest
 
-emptied_all : (d : ℕ) (entries : List Entry) → spelling_length d (inner_options (map emptied entries)) ≤ spelling_length d (inner_options entries)
-emptied_all d [] = omega arith
-emptied_all d ((n, w) ∷ entries) = step (is_observe n) (emptied_all d entries) (emptied_all n entries) where
-  step : (b : Bool) → spelling_length d (inner_options (map emptied entries)) ≤ spelling_length d (inner_options entries) → spelling_length n (inner_options (map emptied entries)) ≤ spelling_length n (inner_options entries)
-      → spelling_length d (inner_options (cond b (n, []) (n, w) ∷ map emptied entries)) ≤ spelling_length d (inner_options ((n, w) ∷ entries))
-  step true rest more = shorter d n [] w (map emptied entries) entries (omega arith) rest more
-  step false rest more = shorter d n w w (map emptied entries) entries (omega arith) rest more
+emptied_all : (sought : Bool) (d : ℕ) (entries : List Entry) → spelling_length d (inner_options (emptied sought entries)) ≤ spelling_length d (inner_options entries)
+emptied_all sought d [] = omega arith
+emptied_all sought d ((n, w) ∷ entries) = step (counts_as_observe sought (n, w)) (emptied_all (sought_behind sought (n, w)) d entries) (emptied_all (sought_behind sought (n, w)) n entries) where
+  rest : List Entry
+  rest = emptied (sought_behind sought (n, w)) entries
+
+  step : (b : Bool) → spelling_length d (inner_options rest) ≤ spelling_length d (inner_options entries) → spelling_length n (inner_options rest) ≤ spelling_length n (inner_options entries)
+      → spelling_length d (inner_options (cond b (n, []) (n, w) ∷ rest)) ≤ spelling_length d (inner_options ((n, w) ∷ entries))
+  step true less more = shorter d n [] w rest entries (omega arith) less more
+  step false less more = shorter d n w w rest entries (omega arith) less more
 
 pub short_as_notified : IsShort as_notified
 unfolding IsShort
-short_as_notified p = let less = emptied_all 0 p.options in omega (arith, less)
+short_as_notified p = let less = emptied_all true 0 p.options in omega (arith, less)
 
 -- ---- the whole
 
 -- how much longer what is sealed with a short value is than the plain message, also under another head: 13 bytes, the value, what the token
--- grows by, and what Observe takes twice
+-- grows by, and what Observe takes outside
 pub sealed_growth : DatagramHasItsLength → OptionsAscend → (x : Features) (says : Parts → Parts) (p : Parts) (bytes value : List ℕ) → IsShort says → IsDatagram p bytes → has_number (is_unsupported x) p.options ≡ false
     → length value ≤ 46 → (kind : Kind) (message_id : ℕ) (token : List ℕ)
-    → sealed_length x says (record p { kind = kind; message_id = message_id; token = token }) value + length p.token ≤ length bytes + (length token + (13 + length value + twice_length x.observe p.options))
+    → sealed_length x says (record p { kind = kind; message_id = message_id; token = token }) value + length p.token ≤ length bytes + (length token + (13 + length value + observe_room x.observe))
 unfolding IsShort
 sealed_growth long ascend x says p bytes value small h none short kind message_id token =
     let all = long p bytes h in
-    let sides = sides_grow x 0 0 0 p.options (omega arith) (omega arith) (omega arith) (ascend p bytes h) none in
-    let outside = spelled_append 0 (options_outside x p.options) ((oscore, value) ∷ []) in
-    let option = option_size (last_number 0 (options_outside x p.options)) (length value) short in
+    let sides = sides_grow x x.observe 0 0 0 p.options (omega arith) (omega arith) (omega arith) (ascend p bytes h) none in
+    let outside = spelled_append 0 (options_outside x.observe p.options) ((oscore, value) ∷ []) in
+    let option = option_size (last_number 0 (options_outside x.observe p.options)) (length value) short in
     let inner = small (record p { kind = kind; message_id = message_id; token = token }) in
     omega (arith, all, sides, outside, option, inner)

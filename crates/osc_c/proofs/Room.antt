@@ -42,7 +42,7 @@ use Rattle.osc_c.specs.ServerCalls.RefusesNotifying.{bad_handle as notify_handle
 use Rattle.osc_c.specs.ServerCalls.RefusesReplying.{bad_handle as reply_handle, malformed as reply_malformed, spent as reply_spent, refused as reply_refused}
 use Rattle.osc_c.specs.Statuses.{code, format_status}
 use Rattle.osc_c.specs.declared.status.Status.{Status}
-use Rattle.osc_c.proofs.Growth.{most_twice, none_twice, sealed_growth, short_as_it_is, short_as_notified}
+use Rattle.osc_c.proofs.Growth.{most_room, sealed_growth, short_as_it_is, short_as_notified}
 
 -- ---- how long values are
 
@@ -73,8 +73,7 @@ request_room long ascend most c n p plain room whole of enough refuses =
     let short = request_value most c n whole value refuses.1.1 in
     let size = sealed_growth long ascend (client_in c).features as_it_is p plain value short_as_it_is of refuses.0.1 short p.kind p.message_id p.token in
     let less = refuses.1.2.1 in
-    let fits = enough p of in
-    omega (arith, size, short, less, fits)
+    omega (arith, size, short, less, enough)
 
 -- nor is a response, also under another head
 response_room : DatagramHasItsLength → OptionsAscend → ValueMostLen → (s : SecurityContext) (asked : ℕ) (own : Option ℕ) (p : Parts) (kind : Kind) (message_id : ℕ) (token plain : List ℕ) (room : ℕ) → IsDatagram p plain → length token ≤ 8
@@ -84,9 +83,8 @@ response_room long ascend most s asked own p kind message_id token plain room of
     let short = response_value most s asked own value refuses.1.1 in
     let supported = subst (λ (x : Features). has_number (is_unsupported x) p.options ≡ false) (replied_features s asked p) refuses.0.1 in
     let size = sealed_growth long ascend (unobserved s.features) as_it_is p plain value short_as_it_is of supported (omega (arith, short)) kind message_id token in
-    let none = none_twice p.options in
     let less = refuses.1.2.1 in
-    omega (arith, size, none, short, less, few, enough)
+    omega (arith, size, short, less, few, enough)
 
 -- nor is a notification
 notification_room : DatagramHasItsLength → OptionsAscend → ValueMostLen → (s : SecurityContext) (asked : ℕ) (own : Option ℕ) (p : Parts) (token plain : List ℕ) (room : ℕ) → IsDatagram p plain → length token ≤ 8
@@ -96,10 +94,9 @@ notification_room long ascend most s asked own p token plain room of few enough 
     let short = response_value most s asked own value refuses.1.1 in
     let supported = sealing_supported (notifications s asked).usage s.features p.code p.options refuses.0.1 in
     let size = sealed_growth long ascend s.features as_notified p plain value short_as_notified of supported (omega (arith, short)) p.kind p.message_id token in
-    let twice = most_twice s.features.observe p.options in
+    let most_observe = most_room s.features.observe in
     let less = refuses.1.2.1 in
-    let fits = enough p of in
-    omega (arith, size, twice, short, less, few, fits)
+    omega (arith, size, most_observe, short, less, few, enough)
 
 -- ---- in C
 

@@ -2,12 +2,10 @@
 -- handle's bytes are ones that a call may have written, AreNumbers that all numbers are below 2^40; f is a protection, i a number
 -- that it knows, allowed says that the context allows Observe, plain is the datagram of a plain message, room the length of the buffer, d a datagram to
 -- open.
-use Rattle.std.specs.Prelude.{◌≡◌, ℕ, ◌+◌, ◌<◌, ◌≤◌, ◌^◌, ◌&&◌, Bool, true, List, [], ◌∷◌, length, if◌then◌else◌}
+use Rattle.std.specs.Prelude.{◌≡◌, ℕ, ◌+◌, ◌<◌, ◌≤◌, ◌^◌, Bool, true, List, length, if◌then◌else◌}
 use Rattle.osc_coap.specs.Datagram.{Parts, IsDatagram}
 use Rattle.osc_coap.specs.Fault.{HasFault}
-use Rattle.osc_coap.specs.OptionSpelling.{Entry, option_length}
 use Rattle.osc_coap.specs.declared.format_error.Fault.{Fault}
-use Rattle.osc_protect.specs.OptionSets.{is_observe}
 use Rattle.osc_protect.specs.Protection.{Protection}
 use Rattle.osc_protect.specs.Refusals.{RefusesToOpen}
 use Rattle.osc_protect.specs.SealRefusals.{RefusesToSeal}
@@ -26,15 +24,13 @@ pub record AreNumbers (asked : ℕ) (has_own : Bool) (number : ℕ) : Type 0 whe
   pub request : asked < 2 ^ 40
   pub own : IsOwnNumber has_own number
 
--- how many bytes Observe takes a second time, if it is allowed and so stands outside too: for each such option a byte, what its length takes, and its value
--- (RFC 7252, 3.1; RFC 8613, 4.1.3.5)
-abbrev pub twice_length : Bool → List Entry → ℕ
-twice_length allowed [] = 0
-twice_length allowed (entry ∷ entries) = (if allowed && is_observe entry.0 then option_length 0 (length entry.1) else 0) + twice_length allowed entries
+-- how many bytes Observe takes outside at most, where it is allowed: a byte, and a value of at most 3 (RFC 7252, 3.1; RFC 7641, 2; RFC 8613, 4.1.3.5)
+abbrev pub observe_room : Bool → ℕ
+observe_room allowed = if allowed then 4 else 0
 
--- the buffer has 59 bytes more than the plain message, and those that Observe takes a second time (RFC 7252, 3.1; RFC 8613, 4.1 and 6.1)
+-- the buffer has 59 bytes more than the plain message, and those that Observe takes outside (RFC 7252, 3.1; RFC 8613, 4.1 and 6.1)
 abbrev pub HasRoomFor : Bool → List ℕ → ℕ → Type 0
-HasRoomFor allowed plain room = (p : Parts) → IsDatagram p plain → length plain + (59 + twice_length allowed p.options) ≤ room
+HasRoomFor allowed plain room = length plain + (59 + observe_room allowed) ≤ room
 
 -- why a plain message isn't sealed, with its detail (RFC 8613, 8.1 and 8.3)
 pub data RefusesSealing {I : Type 0} (IsHandle AreNumbers : Type 0) (f : Protection I) (i : I) (plain : List ℕ) (room : ℕ) (status : Status) (detail : ℕ) : Type 0 where

@@ -1,6 +1,6 @@
 -- An exchange: what the network brings in time arrives, and both ends stay in step.
-use Rattle.std.proofs.Common.{◌≡◌, ◌≢◌, ℕ, ◌+◌, ◌-◌, ◌<◌, ◌≤◌, ◌∙◌, sym, ap, subst, refl, arith, Bool, true, false, Some, None, List, [], ◌∷◌, ◌⊎◌, inl, inr, ◌&&◌, ◌/◌, if◌then◌else◌}
-use Rattle.std.specs.Prelude.{◌==◌, ◌↔◌, All, Contains, is_some, map}
+use Rattle.std.proofs.Common.{◌≡◌, ◌≢◌, ℕ, ◌+◌, ◌-◌, ◌<◌, ◌≤◌, ◌∙◌, sym, ap, subst, refl, arith, Bool, true, false, Option, Some, None, List, ◌⊎◌, inl, inr, ◌&&◌, ◌/◌, if◌then◌else◌}
+use Rattle.std.specs.Prelude.{◌==◌, ◌↔◌, All, Contains, is_some}
 use Rattle.std.specs.Option.{option_map}
 use Rattle.std.proofs.lemmas.Bool.{eq-eqb, eqb-true}
 use Rattle.std.proofs.lemmas.List.Elements.{All-cons, All-contains, All-nil, All-weaker}
@@ -10,11 +10,12 @@ use Rattle.osc_coap.specs.Laws.{DatagramIsOneMessage}
 use Rattle.osc_coap.specs.Interpreted.{interpreted, valid_of}
 use Rattle.osc_coap.specs.OptionNumbers.{observe}
 use Rattle.osc_coap.specs.OptionSpelling.{Entry}
-use Rattle.osc_coap.specs.Search.{first_of, values_at}
+use Rattle.osc_coap.specs.Search.{first_of}
 use Rattle.osc_context.specs.SecurityContext.{SecurityContext}
 use Rattle.osc_context.specs.declared.partial_iv.Piv.{Piv}
 use Rattle.osc_protect.specs.Laws.{OneRequest, RequestsShowHeads, SealedOpens}
 use Rattle.osc_protect.specs.Protection.{ProtectsRequest, as_notified, emptied}
+use Rattle.osc_protect.proofs.Observes.{emptied_observe}
 use Rattle.osc_protect.specs.Sealed.{SealsNotification, SealsRequest, SealsResponse, inside}
 use Rattle.osc_protect.specs.declared.unprotect_error.UnprotectError.TheVariants.{Inner}
 use Rattle.osc_window.specs.declared.window_size.WindowSize.{WindowSize}
@@ -131,26 +132,17 @@ and_both true b e h = h
 and_both false b e h = absurd (cc)
 
 -- a valid Observe is there, and so it is once its value is empty
-StaysValid : List Entry → Type 0
-StaysValid entries = is_some (interpreted observe entries) ≡ true → is_some (interpreted observe (map emptied entries)) ≡ true
-
-one_by_one : (b : Bool) (entry : Entry) (entries : List Entry) → (entry.0 == observe) ≡ b → StaysValid entries → StaysValid (entry ∷ entries)
-unfolding StaysValid
-one_by_one true entry entries e h = λ k. rw (e, e) refl
-one_by_one false entry entries e h = λ k.
-    let behind : values_at observe (entry ∷ entries) ≡ values_at observe entries = rw e refl in
-    rw (e, e) (h (subst (λ (vs : List (List ℕ)). is_some (valid_of observe (first_of vs)) ≡ true) behind k))
-
-observe_stays : (entries : List Entry) → StaysValid entries
-unfolding StaysValid
-observe_stays [] = λ k. k
-observe_stays (entry ∷ entries) = one_by_one (entry.0 == observe) entry entries refl (observe_stays entries)
+observe_stays : (entries : List Entry) → is_some (interpreted observe entries) ≡ true → is_some (interpreted observe (emptied true entries)) ≡ true
+observe_stays entries = go (interpreted observe entries) refl
+  where
+    go : (o : Option (List ℕ)) → interpreted observe entries ≡ o → is_some o ≡ true → is_some (interpreted observe (emptied true entries)) ≡ true
+    go None e is = absurd (cc)
+    go (Some value) e is = rw (emptied_observe entries value e) refl
 
 still_notifies : (p : Parts) → is_notification p.code p.options ≡ true → is_notification p.code (inside (as_notified p)).options ≡ true
-unfolding StaysValid
 still_notifies p h =
     let (two, valid) = both_true (p.code / 32 == 2) _ h in
-    subst (λ (vs : List (List ℕ)). ((p.code / 32 == 2) && is_some (valid_of observe (first_of vs))) ≡ true) (sym (values_inside observe refl (map emptied p.options)))
+    subst (λ (vs : List (List ℕ)). ((p.code / 32 == 2) && is_some (valid_of observe (first_of vs))) ≡ true) (sym (values_inside observe refl (emptied true p.options)))
     (and_both (p.code / 32 == 2) _ two (observe_stays p.options valid))
 
 -- ---- the state of an exchange

@@ -8,6 +8,7 @@ pub mod Sides
 pub mod SealedLengths
 pub mod Supported
 pub mod Splits
+pub mod Observes
 pub mod Sealings
 pub mod SealedOpenings
 pub mod SealedForms

@@ -1,14 +1,16 @@
 -- What the proofs need of a protection, and that requests and responses have it.
-use Rattle.std.proofs.Common.{◌≡◌, ◌≢◌, ℕ, ◌+◌, Bool, List, length, refl, ap, Option, Some, arith, true, false, if◌then◌else◌}
+use Rattle.std.proofs.Common.{◌≡◌, ◌≢◌, ℕ, ◌+◌, ◌&&◌, Bool, List, length, refl, ap, Option, Some, arith, true, false, if◌then◌else◌}
 use Rattle.std.specs.Option.{unwrap_or}
+use Rattle.std.specs.Prelude.{is_some}
 use Rattle.osc_ccm.specs.Laws.{OnePlaintext, ProtectionLength}
 use Rattle.osc_coap.specs.Datagram.{Parts}
+use Rattle.osc_coap.specs.Interpreted.{interpreted}
+use Rattle.osc_coap.specs.OptionNumbers.{observe}
 use Rattle.osc_coap.specs.OptionSpelling.{Entry}
 use Rattle.osc_coap.specs.Search.{has_number}
 use Rattle.osc_context.specs.OscoreValue.{OscoreParts}
 use Rattle.osc_context.specs.SecurityContext.{SecurityContext}
 use Rattle.osc_context.specs.declared.features.Features.{Features}
-use Rattle.osc_protect.specs.OptionSets.{is_observe}
 use Rattle.osc_protect.specs.Protection.{Protection, request_cipher, requests, response_cipher, responses_to}
 use Rattle.osc_protect.specs.Usage.{is_complete, observing_code_of, outer_code_of, plain_code_of}
 use Rattle.osc_protect.proofs.Sides.{numbers_kept}
@@ -53,17 +55,16 @@ pub requests_keep : (s : SecurityContext) → KeepsNumbers (requests s)
 requests_keep s = record { code = λ p. refl; numbers = λ q p. refl }
 
 pub responses_keep : (s : SecurityContext) (r : Bool) (n : ℕ) → KeepsNumbers (responses_to s r n)
-responses_keep s true n = record { code = λ p. refl; numbers = λ q p. numbers_kept q p.options }
+responses_keep s true n = record { code = λ p. refl; numbers = λ q p. numbers_kept q true p.options }
 responses_keep s false n = record { code = λ p. refl; numbers = λ q p. refl }
 
 -- what holds of both codes outside holds of the one that is written
 pub of_outer_code : (P : ℕ → Type 0) (u : Usage) (x : Features) (entries : List Entry) → P (plain_code_of u) → P (observing_code_of u) → P (outer_code_of u x entries)
-of_outer_code P u x entries plain observing = chosen x.observe (has_number is_observe entries)
+of_outer_code P u x entries plain observing = chosen (x.observe && is_some (interpreted observe entries))
   where
-    chosen : (a b : Bool) → P (if a then (if b then observing_code_of u else plain_code_of u) else plain_code_of u)
-    chosen true true = observing
-    chosen true false = plain
-    chosen false b = plain
+    chosen : (b : Bool) → P (if b then observing_code_of u else plain_code_of u)
+    chosen true = observing
+    chosen false = plain
 
 -- no code outside is 0.00
 pub outer_code_some : (u : Usage) (x : Features) (entries : List Entry) → outer_code_of u x entries ≢ 0

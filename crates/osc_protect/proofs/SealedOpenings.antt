@@ -1,5 +1,5 @@
 -- What is sealed is a protection.
-use Rattle.std.proofs.Common.{◌≡◌, ℕ, ◌||◌, Bool, true, false, List, [], ◌∷◌, ◌++◌, refl, ap, ◌∙◌, inl, inr}
+use Rattle.std.proofs.Common.{◌≡◌, ℕ, Bool, true, false, List, [], ◌∷◌, ◌++◌, refl, ap, ◌∙◌, inl, inr}
 use Rattle.osc_coap.specs.Class.{class, is_inner, is_outer, inner_options}
 use Rattle.osc_coap.specs.OptionSpelling.{Entry}
 use Rattle.osc_coap.specs.declared.class.Class.{Class}
@@ -10,7 +10,7 @@ use Rattle.osc_coap.specs.Datagram.{Parts}
 use Rattle.osc_coap.specs.Search.{values_at, has_number}
 use Rattle.osc_coap.specs.OptionNumbers.{oscore}
 use Rattle.osc_context.specs.declared.features.Features.{Features}
-use Rattle.osc_protect.specs.OptionSets.{is_proxy, is_barred, is_left_out, is_outside, is_unsupported}
+use Rattle.osc_protect.specs.OptionSets.{is_proxy, is_barred, is_left_out, is_outside, is_unsupported, sought_behind}
 use Rattle.osc_protect.specs.Usage.{is_code_of, is_used, outer_code_of}
 use Rattle.osc_protect.specs.Protection.{Protection, Protects, notifications, requests, responses}
 use Rattle.osc_protect.specs.Sealed.{inside, options_outside, outside, IsSealed}
@@ -32,25 +32,25 @@ may_stand : (x : Features) (n : ℕ) → is_inner (class n) ≡ true → is_unsu
 may_stand x n i h = both_false (is_left_out x n) _ (supported x n h).0 (not_outer (class n) i)
 
 -- outside stands one OSCORE option
-outer_values : (x : Features) (entries : List Entry) (value : List ℕ) → has_number (is_unsupported x) entries ≡ false → values_at oscore (options_outside x entries ++ (oscore, value) ∷ []) ≡ value ∷ []
-outer_values x [] value h = refl
-outer_values x (entry ∷ entries) value h =
+outer_values : (x : Features) (sought : Bool) (entries : List Entry) (value : List ℕ) → has_number (is_unsupported x) entries ≡ false → values_at oscore (options_outside sought entries ++ (oscore, value) ∷ []) ≡ value ∷ []
+outer_values x sought [] value h = refl
+outer_values x sought (entry ∷ entries) value h =
     let both = neither (is_unsupported x entry.0) (has_number (is_unsupported x) entries) h in
     let other = (supported x entry.0 both.0).2 in
-    let rest = outer_values x entries value both.1 in
-    elim (chosen (is_outside x entry.0)) [
+    let rest = outer_values x (sought_behind sought entry) entries value both.1 in
+    elim (chosen (is_outside sought entry)) [
       | inl is ↦ rw (is, other) rest
       | inr isnt ↦ rw isnt rest
     ]
 
 -- and none for proxies
-outer_direct : (x : Features) (entries : List Entry) (value : List ℕ) → has_number (is_unsupported x) entries ≡ false → has_number is_proxy (options_outside x entries ++ (oscore, value) ∷ []) ≡ false
-outer_direct x [] value h = refl
-outer_direct x (entry ∷ entries) value h =
+outer_direct : (x : Features) (sought : Bool) (entries : List Entry) (value : List ℕ) → has_number (is_unsupported x) entries ≡ false → has_number is_proxy (options_outside sought entries ++ (oscore, value) ∷ []) ≡ false
+outer_direct x sought [] value h = refl
+outer_direct x sought (entry ∷ entries) value h =
     let both = neither (is_unsupported x entry.0) (has_number (is_unsupported x) entries) h in
     let none = (supported x entry.0 both.0).1 in
-    let rest = outer_direct x entries value both.1 in
-    elim (chosen (is_outside x entry.0)) [
+    let rest = outer_direct x (sought_behind sought entry) entries value both.1 in
+    elim (chosen (is_outside sought entry)) [
       | inl is ↦ rw is (both_false (is_proxy entry.0) _ none rest)
       | inr isnt ↦ rw isnt rest
     ]
@@ -88,9 +88,9 @@ module _ {I : Type 0} (f : Protection I) (keeps : KeepsNumbers f) (i : I) (p : P
         datagram = x.holds.2;
         used = of_usage.0;
         value = x.value;
-        single = outer_values f.features p.options x.value supported;
+        single = outer_values f.features f.features.observe p.options x.value supported;
         reads = x.reads;
-        direct = outer_direct f.features p.options x.value supported;
+        direct = outer_direct f.features f.features.observe p.options x.value supported;
         code = ap (is_code_of f.usage) (keeps.code p) ∙ of_usage.1;
         allowed = inner_allowed f.features (f.says p).options (keeps.numbers (is_unsupported f.features) p ∙ supported);
         plaintext = x.holds.0;

@@ -1,5 +1,5 @@
 -- The options of one side, and that a writer takes them.
-use Rattle.std.proofs.Common.{◌≡◌, ◌≢◌, ℕ, ◌+◌, ◌≤◌, ◌==◌, ◌&&◌, ◌||◌, ◌⊎◌, Bool, true, false, List, [], ◌∷◌, ◌++◌, filter, refl, sym, ap, subst, arith, inl, inr, append_assoc, Result, Err, IsOk}
+use Rattle.std.proofs.Common.{◌≡◌, ◌≢◌, ℕ, ◌+◌, ◌≤◌, ◌==◌, ◌&&◌, ◌||◌, ◌⊎◌, Bool, true, false, List, [], ◌∷◌, ◌++◌, refl, sym, ap, subst, arith, inl, inr, append_assoc, Result, Err, IsOk}
 use Rattle.std.proofs.lemmas.Bool.{eqb-true}
 use Rattle.osc_coap.specs.Class.{class, is_outer}
 use Rattle.osc_coap.specs.Datagram.{Parts, datagram_length}
@@ -7,15 +7,15 @@ use Rattle.osc_coap.specs.Inner.{inner_length}
 use Rattle.osc_coap.specs.OptionSpelling.{Entry, Ascends, last_number, spelling_length}
 use Rattle.osc_coap.specs.Writing.{Draft, Datagram, Plaintext, TakesOption, TakesPayload, bare, bare_inner, options_of, length_of, with_option, with_options}
 use Rattle.osc_coap.specs.Search.{has_number}
-use Rattle.osc_coap.specs.OptionNumbers.{oscore}
+use Rattle.osc_coap.specs.OptionNumbers.{observe, oscore}
 use Rattle.osc_context.specs.declared.features.Features.{Features}
-use Rattle.osc_protect.specs.OptionSets.{is_left_out, is_observe, is_outside, is_proxy, is_unsupported}
+use Rattle.osc_protect.specs.OptionSets.{counts_as_observe, is_left_out, is_outside, is_proxy, is_unsupported, sought_behind}
 use Rattle.osc_protect.specs.Sealed.{inside, options_outside, outside}
-use Rattle.osc_protect.specs.Split.{TakesAll, entry_on, options_on, said, stands_on}
+use Rattle.osc_protect.specs.Split.{TakesAll, entry_on, options_on, said, side_behind, stands_on}
 use Rattle.osc_protect.specs.declared.split.Side.{Side}
 use Rattle.osc_protect.specs.declared.split.Side.TheVariants.{Outside, Inside}
 use Rattle.osc_protect.proofs.SealedLengths.{spelled_append}
-use Rattle.osc_protect.proofs.Sides.{inside_length, inside_read, number_on, outside_read}
+use Rattle.osc_protect.proofs.Sides.{inside_length, inside_read, number_on, outside_options, outside_read}
 
 -- one of two
 pub chosen : (b : Bool) → (b ≡ true) ⊎ (b ≡ false)
@@ -52,26 +52,30 @@ one_of false b h = inr h
 outer_below : (n : ℕ) → is_outer (class n) ≡ true → is_proxy n ≡ false → n ≤ oscore
 outer_below n u p = grind (arith, u, p)
 
--- Observe comes before it
-observe_below : (b : Bool) (n : ℕ) → (b && is_observe n) ≡ true → n ≤ oscore
-observe_below true n h = let e = eqb-true _ _ h in omega (arith, e)
-observe_below false n h = absurd (cc)
+-- both of two
+pub both_hold : (a b : Bool) → (a && b) ≡ true → (a ≡ true) × (b ≡ true)
+both_hold true b h = (refl, h)
+both_hold false b h = absurd (cc)
+
+-- what counts as Observe has its number
+pub observe_number : (sought : Bool) (entry : Entry) → counts_as_observe sought entry ≡ true → entry.0 ≡ observe
+observe_number sought entry h = eqb-true _ _ (both_hold (entry.0 == observe) _ (both_hold sought _ h).1).0
 
 -- so does an option outside that can be sealed
-below : (x : Features) (n : ℕ) → is_outside x n ≡ true → is_unsupported x n ≡ false → n ≤ oscore
-below x n u s = elim (one_of (x.observe && is_observe n) (is_outer (class n)) u) [
-  | inl h ↦ observe_below x.observe n h
-  | inr h ↦ outer_below n h (supported x n s).1
+below : (x : Features) (sought : Bool) (entry : Entry) → is_outside sought entry ≡ true → is_unsupported x entry.0 ≡ false → entry.0 ≤ oscore
+below x sought entry u s = elim (one_of (counts_as_observe sought entry) (is_outer (class entry.0)) u) [
+  | inl h ↦ let e = observe_number sought entry h in omega (arith, e)
+  | inr h ↦ outer_below entry.0 h (supported x entry.0 s).1
 ]
 
 -- so do all of them
-pub all_below : (x : Features) (d : ℕ) (entries : List Entry) → d ≤ oscore → has_number (is_unsupported x) entries ≡ false → last_number d (options_outside x entries) ≤ oscore
-all_below x d [] le h = le
-all_below x d (entry ∷ entries) le h =
+pub all_below : (x : Features) (sought : Bool) (d : ℕ) (entries : List Entry) → d ≤ oscore → has_number (is_unsupported x) entries ≡ false → last_number d (options_outside sought entries) ≤ oscore
+all_below x sought d [] le h = le
+all_below x sought d (entry ∷ entries) le h =
     let both = neither (is_unsupported x entry.0) (has_number (is_unsupported x) entries) h in
-    elim (chosen (is_outside x entry.0)) [
-      | inl is ↦ rw is (all_below x entry.0 entries (below x entry.0 is both.0) both.1)
-      | inr isnt ↦ rw isnt (all_below x d entries le both.1)
+    elim (chosen (is_outside sought entry)) [
+      | inl is ↦ rw is (all_below x (sought_behind sought entry) entry.0 entries (below x sought entry is both.0) both.1)
+      | inr isnt ↦ rw isnt (all_below x (sought_behind sought entry) d entries le both.1)
     ]
 
 -- ---- order
@@ -79,14 +83,6 @@ all_below x d (entry ∷ entries) le h =
 weaker : (d k : ℕ) (entries : List Entry) → d ≤ k → Ascends k entries → Ascends d entries
 weaker d k [] le up = tt
 weaker d k (entry ∷ entries) le up = let low = up.0 in (omega (arith, low), up.1, up.2)
-
--- some of the options ascend too
-pub some_ascend : (q : Entry → Bool) (d : ℕ) (entries : List Entry) → Ascends d entries → Ascends d (filter q entries)
-some_ascend q d [] up = tt
-some_ascend q d (entry ∷ entries) up = elim (chosen (q entry)) [
-  | inl is ↦ rw is (up.0, up.1, some_ascend q entry.0 entries up.2)
-  | inr isnt ↦ rw isnt (some_ascend q d entries (weaker d entry.0 entries up.0 up.2))
-]
 
 -- an option comes after those before it
 comes_after : (d : ℕ) (done : List Entry) (entry : Entry) (rest : List Entry) → Ascends d (done ++ entry ∷ rest) → last_number d done ≤ entry.0
@@ -109,8 +105,12 @@ part_fits d done entry rest = sums _ _ _ _ _ (spelled_append d done (entry ∷ [
 -- ---- what a writer takes
 
 -- the options of a side with one of them in front
-pub some_more : (side : Side) (entry : Entry) (entries : List Entry) → stands_on side entry.0 ≡ true → options_on side (entry ∷ entries) ≡ entry_on side entry ∷ options_on side entries
+pub some_more : (side : Side) (entry : Entry) (entries : List Entry) → stands_on side entry ≡ true → options_on side (entry ∷ entries) ≡ entry_on side entry ∷ options_on (side_behind side entry) entries
 some_more side entry entries h = rw h refl
+
+-- without it where it doesn't stand there
+pub none_more : (side : Side) (entry : Entry) (entries : List Entry) → stands_on side entry ≡ false → options_on side (entry ∷ entries) ≡ options_on (side_behind side entry) entries
+none_more side entry entries h = rw h refl
 
 -- the last number of a draft with options more
 last_with : (draft : Draft) (done : List Entry) → last_number 0 (options_of (with_options draft done)) ≡ last_number (last_number 0 (options_of draft)) done
@@ -169,36 +169,36 @@ pub taken_either : {T E : Type 0} (bytes : List ℕ) (r : Result T E) → (bytes
 taken_either [] r empty some = empty refl
 taken_either (x ∷ bytes) r empty some = some (λ e. cc)
 
+-- the options of a side ascend
+side_ascends : (side : Side) (d : ℕ) (entries : List Entry) → Ascends d entries → Ascends d (options_on side entries)
+side_ascends side d [] up = tt
+side_ascends side d (entry ∷ entries) up = elim (chosen (stands_on side entry)) [
+  | inl is ↦ rw is (subst (λ (n : ℕ). (d ≤ n) × (n ≤ 65535) × Ascends n (options_on (side_behind side entry) entries)) (sym (number_on side entry)) (up.0, up.1, side_ascends (side_behind side entry) entry.0 entries up.2))
+  | inr isnt ↦ rw isnt (side_ascends (side_behind side entry) d entries (weaker d entry.0 entries up.0 up.2))
+]
+
 -- the options outside have their room behind a head
 pub outside_takes : (x : Features) (p : Parts) (code : ℕ) (value : List ℕ) (os : List Entry) (room : ℕ) → os ≡ p.options → code ≢ 0 → Ascends 0 p.options
     → datagram_length (outside x p code value []) ≤ room → datagram_length (outside x p code value []) ≤ 65535
-    → TakesAll room (Datagram (bare p.kind code p.message_id p.token)) (options_on (Outside x) os)
+    → TakesAll room (Datagram (bare p.kind code p.message_id p.token)) (options_on (Outside x.observe) os)
 outside_takes x p code value os room e some up in_room in_all =
-    let all = spelled_append 0 (options_outside x p.options) ((oscore, value) ∷ []) in
-    let same = outside_read x p os e in
+    let all = spelled_append 0 (options_outside x.observe p.options) ((oscore, value) ∷ []) in
+    let same = outside_read x.observe p os e in
     subst (λ (es : List Entry). TakesAll room (Datagram (bare p.kind code p.message_id p.token)) es) (sym same) (record {
       filled = some;
       unfinished = refl;
-      ascends = some_ascend (λ entry. is_outside x entry.0) 0 p.options up;
+      ascends = subst (Ascends 0) (outside_options x.observe p.options) (side_ascends (Outside x.observe) 0 p.options up);
       has_room = (omega (arith, all, in_room), omega (arith, all, in_all));
     })
 
 -- the OSCORE option has its room behind them
 pub oscore_takes : (x : Features) (p : Parts) (code : ℕ) (value : List ℕ) (os : List Entry) (room : ℕ) → os ≡ p.options → code ≢ 0 → has_number (is_unsupported x) p.options ≡ false
     → datagram_length (outside x p code value []) ≤ room → datagram_length (outside x p code value []) ≤ 65535
-    → TakesOption room (with_options (Datagram (bare p.kind code p.message_id p.token)) (options_on (Outside x) os)) oscore value
+    → TakesOption room (with_options (Datagram (bare p.kind code p.message_id p.token)) (options_on (Outside x.observe) os)) oscore value
 oscore_takes x p code value os room e some none in_room in_all =
-    let same = outside_read x p os e in
+    let same = outside_read x.observe p os e in
     subst (λ (es : List Entry). TakesOption room (with_options (Datagram (bare p.kind code p.message_id p.token)) es) 9 value) (sym same)
-    (some, refl, all_below x 0 p.options (omega arith) none, (in_room, in_all))
-
--- the options of a side ascend
-side_ascends : (side : Side) (d : ℕ) (entries : List Entry) → Ascends d entries → Ascends d (options_on side entries)
-side_ascends side d [] up = tt
-side_ascends side d (entry ∷ entries) up = elim (chosen (stands_on side entry.0)) [
-  | inl is ↦ rw is (subst (λ (n : ℕ). (d ≤ n) × (n ≤ 65535) × Ascends n (options_on side entries)) (sym (number_on side entry)) (up.0, up.1, side_ascends side entry.0 entries up.2))
-  | inr isnt ↦ rw isnt (side_ascends side d entries (weaker d entry.0 entries up.0 up.2))
-]
+    (some, refl, all_below x x.observe 0 p.options (omega arith) none, (in_room, in_all))
 
 -- the options inside have their room behind the code
 pub inside_takes : (notifies : Bool) (p : Parts) (os : List Entry) (room : ℕ) → os ≡ p.options → Ascends 0 p.options

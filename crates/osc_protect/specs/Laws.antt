@@ -1,11 +1,13 @@
 -- To be believed: what holds for all datagrams of requests and of responses (RFC 8613, 8): contracts of laws.rt. f and g are protections of
 -- one usage, i, j and k are their numbers, u is a usage, s and t are security contexts, x is features, d a datagram, h a head, o and q are
 -- opened messages.
-use Rattle.std.specs.Prelude.{◌≡◌, ◌+◌, ◌<◌, ◌≤◌, ◌⊎◌, ◌^◌, ◌==◌, ◌||◌, ℕ, true, false, List, [], ◌∷◌, ◌++◌, length, Option, IfSome}
+use Rattle.std.specs.Prelude.{◌≡◌, ◌+◌, ◌<◌, ◌≤◌, ◌⊎◌, ◌^◌, ◌==◌, ◌||◌, ℕ, true, false, List, [], ◌∷◌, ◌++◌, length, Option, Some, None, IfSome}
 use Rattle.osc_coap.specs.Datagram.{Parts, datagram_length}
 use Rattle.osc_coap.specs.Inner.{InnerParts, inner_length}
 use Rattle.osc_coap.specs.Class.{class, is_outer, outer_options}
+use Rattle.osc_coap.specs.Interpreted.{interpreted}
 use Rattle.osc_coap.specs.OptionSpelling.{Entry}
+use Rattle.osc_coap.specs.Search.{values_at}
 use Rattle.osc_coap.specs.OptionNumbers.{block1, block2, observe, oscore}
 use Rattle.osc_ccm.specs.Ccm.{tag_length}
 use Rattle.osc_context.specs.Features.{no_features, unobserved}
@@ -168,7 +170,15 @@ pub record LeavesOut : Type 0 where
   pub with_observe : (n : ℕ) → is_left_out (record { observe = true; blocks = false }) n ≡ ((n == block2) || (n == block1))
   pub with_both : (n : ℕ) → is_left_out (record { observe = true; blocks = true }) n ≡ false
   pub without : unobserved no_features ≡ no_features
-  pub outside_alone : (x : Features) (n : ℕ) → is_outside (unobserved x) n ≡ is_outer (class n)
+  pub outside_alone : (x : Features) (entry : Entry) → is_outside (unobserved x).observe entry ≡ is_outer (class entry.0)
   pub code : (u : Usage) (x : Features) (entries : List Entry) → outer_code_of u (unobserved x) entries ≡ plain_code_of u
   pub outer : (x : Features) (p : Parts) (code : ℕ) (value payload : List ℕ) → outside (unobserved x) p code value payload ≡ plain_outside p code value payload
   pub long : (x : Features) (p : Parts) (value : List ℕ) → sealed_length (unobserved x) as_it_is p value ≡ datagram_length (plain_outside p p.code value []) + (1 + (inner_length (inside p) + tag_length))
+
+-- of the Observe options of a message the one that is interpreted stands outside, if the features have Observe, and no other one; in a notification it is so with an empty value inside; where none is interpreted, the message is sealed as one without Observe (RFC 7252, 5.4.3 and 5.4.5; RFC 8613, 4.1.3.5)
+pub record OneObserve : Type 0 where
+  pub stands_outside : (x : Features) (p : Parts) (code : ℕ) (value payload observed : List ℕ) → x.observe ≡ true → interpreted observe p.options ≡ Some observed
+      → values_at observe (outside x p code value payload).options ≡ observed ∷ []
+  pub emptied_inside : (p : Parts) (observed : List ℕ) → interpreted observe p.options ≡ Some observed → interpreted observe (as_notified p).options ≡ Some []
+  pub unknown : (x : Features) (p : Parts) (code : ℕ) (value payload : List ℕ) → interpreted observe p.options ≡ None
+      → (outside x p code value payload ≡ plain_outside p code value payload) × (as_notified p ≡ p)

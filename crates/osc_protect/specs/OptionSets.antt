@@ -1,8 +1,10 @@
 -- To be believed: which options a protected message doesn't have at all, doesn't have inside, or has outside (RFC 8613, 4.1). n is the
--- number of an option, x the features of the context.
-use Rattle.std.specs.Prelude.{ℕ, ◌==◌, ◌||◌, ◌&&◌, Bool, not}
+-- number of an option, x the features of the context; sought says that they have Observe, and that none came before the option.
+use Rattle.std.specs.Prelude.{ℕ, ◌==◌, ◌||◌, ◌&&◌, Bool, length, not}
 use Rattle.osc_coap.specs.Class.{class, is_outer}
+use Rattle.osc_coap.specs.Interpreted.{is_valid_length}
 use Rattle.osc_coap.specs.OptionNumbers.{block1, block2, observe, oscore, proxy_scheme, proxy_uri}
+use Rattle.osc_coap.specs.OptionSpelling.{Entry}
 use Rattle.osc_context.specs.declared.features.Features.{Features}
 
 -- the option is Observe (RFC 7641, 2)
@@ -25,6 +27,14 @@ is_unsupported x n = is_left_out x n || is_proxy n || (n == oscore)
 abbrev pub is_barred : Features → ℕ → Bool
 is_barred x n = is_left_out x n || is_outer (class n)
 
--- the option stands outside: it is of class U, or it is Observe, which stands inside too (RFC 8613, 4.1.2 and 4.1.3.5)
-abbrev pub is_outside : Features → ℕ → Bool
-is_outside x n = (x.observe && is_observe n) || is_outer (class n)
+-- the option counts as Observe: one is sought, and this is one, with a valid value (RFC 7252, 5.4.3; RFC 7641, 2)
+abbrev pub counts_as_observe : Bool → Entry → Bool
+counts_as_observe sought entry = sought && (is_observe entry.0 && is_valid_length observe (length entry.1))
+
+-- whether Observe is sought behind this option: a further one is as if unknown (RFC 7252, 5.4.5)
+abbrev pub sought_behind : Bool → Entry → Bool
+sought_behind sought entry = sought && not (is_observe entry.0)
+
+-- the option stands outside: it is of class U, or it counts as Observe, which stands inside too (RFC 8613, 4.1.2 and 4.1.3.5)
+abbrev pub is_outside : Bool → Entry → Bool
+is_outside sought entry = counts_as_observe sought entry || is_outer (class entry.0)

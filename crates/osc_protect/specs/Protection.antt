@@ -1,7 +1,7 @@
 -- To be believed: what protects a request, and what protects a response to it (RFC 8613, 5 and 8.1 to 8.4). s is a security context, n the
 -- request's number, own the response's own number or none, d a datagram, p what a plain message says; a message is its code, inner options
 -- and payload. In these names, a notification is any response to a request that registers an observation (RFC 7641, 3.1).
-use Rattle.std.specs.Prelude.{◌≡◌, ℕ, List, [], ◌∷◌, map, Option, Some, None, Bool, true, false, if◌then◌else◌}
+use Rattle.std.specs.Prelude.{◌≡◌, ℕ, List, [], ◌∷◌, Option, Some, None, Bool, true, false, if◌then◌else◌}
 use Rattle.osc_coap.specs.OptionSpelling.{Entry}
 use Rattle.osc_coap.specs.Datagram.{Parts, IsDatagram}
 use Rattle.osc_coap.specs.Inner.{InnerParts, IsInner}
@@ -14,7 +14,7 @@ use Rattle.osc_coap.specs.Search.{values_at, has_number}
 use Rattle.osc_coap.specs.OptionNumbers.{oscore}
 use Rattle.osc_context.specs.Features.{unobserved}
 use Rattle.osc_context.specs.declared.features.Features.{Features}
-use Rattle.osc_protect.specs.OptionSets.{is_proxy, is_barred, is_observe}
+use Rattle.osc_protect.specs.OptionSets.{counts_as_observe, is_proxy, is_barred, sought_behind}
 use Rattle.osc_protect.specs.Usage.{is_code_of, is_used, value_of_request, value_of_response}
 use Rattle.osc_protect.specs.declared.usage.Usage.{Usage}
 use Rattle.osc_protect.specs.declared.usage.Usage.TheVariants.{Request, Response}
@@ -36,13 +36,14 @@ response_cipher s n own plaintext = ccm s.server_key (response_nonce s.common_iv
 abbrev pub as_it_is : Parts → Parts
 as_it_is p = p
 
--- an option; if it is Observe, with an empty value (RFC 8613, 4.1.3.5.2)
-abbrev pub emptied : Entry → Entry
-emptied entry = if is_observe entry.0 then (entry.0, []) else entry
+-- the options; the one that counts as Observe has an empty value (RFC 8613, 4.1.3.5.2)
+abbrev pub emptied : Bool → List Entry → List Entry
+emptied sought [] = []
+emptied sought (entry ∷ entries) = (if counts_as_observe sought entry then (entry.0, []) else entry) ∷ emptied (sought_behind sought entry) entries
 
 -- the message whose inner part is protected, for a notification: the plain one, with an empty value in its Observe option (RFC 8613, 4.1.3.5.2)
 abbrev pub as_notified : Parts → Parts
-as_notified p = record p { options = map emptied p.options }
+as_notified p = record p { options = emptied true p.options }
 
 -- how messages are protected: their usage, the features that count for them, what they say inside for a plain message, and for each number the cipher and what the OSCORE option says (RFC 8613, 5 and 6)
 pub record Protection (I : Type 0) : Type 0 where

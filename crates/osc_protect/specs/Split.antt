@@ -5,8 +5,8 @@ use Rattle.osc_coap.specs.Class.{class, is_inner}
 use Rattle.osc_coap.specs.Datagram.{Parts}
 use Rattle.osc_coap.specs.OptionSpelling.{Entry, Ascends, last_number}
 use Rattle.osc_coap.specs.Writing.{Draft, HasRoom, IsEmptyMessage, length_of, options_of, payload_of, with_options}
-use Rattle.osc_protect.specs.OptionSets.{is_outside}
-use Rattle.osc_protect.specs.Protection.{as_it_is, as_notified, emptied}
+use Rattle.osc_protect.specs.OptionSets.{counts_as_observe, is_outside, sought_behind}
+use Rattle.osc_protect.specs.Protection.{as_it_is, as_notified}
 use Rattle.osc_protect.specs.declared.split.Side.{Side}
 use Rattle.osc_protect.specs.declared.split.Side.TheVariants.{Outside, Inside}
 
@@ -14,20 +14,26 @@ use Rattle.osc_protect.specs.declared.split.Side.TheVariants.{Outside, Inside}
 abbrev pub said : Bool → Parts → Parts
 said notifies = if notifies then as_notified else as_it_is
 
--- options of this number stand on this side (RFC 8613, 4.1)
-abbrev pub stands_on : Side → ℕ → Bool
-stands_on (Outside x) n = is_outside x n
-stands_on (Inside notifies) n = is_inner (class n)
+-- the option stands on this side (RFC 8613, 4.1)
+abbrev pub stands_on : Side → Entry → Bool
+stands_on (Outside sought) entry = is_outside sought entry
+stands_on (Inside sought) entry = is_inner (class entry.0)
 
--- an option as it stands on this side (RFC 8613, 4.1.3.5.2)
+-- the option as it stands on this side (RFC 8613, 4.1.3.5.2)
 abbrev pub entry_on : Side → Entry → Entry
-entry_on (Outside x) entry = entry
-entry_on (Inside notifies) entry = if notifies then emptied entry else entry
+entry_on (Outside sought) entry = entry
+entry_on (Inside sought) entry = if counts_as_observe sought entry then (entry.0, []) else entry
+
+-- the side behind this option (RFC 7252, 5.4.5)
+abbrev pub side_behind : Side → Entry → Side
+side_behind (Outside sought) entry = Outside (sought_behind sought entry)
+side_behind (Inside sought) entry = Inside (sought_behind sought entry)
 
 -- the options as they stand on this side, in order (RFC 8613, 4.1)
 abbrev pub options_on : Side → List Entry → List Entry
 options_on side [] = []
-options_on side (entry ∷ entries) = if stands_on side entry.0 then entry_on side entry ∷ options_on side entries else options_on side entries
+options_on side (entry ∷ entries) =
+    if stands_on side entry then entry_on side entry ∷ options_on (side_behind side entry) entries else options_on (side_behind side entry) entries
 
 -- these options can follow a draft in a buffer of this length (RFC 7252, 3.1)
 pub record TakesAll (room : ℕ) (draft : Draft) (entries : List Entry) : Type 0 where

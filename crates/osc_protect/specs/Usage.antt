@@ -3,12 +3,12 @@
 use Rattle.std.specs.Prelude.{ℕ, ◌/◌, ◌==◌, ◌&&◌, Bool, List, Option, Some, None, is_none, is_some, if◌then◌else◌}
 use Rattle.osc_coap.specs.declared.message.Kind.{Kind}
 use Rattle.osc_coap.specs.OptionSpelling.{Entry}
-use Rattle.osc_coap.specs.Search.{has_number}
+use Rattle.osc_coap.specs.Interpreted.{interpreted}
+use Rattle.osc_coap.specs.OptionNumbers.{observe}
 use Rattle.osc_context.specs.Features.{unobserved}
 use Rattle.osc_context.specs.OscoreValue.{OscoreParts}
 use Rattle.osc_context.specs.declared.features.Features.{Features}
 use Rattle.osc_coap.specs.Code.{is_request, is_request_code, is_response, is_response_code}
-use Rattle.osc_protect.specs.OptionSets.{is_observe}
 use Rattle.osc_protect.specs.declared.usage.Usage.{Usage}
 use Rattle.osc_protect.specs.declared.usage.Usage.TheVariants.{Request, Response}
 
@@ -37,9 +37,9 @@ abbrev pub observing_code_of : Usage → ℕ
 observing_code_of Request = 5
 observing_code_of Response = 69
 
--- the outer code of a sealed message that has these options, for a context with these features (RFC 8613, 4.1.3.5 and 4.2)
+-- the outer code of a sealed message that has these options, for a context with these features (RFC 7252, 5.4.3; RFC 8613, 4.1.3.5 and 4.2)
 abbrev pub outer_code_of : Usage → Features → List Entry → ℕ
-outer_code_of u x entries = if x.observe then (if has_number is_observe entries then observing_code_of u else plain_code_of u) else plain_code_of u
+outer_code_of u x entries = if x.observe && is_some (interpreted observe entries) then observing_code_of u else plain_code_of u
 
 -- a request has a Partial IV and a kid; own rule: a response has neither kid nor kid context (RFC 8613, 5 and 8.3)
 abbrev pub is_complete : Usage → OscoreParts → Bool

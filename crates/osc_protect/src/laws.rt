@@ -2,7 +2,7 @@
 //! caller.
 
 ghost use Rattle.osc_protect.specs.CipherLaws.{OneRequestInput, OneResponseInput};
-ghost use Rattle.osc_protect.specs.Laws.{LeavesOut, NamedNotificationRefusals, NamedRequestRefusals, NamedResponseRefusals, NamesOneClient, NotificationsShowHeads, OneNotification, OneNotificationReading, OneRequest, OneRequestHead, OneRequestReading, OneResponse, OneResponseHead, OneResponseReading, OneSealed, RequestsShowHeads, ResponsesShowHeads, SealedOpens};
+ghost use Rattle.osc_protect.specs.Laws.{LeavesOut, NamedNotificationRefusals, NamedRequestRefusals, NamedResponseRefusals, NamesOneClient, NotificationsShowHeads, OneNotification, OneNotificationReading, OneObserve, OneRequest, OneRequestHead, OneRequestReading, OneResponse, OneResponseHead, OneResponseReading, OneSealed, RequestsShowHeads, ResponsesShowHeads, SealedOpens};
 ghost use Rattle.osc_protect.specs.Layers.{LayerLaws};
 
 use osc_ccm::{one_plaintext, protection_length};
@@ -34,6 +34,13 @@ pub fn one_head()
 /// (own rule; RFC 8613, 4.1.2 and 4.2).
 pub fn options_left_out()
     ensures { LeavesOut }
+{}
+
+/// States that of the Observe options of a message the first one counts, if its value has at most 3 bytes: it alone stands outside, and in a
+/// notification it has an empty value inside. Where none counts, the message is sealed as one without Observe (RFC 7252, 5.4.3 and 5.4.5;
+/// RFC 7641, 2; RFC 8613, 4.1.3.5).
+pub fn one_observe()
+    ensures { OneObserve }
 {}
 
 /// States that two contexts that one request head names have the same client, and the same ID Context or both none (RFC 8613, 8.2).

@@ -1,72 +1,82 @@
 //! The length of a sealed message, known before a byte is written.
 
-ghost use Rattle.std.specs.Prelude.{◌≡◌, ◌+◌, ◌-◌, ◌<◌, ◌≤◌, ◌⊎◌, if◌then◌else◌, true, length, IfErr, IfNone, IfSome, IsOk};
-ghost use Rattle.osc_coap.specs.OptionSpelling.{last_number, marked, option_length, spelling_length};
+ghost use Rattle.std.specs.Prelude.{◌≡◌, ◌+◌, ◌<◌, ◌≤◌, ◌⊎◌, ◌∷◌, List, length, IfErr, IfNone, IfSome, IsOk};
+ghost use Rattle.osc_coap.specs.OptionSpelling.{Entry, last_number, marked, spelling_length};
 ghost use Rattle.osc_coap.specs.Views.{options_left, parts_of};
-ghost use Rattle.osc_protect.specs.Sealed.{options_outside, sealed_length};
+ghost use Rattle.osc_protect.specs.Sealed.{sealed_length};
 ghost use Rattle.osc_protect.specs.SealRefusals.{RefusesSize};
 ghost use Rattle.osc_protect.specs.Split.{options_on, said};
-ghost use Rattle.osc_protect.specs.declared.split.Side.TheVariants.{Inside};
+ghost use Rattle.osc_protect.specs.declared.split.Side.TheVariants.{Inside, Outside};
 
 use crate::family::Family;
-use crate::option_sets::sides_of;
 use crate::protect_error::ProtectError;
-use crate::split::{Side, value_on};
+use crate::split::Side;
 use osc_ccm::TAG_LEN;
 use osc_coap::option_numbers::OSCORE;
 use osc_coap::{MOST_DATAGRAM, Message, Options, head_len, option_len};
 
-/// A count over a list of options so far: the number of the last option, and the bytes up to there.
+/// A count over the options that stand on a side, up to a place: the side from there on, the number of the last option, and their bytes.
 #[derive(Clone, Copy)]
 struct Tally {
+    side: Side,
     number: u16,
     len: usize,
 }
 
-/// The count before the first option.
-const NO_OPTIONS: Tally = Tally { number: 0, len: 0 };
-
 impl Tally {
-    /// Adds one option, if it is to be counted. Returns `None` if the sum is more than a datagram can hold.
-    fn with(self, counts: bool, number: u16, value_len: usize) -> Option<Tally>
-        requires { self.len ≤ 65535 }
-        ensures number { IfSome result (λ t. t.number ≡ (if counts then number else self.number)) }
-        ensures length { IfSome result (λ t. t.len ≡ (if counts then self.len + option_length (number - self.number) value_len else self.len)) }
-        ensures fits { IfSome result (λ t. t.len ≤ 65535) }
-        ensures counted { IfNone result (counts ≡ true) }
-        ensures too_long { IfNone result (65535 < self.len + option_length (number - self.number) value_len) }
+    /// The count before the first option.
+    fn of(side: Side) -> Tally
+        ensures { (result.side ≡ side) × (result.number ≡ 0) × (result.len ≡ 0) }
     {
-        if !counts {
-            return Some(self);
+        Tally {
+            side,
+            number: 0,
+            len: 0,
         }
-        if value_len > MOST_DATAGRAM {
+    }
+
+    /// Adds one option, if it stands on the side. Returns `None` if the sum is more than a datagram can hold.
+    fn and(self, number: u16, value: &[u8]) -> Option<Tally>
+        requires { self.len ≤ 65535 }
+        ensures length { IfSome result (λ t. (rest : List Entry) → t.len + spelling_length t.number (options_on t.side rest)
+            ≡ self.len + spelling_length self.number (options_on self.side ((number, value.now) ∷ rest))) }
+        ensures last { IfSome result (λ t. (rest : List Entry) → last_number t.number (options_on t.side rest)
+            ≡ last_number self.number (options_on self.side ((number, value.now) ∷ rest))) }
+        ensures fits { IfSome result (λ t. t.len ≤ 65535) }
+        ensures too_long { IfNone result ((rest : List Entry)
+            → 65535 < self.len + spelling_length self.number (options_on self.side ((number, value.now) ∷ rest))) }
+    {
+        let side = self.side.behind(number);
+        if !self.side.takes(number, value) {
+            return Some(Tally { side, ..self });
+        }
+        let value = self.side.value(number, value);
+        if value.len() > MOST_DATAGRAM {
             return None;
         }
-        let len = self.len + option_len(number.saturating_sub(self.number), value_len as u16);
+        let len = self.len + option_len(number.saturating_sub(self.number), value.len() as u16);
         if len > MOST_DATAGRAM {
             return None;
         }
-        Some(Tally { number, len })
+        Some(Tally { side, number, len })
     }
 }
 
 /// Counts the outer and the inner options. Returns `None` if either of the two lists is longer than a datagram can be.
 fn tally_options(family: Family, options: Options<'_>) -> Option<(Tally, Tally)>
-    ensures outer { IfSome result (λ t. t.0.len ≡ spelling_length 0 (options_outside family.features (options_left options.entry))) }
-    ensures last { IfSome result (λ t. t.0.number ≡ last_number 0 (options_outside family.features (options_left options.entry))) }
+    ensures outer { IfSome result (λ t. t.0.len ≡ spelling_length 0 (options_on (Outside family.features.observe) (options_left options.entry))) }
+    ensures last { IfSome result (λ t. t.0.number ≡ last_number 0 (options_on (Outside family.features.observe) (options_left options.entry))) }
     ensures inner { IfSome result (λ t. t.1.len ≡ spelling_length 0 (options_on (Inside family.notifies) (options_left options.entry))) }
     ensures fits { IfSome result (λ t. (t.0.len ≤ 65535) × (t.1.len ≤ 65535)) }
     ensures too_long { IfNone result
-        ((65535 < spelling_length 0 (options_outside family.features (options_left options.entry)))
+        ((65535 < spelling_length 0 (options_on (Outside family.features.observe) (options_left options.entry)))
         ⊎ (65535 < spelling_length 0 (options_on (Inside family.notifies) (options_left options.entry)))) }
 {
-    let mut outer = NO_OPTIONS;
-    let mut inner = NO_OPTIONS;
+    let mut outer = Tally::of(Side::Outside(family.features.observe));
+    let mut inner = Tally::of(Side::Inside(family.notifies));
     for (number, value) in options {
-        let (is_outer, is_inner) = sides_of(family.features, number);
-        let inner_value = value_on(Side::Inside(family.notifies), number, value);
-        outer = outer.with(is_outer, number, value.len())?;
-        inner = inner.with(is_inner, number, inner_value.len())?;
+        outer = outer.and(number, value)?;
+        inner = inner.and(number, value)?;
     }
     Some((outer, inner))
 }

@@ -48,8 +48,9 @@ pub use decrypting::{decrypt_request, decrypt_response};
 pub use head_error::{HeadError, NoHead};
 pub use keyed_context::KeyedContext;
 pub use laws::{
-    named_refusals, one_cipher_input, one_client, one_head, one_notification, one_reading,
-    one_request, one_response, one_sealed, options_left_out, protections_show_heads, sealed_opens,
+    named_refusals, one_cipher_input, one_client, one_head, one_notification, one_observe,
+    one_reading, one_request, one_response, one_sealed, options_left_out, protections_show_heads,
+    sealed_opens,
 };
 pub use opened::Opened;
 pub use opening::{open_request, open_response, unprotect_request, unprotect_response};

@@ -173,7 +173,7 @@ fn open_response_forward<'b>(
 }
 
 /// Opens a response in its datagram as [`open_response`] does, and borrows nothing: `ReadResponse::opened` lends what was read, without
-/// reading it again. A refusal leaves the datagram as it was; for `Inner` it was decrypted, as [`crate::decrypt_request`] says.
+/// reading it again. A refusal leaves the datagram as it was; for `Inner` it was decrypted, as [`crate::decrypt_response`] says.
 pub fn unprotect_response(
     context: &Context,
     request: &RequestRef,

@@ -6,11 +6,11 @@ ghost use Rattle.osc_coap.specs.Search.{first_of, has_number, values_at};
 ghost use Rattle.osc_coap.specs.Views.{options_left};
 ghost use Rattle.osc_protect.specs.Found.{first_number};
 ghost use Rattle.osc_protect.specs.Views.{shown};
-ghost use Rattle.osc_protect.specs.OptionSets.{is_barred, is_observe, is_proxy, is_unsupported};
+ghost use Rattle.osc_protect.specs.OptionSets.{is_barred, is_proxy, is_unsupported};
 
 use crate::option_sets::{is_barred, is_proxy, is_unsupported};
 use osc_coap::Options;
-use osc_coap::option_numbers::{OBSERVE, OSCORE, URI_HOST, URI_PORT};
+use osc_coap::option_numbers::{OSCORE, URI_HOST, URI_PORT};
 use osc_context::Features;
 
 /// How many options of one number there are, and the value if there is exactly one.
@@ -98,18 +98,6 @@ pub(crate) fn has_barred(options: Options<'_>, features: Features) -> bool
 {
     for (number, _) in options {
         if is_barred(features, number) {
-            return true;
-        }
-    }
-    false
-}
-
-/// Returns whether any of the options is Observe.
-pub(crate) fn has_observe(options: Options<'_>) -> bool
-    ensures { result ≡ has_number is_observe (options_left options.entry) }
-{
-    for (number, _) in options {
-        if number == OBSERVE {
             return true;
         }
     }

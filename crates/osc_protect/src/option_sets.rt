@@ -1,12 +1,14 @@
 //! Which options a protected message doesn't have at all, doesn't have inside, or has outside (RFC 8613, 4.1).
 
 ghost use Rattle.std.specs.Prelude.{◌≡◌};
-ghost use Rattle.osc_coap.specs.Class.{class, is_inner};
-ghost use Rattle.osc_protect.specs.OptionSets.{is_barred, is_left_out, is_outside, is_proxy, is_unsupported};
+ghost use Rattle.osc_protect.specs.OptionSets.{counts_as_observe, is_barred, is_left_out, is_proxy, is_unsupported};
 
 use osc_coap::option_numbers::{BLOCK1, BLOCK2, OBSERVE, OSCORE, PROXY_SCHEME, PROXY_URI};
 use osc_coap::{Class, class_of};
 use osc_context::Features;
+
+/// The most bytes of Observe (RFC 7641, 2).
+const MOST_OBSERVE: usize = 3;
 
 /// Returns whether an option of this number is left out. Own rule: Observe and block-wise transfer are, each unless the context takes part
 /// in it.
@@ -39,13 +41,9 @@ pub(crate) fn is_barred(features: Features, number: u16) -> bool
     is_left_out(features, number) || matches!(class_of(number), Class::U)
 }
 
-/// Returns whether an option of this number stands outside, and whether it stands inside. Observe stands on both sides if the features have
-/// it.
-pub(crate) fn sides_of(features: Features, number: u16) -> (bool, bool)
-    ensures outside { result.0 ≡ is_outside features number }
-    ensures inside { result.1 ≡ is_inner (class number) }
+/// Returns whether an option counts as Observe, where one is sought. One with a longer value is as if unknown (RFC 7252, 5.4.3).
+pub(crate) fn counts_as_observe(sought: bool, number: u16, value: &[u8]) -> bool
+    ensures { result ≡ counts_as_observe sought (number, value.now) }
 {
-    let is_outer = matches!(class_of(number), Class::U);
-    let observes = features.observe && number == OBSERVE;
-    (observes || is_outer, !is_outer)
+    sought && number == OBSERVE && value.len() <= MOST_OBSERVE
 }

@@ -60,7 +60,8 @@ fn write_outside(
 {
     options_ascend();
     let mut writer = Writer::begin(out, plain.kind, code, plain.message_id, &plain.token);
-    write_side(&mut writer, plain.options(), Side::Outside(features));
+    let side = Side::Outside(features.observe);
+    write_side(&mut writer, plain.options(), side);
     let Ok(()) = writer.option(OSCORE, value) else {
         unreachable!()
     };
@@ -186,8 +187,9 @@ fn seal_in_room(
 
 /// Seals a request with the sender's next Sender Sequence Number, and returns how many bytes it takes at the front of `out`. The bytes
 /// after them stay unchanged. Type, Message ID and token are the plain message's; the outer code is 0.02, or 0.05 if the message has
-/// Observe. Returns the first refusal in the order of `ProtectError`. A refusal leaves `out` unchanged. The caller keeps the number fresh:
-/// no two messages may be sealed with the same one (RFC 8613, 8.1).
+/// Observe. An Observe that isn't the first, or has more than 3 bytes, is as if it weren't one (RFC 7252, 5.4.3 and 5.4.5; RFC 7641, 2).
+/// Returns the first refusal in the order of `ProtectError`. A refusal leaves `out` unchanged. The caller keeps the number fresh: no two
+/// messages may be sealed with the same one (RFC 8613, 8.1).
 pub fn seal_request(
     context: &Context,
     number: Piv,
@@ -209,8 +211,8 @@ pub fn seal_request(
 /// Seals a response to a request, with the server's own Partial IV or else with the request's nonce. Returns how many bytes it takes at
 /// the front of `out`; the bytes after them stay unchanged. Type, Message ID and token are the plain message's; the outer code is 2.04, or
 /// 2.05 if the message has Observe. A response may have Observe only if its code is of class 2 and the request registers an observation; its
-/// value then stands outside alone. Returns the first refusal in the order of `ProtectError`. A refusal leaves `out` unchanged. The caller keeps the own
-/// number fresh, and seals at most one response without one to each request (RFC 8613, 4.1.3.5.2 and 8.3).
+/// value then stands outside alone. What counts as Observe is as for a request. Returns the first refusal in the order of `ProtectError`. A refusal leaves `out` unchanged. The caller
+/// keeps the own number fresh, and seals at most one response without one to each request (RFC 8613, 4.1.3.5.2 and 8.3).
 pub fn seal_response(
     context: &Context,
     request: &RequestRef,

@@ -5,45 +5,58 @@ ghost use Rattle.osc_coap.specs.Views.{options_left};
 ghost use Rattle.osc_coap.specs.Writer.{Holds, buffer_of};
 ghost use Rattle.osc_coap.specs.Writing.{Draft, with_options};
 
-use crate::option_sets::sides_of;
+use crate::option_sets::counts_as_observe;
 use osc_coap::option_numbers::OBSERVE;
 use osc_coap::{Class, Options, Writer, class_of};
-use osc_context::Features;
 
-/// A side of the protection.
+/// A side of the protection, as the options up to a place leave it. Only the first Observe is one, so none is sought behind it (RFC 7252,
+/// 5.4.5).
 #[derive(Clone, Copy)]
 pub(crate) enum Side {
-    /// The side of the options of class U, and of Observe if these features have it.
-    Outside(Features),
-    /// The side of the options of class E, and of those of both classes; own rule. If the message is a notification, Observe has an empty
-    /// value there (RFC 8613, 4.1.3.5.2).
+    /// The side of the options of class U, and of Observe, if it is sought.
+    Outside(bool),
+    /// The side of the options of class E, and of those of both classes; own rule. Observe, if it is sought, has an empty value there: the
+    /// message is a notification (RFC 8613, 4.1.3.5.2).
     Inside(bool),
 }
 
-ghost use Rattle.osc_protect.specs.Split.{TakesAll, entry_on, options_on, stands_on};
+ghost use Rattle.osc_protect.specs.Split.{TakesAll, entry_on, options_on, side_behind, stands_on};
 
-/// Returns whether an option of this number stands on this side.
-fn stands_on(side: Side, number: u16) -> bool
-    ensures { result ≡ stands_on side number }
-{
-    match side {
-        Side::Outside(features) => sides_of(features, number).0,
-        Side::Inside(_) => !matches!(class_of(number), Class::U),
+impl Side {
+    /// Returns whether an option stands on this side.
+    pub(crate) fn takes(self, number: u16, value: &[u8]) -> bool
+        ensures { result ≡ stands_on self (number, value.now) }
+    {
+        let is_outer = matches!(class_of(number), Class::U);
+        match self {
+            Side::Outside(sought) => counts_as_observe(sought, number, value) || is_outer,
+            Side::Inside(_) => !is_outer,
+        }
     }
-}
 
-/// Returns the value that an option has on this side.
-pub(crate) fn value_on(side: Side, number: u16, value: &[u8]) -> &[u8]
-    ensures { (number, result.now) ≡ entry_on side (number, value.now) }
-{
-    match side {
-        Side::Inside(true) if number == OBSERVE => &value[..0],
-        _ => value,
+    /// Returns the value that an option has on this side.
+    pub(crate) fn value<'a>(self, number: u16, value: &'a [u8]) -> &'a [u8]
+        ensures { (number, result.now) ≡ entry_on self (number, value.now) }
+    {
+        match self {
+            Side::Inside(sought) if counts_as_observe(sought, number, value) => &value[..0],
+            _ => value,
+        }
+    }
+
+    /// Returns the side behind an option of this number.
+    pub(crate) fn behind(self, number: u16) -> Side
+        ensures { (value : List ℕ) → result ≡ side_behind self (number, value) }
+    {
+        match self {
+            Side::Outside(sought) => Side::Outside(sought && number != OBSERVE),
+            Side::Inside(sought) => Side::Inside(sought && number != OBSERVE),
+        }
     }
 }
 
 /// Writes the options as they stand on one side, in order. There must be room for them.
-pub(crate) fn write_side(writer: &mut Writer<'_>, options: Options<'_>, side: Side)
+pub(crate) fn write_side(writer: &mut Writer<'_>, options: Options<'_>, mut side: Side)
     requires { (draft : Draft) × (old : List ℕ) × Holds writer.old draft old
         × TakesAll (length old) draft (options_on side (options_left options)) }
     ensures same_reference { buffer_of writer.new ≡ buffer_of writer.old }
@@ -51,10 +64,11 @@ pub(crate) fn write_side(writer: &mut Writer<'_>, options: Options<'_>, side: Si
         → Holds writer.new (with_options draft (options_on side (options_left options.entry))) old }
 {
     for (number, value) in options {
-        if stands_on(side, number) {
-            let Ok(()) = writer.option(number, value_on(side, number, value)) else {
+        if side.takes(number, value) {
+            let Ok(()) = writer.option(number, side.value(number, value)) else {
                 unreachable!()
             };
         }
+        side = side.behind(number);
     }
 }

@@ -4,7 +4,7 @@ ghost use Rattle.std.specs.Prelude.{◌≡◌};
 ghost use Rattle.osc_coap.specs.Views.{parts_of};
 ghost use Rattle.osc_context.specs.Views.{oscore_parts_of};
 
-use crate::option_search::has_observe;
+use osc_coap::option_numbers::OBSERVE;
 use osc_coap::{Message, is_request_code, is_response_code};
 use osc_context::{Features, OscoreOption};
 
@@ -63,7 +63,8 @@ pub(crate) fn sealing_features(usage: Usage, features: Features, code: u8) -> Fe
 pub(crate) fn outer_code(usage: Usage, features: Features, message: &Message<'_>) -> u8
     ensures { result ≡ outer_code_of usage features (parts_of message.now).options }
 {
-    match (usage, features.observe && has_observe(message.options())) {
+    let observes = features.observe && message.options().interpreted(OBSERVE).is_some();
+    match (usage, observes) {
         (Usage::Request, false) => OUTER_REQUEST_CODE,
         (Usage::Response, false) => OUTER_RESPONSE_CODE,
         (Usage::Request, true) => OBSERVING_REQUEST_CODE,

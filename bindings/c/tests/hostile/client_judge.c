@@ -45,7 +45,7 @@ void judge_request(struct client_judge *judge, const struct asked *asked, struct
     struct head head = judged->seen.head;
     struct sealed_as as = {.request = judge->next};
     bool registers = is_registration(head.code, &judged->seen.body);
-    head.code = outer_code(as, count_of(&judged->seen.body, OBSERVE) > 0);
+    head.code = outer_code(as, has_observe(&judged->seen.body));
     seal_plain(as, head, asked->plain, &judged->sealed);
     judged->has_sealed = judged->sealed.datagram.len <= asked->room;
     if (!judged->has_sealed) {

@@ -4,13 +4,13 @@
 
 #include "judge.h"
 
-/* A message: its head, an outer option or none, Observe or none, Block1 or none, an option for proxies or none, and what else is to be
-   protected. */
+/* A message: its head, an outer option or none, Observe once, twice or not at all, Block1 or none, an option for proxies or none, and what
+   else is to be protected. */
 struct plain {
     uint8_t kind, code;
     uint16_t message_id;
-    struct text token, observe, payload;
-    bool has_host, has_observe, has_block, has_proxy;
+    struct text token, observe, further_observe, payload;
+    bool has_host, has_observe, has_further_observe, has_block, has_proxy;
     struct bytes echoes[2];
     size_t echo_count;
 };

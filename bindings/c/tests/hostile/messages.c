@@ -11,6 +11,8 @@ struct plain draw_plain(uint8_t kind, uint8_t code, struct bytes token) {
     plain.observe = draw_text(5);
     /* Half of them say register, by leading zeros or none, where they have at most 3 bytes. */
     if (one_in(2)) memset(plain.observe.at, 0, plain.observe.len);
+    plain.has_further_observe = one_in(8);
+    plain.further_observe = draw_text(5);
     plain.has_block = one_in(10);
     plain.payload = draw_text(9);
     return plain;
@@ -24,6 +26,7 @@ struct text spell_plain(const struct plain *plain) {
     struct spelling spelling = spell_datagram(head_of(plain, plain->code));
     if (plain->has_host) spell_option(&spelling, URI_HOST, (struct bytes){(const uint8_t *)"localhost", 9});
     if (plain->has_observe) spell_option(&spelling, OBSERVE, bytes_of(&plain->observe));
+    if (plain->has_observe && plain->has_further_observe) spell_option(&spelling, OBSERVE, bytes_of(&plain->further_observe));
     spell_option(&spelling, URI_PATH, (struct bytes){(const uint8_t *)"tv1", 3});
     if (plain->has_block) spell_option(&spelling, BLOCK1, BYTES(0x06));
     if (plain->has_proxy) spell_option(&spelling, PROXY_SCHEME, (struct bytes){(const uint8_t *)"coap", 4});
@@ -49,7 +52,7 @@ static struct text draw_flawed(uint8_t code, uint8_t other_code) {
 }
 
 void seal_by_chance(struct sealed_as as, const struct plain *plain, uint8_t other_code, struct sealed *sealed) {
-    struct head head = head_of(plain, outer_code(as, plain->has_observe));
+    struct head head = head_of(plain, outer_code(as, plain->has_observe && plain->observe.len <= MOST_OBSERVE));
     struct text datagram = spell_plain(plain);
     if (!one_in(4)) {
         seal_plain(as, head, bytes_of(&datagram), sealed);

@@ -72,9 +72,14 @@ bool is_outer(uint32_t number) {
     return false;
 }
 
-/* The first Observe, if it has at most 3 bytes. Any other one is as if the option weren't known (RFC 7252, 5.4.3 and 5.4.5; RFC 7641, 2). */
+/* The first Observe, if it has at most 3 bytes. */
 static bool observe_of(const struct body *body, struct bytes *value) {
-    return first_of(body, OBSERVE, value) && value->len <= 3;
+    return first_of(body, OBSERVE, value) && value->len <= MOST_OBSERVE;
+}
+
+bool has_observe(const struct body *body) {
+    struct bytes value;
+    return observe_of(body, &value);
 }
 
 bool is_registration(uint8_t code, const struct body *body) {
@@ -86,8 +91,7 @@ bool is_registration(uint8_t code, const struct body *body) {
 }
 
 bool is_notification(uint8_t code, const struct body *body) {
-    struct bytes value;
-    return code >> 5 == 2 && observe_of(body, &value);
+    return code >> 5 == 2 && has_observe(body);
 }
 
 static bool is_left_out(uint32_t number, struct allowed allowed) {

@@ -7,6 +7,8 @@
 
 enum { CON, NON, ACK, RST };
 enum { URI_HOST = 3, OBSERVE = 6, URI_PORT = 7, OSCORE = 9, URI_PATH = 11, MAX_AGE = 14, BLOCK2 = 23, BLOCK1 = 27, PROXY_URI = 35, PROXY_SCHEME = 39, ECHO = 252 };
+/* The most bytes of Observe (RFC 7641, 2). */
+enum { MOST_OBSERVE = 3 };
 /* The codes that a sealed request, one with Observe, a sealed response and one with Observe have outside: 0.02, 0.05, 2.04 and 2.05
    (RFC 8613, 4.2). */
 enum { OUTER_REQUEST = 0x02, OUTER_FETCH = 0x05, OUTER_RESPONSE = 0x44, OUTER_NOTIFICATION = 0x45 };
@@ -68,6 +70,8 @@ size_t count_of(const struct body *body, uint32_t number);
 bool first_of(const struct body *body, uint32_t number, struct bytes *value);
 /* Whether options of this number stand outside the protection (RFC 8613, 4.1.2). */
 bool is_outer(uint32_t number);
+/* Whether the first Observe has at most 3 bytes. Any other one is as if the option weren't known (RFC 7252, 5.4.3 and 5.4.5; RFC 7641, 2). */
+bool has_observe(const struct body *body);
 /* Whether a request registers an observation: a GET or a FETCH whose first Observe is the number 0 (RFC 7641, 2; RFC 8132, 2.4). */
 bool is_registration(uint8_t code, const struct body *body);
 /* Whether a response is a notification: of class 2, with Observe (RFC 7641, 3.2). */

@@ -65,23 +65,27 @@ struct allowed allowed_as(struct sealed_as as) {
     return allowed;
 }
 
-uint8_t outer_code(struct sealed_as as, bool has_observe) {
-    bool is_observed = has_observe && allowed_as(as).observe;
+uint8_t outer_code(struct sealed_as as, bool observes) {
+    bool is_observed = observes && allowed_as(as).observe;
     return as.is_response ? (is_observed ? OUTER_NOTIFICATION : OUTER_RESPONSE) : is_observed ? OUTER_FETCH : OUTER_REQUEST;
 }
 
-/* Whether an option stands outside; Observe that is allowed stands there too (RFC 8613, 4.1.3.5). */
-static bool stands_outside(struct sealed_as as, uint32_t number) {
-    return is_outer(number) || (number == OBSERVE && allowed_as(as).observe);
+/* Whether this is the Observe that is sought, as `has_observe` says. None is sought behind the first. */
+static bool is_sought(const struct option *option, bool *sought) {
+    bool was_sought = *sought, is_observe = option->number == OBSERVE;
+    *sought = was_sought && !is_observe;
+    return was_sought && is_observe && option->value.len <= MOST_OBSERVE;
 }
 
 /* The plaintext of a message: its code, its options but the outer ones, its payload (RFC 8613, 5.3). In a response Observe is empty inside
    (RFC 8613, 4.1.3.5.2). */
 static struct text plaintext_of(struct sealed_as as, const struct seen *plain) {
     struct spelling spelling = spell_plaintext(plain->head.code);
-    for (struct option option = begun(&plain->body); next_of(&option);)
-        if (!is_outer(option.number))
-            spell_option(&spelling, option.number, as.is_response && option.number == OBSERVE ? (struct bytes){NULL, 0} : option.value);
+    bool sought = as.is_response;
+    for (struct option option = begun(&plain->body); next_of(&option);) {
+        bool is_empty = is_sought(&option, &sought);
+        if (!is_outer(option.number)) spell_option(&spelling, option.number, is_empty ? (struct bytes){NULL, 0} : option.value);
+    }
     return spell_end(&spelling, plain->body.payload);
 }
 
@@ -91,8 +95,12 @@ void seal_other(struct sealed_as as, struct head head, struct bytes plain, struc
     struct seen seen;
     size_t place;
     NEEDS(!read_datagram(plain, &seen, &place));
-    for (struct option option = begun(&seen.body); next_of(&option);)
-        if (stands_outside(as, option.number)) spell_option(&spelling, option.number, option.value);
+    /* Observe stands outside too, where it is allowed (RFC 8613, 4.1.3.5). */
+    bool sought = allowed_as(as).observe;
+    for (struct option option = begun(&seen.body); next_of(&option);) {
+        bool is_sought_one = is_sought(&option, &sought);
+        if (is_outer(option.number) || is_sought_one) spell_option(&spelling, option.number, option.value);
+    }
     spell_option(&spelling, OSCORE, bytes_of(&value));
     *sealed = (struct sealed){.as = as, .datagram = spell_end(&spelling, bytes_of(&ciphertext))};
     add_bytes(&sealed->plaintext, plaintext);

@@ -40,8 +40,9 @@ struct sealed {
 void begin_sealing(void);
 /* What a message sealed as this may have: Observe in requests, and in responses to a registration (RFC 8613, 4.1.3.5). */
 struct allowed allowed_as(struct sealed_as as);
-/* The code that it has outside: 0.05 or 2.05 where Observe stands outside too (RFC 8613, 4.2). */
-uint8_t outer_code(struct sealed_as as, bool has_observe);
+/* The code that it has outside: 0.05 or 2.05 where Observe stands outside too (RFC 8613, 4.2). `observes` says that it has Observe, in at
+   most 3 bytes. */
+uint8_t outer_code(struct sealed_as as, bool observes);
 /* Seals a message, as an end of a context does. The head is that of the sealed one; of the plain one code, options and payload are used. */
 void seal_plain(struct sealed_as as, struct head head, struct bytes plain, struct sealed *sealed);
 /* The same with another plaintext in the place of the message's. */

@@ -1,5 +1,6 @@
 use Rattle.std.proofs.Common.{refl, ◌==◌, ◌||◌, ◌∙◌, false}
 use Rattle.osc_coap.specs.OptionNumbers.{observe}
+use Rattle.osc_protect.proofs.Sides.{unsought_outside}
 use Rattle.osc_protect.proofs.Splits.{or_none}
 use Rattle.osc_protect.proofs.laws.options_left_out.Goals as goal
 
@@ -12,8 +13,8 @@ returns c = record {
   with_observe = λ n. refl;
   with_both = λ n. refl;
   without = refl;
-  outside_alone = λ x n. refl;
+  outside_alone = λ x entry. refl;
   code = λ u x entries. refl;
-  outer = λ x p code value payload. refl;
-  long = λ x p value. refl;
+  outer = λ x p code value payload. rw (unsought_outside p.options) refl;
+  long = λ x p value. rw (unsought_outside p.options) refl;
 }

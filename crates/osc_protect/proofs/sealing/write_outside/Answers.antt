@@ -30,7 +30,7 @@ returns-clause-written c =
     let draft = Datagram (bare p.kind c.args.code p.message_id p.token) in
     let held = c.in-Ok.ensures.taken _ _ (c.write_side.ensures.written draft c.args.out.now c.begin-writer.ensures.made) in
     let whole : Holds c.option.new.self (Datagram (outside c.args.features p c.args.code c.args.value.now [])) c.args.out.now =
-    subst (λ (os : List Entry). Holds c.option.new.self (with_option (with_options draft os) 9 c.args.value.now) c.args.out.now) (outside_read c.args.features p (options_left c.options.result) c.options.ensures) held in
+    subst (λ (os : List Entry). Holds c.option.new.self (with_option (with_options draft os) 9 c.args.value.now) c.args.out.now) (outside_read c.args.features.observe p (options_left c.options.result) c.options.ensures) held in
     search rules
 
 pub returns-clause-length : goal.returns-clause-length
@@ -39,5 +39,5 @@ returns-clause-length c =
     let draft = Datagram (bare p.kind c.args.code p.message_id p.token) in
     let held = c.in-Ok.ensures.taken _ _ (c.write_side.ensures.written draft c.args.out.now c.begin-writer.ensures.made) in
     let whole : Holds c.option.new.self (Datagram (outside c.args.features p c.args.code c.args.value.now [])) c.args.out.now =
-    subst (λ (os : List Entry). Holds c.option.new.self (with_option (with_options draft os) 9 c.args.value.now) c.args.out.now) (outside_read c.args.features p (options_left c.options.result) c.options.ensures) held in
+    subst (λ (os : List Entry). Holds c.option.new.self (with_option (with_options draft os) 9 c.args.value.now) c.args.out.now) (outside_read c.args.features.observe p (options_left c.options.result) c.options.ensures) held in
     (c.finish.ensures.length _ _ whole).0

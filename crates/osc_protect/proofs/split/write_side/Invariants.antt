@@ -11,5 +11,5 @@ invariant-loop-number l = record {
   can_next : (goal.iterator-loop-number).can_next l.number-iterator;
   is_finite : (goal.iterator-loop-number).is_finite l.number-iterator;
   same_reference : buffer_of l.writer ≡ buffer_of l.fn.writer;
-  so_far : (draft : Draft) (old : List ℕ) → Holds l.fn.writer draft old → (done : List Entry) × Holds l.writer (with_options draft done) old × (options_on l.side (options_left l.fn.options) ≡ done ++ options_on l.side (options_left l.number-iterator));
+  so_far : (draft : Draft) (old : List ℕ) → Holds l.fn.writer draft old → (done : List Entry) × Holds l.writer (with_options draft done) old × (options_on l.fn.side (options_left l.fn.options) ≡ done ++ options_on l.side (options_left l.number-iterator));
 }
