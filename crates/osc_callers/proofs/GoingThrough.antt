@@ -2,9 +2,11 @@
 use Rattle.std.proofs.Common.{◌≡◌, ◌⊎◌, ℕ, ◌==◌, ◌∙◌, sym, ap, subst, refl, Bool, true, false, Some, None, List, [], ◌∷◌, inl, inr, suc, zero}
 use Rattle.std.proofs.Math.Dec.{eqb-suc-zero}
 use Rattle.std.proofs.lemmas.Bool.{eqb-true}
+use Rattle.std.specs.Option.{option_and_then}
+use Rattle.std.specs.Prelude.{if◌then◌else◌, length}
 use Rattle.osc_coap.specs.Class.{class, inner_options, is_inner}
 use Rattle.osc_coap.specs.Datagram.{Parts}
-use Rattle.osc_coap.specs.Interpreted.{interpreted, valid_of}
+use Rattle.osc_coap.specs.Interpreted.{interpreted, is_valid_length}
 use Rattle.osc_coap.specs.OptionNumbers as options
 use Rattle.osc_coap.specs.OptionSpelling.{Entry}
 use Rattle.osc_coap.specs.Search.{first_of, values_at}
@@ -56,7 +58,7 @@ no_echo_inside p none = ap first_of (echo_inside p.options) ∙ none
 
 pub carries_none : (p : Parts) (echo : List ℕ) → HasNoEcho p → interpreted options.echo (inside p).options ≡ Some echo → ⊥
 carries_none p echo none carries =
-    let both : None ≡ Some echo = sym (ap (valid_of options.echo) none) ∙ carries in cc
+    let both : None ≡ Some echo = sym (ap (option_and_then (λ (v : List ℕ). if is_valid_length options.echo (length v) then Some v else None)) none) ∙ carries in cc
 
 -- ---- the server's one context
 
@@ -173,7 +175,7 @@ goes_through can k =
       challenge = k.challenge;
       reply = k.reply;
       room = k.room;
-      is_lawful = can 8 s ends k.first k.second k.again delivered.0 admitted.0 heard.0 told.0 k.echo k.response k.challenge k.reply k.room
+      is_kept = can 8 s ends k.first k.second k.again delivered.0 admitted.0 heard.0 told.0 k.echo k.response k.challenge k.reply k.room
           k.usable (carries_none k.first.plain k.echo k.first_plain) (carries_none k.second.plain k.echo k.second_plain) (
             (
               (

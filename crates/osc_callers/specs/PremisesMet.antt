@@ -6,7 +6,7 @@ use Rattle.osc_coap.specs.Datagram.{Parts}
 use Rattle.osc_context.specs.SecurityContext.{SecurityContext}
 use Rattle.osc_endpoint.specs.Received.{Received}
 use Rattle.osc_kept.specs.Examples.{Ends, Asked, exchange, restarts, through_a_challenge}
-use Rattle.osc_kept.specs.Premises.{IsLawful}
+use Rattle.osc_kept.specs.Premises.{IsKept}
 
 -- an exchange, a restart of both ends, a challenge and a delivery through it, for a client with room for n pending requests (RFC 8613, B.1.2)
 pub record PremisesAreMet (n : ℕ) : Type 0 where
@@ -24,5 +24,5 @@ pub record PremisesAreMet (n : ℕ) : Type 0 where
   pub challenge : List ℕ
   pub reply : Parts
   pub room : ℕ
-  pub is_lawful : IsLawful n context
+  pub is_kept : IsKept n context
       (through_a_challenge second again echo challenge challenged admitted (restarts second (exchange ends first received echo reply room response answered)))

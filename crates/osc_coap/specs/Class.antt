@@ -19,15 +19,13 @@ class number = class_by class_rows number
 
 -- options of this class are written outside, and stay readable (RFC 8613, 4.1.2)
 abbrev pub is_outer : Class → Bool
-is_outer E = false
 is_outer U = true
-is_outer Both = false
+is_outer other = false
 
 -- options of this class are written inside; own rule: so are those of both classes (RFC 8613, 4.1.1)
 abbrev pub is_inner : Class → Bool
-is_inner E = true
 is_inner U = false
-is_inner Both = true
+is_inner other = true
 
 -- the options that go into the plaintext, in order (RFC 8613, 5.3)
 abbrev pub inner_options : List Entry → List Entry

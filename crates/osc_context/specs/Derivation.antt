@@ -17,17 +17,13 @@ unfoldable pub info_of : List ℕ → Option (List ℕ) → List ℕ → ℕ →
 info_of id id_context type len =
     cbor_array (cbor_bytes id ∷ cbor_id_context id_context ∷ cbor_number algorithm ∷ cbor_text type ∷ cbor_number len ∷ [])
 
--- the output of HKDF for an info, with salt and secret (RFC 8613, 3.2.1)
-abbrev pub output_of : List ℕ → List ℕ → List ℕ → ℕ → List ℕ
-output_of secret salt info len = expand_of (extract_of salt secret) info len
-
--- the key of the end with this identifier (RFC 8613, 3.2.1)
+-- the key of the end with this identifier: the output of HKDF for its info, with salt and secret (RFC 8613, 3.2.1)
 unfoldable pub key_of : List ℕ → List ℕ → Option (List ℕ) → List ℕ → List ℕ
-key_of secret salt id_context id = output_of secret salt (info_of id id_context (codes "Key") key_length) key_length
+key_of secret salt id_context id = expand_of (extract_of salt secret) (info_of id id_context (codes "Key") key_length) key_length
 
 -- the Common IV, which is derived with an empty identifier (RFC 8613, 3.2.1)
 unfoldable pub common_iv_of : List ℕ → List ℕ → Option (List ℕ) → List ℕ
-common_iv_of secret salt id_context = output_of secret salt (info_of [] id_context (codes "IV") nonce_length) nonce_length
+common_iv_of secret salt id_context = expand_of (extract_of salt secret) (info_of [] id_context (codes "IV") nonce_length) nonce_length
 
 -- the context of a client and a server with these identifiers (RFC 8613, 3.2)
 abbrev pub context_of : List ℕ → List ℕ → Option (List ℕ) → List ℕ → List ℕ → SecurityContext

@@ -1,6 +1,6 @@
 -- To be believed: the value of the OSCORE option (RFC 8613, 6.1), from its parts to its bytes. p has the parts that a
 -- value says.
-use Rattle.std.specs.Prelude.{◌≡◌, ℕ, ◌+◌, ◌^◌, ◌<◌, ◌≤◌, List, [], ◌∷◌, ◌++◌, length, Option, Some, None, IfSome, ◌==◌, if◌then◌else◌}
+use Rattle.std.specs.Prelude.{◌≡◌, ℕ, ◌+◌, ◌^◌, ◌<◌, ◌≤◌, List, [], ◌∷◌, ◌++◌, length, Option, Some, None, IfSome, is_some, unwrap_or, ◌==◌, if◌then◌else◌}
 use Rattle.osc_context.specs.PartialIv.{partial_iv_of}
 
 -- what a value says: a number, a kid context and a kid, each of which can be absent (RFC 8613, 6.1)
@@ -21,13 +21,11 @@ kid_context_bytes (Some context) = length context ∷ context
 
 -- the bytes of the kid, if there is one (RFC 8613, 6.1)
 abbrev pub kid_bytes : Option (List ℕ) → List ℕ
-kid_bytes None = []
-kid_bytes (Some kid) = kid
+kid_bytes kid = unwrap_or kid []
 
 -- a flag if its part is present, otherwise 0 (RFC 8613, 6.1)
 abbrev pub flag_if_some : ℕ → Option (List ℕ) → ℕ
-flag_if_some flag None = 0
-flag_if_some flag (Some part) = flag
+flag_if_some flag part = if is_some part then flag else 0
 
 -- the flag byte: the Partial IV's length, and which other parts are present (RFC 8613, 6.1)
 abbrev pub flag_byte : OscoreParts → ℕ

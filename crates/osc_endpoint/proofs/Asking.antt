@@ -19,8 +19,12 @@ use Rattle.osc_endpoint.specs.declared.pending.Wait.{Wait}
 use Rattle.osc_endpoint.specs.declared.pending.Wait.TheVariants.{Once, Observing}
 use Rattle.osc_endpoint.specs.Agrees.{ClientAgrees, TokensDiffer}
 use Rattle.osc_endpoint.specs.ClientAnswer.{IsAmong}
-use Rattle.osc_endpoint.specs.ClientHistory.{Advance, Advanced, Asked, Entry, Event, History, Then, after_place, after_response, alive, asked, clock, first_place, heard, is_alive, life_ms, next, pending, pending_at, without}
+use Rattle.osc_endpoint.specs.ClientHistory.{Advance, Advanced, Asked, Entry, Event, History, Then, after_place, after_response, alive, asked, clock, first_place, is_alive, life_ms, next, pending, pending_at, without}
 use Rattle.osc_endpoint.specs.Views.{asked_of}
+
+-- the requests, after a response at this place to those of this token
+abbrev pub heard : List ℕ → ℕ → List Asked → List Asked
+heard token place requests = map (after_response token place) requests
 
 step : (b : Bool) (x : Pending) (xs : List Pending) (ys : List Asked) → map asked_of xs ≡ ys → map asked_of (cond b (x ∷ xs) xs) ≡ cond b (asked_of x ∷ ys) ys
 step true x xs ys h = ap (λ zs. asked_of x ∷ zs) h

@@ -29,12 +29,12 @@ use Rattle.osc_endpoint.specs.Agrees.{ClientAgrees, TokensDiffer}
 use Rattle.osc_endpoint.specs.AnswerLaws.{AwaitedShowHeads, OneAwaited}
 use Rattle.osc_endpoint.specs.ClientAnswer.{IsAmong, IsAnswerTo, IsAwaited, SaysAwaited, SaysOwn, awaited, continues}
 use Rattle.osc_endpoint.specs.ClientDeciding.{ClientDecidesTo, IsDecryptedFor, IsOpenedBy, OfWhatWasRead, ReadsAs, wait_after}
-use Rattle.osc_endpoint.specs.ClientHistory.{Advance, Advanced, Asked, Datagram, Deliver, History, Notified, Then, Took, after_place, alive, asked, clock, context, first_place, heard, life_ms, observes, pending_at, without}
+use Rattle.osc_endpoint.specs.ClientHistory.{Advance, Advanced, Asked, Datagram, Deliver, History, Notified, Then, Took, after_place, alive, asked, clock, context, first_place, life_ms, observes, pending_at, without}
 use Rattle.osc_endpoint.specs.Observing.{is_notification, place_of}
 use Rattle.osc_endpoint.specs.Received.{Received}
 use Rattle.osc_endpoint.specs.Views.{asked_of}
 use Rattle.osc_endpoint.proofs.Receiving.{said, receives_said, opened_said}
-use Rattle.osc_endpoint.proofs.Asking.{contains_at, contains_filter, differ_filter, differ_heard, ended, heard_alive, removed}
+use Rattle.osc_endpoint.proofs.Asking.{contains_at, contains_filter, differ_filter, differ_heard, ended, heard, heard_alive, removed}
 
 -- a fact of the client's context and a request's number, in the words of the history
 pub in_history : (P : Protection (Option ℕ) → Type 0) (s t : SecurityContext) (r b : Bool) (k n m : ℕ) → s ≡ t → r ≡ b → k ≡ n → m ≡ n

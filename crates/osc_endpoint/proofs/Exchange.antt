@@ -1,16 +1,15 @@
 -- An exchange: what the network brings in time arrives, and both ends stay in step.
 use Rattle.std.proofs.Common.{◌≡◌, ◌≢◌, ℕ, ◌+◌, ◌-◌, ◌<◌, ◌≤◌, ◌∙◌, sym, ap, subst, refl, arith, Bool, true, false, Option, Some, None, List, ◌⊎◌, inl, inr, ◌&&◌, ◌/◌, if◌then◌else◌}
 use Rattle.std.specs.Prelude.{◌==◌, ◌↔◌, All, Contains, is_some}
-use Rattle.std.specs.Option.{option_map}
+use Rattle.std.specs.Option.{option_and_then, option_map}
 use Rattle.std.proofs.lemmas.Bool.{eq-eqb, eqb-true}
 use Rattle.std.proofs.lemmas.List.Elements.{All-cons, All-contains, All-nil, All-weaker}
 use Rattle.osc_coap.specs.Datagram.{Parts, IsDatagram}
 use Rattle.osc_coap.specs.Inner.{InnerParts}
 use Rattle.osc_coap.specs.Laws.{DatagramIsOneMessage}
-use Rattle.osc_coap.specs.Interpreted.{interpreted, valid_of}
+use Rattle.osc_coap.specs.Interpreted.{interpreted}
 use Rattle.osc_coap.specs.OptionNumbers.{observe}
 use Rattle.osc_coap.specs.OptionSpelling.{Entry}
-use Rattle.osc_coap.specs.Search.{first_of}
 use Rattle.osc_context.specs.SecurityContext.{SecurityContext}
 use Rattle.osc_context.specs.declared.partial_iv.Piv.{Piv}
 use Rattle.osc_protect.specs.Laws.{OneRequest, RequestsShowHeads, SealedOpens}
@@ -26,7 +25,7 @@ use Rattle.osc_endpoint.specs.ClientAnswer.{ClientAnswer, Hears, continues}
 use Rattle.osc_endpoint.specs.ClientHeadline as hearing
 use Rattle.osc_endpoint.specs.ClientHistory as client
 use Rattle.osc_endpoint.specs.ClientLaws.{AllClientAnswers}
-use Rattle.osc_endpoint.specs.Exchange.{Request, Response, AtClient, AtServer, Brings, Exchange, Starts, Then, AreInStep, GoesWell, IsHonest, IsWaitedFor, LeavesNew, Stands, StaysOpen, client_clock, client_of, own_in, said, sent, server_clock, server_of, tickets}
+use Rattle.osc_endpoint.specs.Exchange.{Request, Response, AtClient, AtServer, Brings, Exchange, Starts, Then, AdmitsInTime, AreInStep, GoesWell, IsHonest, IsWaitedFor, LeavesNew, Stands, StaysOpen, client_clock, client_of, said, sent, server_clock, server_of, tickets}
 use Rattle.osc_endpoint.specs.Headline as delivery
 use Rattle.osc_endpoint.specs.Laws.{AllAnswers}
 use Rattle.osc_endpoint.specs.Life.{Life, Admits, Carries, Challenged, Delivered, HasOwn, IsNewIn, Spoiled, born, in_force, is_open, is_open_life, marked}
@@ -40,7 +39,7 @@ use Rattle.osc_endpoint.proofs.AskedNumbers.{Knows, known_after, known_new}
 use Rattle.osc_endpoint.proofs.DeliveredNumbers.{none_beyond}
 use Rattle.osc_endpoint.proofs.ExchangeLives.{some_is, Allowed, allowed_if, in_step, fits, marked_fits, at_server, first_of_all, numbers_from, IsWide, still_wide, wide_by_one, wide_at_server}
 use Rattle.osc_endpoint.proofs.InForce.{challenge_serves}
-use Rattle.osc_endpoint.proofs.Inside.{registers_inside, values_inside}
+use Rattle.osc_endpoint.proofs.Inside.{registers_inside, valid_in, values_inside}
 
 pub record ExchangeLaws : Type 0 where
   pub arrive : WhatIsSealedArrives
@@ -142,7 +141,7 @@ observe_stays entries = go (interpreted observe entries) refl
 still_notifies : (p : Parts) → is_notification p.code p.options ≡ true → is_notification p.code (inside (as_notified p)).options ≡ true
 still_notifies p h =
     let (two, valid) = both_true (p.code / 32 == 2) _ h in
-    subst (λ (vs : List (List ℕ)). ((p.code / 32 == 2) && is_some (valid_of observe (first_of vs))) ≡ true) (sym (values_inside observe refl (emptied true p.options)))
+    subst (λ (vs : List (List ℕ)). ((p.code / 32 == 2) && is_some (valid_in vs)) ≡ true) (sym (values_inside observe refl (emptied true p.options)))
     (and_both (p.code / 32 == 2) _ two (observe_stays p.options valid))
 
 -- ---- the state of an exchange
@@ -178,12 +177,12 @@ replied : (n i : ℕ) (x : Exchange) (event : server.Event) (entry : server.Entr
 replied n i x (server.Reply t own mid p room) (server.Replied d) b ((of, present, (asked, seals, short)), given) =
     let h = client_of x in
     let g = server_of x in
-    let y : Response = record { context = t.context; to = t.number; own = own_in (server.life g t.context) own; notifies = false; message = inside p; bytes = d } in
+    let y : Response = record { context = t.context; to = t.number; own = option_and_then (own_number own) (server.life g t.context); notifies = false; message = inside p; bytes = d } in
     All-cons (λ z. z.context ≡ i → IsSaid h z) y (said x)
     (λ e.
     let q : Parts = as_reply t.kind t.message_id t.token mid p in
     let same = same_context n i x b of t.context e present.0 in
-    let own_is : own_in (server.life g t.context) own ≡ own_number own of = ap (λ o. own_in o own) present.0 in
+    let own_is : option_and_then (own_number own) (server.life g t.context) ≡ own_number own of = ap (λ o. option_and_then (own_number own) o) present.0 in
     inl (record {
       plain = q;
       observing = t.observes;
@@ -196,12 +195,12 @@ replied n i x (server.Reply t own mid p room) (server.Replied d) b ((of, present
 replied n i x (server.Notify t p room) (server.Replied d) b ((registered, (of, present, (is, has, seals, short))), given) =
     let h = client_of x in
     let g = server_of x in
-    let y : Response = record { context = t.context; to = t.number; own = own_in (server.life g t.context) true; notifies = true; message = inside (as_notified p); bytes = d } in
+    let y : Response = record { context = t.context; to = t.number; own = option_and_then (own_number true) (server.life g t.context); notifies = true; message = inside (as_notified p); bytes = d } in
     All-cons (λ z. z.context ≡ i → IsSaid h z) y (said x)
     (λ e.
     let q : Parts = as_notification t.token p in
     let same = same_context n i x b of t.context e present.0 in
-    let own_is : own_in (server.life g t.context) true ≡ own_number true of = ap (λ o. own_in o true) present.0 in
+    let own_is : option_and_then (own_number true) (server.life g t.context) ≡ own_number true of = ap (λ o. option_and_then (own_number true) o) present.0 in
     inr (record {
       plain = q;
       known = subst (Knows h t.number t.token) registered (All-contains (IsGiven i h) (tickets x) t b.given (given e) e);
@@ -291,7 +290,7 @@ module _ (laws : ExchangeLaws) where
     challenges (server.Challenge j k value issued) reply ((l, m, of, request, (wants, has, given, index, number)), (of_it, life, (p, datagram, seals))) =
         let h = client_of x in
         let g = server_of x in
-        let y : Response = record { context = j; to = k; own = own_in (server.life g j) true; notifies = false; message = inside (challenge_message value); bytes = reply } in
+        let y : Response = record { context = j; to = k; own = option_and_then (own_number true) (server.life g j); notifies = false; message = inside (challenge_message value); bytes = reply } in
         All-cons (λ z. z.context ≡ i → IsSaid h z) y (said x)
         (λ e.
         let q : Parts = as_reply p.kind p.message_id p.token mid (challenge_message value) in
@@ -299,7 +298,7 @@ module _ (laws : ExchangeLaws) where
         let there = same_context n i x b of l (sym index ∙ e) request.life_is in
         let (shut, inner, protects, carries) = wants in
         let number_is : k ≡ s.number = number ∙ (is_that h s of.context m inner known there protects).0 in
-        let own_is : own_in (server.life g j) true ≡ own_number true of_it = ap (λ o. own_in o true) life in
+        let own_is : option_and_then (own_number true) (server.life g j) ≡ own_number true of_it = ap (λ o. option_and_then (own_number true) o) life in
         let observing = registers (client.context h).features s.plain.code s.plain.options in
         inl (record {
           plain = q;
@@ -447,11 +446,21 @@ module _ (laws : ExchangeLaws) where
       record {
         in_step = b.step;
         request = λ s now echo mid answer reply brings. request_arrives n i x b s now echo mid (sealed s brings.0) answer reply brings.1;
+        response = λ y now answer among e took. response_arrives n i x y now answer b among e took;
+      }
+
+  in_time_at : (n i : ℕ) (x : Exchange) (honest : IsHonest n i x) → AdmitsInTime i x (goes n i x honest).step.of
+  in_time_at n i x honest =
+      let b = goes n i x honest in
+      let sealed : (s : Request) → Contains (sent x) s → IsSealedBy (client_of x) s = λ s among. All-contains (IsSealedBy (client_of x)) (sent x) s b.sealed among in
+      record {
         challenge = λ s now echo mid answer reply brings. is_challenged n i x b s now echo mid (sealed s brings.0) answer reply brings.1;
         echo = serves_in_time n i x b;
-        response = λ y now answer among e took. response_arrives n i x y now answer b among e took;
-        in_time = new_in_time n i x honest b.step.of b.step.life_is;
+        new = new_in_time n i x honest b.step.of b.step.life_is;
       }
+
+  pub admits_in_time : (n i : ℕ) (x : Exchange) (of : Life) → IsHonest n i x → server.life (server_of x) i ≡ Some of → AdmitsInTime i x of
+  admits_in_time n i x of honest life = subst (AdmitsInTime i x) (some_is (sym (goes n i x honest).step.life_is ∙ life)) (in_time_at n i x honest)
 
 pub starts_in_step : (s : SecurityContext) (first ms i : ℕ) (own : Piv) (size : WindowSize) (g : server.History)
     → AreInStep i (client.New s first ms) (server.Then g (server.Add s (starts.Fresh own) size) (server.Added i))

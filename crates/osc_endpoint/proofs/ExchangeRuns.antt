@@ -19,7 +19,7 @@ use Rattle.osc_endpoint.specs.ClientAnswer.{ClientAnswer}
 use Rattle.osc_endpoint.specs.ClientHistory as client
 use Rattle.osc_endpoint.specs.ClientRun.{ClientRunStep, Run as ClientRun}
 use Rattle.osc_protect.specs.Sealed.{inside}
-use Rattle.osc_endpoint.specs.Exchange.{Exchange, HonestExchange, Request, Response, Then, AtClient, AtServer, Brings, IsElsewhere, IsHonest, IsOfThese, IsWaitedFor, client_clock, client_of, said, sent, server_clock, server_of, tickets}
+use Rattle.osc_endpoint.specs.Exchange.{Exchange, ExchangeInTime, HonestExchange, Request, Response, Then, AtClient, AtServer, Brings, IsElsewhere, IsHonest, IsOfThese, IsWaitedFor, client_clock, client_of, said, sent, server_clock, server_of, tickets}
 use Rattle.osc_endpoint.specs.ExchangeRuns.{RunsAreHonest, AreFair, AreGiven, GoesOn, IsFair, NotifyShows, OfClient, OfServer, Places, Plays, ReplyShows, Shows, ShowsElsewhere, Turn, client_events, client_log, next_after, sealed_after, server_events, server_log}
 use Rattle.osc_endpoint.specs.Headline.{EntryStands, ServerHeadline}
 use Rattle.osc_endpoint.specs.Life.{Life, Admits}
@@ -29,7 +29,7 @@ use Rattle.osc_endpoint.specs.ServerRun.{Logs, NotifyStep, ReplyStep, Run, Serve
 use Rattle.osc_endpoint.specs.Views.{ClientShows, client_hearing_of, seen_delivery}
 use Rattle.osc_endpoint.proofs.ClientDeliveries.{shown_hearing}
 use Rattle.osc_endpoint.proofs.ExchangeLives.{some_is}
-use Rattle.osc_endpoint.proofs.Exchange.{ExchangeLaws, all_open, serves_all, stands, starts_in_step}
+use Rattle.osc_endpoint.proofs.Exchange.{admits_in_time, ExchangeLaws, all_open, serves_all, stands, starts_in_step}
 
 none_is : {A : Type 0} {a : A} → None ≡ Some a → ⊥
 none_is e = cc
@@ -308,10 +308,13 @@ plays laws headline n i x ts us (OfServer e entry ∷ turns) h g honest given as
     )
 
 pub honest_exchange : ExchangeLaws → HonestExchange
-honest_exchange laws = record {
+honest_exchange laws = stands laws
+
+pub exchange_in_time : ExchangeLaws → ExchangeInTime
+exchange_in_time laws = record {
   starts = starts_in_step;
-  stands = stands laws;
   stays_open = all_open laws;
+  admits = admits_in_time laws;
 }
 
 pub honest_runs : ExchangeLaws → ServerHeadline → RunsAreHonest

@@ -1,13 +1,14 @@
 -- Options of a plain message inside its protection: the values of an option that goes inside are the same there, and what may have no Observe
 -- is no notification. x is what counts of a context's features, entries are options in order.
-use Rattle.std.proofs.Common.{◌≡◌, ℕ, ◌∙◌, sym, ap, refl, arith, Bool, true, false, List, [], ◌∷◌, ◌⊎◌, inl, inr, ◌==◌, ◌||◌, ◌&&◌, ◌/◌, Option, None}
-use Rattle.std.specs.Prelude.{is_some}
+use Rattle.std.proofs.Common.{◌≡◌, ℕ, ◌∙◌, sym, ap, refl, arith, Bool, true, false, List, [], ◌∷◌, ◌⊎◌, inl, inr, ◌==◌, ◌||◌, ◌&&◌, ◌/◌, Option, Some, None}
+use Rattle.std.specs.Prelude.{if◌then◌else◌, is_some, length}
+use Rattle.std.specs.Option.{option_and_then}
 use Rattle.std.proofs.Math.Bool.{and-false}
 use Rattle.std.proofs.lemmas.Bool.{eqb-true}
 use Rattle.osc_coap.specs.Class.{class, inner_options, is_inner}
 use Rattle.osc_coap.specs.Datagram.{Parts}
 use Rattle.osc_coap.specs.Inner.{InnerParts}
-use Rattle.osc_coap.specs.Interpreted.{valid_of}
+use Rattle.osc_coap.specs.Interpreted.{interpreted, is_valid_length}
 use Rattle.osc_coap.specs.OptionNumbers.{observe}
 use Rattle.osc_coap.specs.OptionSpelling.{Entry}
 use Rattle.osc_coap.specs.Search.{first_of, has_number, values_at}
@@ -17,7 +18,7 @@ use Rattle.osc_context.specs.SecurityContext.{SecurityContext}
 use Rattle.osc_protect.specs.OptionSets.{is_barred, is_unsupported}
 use Rattle.osc_protect.specs.Protection.{ProtectsNotification, ProtectsResponse}
 use Rattle.osc_protect.specs.Sealed.{inside}
-use Rattle.osc_endpoint.specs.Observing.{is_notification, is_observable, observe_value, registers, says_register}
+use Rattle.osc_endpoint.specs.Observing.{is_notification, is_observable, registers, says_register}
 
 one_of : (b : Bool) → (b ≡ true) ⊎ (b ≡ false)
 one_of true = inl refl
@@ -38,12 +39,16 @@ values_inside n goes (entry ∷ entries) =
       ]
     ]
 
+-- what is interpreted of Observe, by the values of all Observe options
+abbrev pub valid_in : List (List ℕ) → Option (List ℕ)
+valid_in vs = option_and_then (λ (v : List ℕ). if is_valid_length observe (length v) then Some v else None) (first_of vs)
+
 -- a request registers inside what it registers as a plain message
 pub registers_inside : (x : Features) (p : Parts) → registers x (inside p).code (inside p).options ≡ registers x p.code p.options
 registers_inside x p = ap (λ vs. registers_by x p.code vs) (values_inside observe refl p.options)
   where
     registers_by : Features → ℕ → List (List ℕ) → Bool
-    registers_by x code vs = x.observe && (is_observable code && says_register (valid_of observe (first_of vs)))
+    registers_by x code vs = x.observe && (is_observable code && says_register (valid_in vs))
 
 pub neither : (a b : Bool) → (a || b) ≡ false → (a ≡ false) × (b ≡ false)
 neither true b e = absurd (let f : true ≡ false = e in cc)
@@ -54,7 +59,7 @@ observe_unsupported x n off is =
     ap (is_unsupported x) (eqb-true n observe is) ∙ ap (λ b. is_unsupported (record { observe = b; blocks = x.blocks }) observe) off
 
 -- what may have no Observe has none
-no_value : (x : Features) (entries : List Entry) → x.observe ≡ false → has_number (is_unsupported x) entries ≡ false → observe_value entries ≡ None
+no_value : (x : Features) (entries : List Entry) → x.observe ≡ false → has_number (is_unsupported x) entries ≡ false → interpreted observe entries ≡ None
 no_value x [] off none = refl
 no_value x (entry ∷ entries) off none =
     let (first, rest) = neither (is_unsupported x entry.0) (has_number (is_unsupported x) entries) none in
@@ -66,7 +71,7 @@ no_value x (entry ∷ entries) off none =
 -- and is no notification
 pub unnotified : (x : Features) (p : Parts) → x.observe ≡ false → has_number (is_unsupported x) p.options ≡ false → is_notification p.code (inside p).options ≡ false
 unnotified x p off none =
-    let value : observe_value (inside p).options ≡ None = ap (λ vs. valid_of observe (first_of vs)) (values_inside observe refl p.options) ∙ no_value x p.options off none in
+    let value : interpreted observe (inside p).options ≡ None = ap valid_in (values_inside observe refl p.options) ∙ no_value x p.options off none in
     ap (λ o. (p.code / 32 == 2) && is_some o) value ∙ and-false (p.code / 32 == 2)
 
 -- ---- what protects a message as a response protects it as a notification

@@ -4,10 +4,12 @@ use Rattle.std.specs.Prelude.{All, max, not, bytes_eq}
 use Rattle.std.proofs.lemmas.List.Elements.{All-contains, All-filter, All-map, All-nil, All-push, All-weaker}
 use Rattle.osc_coap.specs.Datagram.{Parts}
 use Rattle.osc_context.specs.declared.features.Features.{Features}
+use Rattle.osc_coap.specs.Interpreted.{interpreted}
+use Rattle.osc_coap.specs.OptionNumbers.{observe}
 use Rattle.osc_endpoint.specs.declared.pending.Wait.{Wait}
 use Rattle.osc_endpoint.specs.declared.pending.Wait.TheVariants.{Once, Observing}
 use Rattle.osc_endpoint.specs.Received.{Received}
-use Rattle.osc_endpoint.specs.Observing.{is_notification, is_observable, observe_value, place_of, says_register}
+use Rattle.osc_endpoint.specs.Observing.{is_notification, is_observable, place_of, says_register}
 use Rattle.osc_endpoint.specs.ServerHistory as server
 use Rattle.osc_endpoint.specs.ServerAnswer.{Arrival, MeetsRow}
 use Rattle.osc_endpoint.specs.ClientHistory as client
@@ -21,7 +23,7 @@ off b c e = ap (λ x. x && c) e
 delivered : (h : server.History) → WithoutObserve h → (a : Arrival) (received : Received) (ticket : server.TicketValues) → MeetsRow h a (server.Deliver received ticket) → ticket.observes ≡ false
 delivered h w a received ticket (i, n, of, named, (receives, admits, is)) =
     ap (λ (t : server.TicketValues). t.observes) is
-    ∙ off of.context.features.observe (is_observable received.message.code && says_register (observe_value received.message.options)) (w i of named.life_is)
+    ∙ off of.context.features.observe (is_observable received.message.code && says_register (interpreted observe received.message.options)) (w i of named.life_is)
 
 server_plain : (h : server.History) → WithoutObserve h → ServerIsPlain h
 server_plain h w = record {
@@ -31,7 +33,7 @@ server_plain h w = record {
 }
 
 waits_once : (x : Features) (p : Parts) → x.observe ≡ false → client.wait_of x p ≡ Once
-waits_once x p e = ap (λ b. if b then Observing 0 else Once) (off x.observe (is_observable p.code && says_register (observe_value p.options)) e)
+waits_once x p e = ap (λ b. if b then Observing 0 else Once) (off x.observe (is_observable p.code && says_register (interpreted observe p.options)) e)
 
 stays : (place : ℕ) (wait : Wait) → wait ≡ Once → client.after_place place wait ≡ Once
 stays place wait e = ap (client.after_place place) e

@@ -44,7 +44,7 @@ no_reply_mark i ticket false e = refl
 -- ---- clock, lives and count of a share
 
 -- what holds of either of two histories holds of the one that a test chooses
-of_chosen : (P : History → Type 0) (b : Bool) (x y : History) → (b ≡ true → P x) → (b ≡ false → P y) → P (if b then x else y)
+pub of_chosen : (P : History → Type 0) (b : Bool) (x y : History) → (b ≡ true → P x) → (b ≡ false → P y) → P (if b then x else y)
 of_chosen P true x y h k = h refl
 of_chosen P false x y h k = k refl
 
@@ -124,7 +124,7 @@ none_else i j (Then h (Advance now) Advanced) = none_else i j h
 none_else i j (Then h event entry) = none_else i j h
 
 -- before a context is added its share has none
-none_yet : (i : ℕ) (h : History) → AllAnswers h → added h ≤ i → added (share i h) ≡ 0
+pub none_yet : (i : ℕ) (h : History) → AllAnswers h → added h ≤ i → added (share i h) ≡ 0
 none_yet i Begin all early = refl
 none_yet i (Then h (Add context start size) (Added index)) all early =
     let later : added h + 1 ≤ i = early in

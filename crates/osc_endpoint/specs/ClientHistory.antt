@@ -86,9 +86,8 @@ life_ms (Then h event entry) = life_ms h
 abbrev pub clock_by : Event → ℕ → ℕ
 clock_by (Request now plain room) before = max before now
 clock_by (Datagram now bytes) before = max before now
-clock_by (Forget token) before = before
-clock_by (Restart next) before = before
 clock_by (Advance now) before = max before now
+clock_by event before = before
 
 -- the clock: the greatest moment so far, 0 at first (own rule)
 abbrev pub clock : History → ℕ
@@ -118,17 +117,13 @@ alive moment ms requests = filter (is_alive moment ms) requests
 abbrev pub after_response : List ℕ → ℕ → Asked → Asked
 after_response token place r = if bytes_eq r.token token then record r { wait = after_place place r.wait } else r
 
--- the requests, after a response at this place to those of this token (RFC 8613, 7.4.1)
-abbrev pub heard : List ℕ → ℕ → List Asked → List Asked
-heard token place requests = map (after_response token place) requests
-
 -- the requests that were sealed since the start or the last restart, oldest first, except those whose token was delivered or forgotten
 -- since, and those whose time had passed at a notification (RFC 7252, 5.3.2; RFC 8613, 7.4.1 and 8.4)
 abbrev pub asked : History → List Asked
 asked (New s first ms) = []
 asked (Then h (Request now plain room) (Sent bytes)) =
     asked h ++ record { token = plain.token; number = next h; moment = max (clock h) now; wait = wait_of (context h).features plain } ∷ []
-asked (Then h (Datagram now d) (Took (Notified received number))) = heard received.token (place_of received.number) (alive (max (clock h) now) (life_ms h) (asked h))
+asked (Then h (Datagram now d) (Took (Notified received number))) = map (after_response received.token (place_of received.number)) (alive (max (clock h) now) (life_ms h) (asked h))
 asked (Then h (Datagram now d) (Took (Deliver received number))) = without received.token (asked h)
 asked (Then h (Forget token) entry) = without token (asked h)
 asked (Then h (Restart first) entry) = []

@@ -1,7 +1,8 @@
 -- To be believed: what becomes of the requests, replies and notifications of two applications over a network that loses, delays, swaps and repeats their datagrams,
 -- and brings others: a contract of laws.rt (RFC 8613, 7.4, 8.1 to 8.4 and B.1.2). i is the index of the server's context, n the number of pending requests that the
 -- client has room for, h the history of the client, g that of the server, x an exchange, s a request, y a response. Moments are in milliseconds.
-use Rattle.std.specs.Prelude.{◌≡◌, ◌≢◌, ◌+◌, ◌<◌, ◌≤◌, ◌↔◌, ◌-◌, ℕ, Bool, true, false, List, [], ◌∷◌, Option, Some, None, All, Contains, max}
+use Rattle.std.specs.Prelude.{◌≡◌, ◌≢◌, ◌+◌, ◌<◌, ◌≤◌, ◌↔◌, ◌-◌, ℕ, Bool, true, false, List, [], ◌∷◌, Option, Some, All, Contains, max}
+use Rattle.std.specs.Option.{option_and_then}
 use Rattle.osc_coap.specs.Datagram.{Parts}
 use Rattle.osc_coap.specs.Inner.{InnerParts}
 use Rattle.osc_context.specs.SecurityContext.{SecurityContext}
@@ -74,14 +75,9 @@ tickets (Starts h g held) = held
 tickets (Then x (Brings s now echo mid (server.Deliver received ticket) reply)) = ticket ∷ tickets x
 tickets (Then x step) = tickets x
 
--- the next own number of the life, if one is asked for, and if the life is there (RFC 8613, 8.3)
-abbrev pub own_in : Option Life → Bool → Option ℕ
-own_in None own = None
-own_in (Some of) own = own_number own of
-
 -- the response by a ticket (RFC 8613, 8.3 and 8.3.1)
 abbrev pub by_ticket : server.History → server.TicketValues → Bool → Bool → InnerParts → List ℕ → Response
-by_ticket g t own notifies message d = record { context = t.context; to = t.number; own = own_in (server.life g t.context) own; notifies = notifies; message = message; bytes = d }
+by_ticket g t own notifies message d = record { context = t.context; to = t.number; own = option_and_then (own_number own) (server.life g t.context); notifies = notifies; message = message; bytes = d }
 
 -- the responses that the server sealed in the exchange: replies, notifications, and challenges of the client's requests (RFC 8613, 8.3 and 8.3.1; RFC 9175, 2.3)
 abbrev pub said : Exchange → List Response
@@ -89,7 +85,7 @@ said (Starts h g held) = []
 said (Then x (AtServer (server.Reply t own mid plain room) (server.Replied d))) = by_ticket (server_of x) t own false (inside plain) d ∷ said x
 said (Then x (AtServer (server.Notify t plain room) (server.Replied d))) = by_ticket (server_of x) t true true (inside (as_notified plain)) d ∷ said x
 said (Then x (Brings s now echo mid (server.Challenge i number value issued) reply)) =
-    record { context = i; to = number; own = own_in (server.life (server_of x) i) true; notifies = false; message = inside (challenge_message value); bytes = reply } ∷ said x
+    record { context = i; to = number; own = option_and_then (own_number true) (server.life (server_of x) i); notifies = false; message = inside (challenge_message value); bytes = reply } ∷ said x
 said (Then x step) = said x
 
 -- the server has the other half of the client's context, and if its window is open, each number from the client's next one on is new there (RFC 8613, 7.4 and B.1.2)
@@ -147,6 +143,23 @@ client_clock x now = max (client.clock (client_of x)) now
 abbrev pub server_clock : Exchange → ℕ → ℕ
 server_clock x now = max (server.clock (server_of x)) now
 
+-- after the exchange both ends are in step; a request that the network brings is delivered, as it was said, if and only if its number is new or, in a closed life, it
+-- carries the value in force; a response that the network brings is heard, as it was said, if and only if the client still waits for it
+-- (RFC 8613, 7.4, 8.2, 8.4 and B.1.2; RFC 9175, 2.3)
+pub record Stands (n i : ℕ) (x : Exchange) : Type 0 where
+  pub in_step : AreInStep i (client_of x) (server_of x)
+  pub request : (s : Request) (now : ℕ) (echo : List ℕ) (mid : ℕ) (answer : server.Answer) (reply : List ℕ) → IsBrought x s now echo mid answer reply
+      → (delivery.told answer ≡ Some (i, s.number, inside s.plain)) ↔ Admits in_step.of (server_clock x now) s.number (inside s.plain)
+  pub response : (y : Response) (now : ℕ) (answer : client.Answer) → Contains (said x) y → y.context ≡ i
+      → ClientAnswer n (client_of x) (client.Datagram now y.bytes) (client.Took answer)
+      → (hearing.told answer ≡ Some (y.notifies, y.to, y.own, y.message)) ↔ IsWaitedFor (client_of x) (client_clock x now) y
+
+-- whatever two applications say and the network does from two ends on that are in step, this stands at each moment (RFC 8613, 8.1 to 8.4 and B.1.2)
+abbrev pub HonestExchange : Type 0
+HonestExchange = (n i : ℕ) (x : Exchange) → IsHonest n i x → Stands n i x
+
+-- ---- when a request is admitted
+
 -- the window was open at first, and the context wasn't restarted since (RFC 8613, B.1.2)
 abbrev pub StaysOpen : ℕ → Exchange → Type 0
 StaysOpen i (Starts h g held) = is_open_life (server.life g i) ≡ true
@@ -157,28 +170,20 @@ StaysOpen i (Then x step) = StaysOpen i x
 abbrev pub LeavesNew : ℕ → ℕ → ℕ → server.TicketValues → Type 0
 LeavesNew i w k t = t.context ≡ i → (t.number ≢ k) × (t.number < k + w)
 
--- after the exchange both ends are in step; a request that the network brings is delivered, as it was said, if and only if its number is new or, in a closed life, it
--- carries the value in force, else a closed life challenges it; the value of each challenge of the life is in force for 30,000 ms; a response that the network brings
--- is heard, as it was said, if and only if the client still waits for it; while the window stays open, a request is new as long as neither it nor one whose number is
--- higher by the window's places or more was delivered (RFC 8613, 7.4, 8.2, 8.4 and B.1.2; RFC 9175, 2.3)
-pub record Stands (n i : ℕ) (x : Exchange) : Type 0 where
-  pub in_step : AreInStep i (client_of x) (server_of x)
-  pub request : (s : Request) (now : ℕ) (echo : List ℕ) (mid : ℕ) (answer : server.Answer) (reply : List ℕ) → IsBrought x s now echo mid answer reply
-      → (delivery.told answer ≡ Some (i, s.number, inside s.plain)) ↔ Admits in_step.of (server_clock x now) s.number (inside s.plain)
+-- a closed life challenges a request that isn't admitted; the value of each challenge of the life is in force for 30,000 ms; while the window stays open, a request
+-- is new as long as neither it nor one whose number is higher by the window's places or more was delivered (RFC 8613, 7.4, 8.2 and B.1.2; RFC 9175, 2.3)
+pub record AdmitsInTime (i : ℕ) (x : Exchange) (of : Life) : Type 0 where
   pub challenge : (s : Request) (now : ℕ) (echo : List ℕ) (mid : ℕ) (answer : server.Answer) (reply : List ℕ) → IsBrought x s now echo mid answer reply
-      → is_open in_step.of ≡ false → HasOwn in_step.of → (Admits in_step.of (server_clock x now) s.number (inside s.plain) → ⊥)
-      → (c : List ℕ × ℕ) × (challenge_given in_step.of (server_clock x now) echo ≡ c) × (answer ≡ server.Challenge i s.number c.0 c.1)
-  pub echo : (value : List ℕ) (issued now k : ℕ) (m : InnerParts) → is_open in_step.of ≡ false → Contains in_step.of.marks (Challenged value issued)
-      → server_clock x now - issued ≤ 30000 → Carries (Some (value, issued)) m → Admits in_step.of (server_clock x now) k m
-  pub response : (y : Response) (now : ℕ) (answer : client.Answer) → Contains (said x) y → y.context ≡ i
-      → ClientAnswer n (client_of x) (client.Datagram now y.bytes) (client.Took answer)
-      → (hearing.told answer ≡ Some (y.notifies, y.to, y.own, y.message)) ↔ IsWaitedFor (client_of x) (client_clock x now) y
-  pub in_time : (s : Request) → Contains (sent x) s → StaysOpen i x → All (LeavesNew i (places_of in_step.of.size) s.number) (tickets x) → IsNewIn in_step.of s.number
+      → is_open of ≡ false → HasOwn of → (Admits of (server_clock x now) s.number (inside s.plain) → ⊥)
+      → (c : List ℕ × ℕ) × (challenge_given of (server_clock x now) echo ≡ c) × (answer ≡ server.Challenge i s.number c.0 c.1)
+  pub echo : (value : List ℕ) (issued now k : ℕ) (m : InnerParts) → is_open of ≡ false → Contains of.marks (Challenged value issued)
+      → server_clock x now - issued ≤ 30000 → Carries (Some (value, issued)) m → Admits of (server_clock x now) k m
+  pub new : (s : Request) → Contains (sent x) s → StaysOpen i x → All (LeavesNew i (places_of of.size) s.number) (tickets x) → IsNewIn of s.number
 
--- a new client is in step with a context that is added fresh; whatever two applications say and the network does from two ends on that are in step, this stands at
--- each moment; the window stays open unless the server restarts (RFC 8613, 8.1 to 8.4 and B.1.2)
-pub record HonestExchange : Type 0 where
+-- a new client is in step with a context that is added fresh; the window stays open unless the server restarts; so requests are admitted in time
+-- (RFC 8613, 7.4, 8.1 to 8.4 and B.1.2)
+pub record ExchangeInTime : Type 0 where
   pub starts : (s : SecurityContext) (first ms i : ℕ) (own : Piv) (size : WindowSize) (g : server.History)
       → AreInStep i (client.New s first ms) (server.Then g (server.Add s (starts.Fresh own) size) (server.Added i))
-  pub stands : (n i : ℕ) (x : Exchange) → IsHonest n i x → Stands n i x
   pub stays_open : (n i : ℕ) (x : Exchange) → IsHonest n i x → StaysOpen i x → is_open_life (server.life (server_of x) i) ≡ true
+  pub admits : (n i : ℕ) (x : Exchange) (of : Life) → IsHonest n i x → server.life (server_of x) i ≡ Some of → AdmitsInTime i x of

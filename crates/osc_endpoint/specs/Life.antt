@@ -35,17 +35,13 @@ pub record Life : Type 0 where
 abbrev pub opened : Bool → List Mark → Bool
 opened from_birth [] = from_birth
 opened from_birth (Delivered n ∷ marks) = true
-opened from_birth (Spoiled n ∷ marks) = opened from_birth marks
-opened from_birth (Challenged echo issued ∷ marks) = opened from_birth marks
-opened from_birth (Answered ∷ marks) = opened from_birth marks
+opened from_birth (mark ∷ marks) = opened from_birth marks
 
 -- the number of the first request that was delivered (RFC 8613, B.1.2)
 abbrev pub first_delivered : List Mark → Option ℕ
 first_delivered [] = None
 first_delivered (Delivered n ∷ marks) = Some (unwrap_or (first_delivered marks) n)
-first_delivered (Spoiled n ∷ marks) = first_delivered marks
-first_delivered (Challenged echo issued ∷ marks) = first_delivered marks
-first_delivered (Answered ∷ marks) = first_delivered marks
+first_delivered (mark ∷ marks) = first_delivered marks
 
 -- the least number that can be new: the number of the first delivery after a restart, else 0 (RFC 8613, B.1.2)
 abbrev pub floor : Bool → List Mark → ℕ
@@ -56,24 +52,20 @@ abbrev pub spent : Bool → List Mark → List ℕ
 spent from_birth [] = []
 spent from_birth (Delivered n ∷ marks) = n ∷ spent from_birth marks
 spent from_birth (Spoiled n ∷ marks) = if opened from_birth marks then n ∷ spent from_birth marks else spent from_birth marks
-spent from_birth (Challenged echo issued ∷ marks) = spent from_birth marks
-spent from_birth (Answered ∷ marks) = spent from_birth marks
+spent from_birth (mark ∷ marks) = spent from_birth marks
 
 -- the value of the last challenge, and when it was issued (RFC 9175, 2.3)
 abbrev pub challenge : List Mark → Option (List ℕ × ℕ)
 challenge [] = None
-challenge (Delivered n ∷ marks) = challenge marks
-challenge (Spoiled n ∷ marks) = challenge marks
 challenge (Challenged echo issued ∷ marks) = Some (echo, issued)
-challenge (Answered ∷ marks) = challenge marks
+challenge (mark ∷ marks) = challenge marks
 
 -- how many own numbers were used: one for each challenge, each notification, and each reply that asked for one (RFC 8613, 7.2.1)
 abbrev pub own_count : List Mark → ℕ
 own_count [] = 0
-own_count (Delivered n ∷ marks) = own_count marks
-own_count (Spoiled n ∷ marks) = own_count marks
 own_count (Challenged echo issued ∷ marks) = own_count marks + 1
 own_count (Answered ∷ marks) = own_count marks + 1
+own_count (mark ∷ marks) = own_count marks
 
 -- requests are checked by their number (RFC 8613, B.1.2)
 abbrev pub is_open : Life → Bool

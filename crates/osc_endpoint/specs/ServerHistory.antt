@@ -65,12 +65,9 @@ pub data History : Type 0 where
 
 -- the clock after an event: the later of the clock before and the event's own moment, if it has one (own rule)
 abbrev pub clock_by : Event → ℕ → ℕ
-clock_by (Add context start size) before = before
 clock_by (Datagram now echo mid bytes) before = max before now
-clock_by (Reply ticket own mid plain room) before = before
-clock_by (Notify ticket plain room) before = before
-clock_by (Restart context next) before = before
 clock_by (Advance now) before = max before now
+clock_by event before = before
 
 -- the clock: the greatest moment so far, 0 at first (own rule)
 abbrev pub clock : History → ℕ

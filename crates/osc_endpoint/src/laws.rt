@@ -3,7 +3,7 @@
 
 ghost use Rattle.osc_endpoint.specs.Arriving.{WhatIsSealedArrives};
 ghost use Rattle.osc_endpoint.specs.ClientLaws.{ClientNoncesOnce, OneClientAnswer, RequestNumbersOnce};
-ghost use Rattle.osc_endpoint.specs.Exchange.{HonestExchange};
+ghost use Rattle.osc_endpoint.specs.Exchange.{ExchangeInTime, HonestExchange};
 ghost use Rattle.osc_endpoint.specs.ExchangeRuns.{RunsAreHonest};
 ghost use Rattle.osc_endpoint.specs.Laws.{DeliveredOnce, OneServerAnswer, OwnNumbersOnce, ServerNoncesOnce, TicketOnce};
 ghost use Rattle.osc_endpoint.specs.OneContext.{ContextsStandAlone};
@@ -125,6 +125,7 @@ pub fn what_is_sealed_arrives()
 /// `run_server` are such an exchange, and show what arrived (RFC 8613, 7.4, 8.1 to 8.4 and B.1.2).
 pub fn honest_exchange()
     ensures exchange { HonestExchange }
+    ensures in_time { ExchangeInTime }
     ensures runs { RunsAreHonest }
 {
     what_is_sealed_arrives();

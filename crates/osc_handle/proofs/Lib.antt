@@ -6,3 +6,4 @@ pub mod Waits
 pub mod Senders
 pub mod Servers
 pub mod Singles
+pub mod Plainness

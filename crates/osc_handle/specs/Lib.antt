@@ -7,6 +7,7 @@ pub mod TicketBytes
 pub mod SingleServerBytes
 pub mod ClientBytes
 pub mod ServerLaws
+pub mod HandlePlainness
 -- how the code is seen
 pub mod ServerBytes
 pub mod ClientSteps

@@ -106,4 +106,4 @@ all_answers alone n i s (Then w event) x = (all_answers alone n i s w x.0, answe
 
 pub each_has_ends : ContextsStandAlone → TwoEnds → EachContext
 each_has_ends alone ends n i s w x =
-    ends n s w (record { usable = x.usable; answers = all_answers alone n i s w x.answers; sealed = x.sealed; unseen = x.unseen; kept = x.kept; fresh = x.fresh })
+    ends n s w (record { usable = x.usable; answers = all_answers alone n i s w x.answers; sealed = x.sealed; unseen = x.unseen; above = x.above; fresh = x.fresh })

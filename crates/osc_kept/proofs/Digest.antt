@@ -3,13 +3,15 @@ use Rattle.std.proofs.Common.{◌≡◌, ℕ, ◌∙◌, sym, ap, refl, Bool, tr
 use Rattle.osc_coap.specs.Datagram.{Parts}
 use Rattle.osc_context.specs.SecurityContext.{SecurityContext}
 use Rattle.osc_protect.specs.Protection.{as_notified}
+use Rattle.std.specs.List.{cons_option}
+use Rattle.std.specs.Option.{option_map}
 use Rattle.osc_protect.specs.Sealed.{inside}
 use Rattle.osc_endpoint.specs.ClientHistory as client
 use Rattle.osc_endpoint.specs.Life.{Life, next_own}
 use Rattle.osc_endpoint.specs.Replies.{challenge_message}
 use Rattle.osc_endpoint.specs.ServerAnswer.{own_number}
 use Rattle.osc_endpoint.specs.ServerHistory as server
-use Rattle.osc_kept.specs.World.{World, Event, Begin, Then, ServerStarts, AtClient, AtServer, client_history, server_life, request_in, response_in, sent, answered, delivered}
+use Rattle.osc_kept.specs.World.{World, Event, Begin, Then, ServerStarts, AtClient, AtServer, Request, client_history, server_life, response_in, sent, answered, delivered}
 use Rattle.osc_kept.proofs.Deeds.{Deed, Sends, Begins, Renews, Spoils, Challenges, Delivers, Replies, Notifies, Nothing, sends, delivers, answers}
 
 abbrev pub client_deed : Option client.History → client.Event → client.Entry → Deed
@@ -49,10 +51,13 @@ digest s (Then w event) = deed s w event ∷ digest s w
 
 -- ---- requests
 
+abbrev asked_in : Parts → client.History → Request
+asked_in p h = record { number = client.next h; message = inside p }
+
 sends_client : (s : SecurityContext) (w : World) (o : Option client.History) (event : client.Event) (entry : client.Entry) (ds : List Deed) → sent s w ≡ sends ds
     → client_history s w ≡ o → sent s (Then w (AtClient event entry)) ≡ sends (client_deed o event entry ∷ ds)
-sends_client s w (Some h) (client.Request now p room) (client.Sent bytes) ds e f = ap (λ x. request_in x p ++ sent s w) f ∙ ap (λ rs. record { number = client.next h; message = inside p } ∷ rs) e
-sends_client s w None (client.Request now p room) (client.Sent bytes) ds e f = ap (λ x. request_in x p ++ sent s w) f ∙ e
+sends_client s w (Some h) (client.Request now p room) (client.Sent bytes) ds e f = ap (λ x. cons_option (option_map (asked_in p) x) (sent s w)) f ∙ ap (λ rs. record { number = client.next h; message = inside p } ∷ rs) e
+sends_client s w None (client.Request now p room) (client.Sent bytes) ds e f = ap (λ x. cons_option (option_map (asked_in p) x) (sent s w)) f ∙ e
 sends_client s w o event entry ds e f = e
 
 pub sends_server : (o : Option Life) (event : server.Event) (entry : server.Entry) (ds : List Deed) → sends (server_deed o event entry ∷ ds) ≡ sends ds

@@ -23,6 +23,7 @@ use Rattle.osc_kept.specs.Examples.{Asked, CarriesValue, Ends, ForgeryBreaks, Nu
 use Rattle.osc_kept.specs.Premises.{Answers, NobodyForgesRequests, NobodyForgesResponses, SealedByServer}
 use Rattle.osc_kept.specs.World.{World, Begin, Then, Client, Server, Draws, Reserves, AtClient, AtServer, Has, Request, answered, client_history, sent, server_history}
 use Rattle.osc_endpoint.proofs.Inside.{as_notification}
+use Rattle.osc_kept.proofs.Beginning.{is_kept}
 use Rattle.osc_kept.proofs.Lives.{some_is}
 
 -- what is used of the layers below
@@ -219,10 +220,8 @@ premises_met laws n s x first second again r k v u echo a c p room usable free s
     let seals_again : SealsRequest s 65 again.plain again.bytes = asked_seals n s w16 again asked4 65 refl refl refl answers.0.1 in
     let reply = replied_seals n s w6 (ticket_of 0 0 r) p room a served1 life1 refl refl refl a7.1 in
     let challenge = challenged_seals n s w13 64 64 echo second.bytes c served2 life2 refl refl refl refl a15.0.1 in
-    record {
-      usable = usable;
-      answers = answers;
-      sealed = (
+    is_kept n s _ usable answers (
+      (
         (
           (
             (
@@ -232,11 +231,8 @@ premises_met laws n s x first second again r k v u echo a c p room usable free s
                     (
                       (
                         (
-                          (
-                            (((((((tt, tt), tt), tt), tt), tt), sent_opens laws s _ first.bytes 0 first.plain seals_first (inl refl)), tt),
-                            answers_one laws s _ asked1 _ a None _ refl refl reply (inl refl),
-                          ),
-                          tt,
+                          (((((((tt, tt), tt), tt), tt), tt), sent_opens laws s _ first.bytes 0 first.plain seals_first (inl refl)), tt),
+                          answers_one laws s _ asked1 _ a None _ refl refl reply (inl refl),
                         ),
                         tt,
                       ),
@@ -246,36 +242,37 @@ premises_met laws n s x first second again r k v u echo a c p room usable free s
                   ),
                   tt,
                 ),
-                sent_opens laws s _ second.bytes 64 second.plain seals_second (inl refl),
+                tt,
               ),
-              answers_one laws s _ asked3 _ c (Some 64) _ refl refl challenge.seals (inl refl),
+              sent_opens laws s _ second.bytes 64 second.plain seals_second (inl refl),
             ),
-            tt,
+            answers_one laws s _ asked3 _ c (Some 64) _ refl refl challenge.seals (inl refl),
           ),
           tt,
         ),
-        sent_opens laws s _ again.bytes 65 again.plain seals_again (inl refl),
-      );
-      unseen = (
+        tt,
+      ),
+      sent_opens laws s _ again.bytes 65 again.plain seals_again (inl refl),
+    ) (
+      (
         (
           (
             (
-              (
-                (((((((((((((tt, tt), tt), tt), tt), tt), tt), tt), tt), tt), tt), tt), tt), tt),
-                λ h of f l none q has carries. elim has [
-                  | inl e ↦ none_carries second 64 echo q still_free e carries
-                  | inr rest ↦ elim rest [ inl e ↦ none_carries first 0 echo q free e carries | inr end ↦ end ]
-                ],
-              ),
-              tt,
+              (((((((((((((tt, tt), tt), tt), tt), tt), tt), tt), tt), tt), tt), tt), tt), tt),
+              λ h of f l none q has carries. elim has [
+                | inl e ↦ none_carries second 64 echo q still_free e carries
+                | inr rest ↦ elim rest [ inl e ↦ none_carries first 0 echo q free e carries | inr end ↦ end ]
+              ],
             ),
             tt,
           ),
           tt,
         ),
         tt,
-      );
-      kept = (
+      ),
+      tt,
+    ) (
+      (
         (
           (
             (
@@ -289,37 +286,35 @@ premises_met laws n s x first second again r k v u echo a c p room usable free s
                             (
                               (
                                 (
-                                  (
-                                    (((tt, record { client = (omega arith, omega arith); server = tt }), record { client = (refl, refl, omega arith); server = tt }), record { client = refl; server = tt }),
-                                    record { client = tt; server = (omega arith, zero_small x) },
-                                  ),
-                                  record { client = tt; server = (refl, refl, zero_small x) },
+                                  (((tt, record { client = (omega arith, omega arith); server = tt }), record { client = (refl, refl, omega arith); server = tt }), record { client = refl; server = tt }),
+                                  record { client = tt; server = (omega arith, zero_small x) },
                                 ),
-                                record { client = tt; server = tt },
+                                record { client = tt; server = (refl, refl, zero_small x) },
                               ),
                               record { client = tt; server = tt },
                             ),
                             record { client = tt; server = tt },
                           ),
-                          record { client = tt; server = (floor_of x, omega arith) },
+                          record { client = tt; server = tt },
                         ),
-                        record { client = (omega arith, omega arith); server = tt },
+                        record { client = tt; server = (floor_of x, omega arith) },
                       ),
-                      record { client = (refl, refl, omega arith); server = tt },
+                      record { client = (omega arith, omega arith); server = tt },
                     ),
-                    record { client = refl; server = tt },
+                    record { client = (refl, refl, omega arith); server = tt },
                   ),
-                  record { client = tt; server = (refl, refl, omega arith) },
+                  record { client = refl; server = tt },
                 ),
-                record { client = tt; server = refl },
+                record { client = tt; server = (refl, refl, omega arith) },
               ),
-              record { client = tt; server = tt },
+              record { client = tt; server = refl },
             ),
-            record { client = (refl, omega arith); server = tt },
+            record { client = tt; server = tt },
           ),
-          record { client = refl; server = tt },
+          record { client = (refl, omega arith); server = tt },
         ),
-        record { client = tt; server = tt },
-      );
-      fresh = ((((((((((((((((((tt, tt), tt), tt), refl), tt), tt), tt), tt), tt), tt), tt), tt), tt), tt), tt), tt), tt), tt);
-    }
+        record { client = refl; server = tt },
+      ),
+      record { client = tt; server = tt },
+    )
+    ((((((((((((((((((tt, tt), tt), tt), refl), tt), tt), tt), tt), tt), tt), tt), tt), tt), tt), tt), tt), tt), tt)

@@ -20,19 +20,17 @@ use Rattle.osc_endpoint.specs.declared.start.Start.TheVariants as starts
 use Rattle.osc_endpoint.specs.Received.{Received}
 use Rattle.osc_endpoint.specs.ClientHistory as client
 use Rattle.osc_endpoint.specs.Laws.{AreApart, AreLeft, TakesTickets, TicketOnce, answered, delivered}
-use Rattle.osc_endpoint.specs.Life.{Life, Admits, born, Carries, challenge, in_force, is_open, next_own}
+use Rattle.osc_endpoint.specs.Life.{Life, Admits, born, Carries, challenge, in_force, is_open}
 use Rattle.osc_endpoint.specs.ServerAnswer.{ServerAnswer, challenge_given}
 use Rattle.osc_endpoint.specs.ServerHistory as server
-use Rattle.osc_kept.specs.Numbering.{Use}
-use Rattle.osc_kept.specs.Premises.{AtEach, Answers, EchoIsNew, FreshWhileNothingDelivered, IsLawful, NobodyForges, NobodyForgesRequests, NumbersAreKept, SealedByClient}
-use Rattle.osc_kept.specs.World.{World, Event, Begin, Then, Client, Server, ServerStarts, AtClient, AtServer, Has, client_effect, client_history, sent, server_life}
-use Rattle.osc_kept.proofs.Deeds.{AllBelow, AllFit, Begins, CarriesLast, Challenges, Deed, Delivers, Fits, Holds, Renews, Replies, Spoils, carried, given, life_in, owns, replied, sends}
+use Rattle.osc_kept.specs.Premises.{AtEach, Answers, BeginsAbove, EchoIsNew, FreshWhileNothingDelivered, IsLawful, NobodyForges, NobodyForgesRequests, SealedByClient}
+use Rattle.osc_kept.specs.World.{World, Event, Begin, Then, ServerStarts, AtClient, AtServer, Has, client_history, sent, server_life}
+use Rattle.osc_kept.proofs.Above.{owns_below, sends_below}
+use Rattle.osc_kept.proofs.Deeds.{AllFit, Begins, CarriesLast, Challenges, Deed, Delivers, Fits, Holds, Renews, Replies, Spoils, carried, given, life_in, replied, sends}
 use Rattle.osc_kept.proofs.Digest.{client_deed, delivered_is, digest, sent_is, server_deed}
 use Rattle.osc_endpoint.proofs.Inside.{unnotified}
 use Rattle.osc_endpoint.proofs.SealedReplies.{replied_features}
-use Rattle.osc_kept.proofs.Lives.{Stands, life_known, own_use, some_is, stands}
-use Rattle.osc_kept.proofs.Owned.{effect_is, own_used, sent_used}
-use Rattle.osc_kept.proofs.Rising.{use_above}
+use Rattle.osc_kept.proofs.Lives.{Stands, life_known, some_is, stands}
 
 -- what the layers below hold of all contexts, datagrams and histories
 pub record LawsBelow : Type 0 where
@@ -89,12 +87,6 @@ given_or_new (Some x) p fresh c f e = inl (f x refl ∙ ap (λ y. Some y) (sym e
 pub same_life : (s : SecurityContext) (ds : List Deed) (h : server.History) (i : ℕ) (of : Life) → Stands s ds h → server.life h i ≡ Some of → of ≡ life_in s ds
 same_life s ds h i of x e = some_is (sym e ∙ ap (λ j. server.life h j) (x.only i of e) ∙ x.present)
 
--- a text that a server seals with an own number: the numbers before are below it
-pub own_above : (n : ℕ) (s : SecurityContext) (w : World) (event : server.Event) (entry : server.Entry) (own : ℕ) → AtEach (Answers n s) w → Answers n s w (AtServer event entry)
-    → AtEach (NumbersAreKept s) w → NumbersAreKept s w (AtServer event entry) → own_use (server_deed (server_life s w) event entry) ≡ Use own → AllBelow (owns (digest s w)) own
-own_above n s w event entry own a b k l e m h =
-    use_above Server s w (AtServer event entry) own m k l (effect_is n s w event entry a b ∙ e) (own_used n s w m a h)
-
 has_more : (xs ys : List server.TicketValues) (u t : server.TicketValues) → Has t (xs ++ ys) → Has t (xs ++ u ∷ ys)
 has_more [] ys u t k = inr k
 has_more (x ∷ xs) ys u t (inl e) = inl e
@@ -146,8 +138,7 @@ pub record At (n : ℕ) (s : SecurityContext) (w : World) (event : server.Event)
   pub answer : Answers n s w (AtServer event entry)
   pub sealed : NobodyForges s w (AtServer event entry)
   pub unseen : EchoIsNew s w (AtServer event entry)
-  pub kept_all : AtEach (NumbersAreKept s) w
-  pub kept : NumbersAreKept s w (AtServer event entry)
+  pub above : AtEach (BeginsAbove s) w
 
 -- its history, and its life
 pub at_stands : (n : ℕ) (s : SecurityContext) (w : World) (event : server.Event) (entry : server.Entry) (i : At n s w event entry) → Stands s (digest s w) i.answer.0
@@ -208,8 +199,7 @@ fits_challenge laws n s w now mid i k issued echo d value reply y =
     let last : (value, issued) ≡ challenge_given l clock echo = x.4.2 ∙ ap (λ z. challenge_given z clock echo) e in
     let life_i : server.life h i ≡ Some l = ap (λ j. server.life h j) x.4.3 ∙ x.3.life_is ∙ ap (λ z. Some z) e in (
       (_, sent, sym number),
-      own_above n s w (server.Datagram now echo mid d) (server.Took (server.Challenge i k value issued) reply) (next_own l) y.all y.answer y.kept_all y.kept
-          (ap (λ z. own_use (server_deed z (server.Datagram now echo mid d) (server.Took (server.Challenge i k value issued) reply))) (at_life n s w _ _ y)),
+      (owns_below n s w y.all y.above).below,
       elim (given_or_new (in_force l clock) (challenge l.marks) (echo, clock) (value, issued) (λ c f. still_in_force (is_open l) (challenge l.marks) clock c f) last) [
         | inl same ↦ inl same
         | inr none ↦ inr (λ r q f. y.unseen h l y.answer.1 life_i none r (subst (λ rs. Has r rs) (sym (sent_is s w)) q) f)
@@ -221,8 +211,7 @@ fits_reply : LawsBelow → (n : ℕ) (s : SecurityContext) (w : World) (t : serv
     → Fits s (digest s w) (server_deed (Some (life_in s (digest s w))) (server.Reply t own mid p room) (server.Replied bytes))
 fits_reply laws n s w t true mid room p bytes y = (
   held laws.tickets s (digest s w) y.answer.0 t true mid room p bytes (at_stands n s w _ _ y) y.answer.2 y.answer.4,
-  own_above n s w (server.Reply t true mid p room) (server.Replied bytes) (next_own (life_in s (digest s w))) y.all y.answer y.kept_all y.kept
-      (ap (λ z. own_use (server_deed z (server.Reply t true mid p room) (server.Replied bytes))) (at_life n s w _ _ y)),
+  (owns_below n s w y.all y.above).below,
 )
 fits_reply laws n s w t false mid room p bytes y = (
   held laws.tickets s (digest s w) y.answer.0 t false mid room p bytes (at_stands n s w _ _ y) y.answer.2 y.answer.4,
@@ -235,8 +224,7 @@ fits_notify : LawsBelow → (n : ℕ) (s : SecurityContext) (w : World) (t : ser
     → Fits s (digest s w) (server_deed (Some (life_in s (digest s w))) (server.Notify t p room) (server.Replied bytes))
 fits_notify laws n s w t room p bytes y = (
   given_left s (digest s w) y.answer.0 t p room bytes (at_stands n s w _ _ y) y.answer.4,
-  own_above n s w (server.Notify t p room) (server.Replied bytes) (next_own (life_in s (digest s w))) y.all y.answer y.kept_all y.kept
-      (ap (λ z. own_use (server_deed z (server.Notify t p room) (server.Replied bytes))) (at_life n s w _ _ y)),
+  (owns_below n s w y.all y.above).below,
 )
 
 fits_server : LawsBelow → (n : ℕ) (s : SecurityContext) (w : World) (event : server.Event) (entry : server.Entry) → At n s w event entry
@@ -249,10 +237,8 @@ fits_server laws n s w (server.Restart i next) server.Restarted y = tt
 fits_server laws n s w event entry y = tt
 
 pub fits_client : (n : ℕ) (s : SecurityContext) (w : World) (o : Option client.History) (event : client.Event) (entry : client.Entry) → client_history s w ≡ o
-    → AtEach (NumbersAreKept s) w → NumbersAreKept s w (AtClient event entry) → Fits s (digest s w) (client_deed o event entry)
-fits_client n s w (Some h) (client.Request now p room) (client.Sent bytes) e a b = λ r k.
-    use_above Client s w (AtClient (client.Request now p room) (client.Sent bytes)) (client.next h) r.number a b
-    (ap (λ o. client_effect o (client.Request now p room) (client.Sent bytes)) e) (sent_used s w r k)
+    → AtEach (Answers n s) w → AtEach (BeginsAbove s) w → Fits s (digest s w) (client_deed o event entry)
+fits_client n s w (Some h) (client.Request now p room) (client.Sent bytes) e a b = sends_below n s w h a b e
 fits_client n s w o event entry e a b = tt
 
 fits_start : (s : SecurityContext) (w : World) (start : Start) (size : WindowSize) → FreshWhileNothingDelivered w (ServerStarts start size) → Fits s (digest s w) (Begins start size)
@@ -267,18 +253,17 @@ at_server n s w event entry i =
       answer = i.answers.1;
       sealed = i.sealed.1;
       unseen = i.unseen.1;
-      kept_all = i.kept.0;
-      kept = i.kept.1;
+      above = i.above.0;
     }
 
 pub before : (n : ℕ) (s : SecurityContext) (w : World) (event : Event) → IsLawful n s (Then w event) → IsLawful n s w
 before n s w event i =
-    record { usable = i.usable; answers = i.answers.0; sealed = i.sealed.0; unseen = i.unseen.0; kept = i.kept.0; fresh = i.fresh.0 }
+    record { usable = i.usable; answers = i.answers.0; sealed = i.sealed.0; unseen = i.unseen.0; above = i.above.0; fresh = i.fresh.0 }
 
 pub all_fit : LawsBelow → (n : ℕ) (s : SecurityContext) (w : World) → IsLawful n s w → AllFit s (digest s w)
 all_fit laws n s Begin i = tt
 all_fit laws n s (Then w (ServerStarts start size)) i = (all_fit laws n s w (before n s w _ i), fits_start s w start size i.fresh.1)
-all_fit laws n s (Then w (AtClient event entry)) i = (all_fit laws n s w (before n s w _ i), fits_client n s w (client_history s w) event entry refl i.kept.0 i.kept.1)
+all_fit laws n s (Then w (AtClient event entry)) i = (all_fit laws n s w (before n s w _ i), fits_client n s w (client_history s w) event entry refl i.answers.0 i.above.0)
 all_fit laws n s (Then w (AtServer event entry)) i =
     let y : At n s w event entry = at_server n s w event entry i in (
       all_fit laws n s w (before n s w _ i),

@@ -1,7 +1,7 @@
 -- What a client hears over all its lives: each response once, and those to one request in the order in which they were sealed. w is a world that
 -- meets the premises, ds are its deeds, hs what was heard, h is the history of the client that runs, r a request that it asked.
 use Rattle.std.proofs.Common.{◌≡◌, ◌≢◌, ℕ, ◌+◌, ◌<◌, ◌≤◌, ◌∙◌, sym, ap, subst, refl, arith, bytes_eq, Bool, true, false, Option, Some, None, List, [], ◌∷◌, ◌&&◌, inl, inr, if◌then◌else◌}
-use Rattle.std.specs.Prelude.{All, AllPairs, Contains, filter, max, not, slice_index_or}
+use Rattle.std.specs.Prelude.{All, AllPairs, Contains, IfSome, filter, max, not, slice_index_or}
 use Rattle.std.specs.Option.{option_map}
 use Rattle.std.proofs.lemmas.Bool.{not_from_true}
 use Rattle.std.proofs.lemmas.List.Elements.{All-contains, All-contains_itself, All-filter, All-map, All-nil, All-push, All-weaker, filter_passes}
@@ -23,11 +23,11 @@ use Rattle.osc_endpoint.specs.Observing.{is_notification, place_of, registers}
 use Rattle.osc_endpoint.specs.Received.{Received, Receives}
 use Rattle.osc_endpoint.proofs.Asking.{contains_filter, differ_later, differ_mapped, one_of, one_of_token}
 use Rattle.osc_endpoint.proofs.OneClientAnswers.{tokens_differ}
-use Rattle.osc_kept.specs.Claims.{AnswersThatRequest, BothEnds, DeliversOnce, HearsInOrder, HearsNoMore, HearsPlainOnce, ended, IsAfter, IsForThatRequest, IsNext, IsUnheard, NotifiesRegistrations, SealsUnderNewNonce}
+use Rattle.osc_kept.specs.Claims.{BothEnds, DeliversOnce, ended, IsAfter, IsForThatRequest, IsNext, IsUnended, IsUnheard, NotifiesRegistrations}
 use Rattle.osc_kept.specs.Freshness.{OpensFresh}
 use Rattle.osc_kept.specs.Premises.{AtEach, Answers, IsLawful}
-use Rattle.osc_kept.specs.World.{World, Event, Begin, Then, ClientStarts, AtClient, AtServer, Has, Request, Response, client_history, heard, sent, server_life}
-use Rattle.osc_kept.proofs.Claims.{answers_that, delivers_once, seals_new}
+use Rattle.osc_kept.specs.World.{World, Event, Begin, Then, ClientStarts, AtClient, AtServer, Has, Request, Response, client_history, heard, heard_in, sent, server_life}
+use Rattle.osc_kept.proofs.Claims.{AnswersThatRequest, SealsUnderNewNonce, answers_that, delivers_once, nonces_apart, seals_new}
 use Rattle.osc_kept.proofs.Deeds.{AllFit, Challenges, Deed, IsSent, Nothing, Notifies, Replies, Sends, answers, owned, owns, sends}
 use Rattle.osc_kept.proofs.Digest.{answered_is, client_deed, deed, digest, sends_server, sent_is}
 use Rattle.osc_kept.proofs.Fitting.{LawsBelow, all_fit, before, fits_client}
@@ -101,7 +101,7 @@ still_sealed d ds y h = h
 still_for : (d : Deed) (ds : List Deed) (y : Response) → WasFor ds y → WasFor (d ∷ ds) y
 still_for d ds y x = record { sealed = still_sealed d ds y x.sealed; sent = still_sent d ds y.number x.sent }
 
-for_that : (s : SecurityContext) (w : World) (number : ℕ) (own : Option ℕ) (m : InnerParts) → IsForThatRequest s w number own m → WasFor (digest s w) (record { number = number; own = own; message = m })
+for_that : (s : SecurityContext) (w : World) (number : ℕ) (own : Option ℕ) (m : InnerParts) → IsForThatRequest s w (record { number = number; own = own; message = m }) → WasFor (digest s w) (record { number = number; own = own; message = m })
 for_that s w number own m x = record {
   sealed = subst (λ rs. Has (record { number = number; own = own; message = m }) rs) (answered_is s w) x.was_answered;
   sent = (x.request, subst (λ rs. Has x.request rs) (sent_is s w) x.was_sent, x.number_is);
@@ -352,7 +352,7 @@ listens_at laws n s w g event entry i f answer x = by_event event entry i answer
     by_event (client.Request now p room) (client.Sent bytes) i answer =
         let j = before n s w _ i in
         asks s (digest s w) (heard w) g (context_is j.answers) (sent_all j.answers) (known j) x now room p bytes
-        (fits_client n s w (Some g) (client.Request now p room) (client.Sent bytes) f i.kept.0 i.kept.1)
+        (fits_client n s w (Some g) (client.Request now p room) (client.Sent bytes) f i.answers.0 i.above.0)
     by_event (client.Datagram now d) (client.Took (client.Notified received number)) i (r, at, (is, own, later, receives, goes)) =
         let j = before n s w _ i in
         let was = for_that s w number received.number received.message (answers_that laws n s w (AtClient (client.Datagram now d) (client.Took (client.Notified received number))) i) in
@@ -396,7 +396,7 @@ later_own j (Some k) less = (k, refl, omega (arith, less))
 
 is_next : LawsBelow → (n : ℕ) (s : SecurityContext) (w : World) (h : client.History) (now number : ℕ) (d : List ℕ) (received : Received) (r : client.Asked) (own : Option ℕ) → IsLawful n s w
     → client_history s w ≡ Some h → IsAnswerTo h (max (client.clock h) now) d r → number ≡ r.number → IsAwaited r own → Receives (awaited (client.context h) r) own d received
-    → IsForThatRequest s w number received.number received.message → IsNext s w (record { number = number; own = received.number; message = received.message })
+    → IsForThatRequest s w (record { number = number; own = received.number; message = received.message }) → IsNext s w (record { number = number; own = received.number; message = received.message })
 is_next laws n s w h now number d received r own i f at is later receives was =
     let x : Response = record { number = number; own = received.number; message = received.message } in
     let was_asked = contains_filter (client.is_alive (max (client.clock h) now) (client.life_ms h)) (client.asked h) r at.1 in
@@ -412,7 +412,7 @@ is_next laws n s w h now number d received r own i f at is later receives was =
           (after s (digest s w) x y k j (all_fit laws n s w i) x_own y_own less (for_that s w number received.number received.message was).sealed (heard_for laws n s w y i has).sealed);
     }
 
-hears_in_order : LawsBelow → (n : ℕ) (s : SecurityContext) (w : World) (event : Event) → IsLawful n s (Then w event) → HearsInOrder s w event
+hears_in_order : LawsBelow → (n : ℕ) (s : SecurityContext) (w : World) (event : Event) → IsLawful n s (Then w event) → IfSome (heard_in event) (IsNext s w)
 hears_in_order laws n s w (AtClient (client.Datagram now d) (client.Took (client.Notified received number))) i =
     let (r, at, (is, own, later, receives, goes)) = i.answers.1.2 in
     is_next laws n s w i.answers.1.0 now number d received r own (before n s w _ i) i.answers.1.1 at is later receives
@@ -434,8 +434,8 @@ notifies_registrations laws n s w (AtClient (client.Datagram now d) (client.Took
 notifies_registrations laws n s w event i = tt
 
 unheard : LawsBelow → (n : ℕ) (s : SecurityContext) (w : World) (h : client.History) (now number : ℕ) (d : List ℕ) (r : client.Asked) → IsLawful n s w → client_history s w ≡ Some h
-    → IsAnswerTo h (max (client.clock h) now) d r → number ≡ r.number → IsUnheard s w number
-unheard laws n s w h now number d r i f at is = λ q has same plain y was y_is. by_wait q has same plain y was y_is r.wait refl
+    → IsAnswerTo h (max (client.clock h) now) d r → number ≡ r.number → (y : Option ℕ) (m : InnerParts) → IsUnheard s w (record { number = number; own = y; message = m })
+unheard laws n s w h now number d r i f at is o m = λ q has same plain y was y_is. by_wait q has same plain y was y_is r.wait refl
   where
     was_asked : Contains (client.asked h) r
     was_asked = contains_filter (client.is_alive (max (client.clock h) now) (client.life_ms h)) (client.asked h) r at.1
@@ -453,13 +453,13 @@ unheard laws n s w h now number d r i f at is = λ q has same plain y was y_is. 
         let registering = follows.registered (ap client.observes e) q (subst (λ rs. Has q rs) (sent_is s w) has) (same ∙ is) in
         let g : true ≡ false = sym registering ∙ plain in cc
 
-hears_plain_once : LawsBelow → (n : ℕ) (s : SecurityContext) (w : World) (event : Event) → IsLawful n s (Then w event) → HearsPlainOnce s w event
+hears_plain_once : LawsBelow → (n : ℕ) (s : SecurityContext) (w : World) (event : Event) → IsLawful n s (Then w event) → IfSome (heard_in event) (IsUnheard s w)
 hears_plain_once laws n s w (AtClient (client.Datagram now d) (client.Took (client.Notified received number))) i =
     let (r, at, (is, own, later, receives, goes)) = i.answers.1.2 in
-    unheard laws n s w i.answers.1.0 now number d r (before n s w _ i) i.answers.1.1 at is
+    unheard laws n s w i.answers.1.0 now number d r (before n s w _ i) i.answers.1.1 at is received.number received.message
 hears_plain_once laws n s w (AtClient (client.Datagram now d) (client.Took (client.Deliver received number))) i =
     let (r, at, (is, own, later, receives, goes)) = i.answers.1.2 in
-    unheard laws n s w i.answers.1.0 now number d r (before n s w _ i) i.answers.1.1 at is
+    unheard laws n s w i.answers.1.0 now number d r (before n s w _ i) i.answers.1.1 at is received.number received.message
 hears_plain_once laws n s w event i = tt
 
 -- ---- behind the last response
@@ -479,7 +479,7 @@ open_after : LawsBelow → (n : ℕ) (s : SecurityContext) (w : World) (g : clie
     → All (IsOpen (ended (Then w (AtClient event entry)))) (client.asked (client.Then g event entry))
 open_after laws n s w g (client.Request now p room) (client.Sent bytes) i f answer x =
     let j = before n s w _ i in
-    let above = fits_client n s w (Some g) (client.Request now p room) (client.Sent bytes) f i.kept.0 i.kept.1 in
+    let above = fits_client n s w (Some g) (client.Request now p room) (client.Sent bytes) f i.answers.0 i.above.0 in
     All-push (IsOpen (ended w)) (client.asked g) _ x (λ has.
     let (y, was, is) = ended_heard w _ has in
     let sent_is = (heard_for laws n s w y j was).sent in
@@ -532,7 +532,7 @@ still_open laws n s w h now number d r i f at is has =
     All-contains (IsOpen (ended w)) (client.asked h) r (open_at laws n s w h i f)
     (contains_filter (client.is_alive (max (client.clock h) now) (client.life_ms h)) (client.asked h) r at.1) (subst (λ z. Has z (ended w)) is has)
 
-hears_no_more : LawsBelow → (n : ℕ) (s : SecurityContext) (w : World) (event : Event) → IsLawful n s (Then w event) → HearsNoMore w event
+hears_no_more : LawsBelow → (n : ℕ) (s : SecurityContext) (w : World) (event : Event) → IsLawful n s (Then w event) → IfSome (heard_in event) (IsUnended w)
 hears_no_more laws n s w (AtClient (client.Datagram now d) (client.Took (client.Notified received number))) i =
     let (r, at, (is, own, later, receives, goes)) = i.answers.1.2 in
     still_open laws n s w i.answers.1.0 now number d r (before n s w _ i) i.answers.1.1 at is
@@ -552,10 +552,10 @@ both_ends_hold laws n s w i =
     record {
       once = each (DeliversOnce s) n s (delivers_once laws n s) w i;
       that_request = each (AnswersThatRequest s) n s (answers_that laws n s) w i;
-      nonces = each (SealsUnderNewNonce s) n s (seals_new laws n s) w i;
-      in_order = each (HearsInOrder s) n s (hears_in_order laws n s) w i;
+      nonces = nonces_apart s w (each (SealsUnderNewNonce s) n s (seals_new laws n s) w i);
+      in_order = each (λ v event. IfSome (heard_in event) (IsNext s v)) n s (hears_in_order laws n s) w i;
       registered = each (NotifiesRegistrations s) n s (notifies_registrations laws n s) w i;
-      plain_once = each (HearsPlainOnce s) n s (hears_plain_once laws n s) w i;
-      no_more = each HearsNoMore n s (hears_no_more laws n s) w i;
+      plain_once = each (λ v event. IfSome (heard_in event) (IsUnheard s v)) n s (hears_plain_once laws n s) w i;
+      no_more = each (λ v event. IfSome (heard_in event) (IsUnended v)) n s (hears_no_more laws n s) w i;
       opens_fresh = each (OpensFresh s) n s (opens_fresh laws n s) w i;
     }

@@ -22,10 +22,11 @@ use Rattle.osc_kept.specs.InWorld.{ClientInWorld, ClientStartsInWorld, ClientSta
 use Rattle.osc_kept.specs.KeptAsking as asking
 use Rattle.osc_kept.specs.KeptServing as serving
 use Rattle.osc_kept.specs.KeptServing.{IsStart}
-use Rattle.osc_kept.specs.Claims.{BothEnds}
+use Rattle.osc_kept.specs.Claims.{TwoEnds}
 use Rattle.osc_kept.specs.Numbering.{Own, AreAlike}
-use Rattle.osc_kept.specs.Premises.{Answers, AtEach, EchoIsNew, IsLawful, IsNoAdd, LoadsNoneBelow, NobodyForges, NobodyForgesRequests, NobodyForgesResponses, NumbersAreKept, SealedByClient, SealedByServer}
+use Rattle.osc_kept.specs.Premises.{Answers, AtEach, EchoIsNew, IsKept, IsNoAdd, LoadsNoneBelow, NobodyForges, NobodyForgesRequests, NobodyForgesResponses, NumbersAreKept, SealedByClient, SealedByServer}
 use Rattle.osc_kept.specs.World.{World, Begin, Then, End, Client, Server, ClientStarts, ServerStarts, Draws, Reserves, AtClient, AtServer, Has, answered, client_history, numbers, sent, server_history}
+use Rattle.osc_kept.proofs.Beginning.{more_kept}
 use Rattle.osc_kept.proofs.GoingOn.{client_begins, client_goes_on, client_is, client_none, load_is, no_load, server_begins, server_goes_on, server_is, server_none}
 use Rattle.osc_kept.proofs.Lives.{Stands, no_took, some_is, stands}
 use Rattle.osc_kept.proofs.Rising.{limit_above}
@@ -96,18 +97,16 @@ same_history of s w v (inl e) = ap (server_history s) e
 same_history of s w v (inr (inl e)) = ap (server_history s) e
 same_history of s w v (inr (inr e)) = ap (server_history s) e
 
-draw_lawful : (n : ℕ) (s : SecurityContext) (w : World) (of : End) → IsLawful n s w → AtEach (NumbersAreKept s) (Then w (Draws of)) → IsLawful n s (Then w (Draws of))
-draw_lawful n s w of i k =
-    record { usable = i.usable; answers = (i.answers, tt); sealed = (i.sealed, tt); unseen = (i.unseen, tt); kept = k; fresh = (i.fresh, tt) }
+draw_lawful : (n : ℕ) (s : SecurityContext) (w : World) (of : End) → IsKept n s w → AtEach (NumbersAreKept s) (Then w (Draws of)) → IsKept n s (Then w (Draws of))
+draw_lawful n s w of i k = more_kept n s w (Draws of) i tt tt tt tt k
 
-reserve_lawful : (n : ℕ) (s : SecurityContext) (w : World) (of : End) → IsLawful n s w → AtEach (NumbersAreKept s) (Then w (Reserves of)) → IsLawful n s (Then w (Reserves of))
-reserve_lawful n s w of i k =
-    record { usable = i.usable; answers = (i.answers, tt); sealed = (i.sealed, tt); unseen = (i.unseen, tt); kept = k; fresh = (i.fresh, tt) }
+reserve_lawful : (n : ℕ) (s : SecurityContext) (w : World) (of : End) → IsKept n s w → AtEach (NumbersAreKept s) (Then w (Reserves of)) → IsKept n s (Then w (Reserves of))
+reserve_lawful n s w of i k = more_kept n s w (Reserves of) i tt tt tt tt k
 
-still_lawful : (n : ℕ) (s : SecurityContext) (w v : World) (of : End) → IsDrawn of w v → IsLawful n s w → AtEach (NumbersAreKept s) v → IsLawful n s v
-still_lawful n s w v of (inl e) i k = subst (IsLawful n s) (sym e) i
-still_lawful n s w v of (inr (inl e)) i k = subst (IsLawful n s) (sym e) (draw_lawful n s w of i (subst (AtEach (NumbersAreKept s)) e k))
-still_lawful n s w v of (inr (inr e)) i k = subst (IsLawful n s) (sym e) (reserve_lawful n s w of i (subst (AtEach (NumbersAreKept s)) e k))
+still_lawful : (n : ℕ) (s : SecurityContext) (w v : World) (of : End) → IsDrawn of w v → IsKept n s w → AtEach (NumbersAreKept s) v → IsKept n s v
+still_lawful n s w v of (inl e) i k = subst (IsKept n s) (sym e) i
+still_lawful n s w v of (inr (inl e)) i k = subst (IsKept n s) (sym e) (draw_lawful n s w of i (subst (AtEach (NumbersAreKept s)) e k))
+still_lawful n s w v of (inr (inr e)) i k = subst (IsKept n s) (sym e) (reserve_lawful n s w of i (subst (AtEach (NumbersAreKept s)) e k))
 
 -- ---- the datagram
 
@@ -221,24 +220,19 @@ new_at : (s : SecurityContext) (w v : World) (h : server.History) (event : serve
 new_at s w v h (server.Datagram now echo mid d) (server.Took answer reply) e known only a p = unseen_at s v h now mid echo d reply answer known only a (unseen_still s w v echo e p.1)
 new_at s w v h event entry e known only a p = tt
 
-server_lawful : (n : ℕ) (s : SecurityContext) (w v : World) (h : server.History) (event : server.Event) (entry : server.Entry) (old new : Own) → IsLawful n s w → server_history s w ≡ Some h
+server_lawful : (n : ℕ) (s : SecurityContext) (w v : World) (h : server.History) (event : server.Event) (entry : server.Entry) (old new : Own) → IsKept n s w → server_history s w ≡ Some h
     → GoesOn Server s w (AtServer event entry) v old new → IsNoAdd event → ServerAnswer h event entry → ServerTrusts s w h event entry
-    → IsLawful n s v × (HasSavedFirst s w → HasSavedFirst s v)
+    → IsKept n s v × (HasSavedFirst s w → HasSavedFirst s v)
 server_lawful n s w v h event entry old new i e on plain a p =
     let b : World = on.between in
     let kept : AtEach (NumbersAreKept s) (Then b (AtServer event entry)) = subst (AtEach (NumbersAreKept s)) on.ends (on.kept i.kept (server_loads s w h event entry e p)) in
-    let at : IsLawful n s b = still_lawful n s w b Server on.drawn i kept.0 in
+    let at : IsKept n s b = still_lawful n s w b Server on.drawn i kept.0 in
     let known : server_history s b ≡ Some h = same_history Server s w b on.drawn ∙ e in
-    let stood : Stands s _ h = stands n s b h at.answers known in
+    let stood : Stands s _ h = stands n s b h at.lawful.answers known in
     let same : sent s b ≡ sent s w = same_sent Server s w b on.drawn in (
-      subst (IsLawful n s) (sym on.ends) (record {
-        usable = i.usable;
-        answers = (at.answers, (h, known, a, plain, tickets_step s w h event entry p a (had_tickets n s b h at.answers known)));
-        sealed = (at.sealed, forges_at s w b h event entry same p);
-        unseen = (at.unseen, new_at s w b h event entry same known stood.only a p);
-        kept = kept;
-        fresh = (at.fresh, tt);
-      }),
+      subst (IsKept n s) (sym on.ends) (more_kept n s b (AtServer event entry) at
+          (h, known, a, plain, tickets_step s w h event entry p a (had_tickets n s b h at.lawful.answers known)) (forges_at s w b h event entry same p)
+          (new_at s w b h event entry same known stood.only a p) tt kept),
       λ x. subst (HasSavedFirst s) (sym on.ends) (server_saved s b h event entry known plain kept (saved_by_draw Server s w b on.drawn kept.0 x)),
     )
 
@@ -250,11 +244,11 @@ client_stays s w v event entry old new on g own x =
       numbers_are = subst (λ o. AreAlike o own) (sym (same_client_numbers s w b on.drawn)) x.numbers_are;
     })
 
-pub server_in_world : ((n : ℕ) (s : SecurityContext) (w : World) → IsLawful n s w → BothEnds s w) → ServerInWorld
+pub server_in_world : TwoEnds → ServerInWorld
 server_in_world claims n s w h event entry old new i r plain a m p =
     let x = server_goes_on s w h event entry old new r m in
     let y = server_lawful n s w x.0 h event entry old new i r.history_is x.1 plain a p in
-    (x.0, x.1, record { lawful = y.0; claims = claims n s x.0 y.0; saved = y.1 }, x.2, client_stays s w x.0 event entry old new x.1)
+    (x.0, x.1, record { kept = y.0; claims = claims n s x.0 y.0.lawful; saved = y.1 }, x.2, client_stays s w x.0 event entry old new x.1)
 
 pub reply_trusts : (s : SecurityContext) (w : World) (h : server.History) (t : server.TicketValues) (own : Bool) (mid : ℕ) (p : Parts) (room : ℕ) (entry : server.Entry) → IsHeld h t
     → ServerTrusts s w h (server.Reply t own mid p room) entry
@@ -282,21 +276,15 @@ responses_at s w v h (client.Datagram now d) entry e known p = λ g f.
     subst (λ x. NobodyForgesResponses s v (client.pending_at x (max (client.clock x) now)) d) (some_is (sym known ∙ f)) (responses_still s w v (client.pending_at h (max (client.clock h) now)) d e p)
 responses_at s w v h event entry e known p = tt
 
-client_lawful : (n : ℕ) (s : SecurityContext) (w v : World) (h : client.History) (event : client.Event) (entry : client.Entry) (old new : Own) → IsLawful n s w → client_history s w ≡ Some h
-    → GoesOn Client s w (AtClient event entry) v old new → ClientAnswer n h event entry → ClientTrusts s w h event entry → IsLawful n s v × (HasSavedFirst s w → HasSavedFirst s v)
+client_lawful : (n : ℕ) (s : SecurityContext) (w v : World) (h : client.History) (event : client.Event) (entry : client.Entry) (old new : Own) → IsKept n s w → client_history s w ≡ Some h
+    → GoesOn Client s w (AtClient event entry) v old new → ClientAnswer n h event entry → ClientTrusts s w h event entry → IsKept n s v × (HasSavedFirst s w → HasSavedFirst s v)
 client_lawful n s w v h event entry old new i e on a p =
     let b : World = on.between in
     let kept : AtEach (NumbersAreKept s) (Then b (AtClient event entry)) = subst (AtEach (NumbersAreKept s)) on.ends (on.kept i.kept (client_loads s w h event entry e p)) in
-    let at : IsLawful n s b = still_lawful n s w b Client on.drawn i kept.0 in
+    let at : IsKept n s b = still_lawful n s w b Client on.drawn i kept.0 in
     let known : client_history s b ≡ Some h = same_client Client s w b on.drawn ∙ e in (
-      subst (IsLawful n s) (sym on.ends) (record {
-        usable = i.usable;
-        answers = (at.answers, (h, known, a));
-        sealed = (at.sealed, responses_at s w b h event entry (same_answered Client s w b on.drawn) known p);
-        unseen = (at.unseen, tt);
-        kept = kept;
-        fresh = (at.fresh, tt);
-      }),
+      subst (IsKept n s) (sym on.ends) (more_kept n s b (AtClient event entry) at (h, known, a)
+          (responses_at s w b h event entry (same_answered Client s w b on.drawn) known p) tt tt kept),
       λ x. subst (HasSavedFirst s) (sym on.ends) (client_saved s b event entry (saved_by_draw Client s w b on.drawn kept.0 x)),
     )
 
@@ -308,57 +296,50 @@ server_stays s w v event entry old new on g own x =
       numbers_are = subst (λ o. AreAlike o own) (sym (same_server_numbers s w b on.drawn)) x.numbers_are;
     })
 
-pub client_in_world : ((n : ℕ) (s : SecurityContext) (w : World) → IsLawful n s w → BothEnds s w) → ClientInWorld
+pub client_in_world : TwoEnds → ClientInWorld
 client_in_world claims n s w h event entry old new i r a m p =
     let x = client_goes_on s w h event entry old new r m in
     let y = client_lawful n s w x.0 h event entry old new i r.history_is x.1 a p in
-    (x.0, x.1, record { lawful = y.0; claims = claims n s x.0 y.0; saved = y.1 }, x.2, server_stays s w x.0 event entry old new x.1)
+    (x.0, x.1, record { kept = y.0; claims = claims n s x.0 y.0.lawful; saved = y.1 }, x.2, server_stays s w x.0 event entry old new x.1)
 
 -- ---- a start
 
 none_there : (s : SecurityContext) → IsTaken server.Begin s → ⊥
 none_there s x = let f : None ≡ Some x.1 = x.2 in cc
 
-added_alone : (n : ℕ) (s : SecurityContext) (w : World) (start : Start) (size : WindowSize) → IsLawful n s w → ServerAnswer server.Begin (server.Add s start size) (server.Added 0)
-added_alone n s w start size i = (record { client = i.usable.client_fits; server = i.usable.server_fits; differ = i.usable.differ }, (omega arith, λ x. none_there s x, refl))
+added_alone : (n : ℕ) (s : SecurityContext) (w : World) (start : Start) (size : WindowSize) → IsKept n s w → ServerAnswer server.Begin (server.Add s start size) (server.Added 0)
+added_alone n s w start size i = (record { client = i.lawful.usable.client_fits; server = i.lawful.usable.server_fits; differ = i.lawful.usable.differ }, (omega arith, λ x. none_there s x, refl))
 
-first_lawful : (n : ℕ) (s : SecurityContext) (w : World) (start : Start) (size : WindowSize) → IsLawful n s w → HasSavedFirst s w → AtEach (NumbersAreKept s) (Then w (ServerStarts start size))
-    → SavesFirst s w (ServerStarts start size) → IsLawful n s (Then w (ServerStarts start size))
+first_lawful : (n : ℕ) (s : SecurityContext) (w : World) (start : Start) (size : WindowSize) → IsKept n s w → HasSavedFirst s w → AtEach (NumbersAreKept s) (Then w (ServerStarts start size))
+    → SavesFirst s w (ServerStarts start size) → IsKept n s (Then w (ServerStarts start size))
 first_lawful n s w start size i x k f =
-    let answers : AtEach (Answers n s) (Then w (ServerStarts start size)) = (i.answers, added_alone n s w start size i) in
-    record {
-      usable = i.usable;
-      answers = answers;
-      sealed = (i.sealed, tt);
-      unseen = (i.unseen, tt);
-      kept = k;
-      fresh = fresh_by_saving n s (Then w (ServerStarts start size)) answers k (x.each, f);
-    }
+    let answers : AtEach (Answers n s) (Then w (ServerStarts start size)) = (i.lawful.answers, added_alone n s w start size i) in
+    more_kept n s w (ServerStarts start size) i (added_alone n s w start size i) tt tt (fresh_by_saving n s (Then w (ServerStarts start size)) answers k (x.each, f)).1 k
 
-fresh_in : (claims : (n : ℕ) (s : SecurityContext) (w : World) → IsLawful n s w → BothEnds s w) (n : ℕ) (s : SecurityContext) (w : World) (first : Piv) (size : WindowSize) → IsLawful n s w → HasSavedFirst s w → number_of first ≡ 0
+fresh_in : (claims : TwoEnds) (n : ℕ) (s : SecurityContext) (w : World) (first : Piv) (size : WindowSize) → IsKept n s w → HasSavedFirst s w → number_of first ≡ 0
     → AtEach (NumbersAreKept s) (server_started (starts.Fresh first) size w) → IsAsClaimed n s w (server_started (starts.Fresh first) size w)
 fresh_in claims n s w first size i x zero' k =
-    let at : IsLawful n s (Then w (ServerStarts (starts.Fresh first) size)) = first_lawful n s w (starts.Fresh first) size i x k.0 zero' in
-    let lawful : IsLawful n s (server_started (starts.Fresh first) size w) = reserve_lawful n s (Then w (ServerStarts (starts.Fresh first) size)) Server at k in
+    let at : IsKept n s (Then w (ServerStarts (starts.Fresh first) size)) = first_lawful n s w (starts.Fresh first) size i x k.0 zero' in
+    let kept : IsKept n s (server_started (starts.Fresh first) size w) = reserve_lawful n s (Then w (ServerStarts (starts.Fresh first) size)) Server at k in
     let small : number_of first < 2 ^ 40 = k.0.1.server.1 in
     let above : number_of first < next_limit (number_of first) = limit_above (number_of first) small in
     record {
-      lawful = lawful;
-      claims = claims n s (server_started (starts.Fresh first) size w) lawful;
+      kept = kept;
+      claims = claims n s (server_started (starts.Fresh first) size w) kept.lawful;
       saved = λ y. record { each = ((y.each, zero'), tt); last = λ of is f. omega (arith, above) };
     }
 
-later_in : (claims : (n : ℕ) (s : SecurityContext) (w : World) → IsLawful n s w → BothEnds s w) (n : ℕ) (s : SecurityContext) (w : World) (first : Piv) (size : WindowSize) → IsLawful n s w → HasSavedFirst s w
+later_in : (claims : TwoEnds) (n : ℕ) (s : SecurityContext) (w : World) (first : Piv) (size : WindowSize) → IsKept n s w → HasSavedFirst s w
     → AtEach (NumbersAreKept s) (server_started (starts.Restarted first) size w) → IsAsClaimed n s w (server_started (starts.Restarted first) size w)
 later_in claims n s w first size i x k =
-    let lawful : IsLawful n s (server_started (starts.Restarted first) size w) = first_lawful n s w (starts.Restarted first) size i x k tt in
+    let kept : IsKept n s (server_started (starts.Restarted first) size w) = first_lawful n s w (starts.Restarted first) size i x k tt in
     record {
-      lawful = lawful;
-      claims = claims n s (server_started (starts.Restarted first) size w) lawful;
+      kept = kept;
+      claims = claims n s (server_started (starts.Restarted first) size w) kept.lawful;
       saved = λ y. record { each = (y.each, tt); last = λ of is f. let g : false ≡ true = ap (λ (l : Life). l.open_at_birth) (some_is is) ∙ f in absurd (cc) };
     }
 
-pub server_starts : ((n : ℕ) (s : SecurityContext) (w : World) → IsLawful n s w → BothEnds s w) → ServerStartsInWorld
+pub server_starts : TwoEnds → ServerStartsInWorld
 server_starts claims n s w (starts.Fresh first) size loaded floor i x is a least =
     let b = server_begins s w (starts.Fresh first) size loaded floor is a in
     let k : AtEach (NumbersAreKept s) (server_started (starts.Fresh first) size w) = b.0.kept i.kept least in
@@ -368,12 +349,11 @@ server_starts claims n s w (starts.Restarted first) size loaded floor i x is a l
     let k : AtEach (NumbersAreKept s) (server_started (starts.Restarted first) size w) = b.0.kept i.kept least in
     (later_in claims n s w first size i x k, λ g own y. record { history_is = y.history_is; numbers_are = y.numbers_are }, b.1)
 
-pub client_starts : ((n : ℕ) (s : SecurityContext) (w : World) → IsLawful n s w → BothEnds s w) → ClientStartsInWorld
+pub client_starts : TwoEnds → ClientStartsInWorld
 client_starts claims n s w loaded ms floor own i g least =
     let b = client_begins s w loaded ms floor own g in
-    let lawful : IsLawful n s (Then w (ClientStarts loaded ms)) =
-    record { usable = i.usable; answers = (i.answers, tt); sealed = (i.sealed, tt); unseen = (i.unseen, tt); kept = b.0.kept i.kept least; fresh = (i.fresh, tt) } in (
-      record { lawful = lawful; claims = claims n s (Then w (ClientStarts loaded ms)) lawful; saved = λ y. record { each = (y.each, tt); last = y.last } },
+    let kept : IsKept n s (Then w (ClientStarts loaded ms)) = more_kept n s w (ClientStarts loaded ms) i tt tt tt tt (b.0.kept i.kept least) in (
+      record { kept = kept; claims = claims n s (Then w (ClientStarts loaded ms)) kept.lawful; saved = λ y. record { each = (y.each, tt); last = y.last } },
       λ h o y. record { history_is = y.history_is; numbers_are = y.numbers_are },
       b.1,
     )

@@ -6,7 +6,9 @@ pub mod Deeds
 pub mod Digest
 pub mod Rising
 pub mod Lives
+pub mod Above
 pub mod Owned
+pub mod Beginning
 pub mod Fitting
 pub mod Claims
 pub mod Freshness

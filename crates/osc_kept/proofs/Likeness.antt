@@ -1,44 +1,21 @@
 -- That the share of a context stays like the history of its server alone, once the clock of that is set. h is the history of a server of many, i the index
 -- of the context, f and g are histories that are alike.
-use Rattle.std.proofs.Common.{◌≡◌, ℕ, ◌+◌, ◌≤◌, ◌∙◌, sym, ap, subst, refl, arith, Bool, true, false, Option, Some, None, List, [], if◌then◌else◌, ◌==◌}
+use Rattle.std.proofs.Common.{◌≡◌, ℕ, ◌+◌, ◌∙◌, sym, ap, subst, refl, arith, Bool, true, false, Option, Some, None, List, [], if◌then◌else◌, ◌==◌}
 use Rattle.std.specs.Option.{option_map}
-use Rattle.std.proofs.lemmas.Bool.{eqb-true}
 use Rattle.osc_context.specs.SecurityContext.{SecurityContext}
 use Rattle.osc_window.specs.declared.window_size.WindowSize.{WindowSize}
 use Rattle.osc_endpoint.specs.declared.start.Start.{Start}
 use Rattle.osc_endpoint.specs.Laws.{AllAnswers, AreLeft}
 use Rattle.osc_endpoint.specs.Life.{Life, born, marked, renewed}
-use Rattle.osc_endpoint.specs.OneContext.{ContextsStandAlone, answer_alone, concerns, share, ticket_alone}
+use Rattle.osc_endpoint.specs.OneContext.{ContextsStandAlone, share}
 use Rattle.osc_endpoint.specs.ServerHistory.{Add, Added, Advance, Advanced, Begin, Datagram, Deliver, Entry, Event, History, Notify, Replied, Reply, Restart, Restarted, Then, TicketValues, Took, added, clock, clock_by, life, mark_at, reply_mark_at}
 use Rattle.osc_endpoint.proofs.DeliveredNumbers.{none_beyond}
+use Rattle.osc_endpoint.proofs.Shares.{none_yet}
 use Rattle.osc_kept.specs.Among.{IsLike, StaysLike}
 use Rattle.osc_kept.proofs.Among.{like_left}
 use Rattle.osc_kept.proofs.Lives.{no_took}
-use Rattle.osc_kept.proofs.SharedTickets.{of_chosen}
 
 -- ---- before the context is added
-
-none_yet : (i : ℕ) (h : History) → AllAnswers h → added h ≤ i → added (share i h) ≡ 0
-none_yet i Begin all early = refl
-none_yet i (Then h (Add context start size) (Added index)) all early =
-    let later : added h + 1 ≤ i = early in
-    let index_is : index ≡ added h = all.1.1.2 in
-    of_chosen (λ g. added g ≡ 0) (i == index) (Then (share i h) (Add context start size) (Added 0)) (share i h)
-    (λ e. absurd (omega (arith, later, index_is, eqb-true i index e))) (λ e. none_yet i h all.0 (omega (arith, later)))
-none_yet i (Then h (Datagram now echo mid d) (Took answer reply)) all early =
-    let before = none_yet i h all.0 early in
-    of_chosen (λ g. added g ≡ 0) (concerns i answer) (Then (share i h) (Datagram now echo mid d) (Took (answer_alone answer) reply)) (Then (share i h) (Advance now) Advanced) (λ e. before) (λ e. before)
-none_yet i (Then h (Reply t own mid p room) (Replied bytes)) all early =
-    let before = none_yet i h all.0 early in
-    of_chosen (λ g. added g ≡ 0) (i == t.context) (Then (share i h) (Reply (ticket_alone t) own mid p room) (Replied bytes)) (share i h) (λ e. before) (λ e. before)
-none_yet i (Then h (Notify t p room) (Replied bytes)) all early =
-    let before = none_yet i h all.0 early in
-    of_chosen (λ g. added g ≡ 0) (i == t.context) (Then (share i h) (Notify (ticket_alone t) p room) (Replied bytes)) (share i h) (λ e. before) (λ e. before)
-none_yet i (Then h (Restart context next) Restarted) all early =
-    let before = none_yet i h all.0 early in
-    of_chosen (λ g. added g ≡ 0) (i == context) (Then (share i h) (Restart 0 next) Restarted) (share i h) (λ e. before) (λ e. before)
-none_yet i (Then h event (Added index)) all early = let later : added h + 1 ≤ i = early in none_yet i h all.0 (omega (arith, later))
-none_yet i (Then h event entry) all early = none_yet i h all.0 early
 
 -- a server without contexts has no life, and gave no ticket
 no_life : (f : History) → AllAnswers f → added f ≡ 0 → (j : ℕ) → life f j ≡ None

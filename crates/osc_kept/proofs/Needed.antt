@@ -86,5 +86,5 @@ fresh_again_breaks laws n s x later q r k echo y z is a =
       ((((((((((tt, tt), tt), tt), tt), tt), opens _ (inl refl)), tt), tt), opens _ (inl refl)), tt),
       ((((((((((tt, tt), tt), tt), tt), tt), tt), tt), tt), tt), tt),
       ((((((((((tt, record { client = (omega arith, omega arith); server = tt }), record { client = (refl, refl, omega arith); server = tt }), record { client = refl; server = tt }), record { client = tt; server = (omega arith, zero_small x) }), record { client = tt; server = (refl, refl, zero_small x) }), record { client = tt; server = tt }), record { client = tt; server = tt }), record { client = tt; server = (omega (arith, floor, is), omega (arith, is)) }), record { client = tt; server = tt }), record { client = tt; server = tt }),
-      λ claims. claims.1 (marked (Some (Delivered 0)) (born s (starts.Fresh later) x.size)) refl (record { number = 0; own = None; message = inside y.plain }) (inl refl) refl,
+      λ claims. claims.1.0 (record { number = 0; own = None; message = inside y.plain }) (inl refl) refl,
     )

@@ -22,6 +22,7 @@ use Rattle.osc_kept.specs.Premises.{Answers, NobodyForgesResponses, SealedByServ
 use Rattle.osc_kept.specs.World.{World, Begin, Then, Server, Draws, AtServer, Has, answered, client_history, server_history}
 use Rattle.osc_endpoint.proofs.Inside.{as_notification}
 use Rattle.osc_kept.proofs.Examples.{OpeningLaws, answered_opens, asked_seals, sent_opens, zero_small}
+use Rattle.osc_kept.proofs.Beginning.{is_kept}
 use Rattle.osc_kept.proofs.Lives.{some_is}
 use Rattle.osc_kept.proofs.Owned.{same_number}
 
@@ -134,27 +135,24 @@ observation_met laws n s x q r v u echo late lost third last usable answers =
     let first = notified_seals n s w6 t late served1 life1 refl refl refl answers.0.0.0.0.0.0.0.0.0.1 in
     let heard = notified_seals n s w10 t third served3 life3 refl refl refl answers.0.0.0.0.0.1 in
     let reply = replied_own_seals n s w14 t last served4 life4 refl refl refl answers.0.1 in
-    record {
-      usable = usable;
-      answers = answers;
-      sealed = (
+    is_kept n s _ usable answers (
+      (
         (
           (
             (
-              (
-                ((((((((((((tt, tt), tt), tt), tt), tt), sent_opens laws s _ q.bytes 0 q.plain seals (inl refl)), tt), tt), tt), tt), tt)),
-                notified_all laws s _ asked1 0 third.bytes (Some (next_own life3)) _ refl asks1 heard (inl refl),
-              ),
-              notified_all laws s _ asked2 0 late.bytes (Some (next_own life1)) _ refl asks2 first (inr (inr (inl refl))),
+              ((((((((((((tt, tt), tt), tt), tt), tt), sent_opens laws s _ q.bytes 0 q.plain seals (inl refl)), tt), tt), tt), tt), tt)),
+              notified_all laws s _ asked1 0 third.bytes (Some (next_own life3)) _ refl asks1 heard (inl refl),
             ),
-            tt,
+            notified_all laws s _ asked2 0 late.bytes (Some (next_own life1)) _ refl asks2 first (inr (inr (inl refl))),
           ),
           tt,
         ),
-        answered_all laws s _ asked3 0 last.bytes (Some (next_own life4)) _ refl asks2 reply (inl refl),
-      );
-      unseen = ((((((((((((((((tt, tt), tt), tt), tt), tt), tt), tt), tt), tt), tt), tt), tt), tt), tt), tt), tt);
-      kept = (
+        tt,
+      ),
+      answered_all laws s _ asked3 0 last.bytes (Some (next_own life4)) _ refl asks2 reply (inl refl),
+    )
+    ((((((((((((((((tt, tt), tt), tt), tt), tt), tt), tt), tt), tt), tt), tt), tt), tt), tt), tt), tt) (
+      (
         (
           (
             (
@@ -166,33 +164,31 @@ observation_met laws n s x q r v u echo late lost third last usable answers =
                         (
                           (
                             (
-                              (
-                                (((tt, record { client = (omega arith, omega arith); server = tt }), record { client = (refl, refl, omega arith); server = tt }), record { client = refl; server = tt }),
-                                record { client = tt; server = (omega arith, zero_small x) },
-                              ),
-                              record { client = tt; server = (refl, refl, zero_small x) },
+                              (((tt, record { client = (omega arith, omega arith); server = tt }), record { client = (refl, refl, omega arith); server = tt }), record { client = refl; server = tt }),
+                              record { client = tt; server = (omega arith, zero_small x) },
                             ),
-                            record { client = tt; server = tt },
+                            record { client = tt; server = (refl, refl, zero_small x) },
                           ),
-                          record { client = tt; server = used (omega arith) },
+                          record { client = tt; server = tt },
                         ),
-                        record { client = tt; server = (refl, omega (arith, is_zero)) },
+                        record { client = tt; server = used (omega arith) },
                       ),
-                      record { client = tt; server = used (omega arith) },
+                      record { client = tt; server = (refl, omega (arith, is_zero)) },
                     ),
-                    record { client = tt; server = (refl, omega (arith, is_zero)) },
+                    record { client = tt; server = used (omega arith) },
                   ),
-                  record { client = tt; server = used (omega arith) },
+                  record { client = tt; server = (refl, omega (arith, is_zero)) },
                 ),
-                record { client = tt; server = tt },
+                record { client = tt; server = used (omega arith) },
               ),
               record { client = tt; server = tt },
             ),
-            record { client = tt; server = (refl, omega (arith, is_zero)) },
+            record { client = tt; server = tt },
           ),
-          record { client = tt; server = used (omega arith) },
+          record { client = tt; server = (refl, omega (arith, is_zero)) },
         ),
-        record { client = tt; server = tt },
-      );
-      fresh = ((((((((((((((((tt, tt), tt), tt), refl), tt), tt), tt), tt), tt), tt), tt), tt), tt), tt), tt), tt);
-    }
+        record { client = tt; server = used (omega arith) },
+      ),
+      record { client = tt; server = tt },
+    )
+    ((((((((((((((((tt, tt), tt), tt), refl), tt), tt), tt), tt), tt), tt), tt), tt), tt), tt), tt), tt)

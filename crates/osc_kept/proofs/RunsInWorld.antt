@@ -24,14 +24,14 @@ use Rattle.osc_kept.specs.declared.kept_event.KeptServerEvent.{KeptServerEvent}
 use Rattle.osc_kept.specs.declared.kept_event.KeptServerEvent.TheVariants as server_events
 use Rattle.osc_kept.specs.declared.kept_event.KeptServerEntry.{KeptServerEntry}
 use Rattle.osc_kept.specs.declared.kept_event.KeptServerEntry.TheVariants as server_entries
-use Rattle.osc_kept.specs.Claims.{BothEnds}
+use Rattle.osc_kept.specs.Claims.{BothEnds, TwoEnds}
 use Rattle.osc_kept.specs.GoingOn.{ClientMoves, ClientRuns, GoesOn, IsDrawn, KeepsFloor, KnowsFloor, ServerMoves, ServerRuns}
 use Rattle.osc_kept.specs.InWorld.{ClientStays, ClientTrusts, IsAsClaimed, IsUnseen, ServerStays, ServerTrusts}
 use Rattle.osc_kept.specs.KeptAsking as asking
 use Rattle.osc_kept.specs.KeptRuns.{ArrivalStep, ClientNumbers, ClientRun, ClientState, ClientStep, NotifyStep, ReplyStep, RequestStep, ServerRun, ServerState, ServerStep, client_state, server_state}
 use Rattle.osc_kept.specs.Numbering.{Own, Steps}
 use Rattle.osc_kept.specs.Owning.{own_in}
-use Rattle.osc_kept.specs.Premises.{IsLawful, IsNoAdd, NobodyForgesRequests}
+use Rattle.osc_kept.specs.Premises.{IsKept, IsNoAdd, NobodyForgesRequests}
 use Rattle.osc_kept.specs.RunsInWorld.{ClientRunInWorld, ClientRunTrusts, ClientStepTrusts, IsBehind, IsOf, LoadsAbove, RunsOn, ServerRunInWorld, ServerRunTrusts, ServerStepTrusts}
 use Rattle.osc_kept.specs.World.{World, Begin, Then, Event, End, Client, Server, AtClient, AtServer, answered, numbers, sent}
 use Rattle.osc_kept.proofs.InWorld.{client_in_world, forges_still, had_tickets, responses_still, same_answered, same_sent, server_in_world, unseen_still}
@@ -82,11 +82,11 @@ above : (of : End) (s : SecurityContext) (w v : World) (own old : Own) (loaded :
 above of s w v own old loaded r (inl known) least = above_known of s v old loaded (r.knows known) least
 above of s w v own old loaded r (inr l) least = above_kept of s w v old loaded r.floor l least
 
-first_claimed : (n : ℕ) (s : SecurityContext) (w : World) → IsLawful n s w → BothEnds s w → IsAsClaimed n s w w
-first_claimed n s w lawful claims = record { lawful = lawful; claims = claims; saved = λ x. x }
+first_claimed : (n : ℕ) (s : SecurityContext) (w : World) → IsKept n s w → BothEnds s w → IsAsClaimed n s w w
+first_claimed n s w kept claims = record { kept = kept; claims = claims; saved = λ x. x }
 
 more_claimed : (n : ℕ) (s : SecurityContext) (w v u : World) → IsAsClaimed n s w v → IsAsClaimed n s v u → IsAsClaimed n s w u
-more_claimed n s w v u x y = record { lawful = y.lawful; claims = y.claims; saved = λ z. y.saved (x.saved z) }
+more_claimed n s w v u x y = record { kept = y.kept; claims = y.claims; saved = λ z. y.saved (x.saved z) }
 
 -- ---- servers
 
@@ -99,13 +99,13 @@ record Served {K : Type 0} {k : keeper.Ghosts K} (n : ℕ) (s : SecurityContext)
   pub same : sent s v ≡ sent s w
   pub left : IsLeftTo a.history a.tickets
 
-module _ {K : Type 0} {k : keeper.Ghosts K} (claims : (n : ℕ) (s : SecurityContext) (w : World) → IsLawful n s w → BothEnds s w) (n : ℕ) (s : SecurityContext) (w : World) (own : Own) where
+module _ {K : Type 0} {k : keeper.Ghosts K} (claims : TwoEnds) (n : ℕ) (s : SecurityContext) (w : World) (own : Own) where
   -- an event that is answered
   served_on : (v : World) (a b : ServerState k) (event : server.Event) (entry : server.Entry) → Served n s w own v a → IsNoAdd event → server_run.GoesOn a.history event entry b.history
       → ServerMoves a.history event entry (own_in a.source) (own_in b.source) → ServerTrusts s v a.history event entry
       → IsLeftTo (server.Then a.history event entry) b.tickets → (u : World) × Served n s w own u b
   served_on v a b event entry r plain (row, is) moves trusts left =
-      let x = server_in_world claims n s v a.history event entry (own_in a.source) (own_in b.source) r.claimed.lawful r.runs plain row moves trusts in (
+      let x = server_in_world claims n s v a.history event entry (own_in a.source) (own_in b.source) r.claimed.kept r.runs plain row moves trusts in (
         x.0,
         record {
           on = one_more Server s w v x.0 (AtServer event entry) own (own_in a.source) (own_in b.source) tt r.on x.1;
@@ -204,11 +204,11 @@ module _ {K : Type 0} {k : keeper.Ghosts K} (claims : (n : ℕ) (s : SecurityCon
   server_ran v a b (e ∷ es) [] run trusts r = absurd run
   server_ran v a b (e ∷ es) (x ∷ xs) (mid, step, run) (here, more) r = let q = serves v a mid e x step here r in server_ran q.0 mid b es xs run more q.1
 
-pub server_run_in_world : ((n : ℕ) (s : SecurityContext) (w : World) → IsLawful n s w → BothEnds s w) → {K : Type 0} (k : keeper.Ghosts K) → ServerRunInWorld k
-server_run_in_world claims k n s w h source b es xs run lawful runs trusts =
-    let (ws, left) = had_tickets n s w h lawful.answers runs.history_is in
+pub server_run_in_world : TwoEnds → {K : Type 0} (k : keeper.Ghosts K) → ServerRunInWorld k
+server_run_in_world claims k n s w h source b es xs run kept runs trusts =
+    let (ws, left) = had_tickets n s w h kept.lawful.answers runs.history_is in
     let r = server_ran claims n s w (own_in source) w (server_state h source []) b es xs run trusts
-    (record { on = nothing_on Server s w (own_in source); claimed = first_claimed n s w lawful (claims n s w lawful); runs = runs; stays = λ g o x. x; same = refl; left = (ws, left, tt) }) in
+    (record { on = nothing_on Server s w (own_in source); claimed = first_claimed n s w kept (claims n s w kept.lawful); runs = runs; stays = λ g o x. x; same = refl; left = (ws, left, tt) }) in
     (r.0, r.1.on, r.1.claimed, r.1.runs, r.1.stays)
 
 -- ---- clients
@@ -235,12 +235,12 @@ moves_of a b event entry (e, x, is, steps, worked) goes =
     subst (λ y. Steps (asking.draws y) (asking.uses a.history y entry) (own_in a.source) (own_in b.source)) (event_is same)
     (subst (λ y. Steps (asking.draws e) (asking.uses a.history e y) (own_in a.source) (own_in b.source)) (entry_is same) steps)
 
-module _ {K : Type 0} {k : keeper.Ghosts K} (claims : (n : ℕ) (s : SecurityContext) (w : World) → IsLawful n s w → BothEnds s w) (n : ℕ) (s : SecurityContext) (w : World) (own : Own) where
+module _ {K : Type 0} {k : keeper.Ghosts K} (claims : TwoEnds) (n : ℕ) (s : SecurityContext) (w : World) (own : Own) where
   -- an event that is answered
   asked_on : (v : World) (a b : ClientState k) (event : client.Event) (entry : client.Entry) → Asking n s w own v a → client_run.GoesOn n a.history event entry b.history
       → ClientMoves a.history event entry (own_in a.source) (own_in b.source) → ClientTrusts s v a.history event entry → (u : World) × Asking n s w own u b
   asked_on v a b event entry r (row, is) moves trusts =
-      let x = client_in_world claims n s v a.history event entry (own_in a.source) (own_in b.source) r.claimed.lawful r.runs row moves trusts in (
+      let x = client_in_world claims n s v a.history event entry (own_in a.source) (own_in b.source) r.claimed.kept r.runs row moves trusts in (
         x.0,
         record {
           on = one_more Client s w v x.0 (AtClient event entry) own (own_in a.source) (own_in b.source) tt r.on x.1;
@@ -298,8 +298,8 @@ module _ {K : Type 0} {k : keeper.Ghosts K} (claims : (n : ℕ) (s : SecurityCon
   client_ran v a b (e ∷ es) [] run trusts r = absurd run
   client_ran v a b (e ∷ es) (x ∷ xs) (mid, step, run) (here, more) r = let q = asks_so v a mid e x step here r in client_ran q.0 mid b es xs run more q.1
 
-pub client_run_in_world : ((n : ℕ) (s : SecurityContext) (w : World) → IsLawful n s w → BothEnds s w) → {K : Type 0} (k : keeper.Ghosts K) → ClientRunInWorld k
-client_run_in_world claims k n s w h source b es xs run lawful runs trusts =
+pub client_run_in_world : TwoEnds → {K : Type 0} (k : keeper.Ghosts K) → ClientRunInWorld k
+client_run_in_world claims k n s w h source b es xs run kept runs trusts =
     let r = client_ran claims n s w (own_in source) w (client_state h source) b es xs run trusts
-    (record { on = nothing_on Client s w (own_in source); claimed = first_claimed n s w lawful (claims n s w lawful); runs = runs; stays = λ g o x. x; same = refl }) in
+    (record { on = nothing_on Client s w (own_in source); claimed = first_claimed n s w kept (claims n s w kept.lawful); runs = runs; stays = λ g o x. x; same = refl }) in
     (r.0, r.1.on, r.1.claimed, r.1.runs, r.1.stays)

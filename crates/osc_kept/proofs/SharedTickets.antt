@@ -1,6 +1,7 @@
 -- The tickets of one context of a server of many: if the server's replies take tickets that its deliveries gave, so do those of the context's share. h is the
 -- history of that server, i the index of the context, ts are tickets.
 use Rattle.std.proofs.Common.{◌≡◌, ℕ, ◌∙◌, sym, ap, subst, refl, Bool, true, false, List, [], ◌∷◌, ◌++◌, if◌then◌else◌, ◌==◌}
+use Rattle.osc_endpoint.proofs.Shares.{of_chosen}
 use Rattle.osc_endpoint.specs.Laws.{AllAnswers, AreLeft, TakesTickets}
 use Rattle.osc_endpoint.specs.OneContext.{share, ticket_alone}
 use Rattle.osc_endpoint.specs.ServerHistory.{Add, Added, Advance, Advanced, BadInner, Begin, Challenge, Datagram, Deliver, History, Notify, Replied, Reply, Restart, Restarted, Then, TicketValues, Took, life}
@@ -24,10 +25,6 @@ in_front false t xs ys zs e = e
 of_both : (i : ℕ) (xs ys : List TicketValues) → of_context i (xs ++ ys) ≡ of_context i xs ++ of_context i ys
 of_both i [] ys = refl
 of_both i (x ∷ xs) ys = in_front (i == x.context) (ticket_alone x) (of_context i (xs ++ ys)) (of_context i xs) (of_context i ys) (of_both i xs ys)
-
-pub of_chosen : (P : History → Type 0) (b : Bool) (x y : History) → (b ≡ true → P x) → (b ≡ false → P y) → P (if b then x else y)
-of_chosen P true x y h k = h refl
-of_chosen P false x y h k = k refl
 
 -- one of these tickets stands there too, and so does one of this context in its share
 kept_between : (i : ℕ) (t : TicketValues) (front back xs : List TicketValues) → (i == t.context) ≡ true → xs ≡ front ++ t ∷ back → of_context i xs ≡ of_context i front ++ ticket_alone t ∷ of_context i back

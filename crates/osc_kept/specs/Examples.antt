@@ -15,8 +15,8 @@ use Rattle.osc_endpoint.specs.declared.start.Start.TheVariants as starts
 use Rattle.osc_endpoint.specs.ClientHistory as client
 use Rattle.osc_endpoint.specs.Received.{Received}
 use Rattle.osc_endpoint.specs.ServerHistory as server
-use Rattle.osc_kept.specs.Claims.{DeliversOnce, HearsInOrder, SealsUnderNewNonce}
-use Rattle.osc_kept.specs.Premises.{Answers, AtEach, EchoIsNew, FreshWhileNothingDelivered, IsLawful, NobodyForges, NumbersAreKept}
+use Rattle.osc_kept.specs.Claims.{AtEachHeard, DeliversOnce, IsNext, SealsUnderNewNonces}
+use Rattle.osc_kept.specs.Premises.{Answers, AtEach, EchoIsNew, FreshWhileNothingDelivered, IsKept, NobodyForges, NumbersAreKept}
 use Rattle.osc_kept.specs.World.{World, Begin, Then, Client, Server, ClientStarts, ServerStarts, Draws, Reserves, AtClient, AtServer}
 
 -- what the events of these lists refer to: the first number of a server, its window, and how long a request is pending (own rule)
@@ -77,12 +77,12 @@ abbrev pub through_a_challenge : Asked → Asked → List ℕ → List ℕ → R
 through_a_challenge q again echo c v r w =
     delivers 1 65 r echo again.bytes (asks again (Then (Then (challenges 64 echo q.bytes c w) (AtClient (client.Datagram 0 c) (client.Took (client.Deliver v 64)))) (Draws Client)))
 
--- an exchange, a restart of both ends, a challenge and a delivery through it: if both ends answer in this way, the list meets all premises (RFC 8613, B.1.2)
+-- an exchange, a restart of both ends, a challenge and a delivery through it: if both ends answer in this way, the list meets all premises, with kept numbers (RFC 8613, B.1.2)
 abbrev pub PremisesCanBeMet : Type 0
 PremisesCanBeMet = (n : ℕ) (s : SecurityContext) (x : Ends) (first second again : Asked) (r k v u : Received) (echo a c : List ℕ) (p : Parts) (room : ℕ)
     → IsUsable s → (CarriesValue first echo → ⊥) → (CarriesValue second echo → ⊥)
     → AtEach (Answers n s) (through_a_challenge second again echo c u k (restarts second (exchange x first r echo p room a v)))
-    → IsLawful n s (through_a_challenge second again echo c u k (restarts second (exchange x first r echo p room a v)))
+    → IsKept n s (through_a_challenge second again echo c u k (restarts second (exchange x first r echo p room a v)))
 
 -- ---- the premises can be met with Observe
 
@@ -128,10 +128,10 @@ observation x q r echo late lost third v last u =
     Then (replies (observing 0 0 r) true last (Then (hears_old late.bytes (hears 0 v third.bytes (notifies_thrice x q r echo late lost third))) (Draws Server)))
     (AtClient (client.Datagram 0 last.bytes) (client.Took (client.Deliver u 0)))
 
--- a registration, a lost, a heard and a late notification, and a last response: if both ends answer in this way, the list meets all premises (RFC 8613, 4.1.3.5)
+-- a registration, a lost, a heard and a late notification, and a last response: if both ends answer in this way, the list meets all premises, with kept numbers (RFC 8613, 4.1.3.5)
 abbrev pub ObservationCanBeMet : Type 0
 ObservationCanBeMet = (n : ℕ) (s : SecurityContext) (x : Ends) (q : Asked) (r v u : Received) (echo : List ℕ) (late lost third last : Answered) → IsUsable s
-    → AtEach (Answers n s) (observation x q r echo late lost third v last u) → IsLawful n s (observation x q r echo late lost third v last u)
+    → AtEach (Answers n s) (observation x q r echo late lost third v last u) → IsKept n s (observation x q r echo late lost third v last u)
 
 -- ---- none of these can be left out
 
@@ -189,7 +189,7 @@ OwnOutOfOrderBreaks = (n : ℕ) (s : SecurityContext) (x : Ends) (high : Piv) (q
     → AtEach (NobodyForges s) (own_out_of_order x high q again r k u v echo c early late)
     × AtEach (EchoIsNew s) (own_out_of_order x high q again r k u v echo c early late)
     × AtEach FreshWhileNothingDelivered (own_out_of_order x high q again r k u v echo c early late)
-    × (AtEach (HearsInOrder s) (own_out_of_order x high q again r k u v echo c early late) → ⊥)
+    × (AtEachHeard (IsNext s) (own_out_of_order x high q again r k u v echo c early late) → ⊥)
 
 -- a request is delivered and answered without an own number; the server starts fresh again, at a number that it didn't use, and does the same (RFC 8613, B.1.2)
 abbrev pub fresh_again : Ends → Piv → Asked → Received → Received → List ℕ → Answered → Answered → World
@@ -202,7 +202,7 @@ abbrev pub FreshAgainBreaks : Type 0
 FreshAgainBreaks = (n : ℕ) (s : SecurityContext) (x : Ends) (later : Piv) (q : Asked) (r k : Received) (echo : List ℕ) (y z : Answered) → number_of later ≡ 64
     → AtEach (Answers n s) (fresh_again x later q r k echo y z)
     → AtEach (NobodyForges s) (fresh_again x later q r k echo y z) × AtEach (EchoIsNew s) (fresh_again x later q r k echo y z)
-    × AtEach (NumbersAreKept s) (fresh_again x later q r k echo y z) × (AtEach (SealsUnderNewNonce s) (fresh_again x later q r k echo y z) → ⊥)
+    × AtEach (NumbersAreKept s) (fresh_again x later q r k echo y z) × (SealsUnderNewNonces s (fresh_again x later q r k echo y z) → ⊥)
 
 -- without any one of these four premises, a request is delivered that the client didn't seal, or one is delivered twice, responses are heard in another order
 -- than they were sealed, or two are sealed under one nonce (RFC 8613, 5.2, 7.4 and 7.4.1)

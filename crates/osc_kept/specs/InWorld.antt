@@ -16,7 +16,7 @@ use Rattle.osc_kept.specs.Claims.{BothEnds}
 use Rattle.osc_kept.specs.GoingOn.{ClientMoves, ClientRuns, GoesOn, HasSavedFirst, ServerMoves, ServerRuns, server_started}
 use Rattle.osc_kept.specs.KeptServing.{IsStart, started}
 use Rattle.osc_kept.specs.Numbering.{Own, Allowed, Goes, Load, nothing_drawn}
-use Rattle.osc_kept.specs.Premises.{IsLawful, IsNoAdd, NobodyForgesRequests, NobodyForgesResponses}
+use Rattle.osc_kept.specs.Premises.{IsKept, IsNoAdd, NobodyForgesRequests, NobodyForgesResponses}
 use Rattle.osc_kept.specs.World.{World, Then, Client, Server, ClientStarts, AtClient, AtServer, Has, Request, numbers, sent}
 
 -- ---- what an end doesn't see to by itself
@@ -56,31 +56,31 @@ ClientStays s w v = (h : client.History) (own : Own) → ClientRuns s w h own �
 
 -- the world after it meets the premises, so all is as claimed (RFC 8613, 5.2, 7.4 and 8.4)
 pub record IsAsClaimed (n : ℕ) (s : SecurityContext) (w v : World) : Type 0 where
-  pub lawful : IsLawful n s v
+  pub kept : IsKept n s v
   pub claims : BothEnds s v
   pub saved : HasSavedFirst s w → HasSavedFirst s v
 
 -- a kept server's answer to an event extends a world that meets the premises to one that does too, if others do their part (RFC 8613, B.1.1)
 abbrev pub ServerInWorld : Type 0
-ServerInWorld = (n : ℕ) (s : SecurityContext) (w : World) (h : server.History) (event : server.Event) (entry : server.Entry) (old new : Own) → IsLawful n s w
+ServerInWorld = (n : ℕ) (s : SecurityContext) (w : World) (h : server.History) (event : server.Event) (entry : server.Entry) (old new : Own) → IsKept n s w
     → ServerRuns s w h old → IsNoAdd event → ServerAnswer h event entry → ServerMoves h event entry old new → ServerTrusts s w h event entry
     → (v : World) × GoesOn Server s w (AtServer event entry) v old new × IsAsClaimed n s w v × ServerRuns s v (server.Then h event entry) new × ClientStays s w v
 
 -- the same for a kept client (RFC 8613, B.1.1)
 abbrev pub ClientInWorld : Type 0
-ClientInWorld = (n : ℕ) (s : SecurityContext) (w : World) (h : client.History) (event : client.Event) (entry : client.Entry) (old new : Own) → IsLawful n s w
+ClientInWorld = (n : ℕ) (s : SecurityContext) (w : World) (h : client.History) (event : client.Event) (entry : client.Entry) (old new : Own) → IsKept n s w
     → ClientRuns s w h old → ClientAnswer n h event entry → ClientMoves h event entry old new → ClientTrusts s w h event entry
     → (v : World) × GoesOn Client s w (AtClient event entry) v old new × IsAsClaimed n s w v × ClientRuns s v (client.Then h event entry) new × ServerStays s w v
 
 -- so does a start at a number that isn't below the floor; its keeper may know another floor, as a later process's keeper may (RFC 8613, B.1.1)
 abbrev pub ServerStartsInWorld : Type 0
-ServerStartsInWorld = (n : ℕ) (s : SecurityContext) (w : World) (start : Start) (size : WindowSize) (loaded floor : ℕ) → IsLawful n s w → HasSavedFirst s w
+ServerStartsInWorld = (n : ℕ) (s : SecurityContext) (w : World) (start : Start) (size : WindowSize) (loaded floor : ℕ) → IsKept n s w → HasSavedFirst s w
     → IsStart start loaded → Allowed (Load loaded) (nothing_drawn floor) → (numbers Server s w).floor ≤ loaded
     → IsAsClaimed n s w (server_started start size w) × ClientStays s w (server_started start size w)
     × ServerRuns s (server_started start size w) (server.Then server.Begin (server.Add s start size) (server.Added 0)) (started start loaded (nothing_drawn floor))
 
 -- the same for a client (RFC 8613, B.1.1)
 abbrev pub ClientStartsInWorld : Type 0
-ClientStartsInWorld = (n : ℕ) (s : SecurityContext) (w : World) (loaded life_ms floor : ℕ) (own : Own) → IsLawful n s w → Goes (Load loaded) (nothing_drawn floor) own
+ClientStartsInWorld = (n : ℕ) (s : SecurityContext) (w : World) (loaded life_ms floor : ℕ) (own : Own) → IsKept n s w → Goes (Load loaded) (nothing_drawn floor) own
     → (numbers Client s w).floor ≤ loaded → IsAsClaimed n s w (Then w (ClientStarts loaded life_ms)) × ServerStays s w (Then w (ClientStarts loaded life_ms))
     × ClientRuns s (Then w (ClientStarts loaded life_ms)) (client.New s loaded life_ms) own

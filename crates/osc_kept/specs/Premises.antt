@@ -1,7 +1,7 @@
 -- To be believed: what a world has to meet, at each event over the events before it (RFC 8613, 7.2.1, 7.4, 8 and B.1; RFC 9175, 2.3). Each premise is a
 -- record or a definition of its own, and says who has to see to it. w is the world before the event, s the security context, n is how many pending
 -- requests the client has room for.
-use Rattle.std.specs.Prelude.{◌≡◌, ℕ, Bool, ◌≤◌, List, [], Option, Some, None, Contains, max}
+use Rattle.std.specs.Prelude.{◌≡◌, ℕ, Bool, ◌<◌, ◌≤◌, List, [], Option, Some, None, Contains, max}
 use Rattle.osc_coap.specs.Inner.{InnerParts}
 use Rattle.osc_coap.specs.Interpreted.{interpreted}
 use Rattle.osc_coap.specs.OptionNumbers as options
@@ -12,11 +12,11 @@ use Rattle.osc_endpoint.specs.declared.start.Start.TheVariants as starts
 use Rattle.osc_endpoint.specs.ClientAnswer.{ClientAnswer, awaited}
 use Rattle.osc_endpoint.specs.ClientHistory as client
 use Rattle.osc_endpoint.specs.Laws.{TakesTickets}
-use Rattle.osc_endpoint.specs.Life.{Life, in_force}
+use Rattle.osc_endpoint.specs.Life.{Life, born, in_force}
 use Rattle.osc_endpoint.specs.ServerAnswer.{ServerAnswer}
 use Rattle.osc_endpoint.specs.ServerHistory as server
 use Rattle.osc_kept.specs.Numbering.{Allowed, Load}
-use Rattle.osc_kept.specs.World.{World, Event, Begin, Then, End, Client, Server, ServerStarts, AtClient, AtServer, Has, Request, Response, client_history, server_history, effect, numbers, sent, answered, delivered}
+use Rattle.osc_kept.specs.World.{World, Event, Begin, Then, End, Client, Server, ClientStarts, ServerStarts, AtClient, AtServer, Has, Request, Response, client_history, server_history, effect, numbers, sent, answered, delivered}
 
 -- a fact about each event, over the world before it (own rule)
 abbrev pub AtEach : (World → Event → Type 0) → World → Type 0
@@ -86,17 +86,23 @@ EchoIsNew s w (AtServer (server.Datagram now echo mid d) (server.Took (server.Ch
     → (r : Request) → Has r (sent s w) → interpreted options.echo r.message.options ≡ Some given → ⊥
 EchoIsNew s w event = Unit {0}
 
--- ---- N: whoever writes a keeper sees to it; KeptServer and KeptClient see to the rest
+-- ---- N: whoever says at which number an end starts sees to it; for kept ends their keeper does (NumbersAreKept)
 
--- each event agrees with the numbers of both ends: what is used is the number in hand, a number is drawn only if none is in hand, and no load gives one
--- below the floor (RFC 8613, 7.2.1 and B.1.1)
-pub record NumbersAreKept (s : SecurityContext) (w : World) (event : Event) : Type 0 where
-  pub client : Allowed (effect Client s w event) (numbers Client s w)
-  pub server : Allowed (effect Server s w event) (numbers Server s w)
+-- the client sealed with lower numbers alone (RFC 8613, 7.2.1)
+abbrev pub IsAboveSent : SecurityContext → World → ℕ → Type 0
+IsAboveSent s w number = (r : Request) → Has r (sent s w) → r.number < number
 
--- no life of an end begins below the floor: a load gives no number below what was saved before, in whatever process (RFC 8613, B.1.1)
-abbrev pub LoadsNoneBelow : End → SecurityContext → World → Event → Type 0
-LoadsNoneBelow of s w event = (n : ℕ) → effect of s w event ≡ Load n → (numbers of s w).floor ≤ n
+-- the server sealed with lower numbers of its own alone (RFC 8613, 7.2.1)
+abbrev pub IsAboveOwn : SecurityContext → World → ℕ → Type 0
+IsAboveOwn s w number = (r : Response) (own : ℕ) → Has r (answered s w) → r.own ≡ Some own → own < number
+
+-- each life of an end begins above all numbers with which the end sealed before (RFC 8613, 7.2.1 and B.1.1)
+abbrev pub BeginsAbove : SecurityContext → World → Event → Type 0
+BeginsAbove s w (ClientStarts first ms) = IsAboveSent s w first
+BeginsAbove s w (AtClient (client.Restart first) entry) = IsAboveSent s w first
+BeginsAbove s w (ServerStarts start size) = IsAboveOwn s w ((born s start size).first)
+BeginsAbove s w (AtServer (server.Restart context first) server.Restarted) = IsAboveOwn s w first
+BeginsAbove s w event = Unit {0}
 
 -- ---- KeptServer sees to it, or whoever says how a Server starts
 
@@ -111,5 +117,26 @@ pub record IsLawful (n : ℕ) (s : SecurityContext) (w : World) : Type 0 where
   pub answers : AtEach (Answers n s) w
   pub sealed : AtEach (NobodyForges s) w
   pub unseen : AtEach (EchoIsNew s) w
-  pub kept : AtEach (NumbersAreKept s) w
+  pub above : AtEach (BeginsAbove s) w
   pub fresh : AtEach FreshWhileNothingDelivered w
+
+-- ---- how the numbers of kept ends go: each life then begins above all numbers that were used (law KeptBeginAbove)
+
+-- each event agrees with the numbers of both ends: what is used is the number in hand, a number is drawn only if none is in hand, and no load gives one
+-- below the floor (RFC 8613, 7.2.1 and B.1.1)
+pub record NumbersAreKept (s : SecurityContext) (w : World) (event : Event) : Type 0 where
+  pub client : Allowed (effect Client s w event) (numbers Client s w)
+  pub server : Allowed (effect Server s w event) (numbers Server s w)
+
+-- no life of an end begins below the floor: a load gives no number below what was saved before, in whatever process (RFC 8613, B.1.1)
+abbrev pub LoadsNoneBelow : End → SecurityContext → World → Event → Type 0
+LoadsNoneBelow of s w event = (n : ℕ) → effect of s w event ≡ Load n → (numbers of s w).floor ≤ n
+
+-- the world meets the premises, and the numbers of both ends are kept at each event (RFC 8613, 7.2.1 and B.1.1)
+pub record IsKept (n : ℕ) (s : SecurityContext) (w : World) : Type 0 where
+  pub lawful : IsLawful n s w
+  pub kept : AtEach (NumbersAreKept s) w
+
+-- if both ends answer by their tables and their numbers are kept, each life begins above all numbers that were used before (RFC 8613, 7.2.1 and B.1.1)
+abbrev pub KeptBeginAbove : Type 0
+KeptBeginAbove = (n : ℕ) (s : SecurityContext) (w : World) → AtEach (Answers n s) w → AtEach (NumbersAreKept s) w → AtEach (BeginsAbove s) w

@@ -20,7 +20,7 @@ use Rattle.osc_kept.specs.InWorld.{ClientStays, IsAsClaimed, IsUnseen, ServerSta
 use Rattle.osc_kept.specs.KeptRuns.{ClientRun, ClientState, ClientStep, ServerRun, ServerState, ServerStep, client_state, server_state}
 use Rattle.osc_kept.specs.Numbering.{Own}
 use Rattle.osc_kept.specs.Owning.{own_in}
-use Rattle.osc_kept.specs.Premises.{IsLawful, NobodyForgesRequests, NobodyForgesResponses}
+use Rattle.osc_kept.specs.Premises.{IsKept, NobodyForgesRequests, NobodyForgesResponses}
 use Rattle.osc_kept.specs.World.{World, Begin, Then, Event, End, Client, Server, Draws, Reserves, AtClient, AtServer, numbers}
 
 -- ---- what a run adds
@@ -87,11 +87,11 @@ ClientRunAdds n s w h old new = (v : World) × RunsOn Client s w v old new × Is
 -- each run of a kept server that runs in a world that meets the premises does so, if others do their part (RFC 8613, B.1.1)
 abbrev pub ServerRunInWorld : {K : Type 0} → keeper.Ghosts K → Type 0
 ServerRunInWorld {K = K} k = (n : ℕ) (s : SecurityContext) (w : World) (h : server.History) (source : Source K k) (b : ServerState k) (es : List KeptServerEvent) (xs : List KeptServerEntry)
-    (run : ServerRun (server_state h source []) es xs b) → IsLawful n s w → ServerRuns s w h (own_in source)
+    (run : ServerRun (server_state h source []) es xs b) → IsKept n s w → ServerRuns s w h (own_in source)
     → ServerRunTrusts s w (own_in source) (server_state h source []) es xs b run → ServerRunAdds n s w b.history (own_in source) (own_in b.source)
 
 -- the same for a kept client (RFC 8613, B.1.1)
 abbrev pub ClientRunInWorld : {K : Type 0} → keeper.Ghosts K → Type 0
 ClientRunInWorld {K = K} k = (n : ℕ) (s : SecurityContext) (w : World) (h : client.History) (source : Source K k) (b : ClientState k) (es : List KeptClientEvent) (xs : List KeptClientEntry)
-    (run : ClientRun n (client_state h source) es xs b) → IsLawful n s w → ClientRuns s w h (own_in source)
+    (run : ClientRun n (client_state h source) es xs b) → IsKept n s w → ClientRuns s w h (own_in source)
     → ClientRunTrusts n s w (own_in source) (client_state h source) es xs b run → ClientRunAdds n s w b.history (own_in source) (own_in b.source)

@@ -2,6 +2,7 @@
 -- order in which it happened, each event with what came of it. w is a world, s the security context. A save that fails or is stopped leaves the
 -- floor, and the call that made it gives nothing, so it isn't an event.
 use Rattle.std.specs.Prelude.{◌≡◌, ◌⊎◌, ◌++◌, ◌∷◌, [], ℕ, List, Bool, true, Option, Some, None}
+use Rattle.std.specs.List.{cons_option}
 use Rattle.std.specs.Option.{option_map, option_and_then}
 use Rattle.osc_coap.specs.Datagram.{Parts}
 use Rattle.osc_coap.specs.Inner.{InnerParts}
@@ -10,6 +11,7 @@ use Rattle.osc_protect.specs.Protection.{as_notified}
 use Rattle.osc_protect.specs.Sealed.{inside}
 use Rattle.osc_window.specs.declared.window_size.WindowSize.{WindowSize}
 use Rattle.osc_endpoint.specs.declared.start.Start.{Start}
+use Rattle.osc_endpoint.specs.ClientHeadline.{told}
 use Rattle.osc_endpoint.specs.ClientHistory as client
 use Rattle.osc_endpoint.specs.Life.{Life, born}
 use Rattle.osc_endpoint.specs.Replies.{challenge_message}
@@ -106,15 +108,10 @@ pub record Response : Type 0 where
   pub own : Option ℕ
   pub message : InnerParts
 
--- the request that a running client seals, if a client runs: it has the next number (RFC 8613, 8.1)
-abbrev pub request_in : Option client.History → Parts → List Request
-request_in None p = []
-request_in (Some h) p = record { number = client.next h; message = inside p } ∷ []
-
 -- the requests that the client sealed, over all lives (RFC 8613, 8.1)
 abbrev pub sent : SecurityContext → World → List Request
 sent s Begin = []
-sent s (Then w (AtClient (client.Request now p room) (client.Sent bytes))) = request_in (client_history s w) p ++ sent s w
+sent s (Then w (AtClient (client.Request now p room) (client.Sent bytes))) = cons_option (option_map (λ h. record { number = client.next h; message = inside p }) (client_history s w)) (sent s w)
 sent s (Then w event) = sent s w
 
 -- the response to request n that a running server seals, if its context has a life, with the next own number if one is asked for (RFC 8613, 8.3)
@@ -131,12 +128,15 @@ answered s (Then w (AtServer (server.Reply t own mid p room) (server.Replied byt
 answered s (Then w (AtServer (server.Notify t p room) (server.Replied bytes))) = response_in (server_life s w) t.number true (as_notified p) ++ answered s w
 answered s (Then w event) = answered s w
 
--- the responses that the client delivered, notifications and others, over all lives (RFC 8613, 8.4)
+-- the response that the client delivers in this event, as a notification or as the last one (RFC 8613, 8.4)
+abbrev pub heard_in : Event → Option Response
+heard_in (AtClient (client.Datagram now d) (client.Took answer)) = option_map (λ t. record { number = t.1; own = t.2; message = t.3 }) (told answer)
+heard_in event = None
+
+-- the responses that the client delivered, over all lives (RFC 8613, 8.4)
 abbrev pub heard : World → List Response
 heard Begin = []
-heard (Then w (AtClient (client.Datagram now d) (client.Took (client.Notified received number)))) = record { number = number; own = received.number; message = received.message } ∷ heard w
-heard (Then w (AtClient (client.Datagram now d) (client.Took (client.Deliver received number)))) = record { number = number; own = received.number; message = received.message } ∷ heard w
-heard (Then w event) = heard w
+heard (Then w event) = cons_option (heard_in event) (heard w)
 
 -- the numbers of the requests that were delivered, over all lives (RFC 8613, 7.4)
 abbrev pub delivered : World → List ℕ

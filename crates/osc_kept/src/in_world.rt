@@ -18,7 +18,7 @@ ghost use Rattle.osc_kept.specs.CallsInWorld.{AsksInWorld, ClientAfter, ClientDe
 ghost use Rattle.osc_kept.specs.GoingOn.{HasSavedFirst};
 ghost use Rattle.osc_kept.specs.InWorld.{IsUnseen};
 ghost use Rattle.osc_kept.specs.KeptServing.{IsStart};
-ghost use Rattle.osc_kept.specs.Premises.{IsLawful, NobodyForgesRequests};
+ghost use Rattle.osc_kept.specs.Premises.{IsKept, NobodyForgesRequests};
 ghost use Rattle.osc_kept.specs.Refusals.{Loaded, RefusesAt};
 ghost use Rattle.osc_kept.specs.declared.kept_error.KeptError.TheVariants.{LivesExhausted};
 ghost use Rattle.osc_kept.specs.World.{World, Client as ClientEnd, Server as ServerEnd, numbers};
@@ -47,7 +47,7 @@ pub fn start_server_in_world<K: Keeper>(
 ) -> Result<KeptServer<K>, (KeptError, K)>
     ensures begins { IfOk result (λ new. (loaded : ℕ) × (mid : K) × (start : StartOf) × Loaded K.loads K.failures keeper loaded mid
         × (K.floor keeper ≤ loaded) × IsStart start loaded
-        × ((n : ℕ) (w : World) → IsLawful n (as_server context) w → HasSavedFirst (as_server context) w
+        × ((n : ℕ) (w : World) → IsKept n (as_server context) w → HasSavedFirst (as_server context) w
         → (numbers ServerEnd (as_server context) w).floor ≤ loaded → StartsInWorld n (as_server context) w start size new)) }
     ensures refused { IfErr result (λ e. RefusesAt K.loads K.failures keeper e.0 e.1) }
     ensures no_lives_exhausted { IfErr result (λ e. e.0 ≢ LivesExhausted) }
@@ -59,7 +59,7 @@ pub fn start_server_in_world<K: Keeper>(
 /// Calls `KeptServer::restart`. Its claim about that list assumes that the number that the keeper loads isn't below the list's floor.
 pub fn restart_server_in_world<K: Keeper>(server: &mut KeptServer<K>) -> Result<(), KeptError>
     ensures begins { IsOk result → (loaded : ℕ) × Loaded K.loads K.failures server.old.source.keeper loaded server.new.source.keeper
-        × ((n : ℕ) (s : SecurityContext) (w : World) → IsLawful n s w → RunsIn s w server.old → RestartsInWorld n s w loaded server.old server.new) }
+        × ((n : ℕ) (s : SecurityContext) (w : World) → IsKept n s w → RunsIn s w server.old → RestartsInWorld n s w loaded server.old server.new) }
     ensures refused { IfErr result (λ e. RefusesAt K.loads K.failures server.old.source.keeper e server.new.source.keeper) }
     ensures unchanged { OnErr result ((s : SecurityContext) (w : World) → RunsIn s w server.old → RunsIn s w server.new) }
 {
@@ -76,10 +76,10 @@ pub fn decide_in_world<K: Keeper>(
     datagram: &mut [u8],
     out: &mut [u8; 64],
 ) -> Result<Decided, KeeperError>
-    ensures answered { IfOk result (λ d. (n : ℕ) (s : SecurityContext) (w : World) → IsLawful n s w → RunsIn s w server.old
+    ensures answered { IfOk result (λ d. (n : ℕ) (s : SecurityContext) (w : World) → IsKept n s w → RunsIn s w server.old
         → NobodyForgesRequests s w datagram.old → IsUnseen s w fresh.echo
         → DecidesInWorld n s w now fresh datagram.old d.decision datagram.new (take d.reply out.new) server.old server.new) }
-    ensures clock_alone { IsErr result → (n : ℕ) (s : SecurityContext) (w : World) → IsLawful n s w → RunsIn s w server.old
+    ensures clock_alone { IsErr result → (n : ℕ) (s : SecurityContext) (w : World) → IsKept n s w → RunsIn s w server.old
         → ServerAfter n s w (served.Advance now) served.Advanced server.old server.new }
     ensures failed { IsErr result → K.failures server.new.source.keeper ≡ K.failures server.old.source.keeper + 1 }
     ensures worked { IsOk result → K.failures server.new.source.keeper ≡ K.failures server.old.source.keeper }
@@ -97,10 +97,10 @@ pub fn take_in_world<'b, K: Keeper>(
     datagram: &'b mut [u8],
     out: &mut [u8; 64],
 ) -> Taken<'b>
-    ensures answered { result.outcome ≢ outcomes.KeeperFailed → (n : ℕ) (s : SecurityContext) (w : World) → IsLawful n s w → RunsIn s w server.old
+    ensures answered { result.outcome ≢ outcomes.KeeperFailed → (n : ℕ) (s : SecurityContext) (w : World) → IsKept n s w → RunsIn s w server.old
         → NobodyForgesRequests s w datagram.old → IsUnseen s w fresh.echo
         → TakesInWorld n s w now fresh datagram.old result.outcome (take result.reply out.new) server.old server.new }
-    ensures clock_alone { result.outcome ≡ outcomes.KeeperFailed → (n : ℕ) (s : SecurityContext) (w : World) → IsLawful n s w → RunsIn s w server.old
+    ensures clock_alone { result.outcome ≡ outcomes.KeeperFailed → (n : ℕ) (s : SecurityContext) (w : World) → IsKept n s w → RunsIn s w server.old
         → ServerAfter n s w (served.Advance now) served.Advanced server.old server.new }
     ensures failed { result.outcome ≡ outcomes.KeeperFailed → K.failures server.new.source.keeper ≡ K.failures server.old.source.keeper + 1 }
     ensures worked { result.outcome ≢ outcomes.KeeperFailed → K.failures server.new.source.keeper ≡ K.failures server.old.source.keeper }
@@ -118,7 +118,7 @@ pub fn reply_in_world<K: Keeper>(
     plain: &Message<'_>,
     out: &mut [u8],
 ) -> Result<usize, (ReplyError, Ticket)>
-    ensures answered { IfErr result (λ e. e.0 ≢ replies.KeeperFailed) → (n : ℕ) (s : SecurityContext) (w : World) → IsLawful n s w → RunsIn s w server.old
+    ensures answered { IfErr result (λ e. e.0 ≢ replies.KeeperFailed) → (n : ℕ) (s : SecurityContext) (w : World) → IsKept n s w → RunsIn s w server.old
         → HoldsTicket s w (values_of ticket)
         → ServerAfter n s w (served.Reply (values_of ticket) (asks_own (values_of ticket) own) mid (parts_of plain.now) (length out.old)) (server_entry result out.new)
         server.old server.new }
@@ -137,7 +137,7 @@ pub fn notify_in_world<K: Keeper>(
     plain: &Message<'_>,
     out: &mut [u8],
 ) -> Result<usize, ReplyError>
-    ensures answered { IfErr result (λ e. e ≢ replies.KeeperFailed) → (n : ℕ) (s : SecurityContext) (w : World) → IsLawful n s w → RunsIn s w server.old
+    ensures answered { IfErr result (λ e. e ≢ replies.KeeperFailed) → (n : ℕ) (s : SecurityContext) (w : World) → IsKept n s w → RunsIn s w server.old
         → HoldsTicket s w (values_of ticket.now)
         → ServerAfter n s w (served.Notify (values_of ticket.now) (parts_of plain.now) (length out.old)) (reply_entry result out.new) server.old server.new }
     ensures unchanged { IfErr result (λ e. e ≡ replies.KeeperFailed → (s : SecurityContext) (w : World) → RunsIn s w server.old → RunsIn s w server.new) }
@@ -156,7 +156,7 @@ pub fn run_server_in_world<'a, K: Keeper>(
     log: &mut Vec<KeptServerEntry<'a>>,
 ) -> Result<(), AllocError>
     requires { log.old.items ≡ [] }
-    ensures run { (n : ℕ) (s : SecurityContext) (w : World) → IsLawful n s w → RunsIn s w server.old
+    ensures run { (n : ℕ) (s : SecurityContext) (w : World) → IsKept n s w → RunsIn s w server.old
         → ServesInWorld n s w (take (vec_len log.new) events.old.now) log.new.items server.old server.new }
     ensures rest { events.new.now ≡ drop (vec_len log.new) events.old.now }
     ensures all { OnOk result (vec_len log.new ≡ length events.old.now) }
@@ -174,7 +174,7 @@ pub fn start_client_in_world<K: Keeper, const N: usize>(
     life_ms: u64,
 ) -> Result<KeptClient<K, N>, (KeptError, K)>
     ensures begins { IfOk result (λ new. (loaded : ℕ) × Loaded K.loads K.failures keeper loaded new.source.keeper × (K.floor keeper ≤ loaded)
-        × ((w : World) → IsLawful N (as_client context) w → (numbers ClientEnd (as_client context) w).floor ≤ loaded
+        × ((w : World) → IsKept N (as_client context) w → (numbers ClientEnd (as_client context) w).floor ≤ loaded
         → ClientStartsInWorld (as_client context) w loaded life_ms new)) }
     ensures refused { IfErr result (λ e. RefusesAt K.loads K.failures keeper e.0 e.1) }
     ensures no_lives_exhausted { IfErr result (λ e. e.0 ≢ LivesExhausted) }
@@ -188,7 +188,7 @@ pub fn restart_client_in_world<K: Keeper, const N: usize>(
     client: &mut KeptClient<K, N>,
 ) -> Result<(), KeptError>
     ensures begins { IsOk result → (loaded : ℕ) × Loaded K.loads K.failures client.old.source.keeper loaded client.new.source.keeper
-        × ((s : SecurityContext) (w : World) → IsLawful N s w → ClientRunsIn s w client.old → ClientRestartsInWorld s w loaded client.old client.new) }
+        × ((s : SecurityContext) (w : World) → IsKept N s w → ClientRunsIn s w client.old → ClientRestartsInWorld s w loaded client.old client.new) }
     ensures refused { IfErr result (λ e. RefusesAt K.loads K.failures client.old.source.keeper e client.new.source.keeper) }
     ensures no_lives_exhausted { result ≢ Err LivesExhausted }
     ensures unchanged { OnErr result ((s : SecurityContext) (w : World) → ClientRunsIn s w client.old → ClientRunsIn s w client.new) }
@@ -204,9 +204,9 @@ pub fn request_in_world<K: Keeper, const N: usize>(
     plain: &Message<'_>,
     out: &mut [u8],
 ) -> Result<usize, RequestError>
-    ensures answered { (IsErrOf result requests.KeeperFailed → ⊥) → (s : SecurityContext) (w : World) → IsLawful N s w → ClientRunsIn s w client.old
+    ensures answered { (IsErrOf result requests.KeeperFailed → ⊥) → (s : SecurityContext) (w : World) → IsKept N s w → ClientRunsIn s w client.old
         → ClientAfter s w (asked.Request now (parts_of plain.now) (length out.old)) (request_entry result out.new) client.old client.new }
-    ensures clock_alone { IsErrOf result requests.KeeperFailed → (s : SecurityContext) (w : World) → IsLawful N s w → ClientRunsIn s w client.old
+    ensures clock_alone { IsErrOf result requests.KeeperFailed → (s : SecurityContext) (w : World) → IsKept N s w → ClientRunsIn s w client.old
         → ClientAfter s w (asked.Advance now) asked.Advanced client.old client.new }
     ensures failed { IsErrOf result requests.KeeperFailed → K.failures client.new.source.keeper ≡ K.failures client.old.source.keeper + 1 }
     ensures worked { (IsErrOf result requests.KeeperFailed → ⊥) → K.failures client.new.source.keeper ≡ K.failures client.old.source.keeper }
@@ -221,7 +221,7 @@ pub fn decide_response_in_world<K: Keeper, const N: usize>(
     now: u64,
     datagram: &mut [u8],
 ) -> ClientDecision
-    ensures answered { (s : SecurityContext) (w : World) → IsLawful N s w → ClientRunsIn s w client.old → NobodyForgesTo s w now datagram.old
+    ensures answered { (s : SecurityContext) (w : World) → IsKept N s w → ClientRunsIn s w client.old → NobodyForgesTo s w now datagram.old
         → ClientDecidesInWorld s w now datagram.old result datagram.new client.old client.new }
 {
     kept_ends_in_world();
@@ -234,7 +234,7 @@ pub fn take_response_in_world<'b, K: Keeper, const N: usize>(
     now: u64,
     datagram: &'b mut [u8],
 ) -> ClientOutcome<'b>
-    ensures answered { (s : SecurityContext) (w : World) → IsLawful N s w → ClientRunsIn s w client.old → NobodyForgesTo s w now datagram.old
+    ensures answered { (s : SecurityContext) (w : World) → IsKept N s w → ClientRunsIn s w client.old → NobodyForgesTo s w now datagram.old
         → ClientTakesInWorld s w now datagram.old result client.old client.new }
 {
     kept_ends_in_world();
@@ -246,7 +246,7 @@ pub fn forget_in_world<K: Keeper, const N: usize>(
     client: &mut KeptClient<K, N>,
     token: &[u8],
 ) -> bool
-    ensures answered { (s : SecurityContext) (w : World) → IsLawful N s w → ClientRunsIn s w client.old
+    ensures answered { (s : SecurityContext) (w : World) → IsKept N s w → ClientRunsIn s w client.old
         → ClientAfter s w (asked.Forget token.now) (asked.Forgot result) client.old client.new }
 {
     kept_ends_in_world();
@@ -255,7 +255,7 @@ pub fn forget_in_world<K: Keeper, const N: usize>(
 
 /// Calls `KeptClient::advance`.
 pub fn advance_in_world<K: Keeper, const N: usize>(client: &mut KeptClient<K, N>, now: u64)
-    ensures advanced { (s : SecurityContext) (w : World) → IsLawful N s w → ClientRunsIn s w client.old
+    ensures advanced { (s : SecurityContext) (w : World) → IsKept N s w → ClientRunsIn s w client.old
         → ClientAfter s w (asked.Advance now) asked.Advanced client.old client.new }
 {
     kept_ends_in_world();
@@ -270,7 +270,7 @@ pub fn run_client_in_world<'a, K: Keeper, const N: usize>(
     log: &mut Vec<KeptClientEntry<'a>>,
 ) -> Result<(), AllocError>
     requires { log.old.items ≡ [] }
-    ensures run { (s : SecurityContext) (w : World) → IsLawful N s w → ClientRunsIn s w client.old
+    ensures run { (s : SecurityContext) (w : World) → IsKept N s w → ClientRunsIn s w client.old
         → AsksInWorld s w (take (vec_len log.new) events.old.now) log.new.items client.old client.new }
     ensures rest { events.new.now ≡ drop (vec_len log.new) events.old.now }
     ensures all { OnOk result (vec_len log.new ≡ length events.old.now) }

@@ -7,6 +7,7 @@ ghost use Rattle.osc_kept.specs.Examples.{NoneCanBeLeftOut, ObservationCanBeMet,
 ghost use Rattle.osc_kept.specs.GoingOn.{ClientBegins, ClientGoesOn, FreshBySaving, ServerBegins, ServerGoesOn};
 ghost use Rattle.osc_kept.specs.InWorld.{ClientInWorld, ClientStartsInWorld, ServerInWorld, ServerStartsInWorld};
 ghost use Rattle.osc_kept.specs.KeptPlainness.{KeptEndsArePlain};
+ghost use Rattle.osc_kept.specs.Premises.{KeptBeginAbove};
 ghost use Rattle.osc_kept.specs.RunsInWorld.{ClientRunInWorld, ServerRunInWorld};
 
 use osc_coap::one_datagram;
@@ -20,8 +21,8 @@ use osc_protect::{one_cipher_input, one_notification, sealed_opens};
 /// sealed. A notification is delivered for a request that registers an observation. A request that registers nothing has at most one response,
 /// and behind the last response to a request nothing is delivered for it. What opens a restarted life of the server was sealed at most 30,000
 /// ms before, by the server's clock. No end seals twice under one nonce. The list has to
-/// meet the premises (`IsLawful`): both ends answer by their tables, nobody else makes texts that open, Echo values are new, numbers are
-/// kept, and a server starts fresh only while nothing was delivered.
+/// meet the premises (`IsLawful`): both ends answer by their tables, nobody else makes texts that open, Echo values are new, each life of
+/// an end begins above all numbers with which it sealed before, and a server starts fresh only while nothing was delivered.
 pub fn both_ends()
     ensures { TwoEnds }
 {
@@ -67,10 +68,11 @@ pub fn kept_ends_go_on()
 {}
 
 /// States that the start of a kept end adds to such a list too, and that the numbers stay kept if its keeper loads no number below
-/// the floor (RFC 8613, B.1.1 and B.1.2).
+/// the floor; and that each life then begins above all numbers with which its end sealed before (RFC 8613, B.1.1 and B.1.2).
 pub fn kept_ends_begin()
     ensures server { ServerBegins }
     ensures client { ClientBegins }
+    ensures above { KeptBeginAbove }
 {}
 
 /// States that a server that starts fresh only at 0, and for which a number is saved before it takes a datagram, starts fresh only
@@ -102,8 +104,8 @@ pub fn premises_are_needed()
     one_notification();
 }
 
-/// States that each answer and each start of a kept end adds to a list that meets the premises. If others do their part
-/// (`ServerTrusts`, `ClientTrusts`), the longer list meets the premises too, and all of it is as `both_ends` says.
+/// States that each answer and each start of a kept end adds to a list that meets the premises, with kept numbers (`IsKept`). If others do
+/// their part (`ServerTrusts`, `ClientTrusts`), the longer list does so too, and all of it is as `both_ends` says.
 pub fn kept_ends_in_world()
     ensures server { ServerInWorld }
     ensures client { ClientInWorld }

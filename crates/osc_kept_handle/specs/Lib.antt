@@ -3,3 +3,4 @@ pub mod Reserved
 pub mod KeptServerBytes
 pub mod KeptClientBytes
 pub mod BytesInWorld
+pub mod KeptHandlePlainness

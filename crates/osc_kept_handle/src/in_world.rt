@@ -21,7 +21,7 @@ ghost use Rattle.osc_kept.specs.GoingOn.{HasSavedFirst};
 ghost use Rattle.osc_kept.specs.InWorld.{IsUnseen};
 ghost use Rattle.osc_kept.specs.KeptServing.{IsStart};
 ghost use Rattle.osc_kept.specs.Numbering.{Allowed, Own, Reserve, upcoming};
-ghost use Rattle.osc_kept.specs.Premises.{IsLawful, NobodyForgesRequests};
+ghost use Rattle.osc_kept.specs.Premises.{IsKept, NobodyForgesRequests};
 ghost use Rattle.osc_kept.specs.World.{World, Client as ClientEnd, Server as ServerEnd, numbers};
 ghost use Rattle.osc_kept_handle.specs.BytesInWorld.{ClientAfter, ClientDecidesInWorld, ClientRunsWith, ClientSavesInWorld, ClientStartsInWorld, ClientTakesInWorld, DecidesInWorld, GivesTicket, IsUnsaved, RunsWith, SavesInWorld, ServerAfter, StartsInWorld, TakesInWorld};
 ghost use Rattle.osc_kept_handle.specs.KeptClientBytes.{AsksWith, IsKeptClient, entry_of_kept_request};
@@ -50,7 +50,7 @@ pub fn begin_server_in_world(
     size: WindowSize,
 ) -> Option<KeptServerHandle>
     ensures begins { IfSome result (λ k. (start : StartOf) × IsStart start (number_of loaded)
-        × (number_of loaded ≢ 0 → (n : ℕ) (w : World) → IsLawful n (server_in context.now) w → HasSavedFirst (server_in context.now) w
+        × (number_of loaded ≢ 0 → (n : ℕ) (w : World) → IsKept n (server_in context.now) w → HasSavedFirst (server_in context.now) w
         → (numbers ServerEnd (server_in context.now) w).floor ≤ number_of loaded → StartsInWorld n (server_in context.now) w start size k)) }
     ensures made { number_of loaded ≡ 0 → IfSome result (λ k. (start : StartOf) × IsUnsaved (server_in context.now) start size k) }
     ensures accepts { IsContext context.now → IsSome result }
@@ -62,9 +62,9 @@ pub fn begin_server_in_world(
 
 /// `KeptServerHandle::saved`.
 pub fn server_saved_in_world(server: &mut KeptServerHandle, number: u64) -> Option<bool>
-    ensures saved { result ≡ Some true → (n : ℕ) (s : SecurityContext) (w : World) → IsLawful n s w → RunsWith s w server.old
+    ensures saved { result ≡ Some true → (n : ℕ) (s : SecurityContext) (w : World) → IsKept n s w → RunsWith s w server.old
         → SavesInWorld n s w number server.new }
-    ensures begins { result ≡ Some true → (n : ℕ) (s : SecurityContext) (w : World) (start : StartOf) (size : WindowSizeOf) → IsLawful n s w → HasSavedFirst s w
+    ensures begins { result ≡ Some true → (n : ℕ) (s : SecurityContext) (w : World) (start : StartOf) (size : WindowSizeOf) → IsKept n s w → HasSavedFirst s w
         → (numbers ServerEnd s w).floor ≤ 0 → IsUnsaved s start size server.old → StartsInWorld n s w start size server.new }
     ensures refused { result ≡ Some false → (h : served.History) (o : Own) → ServesWith server.old o h
         → Allowed Reserve o → number ≡ next_limit o.limit → ⊥ }
@@ -85,7 +85,7 @@ pub fn decide_bytes_in_world(
     datagram: &mut [u8],
     out: &mut [u8; 64],
 ) -> Result<Decided, KeptRefusal>
-    ensures answered { IfOk result (λ d. (n : ℕ) (s : SecurityContext) (w : World) → IsLawful n s w → RunsWith s w server.old
+    ensures answered { IfOk result (λ d. (n : ℕ) (s : SecurityContext) (w : World) → IsKept n s w → RunsWith s w server.old
         → NobodyForgesRequests s w datagram.old → IsUnseen s w fresh.echo
         → DecidesInWorld n s w now fresh datagram.old d.decision datagram.new (take d.reply out.new) server.new) }
     ensures refused { (number : ℕ) → result ≡ Err (refusals.SaveFirst number) → (number ≡ next_limit server.old.reserved)
@@ -110,7 +110,7 @@ pub fn take_bytes_in_world<'b>(
     datagram: &'b mut [u8],
     out: &mut [u8; 64],
 ) -> Result<Taken<'b>, KeptRefusal>
-    ensures answered { IfOk result (λ t. (n : ℕ) (s : SecurityContext) (w : World) → IsLawful n s w → RunsWith s w server.old
+    ensures answered { IfOk result (λ t. (n : ℕ) (s : SecurityContext) (w : World) → IsKept n s w → RunsWith s w server.old
         → NobodyForgesRequests s w datagram.old → IsUnseen s w fresh.echo
         → TakesInWorld n s w now fresh datagram.old t.outcome (take t.reply out.new) server.new) }
     ensures refused { (number : ℕ) → result ≡ Err (refusals.SaveFirst number) → (number ≡ next_limit server.old.reserved)
@@ -136,7 +136,7 @@ pub fn reply_bytes_in_world(
     plain: &Message<'_>,
     out: &mut [u8],
 ) -> Result<usize, KeptReplyRefusal>
-    ensures answered { (n : ℕ) (s : SecurityContext) (w : World) → IsLawful n s w → RunsWith s w server.old → GivesTicket s w (ticket_in ticket.now)
+    ensures answered { (n : ℕ) (s : SecurityContext) (w : World) → IsKept n s w → RunsWith s w server.old → GivesTicket s w (ticket_in ticket.now)
         → IfSome (entry_of_kept_reply result out.new) (λ entry.
         ServerAfter n s w (served.Reply (ticket_in ticket.now) (asks_own (ticket_in ticket.now) own) mid (parts_of plain.now) (length out.old)) entry server.new) }
     ensures refused { (number : ℕ) → result ≡ Err (replies.SaveFirst number) → (number ≡ next_limit server.old.reserved)
@@ -162,7 +162,7 @@ pub fn notify_bytes_in_world(
     plain: &Message<'_>,
     out: &mut [u8],
 ) -> Result<usize, KeptReplyRefusal>
-    ensures answered { (n : ℕ) (s : SecurityContext) (w : World) → IsLawful n s w → RunsWith s w server.old → HoldsTicket s w (ticket_in ticket.now)
+    ensures answered { (n : ℕ) (s : SecurityContext) (w : World) → IsKept n s w → RunsWith s w server.old → HoldsTicket s w (ticket_in ticket.now)
         → IfSome (entry_of_kept_reply result out.new) (λ entry.
         ServerAfter n s w (served.Notify (ticket_in ticket.now) (parts_of plain.now) (length out.old)) entry server.new) }
     ensures refused { (number : ℕ) → result ≡ Err (replies.SaveFirst number) → (number ≡ next_limit server.old.reserved)
@@ -185,7 +185,7 @@ pub fn begin_client_in_world(
     loaded: Piv,
     life_ms: u64,
 ) -> Option<KeptClientHandle>
-    ensures begins { IfSome result (λ k. (w : World) → IsLawful 8 (client_in context.now) w
+    ensures begins { IfSome result (λ k. (w : World) → IsKept 8 (client_in context.now) w
         → (numbers ClientEnd (client_in context.now) w).floor ≤ number_of loaded
         → ClientStartsInWorld (client_in context.now) w (number_of loaded) life_ms k) }
     ensures accepts { IsContext context.now → IsSome result }
@@ -197,7 +197,7 @@ pub fn begin_client_in_world(
 
 /// `KeptClientHandle::saved`.
 pub fn client_saved_in_world(client: &mut KeptClientHandle, number: u64) -> Option<bool>
-    ensures saved { result ≡ Some true → (s : SecurityContext) (w : World) → IsLawful 8 s w → ClientRunsWith s w client.old
+    ensures saved { result ≡ Some true → (s : SecurityContext) (w : World) → IsKept 8 s w → ClientRunsWith s w client.old
         → ClientSavesInWorld s w number client.new }
     ensures refused { result ≡ Some false → (h : asked.History) (o : Own) → AsksWith client.old o h
         → Allowed Reserve o → number ≡ next_limit o.limit → ⊥ }
@@ -216,7 +216,7 @@ pub fn request_bytes_in_world(
     plain: &Message<'_>,
     out: &mut [u8],
 ) -> Result<usize, KeptRequestRefusal>
-    ensures answered { (s : SecurityContext) (w : World) → IsLawful 8 s w → ClientRunsWith s w client.old → IfSome (entry_of_kept_request result out.new) (λ entry.
+    ensures answered { (s : SecurityContext) (w : World) → IsKept 8 s w → ClientRunsWith s w client.old → IfSome (entry_of_kept_request result out.new) (λ entry.
         ClientAfter s w (asked.Request now (parts_of plain.now) (length out.old)) entry client.new) }
     ensures refused { (number : ℕ) → result ≡ Err (requests.SaveFirst number) → (number ≡ next_limit client.old.reserved)
         × ((h : asked.History) (o : Own) → AsksWith client.old o h → WantsSave true (upcoming o) client.old.reserved) }
@@ -239,7 +239,7 @@ pub fn decide_response_bytes_in_world(
     now: u64,
     datagram: &mut [u8],
 ) -> Option<ClientDecision>
-    ensures answered { IfSome result (λ decision. (s : SecurityContext) (w : World) → IsLawful 8 s w → ClientRunsWith s w client.old → NobodyForgesTo s w now datagram.old
+    ensures answered { IfSome result (λ decision. (s : SecurityContext) (w : World) → IsKept 8 s w → ClientRunsWith s w client.old → NobodyForgesTo s w now datagram.old
         → ClientDecidesInWorld s w now datagram.old decision datagram.new client.new) }
     ensures accepts { IsKeptClient client.old → IsSome result }
     ensures accepted { IsSome result → IsKeptClient client.old }
@@ -255,7 +255,7 @@ pub fn take_response_bytes_in_world<'b>(
     now: u64,
     datagram: &'b mut [u8],
 ) -> Option<ClientOutcome<'b>>
-    ensures answered { IfSome result (λ outcome. (s : SecurityContext) (w : World) → IsLawful 8 s w → ClientRunsWith s w client.old → NobodyForgesTo s w now datagram.old
+    ensures answered { IfSome result (λ outcome. (s : SecurityContext) (w : World) → IsKept 8 s w → ClientRunsWith s w client.old → NobodyForgesTo s w now datagram.old
         → ClientTakesInWorld s w now datagram.old outcome client.new) }
     ensures accepts { IsKeptClient client.old → IsSome result }
     ensures accepted { IsSome result → IsKeptClient client.old }
@@ -267,7 +267,7 @@ pub fn take_response_bytes_in_world<'b>(
 
 /// `KeptClientHandle::forget`.
 pub fn forget_bytes_in_world(client: &mut KeptClientHandle, token: &[u8]) -> Option<bool>
-    ensures answered { IfSome result (λ was. (s : SecurityContext) (w : World) → IsLawful 8 s w → ClientRunsWith s w client.old
+    ensures answered { IfSome result (λ was. (s : SecurityContext) (w : World) → IsKept 8 s w → ClientRunsWith s w client.old
         → ClientAfter s w (asked.Forget token.now) (asked.Forgot was) client.new) }
     ensures accepts { IsKeptClient client.old → IsSome result }
     ensures accepted { IsSome result → IsKeptClient client.old }

@@ -5,6 +5,7 @@ mod in_world;
 mod kept_client_handle;
 mod kept_refusal;
 mod kept_server_handle;
+mod plain_laws;
 mod reserving;
 
 pub use in_world::{
@@ -16,3 +17,4 @@ pub use in_world::{
 pub use kept_client_handle::KeptClientHandle;
 pub use kept_refusal::{KeptRefusal, KeptReplyRefusal, KeptRequestRefusal};
 pub use kept_server_handle::KeptServerHandle;
+pub use plain_laws::kept_handles_are_plain;

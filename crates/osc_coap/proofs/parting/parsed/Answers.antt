@@ -1,4 +1,4 @@
-use Rattle.std.proofs.Common.{◌≡◌, ℕ, ◌+◌, ◌-◌, ◌∙◌, ap, length}
+use Rattle.std.proofs.Common.{ℕ, ◌+◌, ◌-◌, ◌∙◌, ap, length}
 use Rattle.osc_coap.proofs.OneReading.{never_both}
 use Rattle.osc_coap.proofs.Parted.{datagram_lies, datagram_is, head_fields, options_end, payload_last}
 use Rattle.osc_coap.proofs.parting.parsed.Goals as goal

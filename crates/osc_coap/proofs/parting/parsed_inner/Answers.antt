@@ -1,4 +1,4 @@
-use Rattle.std.proofs.Common.{◌≡◌, ℕ, ◌+◌, ◌-◌, ◌∙◌, ap, length}
+use Rattle.std.proofs.Common.{ℕ, ◌-◌, ◌∙◌, ap, length}
 use Rattle.osc_coap.proofs.OneInner.{inner_code}
 use Rattle.osc_coap.proofs.Parted.{inner_lies, inner_is, inner_options_end, inner_payload_last}
 use Rattle.osc_coap.proofs.parting.parsed_inner.Goals as goal
