@@ -91,7 +91,7 @@ typedef enum oscore_status {
     OSCORE_UNSUPPORTED = 34,       /* an option that isn't sealed, as Proxy-Uri; `detail` is its number */
     OSCORE_TOKEN_IN_USE = 35,      /* a request with this token is pending */
     OSCORE_PENDING_FULL = 36,      /* eight requests are pending */
-    OSCORE_SEQUENCE_EXHAUSTED = 37, /* no own number below 2^40 is left */
+    OSCORE_SEQUENCE_EXHAUSTED = 37, /* no Sender Sequence Number below 2^40 is left */
     OSCORE_TOO_LONG = 38,          /* the sealed message would have more than 65,535 bytes */
     OSCORE_NO_ROOM = 39,           /* the buffer is shorter than the message */
     OSCORE_NOT_PENDING = 40,       /* no request with this token is pending */
@@ -148,7 +148,7 @@ typedef struct oscore_opened {
     uint8_t code; /* 1 GET, 2 POST, 3 PUT, 4 DELETE .. ; 69 is 2.05 */
     uint16_t message_id;
     uint8_t token[8], token_len;
-    bool has_number; /* a request has its number; a response has one if it was sealed under an own one */
+    bool has_number; /* a request has its number; a response has one if it carries a Partial IV of its own */
     uint64_t number;
     bool has_uri_host;
     const uint8_t *uri_host;
@@ -176,8 +176,8 @@ typedef struct oscore_request_head {
     size_t kid_context_len;
 } oscore_request_head;
 
-/* One context of a server: which of its numbers were seen, and which own number is next. The calls write it: read
-   it, and change nothing. */
+/* One context of a server: which of its numbers were seen, and which Sender Sequence Number is next. The calls write it:
+   read it, and change nothing. */
 typedef struct oscore_server_context {
     oscore_context context;
     uint8_t places;        /* of the window that the context gets: 32 or 64 */
@@ -186,7 +186,7 @@ typedef struct oscore_server_context {
     uint8_t echo[8];       /* the challenge */
     uint64_t at;           /* when it was drawn, or the highest number that was seen */
     uint64_t spent_mask;
-    uint64_t next; /* own number of the next call: store it before you send what a call sealed */
+    uint64_t next; /* Sender Sequence Number of the next call: store it before you send what a call sealed */
     uint64_t life; /* how often it was restarted */
 } oscore_server_context;
 
@@ -196,8 +196,8 @@ typedef struct oscore_unanswered {
 } oscore_unanswered;
 
 /* A server of up to eight contexts, which counts their numbers: plain bytes, begun by `oscore_server_begin`. Never go on with
-   two copies of one, and never with an old one: its own numbers would be rolled back, and a nonce used twice. What has lost its
-   server begins a new one, and adds each context as `restarted`. One call at a time works on a server. It holds keys:
+   two copies of one, and never with an old one: its Sender Sequence Numbers would be rolled back, and a nonce used twice. What has lost
+   its server begins a new one, and adds each context as `restarted`. One call at a time works on a server. It holds keys:
    `oscore_wipe(&server, sizeof server)` when it isn't needed. */
 typedef struct oscore_server {
     uint64_t clock; /* the latest moment that a call was given */
@@ -246,12 +246,12 @@ typedef struct oscore_client {
     oscore_pending pending[8];
 } oscore_client;
 
-/* A server of one context whose own numbers outlive it, begun by `oscore_kept_server_begin`. It tells when a number has to be saved, and
-   uses only own numbers below the one that was saved last; so a power cut at any moment costs some numbers, and no nonce is used twice.
-   What is said of copies of a server, and of its keys, holds of it too. */
+/* A server of one context whose Sender Sequence Numbers outlive it, begun by `oscore_kept_server_begin`. It tells when a number has to be
+   saved, and uses only Sender Sequence Numbers below the one that was saved last; so a power cut at any moment costs some numbers, and no
+   nonce is used twice. What is said of copies of a server, and of its keys, holds of it too. */
 typedef struct oscore_kept_server {
     oscore_server1 server;
-    uint64_t reserved; /* its own numbers below this one may be used */
+    uint64_t reserved; /* its Sender Sequence Numbers below this one may be used */
 } oscore_kept_server;
 
 /* The same of a client. */
@@ -308,8 +308,8 @@ OSCORE_MUST_USE oscore_status oscore_head(const uint8_t *datagram, size_t datagr
 OSCORE_MUST_USE oscore_status oscore_seal_request(const oscore_context *context, uint64_t number, const uint8_t *plain,
                                                   size_t plain_len, uint8_t *out, size_t out_room, size_t *out_len, size_t *detail);
 
-/* Seals the response to the request that had the number `request`, as the server: under an own number that this context never
-   sealed under before, or under the request's, at most once for each request. */
+/* Seals the response to the request that had the number `request`, as the server: with a Partial IV of its own, which this
+   context never sealed under before, or under the request's nonce, at most once for each request. */
 OSCORE_MUST_USE oscore_status oscore_seal_response(const oscore_context *context, uint64_t request, bool has_own, uint64_t own,
                                                    const uint8_t *plain, size_t plain_len, uint8_t *out, size_t out_room,
                                                    size_t *out_len, size_t *detail);
@@ -330,11 +330,11 @@ OSCORE_MUST_USE oscore_status oscore_open_response(const oscore_context *context
 void oscore_server_begin(oscore_server *server);
 
 /* Adds a context, and writes its index. `restarted` says that it may have received requests before, so that what was seen of them is
-   lost: then no request is delivered until one brings back an Echo value (RFC 8613, B.1.2). `next` is its next own number, above each
-   that it ever sealed under. A context that was never used begins with false and 0. Its window has 32 or 64 places. From then on the
-   server counts the numbers of the context's sender: seal neither requests nor responses by `context` beside it. Two contexts with the
-   same Sender Key would each count from their own `next`, and share key and nonce, so the second is OSCORE_SAME_SENDER: contexts with the
-   same Master Secret are to differ in Sender ID, Master Salt or ID Context (RFC 8613, 3.3). */
+   lost: then no request is delivered until one brings back an Echo value (RFC 8613, B.1.2). `next` is its next Sender Sequence Number,
+   above each that it ever sealed under. A context that was never used begins with false and 0. Its window has 32 or 64 places. From then
+   on the server counts the numbers of the context's sender: seal neither requests nor responses by `context` beside it. Two contexts with
+   the same Sender Key would each count from their own `next`, and share key and nonce, so the second is OSCORE_SAME_SENDER: contexts with
+   the same Master Secret are to differ in Sender ID, Master Salt or ID Context (RFC 8613, 3.3). */
 OSCORE_MUST_USE oscore_status oscore_server_add(oscore_server *server, const oscore_context *context, bool restarted, uint64_t next,
                                                 uint8_t window_places, size_t *index);
 
@@ -348,8 +348,8 @@ OSCORE_MUST_USE oscore_status oscore_server_restart(oscore_server *server, size_
    of `out` go back to the sender, whatever the status; where it is 0, none do. So a replay, a bad tag and a challenge get the replies
    of RFC 8613, 7.4, 8.2 and B.1.2.
    OSCORE_BAD_HANDLE leaves the server as it was, the others move its clock; OSCORE_INNER spends the request's number too where the
-   context's window is open, but not in a context that waits for an Echo value; OSCORE_CHALLENGE spends an own number. From
-   OSCORE_INNER on, the datagram's payload isn't what came.
+   context's window is open, but not in a context that waits for an Echo value; OSCORE_CHALLENGE spends a Sender Sequence
+   Number. From OSCORE_INNER on, the datagram's payload isn't what came.
    The clock is the latest `now`: an earlier one counts as that. So a moment from far ahead stays, also over `oscore_server_restart`,
    and until the time has come there the clock stands: a challenge, which is good for 30 seconds, then doesn't end.
    A delivered request that comes again because its reply was lost is refused as a replay, though it was obeyed. So whoever speaks over
@@ -361,21 +361,21 @@ OSCORE_MUST_USE oscore_status oscore_server_take(oscore_server *server, uint64_t
                                                  size_t options_room, oscore_opened *opened, oscore_ticket *ticket, uint8_t out[64],
                                                  size_t *out_len, size_t *detail);
 
-/* Seals the answer to the request of a ticket: under an own number where `own` says so, else under the request's. Of `plain`, which is
-   a datagram, the code, the options and the payload are used; kind, message ID and token are those that the request asks for, and
-   `mid` is the message ID where the request wasn't confirmable. A request is answered once: OSCORE_TICKET_SPENT where it has its
+/* Seals the answer to the request of a ticket: with a Partial IV of its own where `own` says so, else under the request's nonce. Of
+   `plain`, which is a datagram, the code, the options and the payload are used; kind, message ID and token are those that the request asks
+   for, and `mid` is the message ID where the request wasn't confirmable. A request is answered once: OSCORE_TICKET_SPENT where it has its
    answer, or where a request was delivered whose number is at least 64 above that of the ticket's request. A refusal spends nothing.
-   The answer to a registration is under an own number whatever `own` says. It has no Observe, and so it is the last: the client then waits
-   for nothing more. */
+   The answer to a registration has a Partial IV of its own whatever `own` says. It has no Observe, and so it is the last: the client then
+   waits for nothing more. */
 OSCORE_MUST_USE oscore_status oscore_server_reply(oscore_server *server, const oscore_ticket *ticket, bool own, uint16_t mid,
                                                   const uint8_t *plain, size_t plain_len, uint8_t *out, size_t out_room,
                                                   size_t *out_len, size_t *detail);
 
-/* Seals a notification to the registration of a ticket, under a new own number (RFC 7641, 3.2; RFC 8613, 8.3.1). Of `plain`, which is a
-   datagram, all is used but the token, which is the ticket's: kind and message ID too, so the first is an ACK with the message ID of the
-   registration where that is a CON, and each later one a NON or a CON with a new one. It is of class 2 and has Observe, whose value
-   stands outside, for whoever is in between; the client goes by the own number. Any other response, as an error, is a reply, and ends the
-   observation.
+/* Seals a notification to the registration of a ticket, with a new Partial IV of its own (RFC 7641, 3.2; RFC 8613, 8.3.1). Of `plain`,
+   which is a datagram, all is used but the token, which is the ticket's: kind and message ID too, so the first is an ACK with the message
+   ID of the registration where that is a CON, and each later one a NON or a CON with a new one. It is of class 2 and has Observe, whose
+   value stands outside, for whoever is in between; the client goes by the Partial IV. Any other response, as an error, is a reply, and
+   ends the observation.
    The ticket stays, and so does the request's right to an answer. The library counts no observations: the program keeps the ticket as
    long as it has something to notify, and drops it where a request of the same context with the same token and options has Observe 1,
    where one registers with the same token (the new ticket takes its place), and where a notification is answered by a reset. A ticket may
@@ -457,10 +457,10 @@ OSCORE_MUST_USE oscore_status oscore_client_take(oscore_client *client, uint64_t
 
    In this order: a number that was told before it was saved can be used twice. Each save reserves 64 numbers. A client needs a save with
    the first request of each life, and again after every 64 requests; a server with the first datagram of each life, and again after
-   every 64 challenges, notifications and replies under own numbers. Never begin from an older save, nor an end beside another with the
-   same context. Begin with 0 only if the context was never used; if it was used elsewhere, begin with a number above all that were used,
-   and at least 1. What can't be saved isn't told: then each call that needs a number answers the same once more. There is no restart: a
-   new life is a new begin. */
+   every 64 challenges, notifications and replies with a Partial IV of their own. Never begin from an older save, nor an end beside another
+   with the same context. Begin with 0 only if the context was never used; if it was used elsewhere, begin with a number above all that
+   were used, and at least 1. What can't be saved isn't told: then each call that needs a number answers the same once more. There is no
+   restart: a new life is a new begin. */
 
 /* Begins a server of a context, with the number that was saved last. With 0 it never received a request, and it takes nothing before its
    first save; else it begins a new life, as a context that is added as `restarted`: no request is delivered until one brings back an

@@ -8,9 +8,9 @@
 
 FOLDER holds the context's settings.json; aiocoap keeps its numbers there. Payloads are hex, "-" where there are none. The server's
 resources: lock, which PUT opens and shuts; mirror, which says back the method and the payload, 1,024 bytes at most; slow, the same
-later than aiocoap waits with its acknowledgment; own, the same under an own number; long, which says as many bytes as it is asked
-for; body, which says what was put there. Of what aiocoap imports lakers, which is for EDHOC alone, gets a stand-in that does nothing where
-it isn't here."""
+later than aiocoap waits with its acknowledgment; own, the same with a Partial IV of the response's own; long, which says as many bytes
+as it is asked for; body, which says what was put there. Of what aiocoap imports lakers, which is for EDHOC alone, gets a stand-in that
+does nothing where it isn't here."""
 
 from __future__ import annotations
 

@@ -96,7 +96,7 @@ class Aiocoap:
         return f"aiocoap {said.stdout.strip()}"
 
     def server_rows(self, payload: bytes):
-        """All methods, and each once more under an own number; one that is answered late."""
+        """All methods, and each once more with a Partial IV of the response's own; one that is answered late."""
         rows = [(method, path, b"" if method in WITHOUT_PAYLOAD else payload) for path in ("mirror", "own") for method in METHODS]
         rows += [("put", "slow", payload)]
         return [(method, path, sent, (answer_code(method), (f"0.{METHODS.index(method) + 1:02} ".encode() + sent)[:MOST_PAYLOAD]))

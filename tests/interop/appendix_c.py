@@ -66,7 +66,7 @@ REQUESTS = (
             "44022f8eef9bbf7a396c6f63616c686f73746b19140837cbf3210017a2d3ff72cd7273fd331ac45cffbe55c3"),
 )
 ANSWER = "64455d1f00003974ff48656c6c6f20576f726c6421"
-"""The plain response of C.7 and C.8, to C.4. The own number of C.8 is 0."""
+"""The plain response of C.7 and C.8, to C.4. The Partial IV of C.8 is 0."""
 RESPONSES = (
     Response("C.7", False, "4622d4dd6d944168eefb549868", "", "64445d1f0000397490ffdbaad1e9a7e7b2a813d3c31524378303cdafae119106"),
     Response("C.8", True, "4722d4dd6d944169eefb54987c", "0100",

@@ -78,7 +78,7 @@ def mirror(request: Message) -> Message:
 
 
 class Server(UdpServer):
-    """A server whose requests a resource answers. Each second response is under an own number."""
+    """A server whose requests a resource answers. Each second response has a Partial IV of its own."""
 
     REPLY_AT = {"challenge": 2, "replay": 1, "bad-tag": 1, "no-context": 1, "undecodable": 1}
     """Which word of an entry is the reply that goes back."""

@@ -1,6 +1,6 @@
 /* A server over UDP that says back what each request was: its response holds the request's kind, its code and the length of its token, as
-   "CON 0.03 token 8 ", and behind that the request's payload. A request to /long gets so many bytes as it says. Each second response is
-   under an own number.
+   "CON 0.03 token 8 ", and behind that the request's payload. A request to /long gets so many bytes as it says. Each second response has
+   a Partial IV of its own.
 
        mirror (SECRET SALT ID_CONTEXT OWN THEIR)..
 

@@ -192,8 +192,8 @@ def seal_request(context: Context, number: int, message: Message) -> bytes:
 
 
 def seal_response(context: Context, request: int, own: Optional[int], message: Message, registers: bool = False) -> bytes:
-    """As a server, to the request of that number, which may register an observation: under an own number, or under the request's nonce
-    (RFC 8613, 8.3 and 5.2)."""
+    """As a server, to the request of that number, which may register an observation: with a Partial IV of its own, or under the request's
+    nonce (RFC 8613, 8.3 and 5.2)."""
     request_piv = partial_iv_of(request)
     nonce = nonce_of(context.common_iv, context.recipient, request_piv)
     value = b""

@@ -76,7 +76,8 @@ class UdpServer:
 
 
 class CallsServer(UdpServer):
-    """By the C library's calls on a server of one context, through the program calls.c. Each second response is under an own number."""
+    """By the C library's calls on a server of one context, through the program calls.c. Each second response has a Partial IV of its
+    own."""
 
     SLOT = 0
 

@@ -3,8 +3,8 @@
        lock PORT DATAGRAMS FILE
 
    It takes so many datagrams at 127.0.0.1 and ends. PORT 0 is one that the system picks; the first line says which. FILE is where it
-   keeps a number over its runs, ahead of each own number that it uses, so that a crash doesn't lose it. One that ran before has lost
-   which requests it saw; by the number in FILE it knows that, and asks for an Echo value before it obeys.
+   keeps a number over its runs, ahead of each Sender Sequence Number that it uses, so that a crash doesn't lose it. One that ran before
+   has lost which requests it saw; by the number in FILE it knows that, and asks for an Echo value before it obeys.
 
    A key whose reply was lost sends its request once more (RFC 7252, 4.2), which is a replay to the library. So the lock looks first
    whether it knows the sender and the message ID, and then sends what it sent before. */

@@ -1,5 +1,6 @@
 /* The built-in application, for tests and for the exactly-once mode: it obeys each POST and PUT by counting it where the count is written with
-   it, and says the count, else 0, and the request's payload. A request whose payload begins with "own" is answered under an own number. */
+   it, and says the count, else 0, and the request's payload. The reply to a request whose payload begins with "own" has a
+   Partial IV of its own. */
 #ifndef GATEWAY_APPLICATION_H
 #define GATEWAY_APPLICATION_H
 

@@ -22,7 +22,7 @@ typedef enum count {
     COUNT_CONFLICTS,   /* rows that another worker wrote first: the datagram was taken once more */
     COUNT_RENEWED,     /* contexts that began a life in this era */
     COUNT_LATER_ERA,   /* datagrams for contexts of a later era than this gateway's: dropped */
-    COUNT_LIMITED,     /* datagrams, or replies, dropped since no own number was allowed at that moment */
+    COUNT_LIMITED,     /* datagrams, or replies, dropped since no Sender Sequence Number was allowed at that moment */
     COUNT_SPOILT,      /* rows whose bytes no gateway wrote */
     COUNT_FORWARDED,   /* requests sent on to the application */
     COUNT_TIMEOUTS,    /* of them, those that it didn't answer: 5.04 */

@@ -1,6 +1,6 @@
 /* The era: a number outside the store, which whoever restores the store raises. It is the moment of that in seconds since 2026 and a margin.
-   No own number at or above (now + margin) * 256 is used, so each that was used before an era is below era * 256, whatever the store lost.
-   It rests on the machines' clocks being less wrong than the margin. */
+   No Sender Sequence Number at or above (now + margin) * 256 is used, so each that was used before an era is below era * 256, whatever the
+   store lost. It rests on the machines' clocks being less wrong than the margin. */
 #ifndef GATEWAY_ERA_H
 #define GATEWAY_ERA_H
 
@@ -13,7 +13,7 @@ enum { NUMBERS_A_SECOND = 256, ERA_MARGIN = 60 };
 #define YEAR_2026 1767225600u
 #define ERA_MOST ((1ull << 40) / NUMBERS_A_SECOND - 1)
 
-/* The first own number of an era. */
+/* The first Sender Sequence Number of an era. */
 static inline uint64_t era_begin(uint64_t era) {
     return era * NUMBERS_A_SECOND;
 }
@@ -31,7 +31,7 @@ static inline uint64_t era_at(uint64_t ms) {
     return seconds < YEAR_2026 ? 0 : seconds - YEAR_2026 + ERA_MARGIN;
 }
 
-/* Whether an own number may be used at a moment. */
+/* Whether a Sender Sequence Number may be used at a moment. */
 static inline bool own_number_allowed(uint64_t number, uint64_t ms) {
     return number < era_begin(era_at(ms));
 }

@@ -36,7 +36,7 @@ typedef struct item {
     oscore_opened opened;
     oscore_option options[OPTIONS_MOST];
     oscore_ticket ticket;
-    bool own;                     /* whether the reply takes an own number */
+    bool own;                     /* whether the reply gets a Partial IV of its own */
     uint8_t plain[DATAGRAM_MOST]; /* the application's reply */
     size_t plain_len;
     uint8_t out[DATAGRAM_MOST]; /* what is sent */

@@ -62,7 +62,7 @@ void row_asked(row *of, uint64_t number, uint64_t hash);
 /* Keeps the reply to a request, where that is still the last one. */
 void row_answered(row *of, uint64_t number, uint64_t hash, const uint8_t *reply, size_t len);
 
-/* Begins a new life of the row's context above each own number that can have been used before this era. */
+/* Begins a new life of the row's context above each Sender Sequence Number that can have been used before this era. */
 oscore_status row_renew(row *of, uint64_t era);
 
 /* Says which Sender Key a context has, to who can compare fingerprints but mustn't learn the key. False where the context has none. */

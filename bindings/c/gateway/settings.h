@@ -7,7 +7,7 @@
 
 typedef enum reply_mode {
     MODE_STRICT, /* the delivery is written; then the application acts; then the reply is written; then it is sent */
-    MODE_LAZY,   /* the reply isn't written, unless it took an own number */
+    MODE_LAZY,   /* the reply isn't written, unless it got a Partial IV of its own */
     MODE_TX      /* the built-in application's effect and the reply are part of the write of the delivery */
 } reply_mode;
 

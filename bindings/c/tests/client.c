@@ -6,8 +6,8 @@
 
 #define CHECK(holds) do { if (!(holds)) { printf("client.c:%d: %s\n", __LINE__, #holds); exit(1); } } while (0)
 
-/* RFC 8613, C.4: the request with the number 20, GET coap://localhost/tv1. C.7 and C.8: its responses, without an own number and with
-   the number 0. */
+/* RFC 8613, C.4: the request with the number 20, GET coap://localhost/tv1. C.7 and C.8: its responses, one without a Partial IV of its
+   own and one with the Partial IV 0. */
 static const char *REQUEST = "44015d1f00003974396c6f63616c686f737483747631";
 static const char *SEALED = "44025d1f00003974396c6f63616c686f7374620914ff612f1092f1776f1c1668b3825e";
 static const char *ANSWERS[2] = {"64445d1f0000397490ffdbaad1e9a7e7b2a813d3c31524378303cdafae119106",

@@ -11,7 +11,7 @@
 #define CHECK(holds) do { if (!(holds)) { printf("kept.c:%d: %s\n", __LINE__, #holds); exit(1); } } while (0)
 
 /* RFC 8613, C.4: the request with the number 20, GET coap://localhost/tv1. C.7 and C.8: its responses, the plain one, those without
-   and with an own number. REQUEST with an Echo value. */
+   and with a Partial IV of their own. REQUEST with an Echo value. */
 static const char *REQUEST = "44015d1f00003974396c6f63616c686f737483747631";
 static const char *SEALED = "44025d1f00003974396c6f63616c686f7374620914ff612f1092f1776f1c1668b3825e";
 static const char *ANSWER = "64455d1f00003974ff48656c6c6f20576f726c6421";
@@ -251,7 +251,7 @@ static void serves_fresh(void) {
     }
 }
 
-/* While the life is open only a reply with an own number needs one. */
+/* While the life is open only a reply with a Partial IV of its own needs a number. */
 static void replies(void) {
     begin_server(0);
     CHECK(!oscore_kept_server_saved(server, BATCH));

@@ -62,7 +62,7 @@ static const struct { const char *plain, *sealed; size_t kid_len; uint16_t messa
     {"44012f8eef9bbf7a396c6f63616c686f737483747631", "44022f8eef9bbf7a396c6f63616c686f73746b19140837cbf3210017a2d3ff72cd7273fd331ac45cffbe55c3", 0, 0x2f8e},
 };
 
-/* RFC 8613, C.7 and C.8: responses to C.4, without an own number and with the number 0. */
+/* RFC 8613, C.7 and C.8: responses to C.4, one without a Partial IV of its own and one with the Partial IV 0. */
 static const char *ANSWER = "64455d1f00003974ff48656c6c6f20576f726c6421";
 static const char *SEALED_ANSWERS[2] = {"64445d1f0000397490ffdbaad1e9a7e7b2a813d3c31524378303cdafae119106",
                                         "64445d1f00003974920100ff4d4c13669384b67354b2b6175ff4b8658c666a6cf88e"};
@@ -155,9 +155,9 @@ static void allows_blocks(void) {
     derives(false);
 }
 
-/* A registration under C.1: GET /temp with Observe of no byte, number 20. What is sealed, and a response to it without an own number, were
-   worked by another reading of RFC 8613, 4.1.3.5, which shares nothing with the library: as the plain message, and as 2.05 with Content-Format
-   0 and 20.5. */
+/* A registration under C.1: GET /temp with Observe of no byte, number 20. What is sealed, and a response to it without a Partial IV of its
+   own, were worked by another reading of RFC 8613, 4.1.3.5, which shares nothing with the library: as the plain message, and as 2.05 with
+   Content-Format 0 and 20.5. */
 static const char *REGISTRATION = "410101014a605474656d70", *REGISTERED = "410501014a60320914ff61fc3090a5ed1bf69f1d661cf04b96";
 
 static void is_registration(void) {

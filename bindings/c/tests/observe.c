@@ -15,7 +15,7 @@ static const char *SEALED_END = "410501024a6101320915ff936409589edfdd4f42d67694b
 static const char *STATES[4] = {"604501016101" "60ff32302e31", "504570016102" "60ff32302e32", "504570026103" "60ff32302e33", "504570036104" "60ff32302e34"};
 static const char *NOTIFICATIONS[4] = {"614501014a6101320100ff4dd33bfccdd8f762dd9be55ed4da0a72", "514570014a6102320101ff5283c3f4e0130f5955ca70f2ac7560ba",
                                        "514570024a6103320102ff37b0bb6b8c0309ad4252bacd4ac3c64c", "514570034a6104320103ffcb4f06e90e673f9db3a85a4b84a05d9e"};
-/* The answer to the end without an own number, and 4.04 as the last answer to the registration, which has one in any case. */
+/* The answer to the end without a Partial IV of its own, and 4.04 as the last answer to the registration, which has one in any case. */
 static const char *LAST_STATE = "60450000c0ff32302e35", *SEALED_LAST_STATE = "614401024a90ff084f7601a8fc2d24e35074827481bc";
 static const char *GONE = "50840005", *SEALED_GONE = "614401014a920104ff4f6d32165bc31a0861";
 
@@ -146,7 +146,7 @@ static oscore_status hear(uint64_t now, const char *text, uint8_t turned) {
     return status;
 }
 
-/* What was heard is a notification under an own number, with this payload. */
+/* What was heard is a notification with a Partial IV of its own, and with this payload. */
 static bool is_notified(uint64_t own, const char *payload) {
     CHECK(options[0].number == 6 && options[0].value_len == 0 && options[1].number == 12 && opened->option_count == 2);
     return opened->is_notification && opened->has_number && opened->number == own && *number == 20 && opened->code == 0x45

@@ -17,7 +17,7 @@
 #define CHECK(holds) ((holds) ? (void)0 : fails(__LINE__, #holds))
 
 enum { AREA = 1 << 16, UNTOUCHED = 0xa5, ROOM = 128, NUMBER = 20, LIFE = 60000 };
-/* Of round keys 1 to 10: the words, and what they are in planes. So many words by chance are none. */
+/* Of round keys 1 to 10: the words, and what they are bitsliced. So many words by chance are none. */
 enum { WORDS = 40, PLANES = 80, BY_CHANCE = 7 };
 
 /* RFC 8613, C.1, and another Master Secret. */
@@ -168,7 +168,7 @@ static void make_box(void) {
     }
 }
 
-/* Words 4 to 43 of a key (FIPS 197, 5.2), and as osc_aes has them in planes: where the byte in row r and column c stands turned right by
+/* Words 4 to 43 of a key (FIPS 197, 5.2), and as osc_aes has them bitsliced: where the byte in row r and column c stands turned right by
    r times the number of its round key, its bit t is bit 8r + 2c of plane t, and the next one, of the second block. */
 static void expand(const uint8_t key[16], uint32_t schedule[WORDS + PLANES]) {
     uint8_t bytes[176], constant = 1;

@@ -7,7 +7,7 @@
 #define CHECK(holds) do { if (!(holds)) { printf("server.c:%d: %s\n", __LINE__, #holds); exit(1); } } while (0)
 
 /* RFC 8613, C.4: the request with the number 20, GET coap://localhost/tv1. C.7 and C.8: its responses, the plain one, those without
-   and with an own number. REQUEST with an Echo value. C.5: a request to another context. */
+   and with a Partial IV of their own. REQUEST with an Echo value. C.5: a request to another context. */
 static const char *REQUEST = "44015d1f00003974396c6f63616c686f737483747631";
 static const char *SEALED = "44025d1f00003974396c6f63616c686f7374620914ff612f1092f1776f1c1668b3825e";
 static const char *ANSWER = "64455d1f00003974ff48656c6c6f20576f726c6421";

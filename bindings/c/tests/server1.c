@@ -7,7 +7,8 @@
 
 #define CHECK(holds) do { if (!(holds)) { printf("server1.c:%d: %s\n", __LINE__, #holds); exit(1); } } while (0)
 
-/* RFC 8613, C.4, C.7 and C.8: the request with the number 20, its plain response, and that sealed without and with an own number. */
+/* RFC 8613, C.4, C.7 and C.8: the request with the number 20, its plain response, and that sealed without and with a Partial IV of
+   its own. */
 static const char *SEALED = "44025d1f00003974396c6f63616c686f7374620914ff612f1092f1776f1c1668b3825e";
 static const char *ANSWER = "64455d1f00003974ff48656c6c6f20576f726c6421";
 static const char *SEALED_ANSWERS[2] = {"64445d1f0000397490ffdbaad1e9a7e7b2a813d3c31524378303cdafae119106",

@@ -15,7 +15,7 @@ use Rattle.osc_c.specs.Statuses.{format_status, open_detail, open_status, seal_d
 use Rattle.osc_c.specs.declared.status.Status.{Status}
 use Rattle.osc_c.specs.declared.status.Status.TheVariants.{BadHandle, BadNumber}
 
--- an own number, if one is given, is one that a Partial IV can hold (RFC 8613, 5)
+-- the response's own Partial IV, if one is given, is one that a Partial IV can hold (RFC 8613, 5)
 abbrev pub IsOwnNumber : Bool → ℕ → Type 0
 IsOwnNumber has_own own = has_own ≡ true → own < 2 ^ 40
 

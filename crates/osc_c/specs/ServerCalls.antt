@@ -42,7 +42,7 @@ abbrev pub start_given : Bool → Piv → Start
 start_given true next = Restarted next
 start_given false next = Fresh next
 
--- numbers that a context can begin with: a valid next own number, and the places of a window (RFC 8613, 3.2.2 and 7.2.1)
+-- numbers that a context can begin with: a valid next Sender Sequence Number, and the places of a window (RFC 8613, 3.2.2 and 7.2.1)
 pub record AreAddable (next places : ℕ) : Type 0 where
   pub number : next < 2 ^ 40
   pub size : (places ≡ 32) ⊎ (places ≡ 64)

@@ -1,4 +1,4 @@
-//! A server whose own Sender Sequence Numbers outlive it, for C. Its bytes belong to the caller. A call that needs a number that
+//! A server whose Sender Sequence Numbers outlive it, for C. Its bytes belong to the caller. A call that needs a number that
 //! isn't reserved says what to save first, and does nothing.
 
 ghost use Rattle.std.specs.Prelude.{◌≡◌, ◌≢◌, ◌≤◌, ℕ, IfOk, IfErr, IsErrAnd, IsOk, OnErr, true, false, not, take, drop, map, length};
@@ -230,10 +230,10 @@ fn reply_in(
     }
 }
 
-/// Seals a reply to the request of a ticket (RFC 8613, 8.3), as `oscore_server_reply` does. A reply with its own Partial IV needs a
-/// number, also where the ticket observes, and at SaveFirst `detail` is the number to save, as above. A refusal is BadHandle, one of the datagram's faults with its
-/// place, SaveFirst, StaleTicket, TicketSpent, NotThatKind, Unsupported with the lowest number of such an option, SequenceExhausted,
-/// TooLong or NoRoom, in this order, and changes nothing.
+/// Seals a reply to the request of a ticket (RFC 8613, 8.3), as `oscore_server_reply` does. A reply with its own Partial IV needs a number,
+/// also where the ticket observes, and at SaveFirst `detail` is the number to save, as above. A refusal is BadHandle, one of the datagram's
+/// faults with its place, SaveFirst, StaleTicket, TicketSpent, NotThatKind, Unsupported with the lowest number of such an option,
+/// SequenceExhausted, TooLong or NoRoom, in this order, and changes nothing.
 #[unsafe(no_mangle)]
 pub extern "C" fn oscore_kept_server_reply(
     server: &mut KeptServerHandle,

@@ -56,10 +56,10 @@ fn seal_request_in(
     }
 }
 
-/// Seals a request (RFC 8613, 8.1) under this Sender Sequence Number, as the context's client. `plain` is its datagram. The first
-/// `out_len` bytes of `out` are the sealed datagram. A refusal is BadHandle, BadNumber, one of the datagram's faults with its place,
-/// NotThatKind, Unsupported with the lowest number of such an option, TooLong or NoRoom, in this order. A buffer that has 59 bytes more
-/// than `plain` has room; if the context allows Observe and `plain` has it, Observe stands inside and outside, and takes its own bytes more.
+/// Seals a request (RFC 8613, 8.1) under this Sender Sequence Number, as the context's client. `plain` is its datagram. The first `out_len`
+/// bytes of `out` are the sealed datagram. A refusal is BadHandle, BadNumber, one of the datagram's faults with its place, NotThatKind,
+/// Unsupported with the lowest number of such an option, TooLong or NoRoom, in this order. A buffer that has 59 bytes more than `plain` has
+/// room; if the context allows Observe and `plain` has it, Observe stands inside and outside, and takes its own bytes more.
 #[unsafe(no_mangle)]
 pub extern "C" fn oscore_seal_request(
     context: &ContextHandle,
@@ -95,7 +95,7 @@ pub extern "C" fn oscore_seal_request(
     }
 }
 
-/// Returns a message's own number, or `Some(None)` if it has none. Returns `None` if the number is 2^40 or above.
+/// Returns a message's own Partial IV, or `Some(None)` if it has none. Returns `None` if the number is 2^40 or above.
 fn own_number(has_own: bool, own: u64) -> Option<Option<Piv>>
     ensures made { IfSome result (λ piv. option_map number_of piv ≡ number_given has_own own) }
     ensures accepted { IsSome result → IsOwnNumber has_own own }

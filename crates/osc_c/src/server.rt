@@ -98,7 +98,7 @@ fn add_in(
     }
 }
 
-/// Adds a context to a server, and writes its index to `index` (RFC 8613, B.1). `next` is its next own Sender Sequence Number;
+/// Adds a context to a server, and writes its index to `index` (RFC 8613, B.1). `next` is its next Sender Sequence Number;
 /// `restarted` says that it may have received requests in an earlier life. Its window has 32 or 64 places. A refusal is BadHandle,
 /// BadNumber, Full, SameLookup or SameSender, in this order, and changes nothing.
 #[unsafe(no_mangle)]
@@ -162,7 +162,7 @@ fn restart_in(server: &mut ServerHandle, context: usize, next: u64) -> Result<()
     }
 }
 
-/// Begins a new life of a context (RFC 8613, B.1), whose next own Sender Sequence Number is `next`. No request is delivered until one
+/// Begins a new life of a context (RFC 8613, B.1), whose next Sender Sequence Number is `next`. No request is delivered until one
 /// carries the Echo value of a challenge, and older tickets are stale. A refusal is BadHandle, BadNumber, NoSuchContext or
 /// LivesExhausted, in this order, and changes nothing.
 #[unsafe(no_mangle)]

@@ -48,7 +48,7 @@ abbrev pub Challenges : Server → List ℕ → List ℕ → List ℕ → Server
 Challenges old echo d reply new = (h : serving.History) (of : Life) (n : ℕ) (p : Parts) → Agrees old h → HasOneLife h of → SealsRequest of.context n p d
     → ServerGoes h (serving.Datagram 0 echo 0 d) (serving.Took (serving.Challenge 0 n echo 0) reply) new
 
--- after any history, the server replies to the request of a ticket, which registers nothing, without an own number (RFC 8613, 8.3)
+-- after any history, the server replies to the request of a ticket, which registers nothing, without a Partial IV of its own (RFC 8613, 8.3)
 abbrev pub Replies : Server → Ticket → Parts → ℕ → List ℕ → Server → Type 0
 Replies old ticket p room bytes new = (h : serving.History) (t : serving.TicketValues) → Agrees old h → values_of ticket ≡ t → t.observes ≡ false
     → ServerGoes h (serving.Reply t false 0 p room) (serving.Replied bytes) new

@@ -82,7 +82,7 @@ fn role_option<'a>(alloc: Global) -> Arg<'a>
     choice_option(alloc, "role", "ROLE", ROLES, "What this end is").required(true)
 }
 
-/// Returns the option for the next own Sender Sequence Number.
+/// Returns the option for the next Sender Sequence Number.
 fn sequence_option<'a>(alloc: Global) -> Arg<'a>
     ensures { result.global ≡ false }
 {
@@ -111,7 +111,7 @@ pub(crate) fn run_command<'a>(alloc: Global) -> Result<Command<'a>, AllocError>
         .arg(value_option(alloc, "life", "MS", HELP_LIFE))
 }
 
-/// Reads the next own Sender Sequence Number.
+/// Reads the next Sender Sequence Number.
 fn read_next(matches: &ArgMatches<'_>) -> Result<Piv, Fault> {
     match optional_number(matches, "sequence", "--sequence")? {
         Some(next) => Ok(next),

@@ -50,7 +50,7 @@ pub heads_law : ResponsesShowHeads → NotificationsShowHeads → AwaitedShowHea
 heads_law response notification s true n = notification s n
 heads_law response notification s false n = response s n
 
--- a head says one own number, or none
+-- a head says one Partial IV, or none
 pub same_own : (s : SecurityContext) (r q : Asked) (d : List ℕ) (a b : Option ℕ) → OneResponseHead → SaysOwn s r d a → SaysOwn s q d b → a ≡ b
 same_own s r q d a b one (head, has, names) (other, there, says) =
     ap (λ (x : OscoreParts). x.piv) (sym names ∙ ap (λ (x : Head). x.parts) (one.head _ head other has there) ∙ says)
@@ -68,7 +68,7 @@ pub there : (xs ys : List Pending) (f : Found) (t token : List ℕ) → xs ≡ y
 there xs ys f t token same is (r, at, token_is, number_is, wait_is) =
     (r, subst (λ zs. Contains (map asked_of zs) r) same (contains_at (map asked_of xs) f.place r at), token_is ∙ is, number_is, wait_is)
 
--- the own number of a head, and whether the request that was found waits for it
+-- the Partial IV of a head, and whether the request that was found waits for it
 pub says_own : (s : SecurityContext) (r : Asked) (d : List ℕ) (head : ResponseHead) → HasResponseHead d (seen_response_head head) → SaysOwn s r d (option_map number_of head.number)
 says_own s r d head has = (seen_response_head head, has, refl)
 
@@ -122,7 +122,7 @@ module _ {N : ℕ} (c after : Client N) (h : History) (now : ℕ) (d new : List 
   abbrev moment : ℕ
   moment = max (clock h) now
 
-  -- the request that is answered, the own number and the message that the datagram protects
+  -- the request that is answered, the Partial IV or none, and the message that the datagram protects
   module _ (own : Option ℕ) (m : InnerParts) (p : Protects (awaited (context h) was.to) own m d) where
     abbrev seen : Received
     seen = said (awaited (context h) was.to) own m d p

@@ -18,7 +18,7 @@ use Rattle.osc_endpoint.specs.Life.{HasOwn, Mark, Delivered, Spoiled, Challenged
 use Rattle.osc_endpoint.specs.ServerAnswer.{IsContext, LifeRestart, ServerAnswer}
 use Rattle.osc_endpoint.specs.ServerHistory.{History, Then, Event, Entry, TicketValues, Add, Datagram, Reply, Notify, Restart, Advance, BadInner, Challenge, Deliver, Added, NotAdded, Took, Replied, NotReplied, Restarted, NotRestarted, Advanced, added, life}
 
--- of a life: its context, how many were before it, its first own number, and how many it used
+-- of a life: its context, how many were before it, its first Sender Sequence Number, and how many it used
 pub record Kept : Type 0 where
   pub context : SecurityContext
   pub count : ℕ
@@ -28,7 +28,7 @@ pub record Kept : Type 0 where
 abbrev pub kept : Life → Kept
 kept l = record { context = l.context; count = l.count; first = l.first; used = own_count l.marks }
 
--- one own number more is used
+-- one Sender Sequence Number more is used
 abbrev pub used_one : Kept → Kept
 used_one k = record { context = k.context; count = k.count; first = k.first; used = k.used + 1 }
 
@@ -79,7 +79,7 @@ pub record IsTextOf (t : Text) (i : ℕ) (k : Kept) : Type 0 where
   pub life : t.life ≡ k.count
   pub keys : t.keys ≡ k.context
 
--- a text with the next own number, a challenge, a reply or a notification
+-- a text with the next Sender Sequence Number, a challenge, a reply or a notification
 pub record SealsNumbered (a b : Image) : Type 0 where
   pub index : ℕ
   pub old : Kept
@@ -94,7 +94,7 @@ pub record SealsNumbered (a b : Image) : Type 0 where
   pub more : List TicketValues
   pub answered : b.answered ≡ more ++ a.answered
 
--- a reply without an own number, by a ticket of the present life
+-- a reply without a Partial IV of its own, by a ticket of the present life
 pub record SealsPlain (a b : Image) : Type 0 where
   pub ticket : TicketValues
   pub old : Kept
@@ -173,7 +173,7 @@ born_unused s (starts.Restarted next) size = refl
 
 -- ---- each answer is a step
 
--- a text that was sealed with an own number has it, and its bytes say so
+-- a text that was sealed with a Partial IV of its own has it, and its bytes say so
 numbered : (t : Text) (s : SecurityContext) (registers : Bool) (n own : ℕ) (p : Parts) → ProtectionsShowHeads (responses_to s registers n) → t.own ≡ Some own
     → IsSealed (responses_to s registers n) (Some own) p t.bytes → HasOwnNumber t own
 numbered t s registers n own p shows is sealed =

@@ -32,7 +32,7 @@ unsupported_among x n (entry ∷ entries) unsupported among = elim (or_cases (en
   | inr there ↦ or_right (is_unsupported x entry.0) (has_number (is_unsupported x) entries) (unsupported_among x n entries unsupported there)
 ]
 
--- the answer where no own number is left
+-- the answer where no Sender Sequence Number is left
 abbrev Exhausted : Entry → Type 0
 Exhausted entry = entry ≡ NotReplied NoOwnLeft
 

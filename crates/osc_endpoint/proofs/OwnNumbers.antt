@@ -1,4 +1,4 @@
--- The own numbers of each life: its texts count up from its first one. a is what a history shows, b what it shows one answer later, k a life,
+-- The Sender Sequence Numbers of each life: its texts count up from its first one. a is what a history shows, b what it shows one answer later, k a life,
 -- i the index of a context, c the count of its lives before one, ts texts, newest first.
 use Rattle.std.proofs.Common.{◌≡◌, ℕ, ◌+◌, ◌<◌, ◌≤◌, ◌∙◌, sym, ap, subst, refl, arith, Bool, true, false, cond, Option, Some, None, List, [], ◌∷◌, length, option_map, is_some, ◌==◌, ◌&&◌, ◌⊎◌, inl, inr}
 use Rattle.std.proofs.lemmas.Bool.{and_from, and_left, and_right, cases_eq, eq-eqb, ne_eqb}
@@ -16,7 +16,7 @@ pub all_weaker : {A : Type 0} (P Q : A → Type 0) → ((x : A) → P x → Q x)
 all_weaker P Q f [] h = tt
 all_weaker P Q f (x ∷ xs) h = (f x h.0, all_weaker P Q f xs h.1)
 
--- the text is of this life of the context at i, and has an own number
+-- the text is of this life of the context at i, and has a Partial IV of its own
 abbrev pub is_own : ℕ → ℕ → Text → Bool
 is_own i c t = (t.context == i) && ((t.life == c) && is_some t.own)
 
@@ -48,7 +48,7 @@ pub record IsOfLife (lives : ℕ → Option Kept) (t : Text) : Type 0 where
   pub within : t.life ≤ present.count
   pub keys : t.keys ≡ present.context
 
--- the texts have the life's own numbers, all that it used
+-- the texts have the life's Sender Sequence Numbers, all that it used
 abbrev pub IsNumbered : Kept → List Text → Type 0
 IsNumbered k ts = CountsUp k.first ts × (length ts ≡ k.used)
 
@@ -201,6 +201,6 @@ pub counted : SealedHeads → (h : History) → AllAnswers h → IsCounted (imag
 counted shows Begin a = record { beyond = λ i past. refl; contexts = λ i k is. absurd (none-some k is); told = tt; numbered = λ i k is. absurd (none-some k is) }
 counted shows (Then h event entry) a = counted_on (image h) (image (Then h event entry)) (counted shows h a.0) (steps shows h event entry a.1)
 
--- the own numbers of a life are consecutive
+-- the Sender Sequence Numbers of a life are consecutive
 pub own_numbers : SealedHeads → OwnNumbersOnce
 own_numbers shows h i of a is = ((counted shows h a).numbered i (kept of) (ap (option_map kept) is)).0

@@ -1,5 +1,5 @@
 -- The nonces of what a server seals: two in one life of a context differ. a is what a history shows, b what it shows one answer later, t and u
--- texts, x and y their own numbers, n and m the numbers of their requests, s a security context, ws tickets.
+-- texts, x and y their own Partial IVs, n and m the numbers of their requests, s a security context, ws tickets.
 use Rattle.std.proofs.Common.{◌≡◌, ◌≢◌, ℕ, ◌+◌, ◌<◌, ◌≤◌, ◌^◌, ◌∙◌, sym, ap, subst, refl, arith, Bool, false, Option, Some, None, IfSome, List, [], ◌∷◌, ◌++◌, length, is_some, le_of_eq, ◌==◌, ◌&&◌, ◌⊎◌, inl, inr}
 use Rattle.std.proofs.lemmas.Bool.{cases_Bool, eq-eqb}
 use Rattle.std.proofs.lemmas.Option.{none-some, same_Some}
@@ -45,7 +45,7 @@ two_nonces one s c t u here there p q differ e =
     let same : nonce s t ≡ nonce s u = sym (ap (λ (k : SecurityContext). nonce k t) here) ∙ e ∙ ap (λ (k : SecurityContext). nonce k u) there in
     nonces_differ one s c t.own u.own t.request u.request p q differ same
 
--- ---- own numbers that were used
+-- ---- Sender Sequence Numbers that were used
 
 abbrev IsBelow : ℕ → ℕ → ℕ → Text → Type 0
 IsBelow i c n u = u.context ≡ i → u.life ≡ c → IfSome u.own (λ own. own < n)
@@ -112,7 +112,7 @@ fine_behind more ws fine = (pairs_behind AreApart more ws fine.0, all_behind IsF
 
 -- ---- what holds of each history
 
--- the text's numbers have room in a nonce, and where it has no own number, it is to a ticket
+-- the text's numbers have room in a nonce, and where it has no Partial IV of its own, it is to a ticket
 pub record IsSound (ws : List TicketValues) (u : Text) : Type 0 where
   pub in_range : IsInRange u.own u.request
   pub by_ticket : u.own ≡ None → HasTicket u ws
@@ -133,7 +133,7 @@ differ_plain : (y : Option ℕ) (n m : ℕ) → (y ≡ None → n ≡ m → ⊥)
 differ_plain None n m apart = apart refl
 differ_plain (Some y) n m apart = tt
 
--- a text with an own number, and an earlier one
+-- a text with a Partial IV of its own, and an earlier one
 numbered_apart : OneNonce → (a b : Image) → IsCounted a → (s : SealsNumbered a b) (ws : List TicketValues) (u : Text) → IsOfLife a.lives u → IsSound ws u
     → IsBelow s.index s.old.count (s.old.first + s.old.used) u → HaveTwoNonces s.text u
 numbered_apart one a b c s ws u of sound below context life =
@@ -143,7 +143,7 @@ numbered_apart one a b c s ws u of sound below context life =
     (subst (λ (o : Option ℕ). IsInRange o s.text.request) (sym s.own.own) s.less) sound.in_range
     (subst (λ (o : Option ℕ). Differ o u.own s.text.request u.request) (sym s.own.own) (differ_own (s.old.first + s.old.used) u.own s.text.request u.request less))
 
--- a reply without an own number, and an earlier text
+-- a reply without a Partial IV of its own, and an earlier text
 plain_apart : OneNonce → (a b : Image) → IsCounted a → (s : SealsPlain a b) → IsFor s.ticket → AllByRecursion (AreApart s.ticket) a.answered
     → (u : Text) → IsOfLife a.lives u → IsSound a.answered u → HaveTwoNonces s.text u
 plain_apart one a b c s less apart u of sound context life =

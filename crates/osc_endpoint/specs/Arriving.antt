@@ -1,5 +1,5 @@
 -- To be believed: what one end seals the other end delivers, if it admits it: contracts of laws.rt (RFC 8613, 8.1 to 8.4). h is a history, d a datagram, p
--- what the plain message says, own a response's own number or none, r a pending request.
+-- what the plain message says, own a response's own Partial IV or none, r a pending request.
 use Rattle.std.specs.Prelude.{◌≡◌, ℕ, List, Option, Some, Contains, false, true, max}
 use Rattle.osc_coap.specs.Datagram.{Parts}
 use Rattle.osc_protect.specs.Protection.{as_notified}

@@ -1,7 +1,7 @@
 -- To be believed: what a client answers to each event, after a history (RFC 8613, 8.1 and 8.4). The rows stand in the order in which they
 -- are checked; the condition of each row includes that no earlier row's condition holds. h is a history, s its context, d a datagram, r a
 -- pending request, n the number of pending requests that there is room for, clock the clock after the event's own moment, m a message, own
--- a response's own number or none.
+-- a response's own Partial IV or none.
 use Rattle.std.specs.Prelude.{◌≡◌, ℕ, ◌<◌, ◌≤◌, ◌^◌, ◌↔◌, ◌&&◌, List, Contains, length, max, Bool, true, false, Option}
 use Rattle.osc_coap.specs.Code.{is_response}
 use Rattle.osc_coap.specs.Datagram.{Parts, IsDatagram}
@@ -37,15 +37,15 @@ IsAnswerTo h clock d r = IsResponseWith d r.token × Contains (pending_at h cloc
 abbrev pub awaited : SecurityContext → Asked → Protection (Option ℕ)
 awaited s r = responses_to s (observes r.wait) r.number
 
--- the datagram's head says this own number, or none (RFC 8613, 8.4)
+-- the datagram's head says this Partial IV, or none (RFC 8613, 8.4)
 abbrev pub SaysOwn : SecurityContext → Asked → List ℕ → Option ℕ → Type 0
 SaysOwn s r d own = (head : Head) × HasResponseHead d head × Names (awaited s r) head own
 
--- the request waits for the response with this own number, or with none: its place isn't before the first one (RFC 8613, 7.4.1)
+-- the request waits for the response with this Partial IV, or with none: its place isn't before the first one (RFC 8613, 7.4.1)
 abbrev pub IsAwaited : Asked → Option ℕ → Type 0
 IsAwaited r own = first_place r.wait ≤ place_of own
 
--- the datagram's head says such an own number, or none (RFC 8613, 7.4.1)
+-- the datagram's head says such a Partial IV, or none (RFC 8613, 7.4.1)
 abbrev pub SaysAwaited : SecurityContext → Asked → List ℕ → Type 0
 SaysAwaited s r d = (own : Option ℕ) × SaysOwn s r d own × IsAwaited r own
 
@@ -106,7 +106,7 @@ ClientAnswer n h (Restart first) Restarted = Unit {0}
 ClientAnswer n h (Advance now) Advanced = Unit {0}
 ClientAnswer n h event entry = ⊥
 
--- the datagram has the token of a pending request, and protects this message under an own number or none that the request waits for, as a
+-- the datagram has the token of a pending request, and protects this message under a Partial IV of its own or none that the request waits for, as a
 -- response to the number of that request; the wait continues, or not (RFC 8613, 7.4.1 and 8.4)
 pub record Hears (h : History) (now : ℕ) (d : List ℕ) (continuing : Bool) (number : ℕ) (own : Option ℕ) (m : InnerParts) : Type 0 where
   pub to : Asked

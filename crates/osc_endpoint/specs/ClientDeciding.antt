@@ -29,7 +29,7 @@ use Rattle.osc_endpoint.specs.Views.{ClientShows, asked_of, received_of}
 abbrev pub ReadsAs : ReadResponse → List ℕ → Received → Type 0
 ReadsAs x new r = (of : DecryptedResponse) × CanLendResponse new of x × ((o : Opened) → OpensResponseAfter new of o → received_of o ≡ r)
 
--- a fact about the own number and the message of what was read from the datagram as it was left (how the code is seen)
+-- a fact about the Partial IV, or none, and the message of what was read from the datagram as it was left (how the code is seen)
 abbrev pub OfWhatWasRead : List ℕ → ReadResponse → (Option ℕ → InnerParts → Type 0) → Type 0
 OfWhatWasRead new x holds = (of : DecryptedResponse) (s : SecurityContext) (r : Bool) (n : ℕ) (d : List ℕ) (own : Option ℕ) (m : InnerParts) → CanLendResponse new of x
     → DecryptsResponse (responses_to s r n) d of new → Protects (responses_to s r n) own m d → holds own m

@@ -1,5 +1,5 @@
 -- To be believed: what each entry of a client's run is, in one statement: contracts of headlines.rt. c is the number of pending requests
--- that there is room for, h a history of answers, k a place of a log, n the number of a request, own a response's own number or none, m a
+-- that there is room for, h a history of answers, k a place of a log, n the number of a request, own a response's own Partial IV or none, m a
 -- message, d a datagram.
 use Rattle.std.specs.Prelude.{◌≡◌, ◌↔◌, ℕ, Bool, true, false, List, Option, Some, None, max, slice_get, take}
 use Rattle.osc_coap.specs.Inner.{InnerParts}
@@ -14,7 +14,7 @@ use Rattle.osc_endpoint.specs.declared.client_event.ClientEntry.{ClientEntry}
 use Rattle.osc_endpoint.specs.declared.client_event.ClientEntry.TheVariants as entries
 use Rattle.osc_endpoint.specs.declared.client_outcome.ClientOutcome.{ClientOutcome}
 
--- whether an answer is a notification or else a delivery, and its request's number, the response's own number or none, and the message (own rule)
+-- whether an answer is a notification or else a delivery, and its request's number, the response's own Partial IV or none, and the message (own rule)
 abbrev pub told : Answer → Option (Bool × ℕ × Option ℕ × InnerParts)
 told (Notified received number) = Some (true, number, received.number, received.message)
 told (Deliver received number) = Some (false, number, received.number, received.message)

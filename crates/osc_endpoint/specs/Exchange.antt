@@ -29,7 +29,7 @@ pub record Request : Type 0 where
   pub plain : Parts
   pub bytes : List ℕ
 
--- a response that the server sealed: under which context, to the request of which number, with which own number or none, whether it is a notification, what it
+-- a response that the server sealed: under which context, to the request of which number, with which own Partial IV or none, whether it is a notification, what it
 -- says inside, and the datagram (RFC 8613, 8.3 and 8.3.1)
 pub record Response : Type 0 where
   pub context : ℕ

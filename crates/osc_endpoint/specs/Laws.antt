@@ -41,7 +41,7 @@ AreApart t u = t.context ≡ u.context → t.life ≡ u.life → t.number ≡ u.
 abbrev pub DeliveredOnce : Type 0
 DeliveredOnce = (h : History) → AllAnswers h → Pairwise AreApart (delivered h)
 
--- a text that a server sealed: in which life of which context, to which request, with which own number or none (RFC 8613, 8.3)
+-- a text that a server sealed: in which life of which context, to which request, with which own Partial IV or none (RFC 8613, 8.3)
 pub record Text : Type 0 where
   pub context : ℕ
   pub life : ℕ
@@ -63,12 +63,12 @@ texts (Then h (Reply ticket own mid plain room) (Replied bytes)) = text_in (life
 texts (Then h (Notify ticket plain room) (Replied bytes)) = text_in (life h ticket.context) ticket.context ticket.number true bytes ++ texts h
 texts (Then h event entry) = texts h
 
--- the texts of one life of a context that have an own number (RFC 8613, 5)
+-- the texts of one life of a context that have a Partial IV of their own (RFC 8613, 5)
 abbrev pub own_texts : ℕ → ℕ → List Text → List Text
 own_texts i c [] = []
 own_texts i c (t ∷ ts) = if (t.context == i) && ((t.life == c) && is_some t.own) then t ∷ own_texts i c ts else own_texts i c ts
 
--- the number is the text's own number, and it is the Partial IV in the text's bytes (RFC 8613, 6.1)
+-- the number is the text's own Partial IV, and it is the Partial IV in the text's bytes (RFC 8613, 6.1)
 pub record HasOwnNumber (t : Text) (n : ℕ) : Type 0 where
   pub own : t.own ≡ Some n
   pub outer : Parts
@@ -77,12 +77,12 @@ pub record HasOwnNumber (t : Text) (n : ℕ) : Type 0 where
   pub single : values_at oscore outer.options ≡ value ∷ []
   pub reads : IsOscoreValue (value_of_response (Some n)) value
 
--- the texts have consecutive own numbers, from first on (RFC 8613, 7.2.1)
+-- the texts have consecutive Sender Sequence Numbers, from first on (RFC 8613, 7.2.1)
 abbrev pub CountsUp : ℕ → List Text → Type 0
 CountsUp first [] = Unit {0}
 CountsUp first (t ∷ ts) = HasOwnNumber t (first + length ts) × CountsUp first ts
 
--- the own numbers of a life are consecutive, and none is used twice (RFC 8613, 7.2.1)
+-- the Sender Sequence Numbers of a life are consecutive, and none is used twice (RFC 8613, 7.2.1)
 abbrev pub OwnNumbersOnce : Type 0
 OwnNumbersOnce = (h : History) (i : ℕ) (of : Life) → AllAnswers h → life h i ≡ Some of → CountsUp of.first (own_texts i of.count (texts h))
 

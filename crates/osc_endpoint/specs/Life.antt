@@ -14,7 +14,7 @@ use Rattle.osc_coap.specs.Interpreted.{interpreted}
 use Rattle.osc_endpoint.specs.declared.start.Start.{Start}
 use Rattle.osc_endpoint.specs.declared.start.Start.TheVariants.{Fresh, Restarted}
 
--- what an answer leaves: a delivered number, the number of a bad plaintext, a challenge, or a reply or notification with an own number (own rule)
+-- what an answer leaves: a delivered number, the number of a bad plaintext, a challenge, or a reply or notification with a Partial IV of its own (own rule)
 pub data Mark : Type 0 where
   Delivered : (number : ℕ) → Mark
   Spoiled : (number : ℕ) → Mark
@@ -22,7 +22,7 @@ pub data Mark : Type 0 where
   Answered : Mark
 
 -- a life: its context and window size, how many lives came before it, whether it is open at its birth, as a life that was added fresh is,
--- its first own number, and its marks (RFC 8613, 3.1)
+-- its first Sender Sequence Number, and its marks (RFC 8613, 3.1)
 pub record Life : Type 0 where
   pub context : SecurityContext
   pub size : WindowSize
@@ -60,7 +60,7 @@ challenge [] = None
 challenge (Challenged echo issued ∷ marks) = Some (echo, issued)
 challenge (mark ∷ marks) = challenge marks
 
--- how many own numbers were used: one for each challenge, each notification, and each reply that asked for one (RFC 8613, 7.2.1)
+-- how many Sender Sequence Numbers were used: one for each challenge, each notification, and each reply that asked for one (RFC 8613, 7.2.1)
 abbrev pub own_count : List Mark → ℕ
 own_count [] = 0
 own_count (Challenged echo issued ∷ marks) = own_count marks + 1
@@ -76,11 +76,11 @@ abbrev pub is_open_life : Option Life → Bool
 is_open_life None = false
 is_open_life (Some l) = is_open l
 
--- the next own Sender Sequence Number; from 2 ^ 40 on, none is left (RFC 8613, 7.2.1)
+-- the next Sender Sequence Number; from 2 ^ 40 on, none is left (RFC 8613, 7.2.1)
 abbrev pub next_own : Life → ℕ
 next_own l = l.first + own_count l.marks
 
--- an own Sender Sequence Number is left (RFC 8613, 7.2.1)
+-- a Sender Sequence Number is left (RFC 8613, 7.2.1)
 abbrev pub HasOwn : Life → Type 0
 HasOwn l = next_own l < 2 ^ 40
 

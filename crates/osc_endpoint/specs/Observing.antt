@@ -28,7 +28,8 @@ registers x code options = x.observe && (is_observable code && says_register (in
 abbrev pub is_notification : ℕ → List Entry → Bool
 is_notification code options = (code / 32 == 2) && is_some (interpreted observe options)
 
--- the place of a response among those to a registration: the one without an own number comes first, the others follow their own numbers (RFC 8613, 7.4.1)
+-- the place of a response among those to a registration: the one without a Partial IV of its own comes first, the others follow their own Partial IVs
+-- (RFC 8613, 7.4.1)
 abbrev pub place_of : Option ℕ → ℕ
 place_of None = 0
 place_of (Some own) = own + 1

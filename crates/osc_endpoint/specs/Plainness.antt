@@ -15,7 +15,8 @@ use Rattle.osc_endpoint.specs.ClientLaws.{AllClientAnswers}
 abbrev pub WithoutObserve : server.History → Type 0
 WithoutObserve h = (i : ℕ) (of : Life) → server.life h i ≡ Some of → of.context.features.observe ≡ false
 
--- no ticket observes, nothing is notified by a ticket that doesn't, and a reply by it has an own number exactly if one is asked for (RFC 8613, 4.1.3.5)
+-- no ticket observes, nothing is notified by a ticket that doesn't, and a reply by it has a Partial IV of its own exactly if one is asked for
+-- (RFC 8613, 4.1.3.5)
 pub record ServerIsPlain (h : server.History) : Type 0 where
   pub delivered : (a : Arrival) (received : Received) (ticket : server.TicketValues) → MeetsRow h a (server.Deliver received ticket) → ticket.observes ≡ false
   pub notified : (t : server.TicketValues) (p : Parts) (room : ℕ) (bytes : List ℕ) → t.observes ≡ false → ServerAnswer h (server.Notify t p room) (server.Replied bytes) → ⊥

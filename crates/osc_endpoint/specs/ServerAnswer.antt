@@ -80,7 +80,7 @@ WantsEcho of n clock d = (is_open of ≡ false) × (m : InnerParts) × ProtectsR
 abbrev pub challenge_given : Life → ℕ → List ℕ → List ℕ × ℕ
 challenge_given of clock echo = unwrap_or (in_force of clock) (echo, clock)
 
--- the reply is the challenge, sealed with the next own Sender Sequence Number (RFC 8613, 8.3; RFC 9175, 2.3)
+-- the reply is the challenge, sealed with the next Sender Sequence Number (RFC 8613, 8.3; RFC 9175, 2.3)
 abbrev pub SaysChallenge : Life → ℕ → List ℕ → ℕ → List ℕ → List ℕ → Type 0
 SaysChallenge of n d mid echo reply = (p : Parts) × IsDatagram p d
     × SealsResponse of.context n (Some (next_own of)) (as_reply p.kind p.message_id p.token mid (challenge_message echo)) reply
@@ -132,11 +132,11 @@ IsPresent h ticket of = (life h ticket.context ≡ Some of) × (ticket.life ≡ 
 abbrev pub OfTicket : History → TicketValues → (Life → Type 0) → Type 0
 OfTicket h ticket P = (of : Life) × IsPresent h ticket of × P of
 
--- the number that a reply is sealed with: the next own number if one is asked for (RFC 8613, 8.3)
+-- the number that a reply is sealed with: the next Sender Sequence Number if one is asked for (RFC 8613, 8.3)
 abbrev pub own_number : Bool → Life → Option ℕ
 own_number own of = if own then Some (next_own of) else None
 
--- an own number is left, if one is asked for (RFC 8613, 7.2.1)
+-- a Sender Sequence Number is left, if one is asked for (RFC 8613, 7.2.1)
 abbrev pub HasAsked : Bool → Life → Type 0
 HasAsked own of = own ≡ true → HasOwn of
 
@@ -155,7 +155,7 @@ abbrev pub ReplyAnswer : History → TicketValues → Bool → Parts → ℕ →
 ReplyAnswer h t own p room (NotReplied StaleTicket) = (of : Life) → IsPresent h t of → ⊥
 ReplyAnswer h t own p room entry = OfTicket h t (λ of. LifeReply of t.number own p room entry)
 
--- a reply by this ticket has an own number: one is asked for, or the ticket's request registers an observation (RFC 8613, 4.1.3.5)
+-- a reply by this ticket has a Partial IV of its own: one is asked for, or the ticket's request registers an observation (RFC 8613, 4.1.3.5)
 abbrev pub asks_own : TicketValues → Bool → Bool
 asks_own t own = t.observes || own
 

@@ -87,7 +87,7 @@ mark_at i (Challenge context number echo issued) = if i == context then Some (Ch
 mark_at i (Deliver received ticket) = if i == ticket.context then Some (Delivered ticket.number) else None
 mark_at i answer = None
 
--- what an accepted reply or notification leaves there: if it has an own number, that number is used (RFC 8613, 7.2.1)
+-- what an accepted reply or notification leaves there: if it has a Partial IV of its own, that number is used (RFC 8613, 7.2.1)
 abbrev pub reply_mark_at : ℕ → TicketValues → Bool → Option Mark
 reply_mark_at i ticket own = if own && (i == ticket.context) then Some Answered else None
 

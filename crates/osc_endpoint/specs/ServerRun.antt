@@ -44,7 +44,8 @@ ticket_at ts i = option_and_then (λ t. t) (slice_get ts i)
 abbrev pub GoesOn : History → Event → Entry → History → Type 0
 GoesOn h event entry g = ServerAnswer h event entry × (g ≡ Then h event entry)
 
--- a reply by the ticket at this place; an accepted reply takes the ticket, and has an own number if the ticket's request registers an observation (own rule; RFC 8613, 4.1.3.5)
+-- a reply by the ticket at this place; an accepted reply takes the ticket, and has a Partial IV of its own if the ticket's request registers an observation
+-- (own rule; RFC 8613, 4.1.3.5)
 abbrev pub ReplyStep : History → List (Option TicketValues) → ℕ → Bool → ℕ → List ℕ → ℕ → ServerEntry → History → List (Option TicketValues) → Type 0
 ReplyStep h ts of own mid plain room entries.NoTicket g us = (ticket_at ts of ≡ None) × (g ≡ h) × (us ≡ ts)
 ReplyStep h ts of own mid plain room (entries.BadPlain e) g us =

@@ -91,7 +91,8 @@ ClientShows (client_outcomes.Notified o piv) (client.Notified received number) =
 ClientShows (client_outcomes.Deliver o piv) (client.Deliver received number) = (received_of o ≡ received) × (number_of piv ≡ number)
 ClientShows outcome answer = ⊥
 
--- whether an outcome is a notification or else a delivery, and its request's number, the response's own number or none, and the message (how the code is seen)
+-- whether an outcome is a notification or else a delivery, and its request's number, the response's own Partial IV or none, and the message
+-- (how the code is seen)
 abbrev pub client_hearing_of : ClientOutcome → Option (Bool × ℕ × Option ℕ × InnerParts)
 client_hearing_of (client_outcomes.Notified o piv) = Some (true, number_of piv, opened_number o, message_of o)
 client_hearing_of (client_outcomes.Deliver o piv) = Some (false, number_of piv, opened_number o, message_of o)

@@ -116,8 +116,8 @@ impl<const N: usize> Client<N> {
     }
 
     /// Seals a request with the next Sender Sequence Number into `out`, and returns how many bytes it takes at the front of `out` (RFC
-    /// 8613, 8.1). The request's token is pending from then on, of a registration over all its notifications. Returns the first refusal in the order of `RequestError`. A refusal leaves
-    /// `out` unchanged, and changes the client only as `advance` does.
+    /// 8613, 8.1). The request's token is pending from then on, of a registration over all its notifications. Returns the first refusal in
+    /// the order of `RequestError`. A refusal leaves `out` unchanged, and changes the client only as `advance` does.
     pub fn request(
         &mut self,
         now: u64,

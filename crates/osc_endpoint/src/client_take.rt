@@ -76,7 +76,7 @@ impl<const N: usize> Client<N> {
     ghost use Rattle.osc_endpoint.specs.declared.client_outcome.ClientOutcome.{ClientOutcome as OutcomeOf};
 
     /// Decrypts a response to a pending request in place, and returns which request that is. This is all of `decide` that comes before the
-    /// plaintext is read. It checks Type, token, OSCORE option and own number in this order.
+    /// plaintext is read. It checks Type, token, OSCORE option and own Partial IV in this order.
     fn decrypt(
         &mut self,
         now: u64,

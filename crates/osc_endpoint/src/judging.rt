@@ -86,7 +86,7 @@ impl Slot {
     ghost use Rattle.osc_endpoint.specs.Deciding.{IsOpenedIn};
     ghost use Rattle.osc_endpoint.specs.Judging.{IsNamed, RefusesEcho};
 
-    /// Answers a request that doesn't carry the challenge in force. The answer is a challenge, if an own Sender Sequence Number is left.
+    /// Answers a request that doesn't carry the challenge in force. The answer is a challenge, if a Sender Sequence Number is left.
     fn demand(&mut self, request: &Named, out: &mut [u8; 64]) -> Decided
         requires { is_open_gate self.old.gate ≡ false }
         ensures context { self.new.context ≡ self.old.context }

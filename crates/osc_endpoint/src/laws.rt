@@ -48,7 +48,7 @@ pub fn delivered_once()
     ensures { DeliveredOnce }
 {}
 
-/// States that the own Sender Sequence Numbers of a life are consecutive, and that none is used twice. The same holds for those of a
+/// States that the Sender Sequence Numbers of a life are consecutive, and that none is used twice. The same holds for those of a
 /// client's requests between two restarts (RFC 8613, 7.2.1).
 pub fn own_numbers_once()
     ensures server { OwnNumbersOnce }
@@ -138,8 +138,8 @@ pub fn honest_exchange()
     one_datagram();
 }
 
-/// States that each context of a server is answered as if it were alone under the server's clock: what happens to the others leaves its life
-/// and its answers as they are, but for the moment that each datagram sets.
+/// States that each context of a server is answered as if it were alone under the server's clock: what happens to the others leaves its
+/// life and its answers as they are, but for the moment that each datagram sets.
 pub fn contexts_stand_alone()
     ensures { ContextsStandAlone }
 {}

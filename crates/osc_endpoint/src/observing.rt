@@ -17,8 +17,8 @@ fn is_zero(value: &[u8]) -> bool
     value.iter().all(|byte| *byte == 0)
 }
 
-/// Returns whether a request with this code and these options registers an observation: a GET or FETCH whose first Observe option is 0, in at
-/// most 3 bytes, under a context that takes part in Observe.
+/// Returns whether a request with this code and these options registers an observation: a GET or FETCH whose first Observe option is 0, in
+/// at most 3 bytes, under a context that takes part in Observe.
 pub(crate) fn registers(features: Features, code: u8, options: &Options<'_>) -> bool
     ensures { result ≡ registering features code (options_left options.now) }
 {
@@ -39,7 +39,7 @@ pub(crate) fn is_notification(code: u8, options: &Options<'_>) -> bool
     code / 32 == 2 && options.interpreted(OBSERVE).is_some()
 }
 
-/// Returns the place of a response among those to a registration: 0 without an own number, and else that number plus 1.
+/// Returns the place of a response among those to a registration: 0 without a Partial IV of its own, and else that number plus 1.
 pub(crate) fn place_of(own: Option<Piv>) -> u64
     ensures { result ≡ place (option_map number_of own) }
 {

@@ -26,9 +26,9 @@ pub enum Outcome<'b> {
     BadInner,
     /// The context was restarted, and the request doesn't carry the Echo value in force. The reply gives that value.
     Challenge { echo: [u8; 8], issued: u64 },
-    /// The same, but no own Sender Sequence Number is left for the reply.
+    /// The same, but no Sender Sequence Number is left for the reply.
     SequenceExhausted,
-    /// The keeper of the own Sender Sequence Numbers failed. A `Server` never returns this.
+    /// The keeper of the Sender Sequence Numbers failed. A `Server` never returns this.
     KeeperFailed,
     /// The request is delivered, with the right to reply to it.
     Deliver(Opened<'b>, Ticket),

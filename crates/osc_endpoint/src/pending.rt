@@ -17,8 +17,8 @@ use osc_protect::RequestRef;
 pub enum Wait {
     /// One response.
     Once,
-    /// The responses to a registration, from a place among them on: place 0 has the response without an own Sender Sequence Number, and
-    /// each other response has its own number plus 1.
+    /// The responses to a registration, from a place among them on: place 0 has the response without a Partial IV of its own, and
+    /// each other response has its own Partial IV plus 1.
     Observing { from: u64 },
 }
 
@@ -96,7 +96,8 @@ impl Found {
     ghost use Rattle.std.specs.Prelude.{◌≤◌, true, false};
     ghost use Rattle.osc_protect.specs.Views.{registers, request_number};
 
-    /// Returns whether a response with this own number, or with none, is old: the request waits for later ones (RFC 8613, 7.4.1).
+    /// Returns whether a response with this Partial IV, or with none, is old: the request waits for later ones (RFC 8613,
+    /// 7.4.1).
     pub(crate) fn is_old(&self, own: Option<Piv>) -> bool
         ensures yes { result ≡ true → place (option_map number_of own) < first_place self.now.wait }
         ensures no { result ≡ false → first_place self.now.wait ≤ place (option_map number_of own) }

@@ -35,7 +35,7 @@ impl Slot {
     ghost use Rattle.osc_endpoint.specs.Views.{reply_entry};
     ghost use Rattle.osc_endpoint.specs.ServerAnswer.{LifeReply, HasAsked, own_number};
 
-    /// Returns the next own Sender Sequence Number if one is asked for, and `None` if one is asked for and none is left.
+    /// Returns the next Sender Sequence Number if one is asked for, and `None` if one is asked for and none is left.
     fn asked_number(&self, own: bool) -> Option<Option<Piv>>
         ensures given { IfSome result (λ number. (l : Life) → SlotAgrees self.now l
             → (option_map number_of number ≡ own_number own l) × HasAsked own l) }
@@ -51,7 +51,7 @@ impl Slot {
         }
     }
 
-    /// Counts an own Sender Sequence Number if one was used.
+    /// Counts a Sender Sequence Number if one was used.
     pub(crate) fn count(&mut self, own: bool)
         requires { own ≡ true → self.old.next < 2 ^ 40 }
         ensures context { self.new.context ≡ self.old.context }

@@ -65,8 +65,8 @@ impl Server {
 
     /// Adds a context, and returns its index. Returns the first refusal in the order of `AddError`. A refusal drops the context and changes
     /// nothing. You must not add two contexts with the same Sender Key (RFC 8613, 3.3). No refusal reports this, because the tables check
-    /// the lookup alone. Each of the two contexts counts its own numbers, so their texts may share key and nonce, and then neither text is
-    /// protected any more (RFC 8613, D.4).
+    /// the lookup alone. Each of the two contexts counts its Sender Sequence Numbers, so their texts may share key and nonce, and then
+    /// neither text is protected any more (RFC 8613, D.4).
     pub fn add(
         &mut self,
         context: Context,

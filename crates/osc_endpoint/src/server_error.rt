@@ -56,7 +56,7 @@ impl Error for RestartError {}
 /// Why a reply or a notification isn't sealed. The variants stand in the order in which they are checked.
 #[derive(Clone, Copy, Debug, PartialEq, Eq)]
 pub enum ReplyError {
-    /// The keeper of the own Sender Sequence Numbers failed. A `Server` never returns this.
+    /// The keeper of the Sender Sequence Numbers failed. A `Server` never returns this.
     KeeperFailed,
     /// The ticket's context isn't there, or has begun a new life.
     StaleTicket,
@@ -69,7 +69,7 @@ pub enum ReplyError {
     Unsupported(u16),
     /// The message isn't of class 2, or has no Observe. A reply is never refused for this.
     NotNotification,
-    /// An own Sender Sequence Number is asked for, and none is left. A notification always asks for one.
+    /// A Sender Sequence Number is asked for, and none is left. A notification always asks for one.
     SequenceExhausted,
     /// The reply would have more than 65,535 bytes; own rule.
     TooLong,

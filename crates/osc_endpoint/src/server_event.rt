@@ -15,8 +15,8 @@ pub struct Arrival {
     pub out: [u8; 64],
 }
 
-/// An answer to the request of the event at an index: whether an own number is asked for, the Message ID of a reply that isn't an ACK, the
-/// plain message, and room for the reply.
+/// An answer to the request of the event at an index: whether a Partial IV of its own is asked for, the Message ID of a reply that isn't an
+/// ACK, the plain message, and room for the reply.
 #[derive(Drop)]
 pub struct Answering {
     pub of: usize,

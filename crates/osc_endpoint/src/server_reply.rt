@@ -17,9 +17,9 @@ impl Server {
     ghost use Rattle.osc_endpoint.specs.declared.server_error.ReplyError.TheVariants.{KeeperFailed};
 
     /// Seals a reply to the request of a ticket into `out`, and returns how many bytes it takes at the front of `out` (RFC 8613, 8.3). It
-    /// uses the code, options and payload of the plain message. If the ticket's request registers an observation, the reply has an own number
-    /// in any case, and ends the observation (RFC 8613, 4.1.3.5). Returns the first refusal in the order of `ReplyError`. A refusal changes
-    /// nothing, leaves `out` unchanged, and returns the ticket.
+    /// uses the code, options and payload of the plain message. If the ticket's request registers an observation, the reply has a Partial
+    /// IV of its own in any case, and ends the observation (RFC 8613, 4.1.3.5). Returns the first refusal in the order of `ReplyError`. A
+    /// refusal changes nothing, leaves `out` unchanged, and returns the ticket.
     pub fn reply(
         &mut self,
         ticket: Ticket,

@@ -69,7 +69,7 @@ impl Server {
     ghost use Rattle.osc_endpoint.specs.ServerAnswer.{ServerAnswer};
     ghost use Rattle.osc_endpoint.specs.ServerHistory.{History, Then, Restart};
 
-    /// Begins a new life of a context: its gate is closed with no challenge, its next own Sender Sequence Number is `next`, and older
+    /// Begins a new life of a context: its gate is closed with no challenge, its next Sender Sequence Number is `next`, and older
     /// tickets are stale. Returns the first refusal in the order of `RestartError`. A refusal changes nothing.
     pub fn restart(&mut self, context: usize, next: Piv) -> Result<(), RestartError>
         ensures answered { (h : History) → Agrees self.old h

@@ -20,7 +20,7 @@ pub(crate) const OWN_LIMIT: u64 = 1 << 40;
 pub struct Slot {
     pub size: WindowSize,
     pub gate: Gate,
-    // The next own Sender Sequence Number, or the limit if none is left.
+    // The next Sender Sequence Number, or the limit if none is left.
     pub next: u64,
     // How often the context was restarted.
     pub life: u64,

@@ -64,7 +64,7 @@ impl Ticket {
         self.observes
     }
 
-    /// Returns whether a reply has an own number: one is asked for, or the request registers an observation (RFC 8613, 4.1.3.5).
+    /// Returns whether a reply has a Partial IV of its own: one is asked for, or the request registers an observation (RFC 8613, 4.1.3.5).
     pub(crate) fn asks_own(&self, own: bool) -> bool
         ensures { result ≡ asks_own (values_of self.now) own }
     {

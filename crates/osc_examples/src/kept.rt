@@ -14,7 +14,7 @@ use osc_context::{Context, Keeper};
 use osc_kept::{KeptError, KeptServer};
 use osc_window::WindowSize;
 
-/// Starts a server whose own Sender Sequence Numbers outlive it, over any keeper: fresh if the keeper holds 0, and otherwise as after
+/// Starts a server whose Sender Sequence Numbers outlive it, over any keeper: fresh if the keeper holds 0, and otherwise as after
 /// a restart, above each number that an earlier life may have used. Gives the keeper back if it fails, or has no number left.
 pub fn server_over<K: Keeper + Drop>(
     context: Context,

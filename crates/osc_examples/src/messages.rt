@@ -38,7 +38,7 @@ pub fn protect_response(
     answer: &Message<'_>,
     out: &mut [u8],
 ) -> Result<usize, ProtectError> {
-    // Set kind, message ID and token of the answer as CoAP wants them. With None it has no own number, and uses the request's
+    // Set kind, message ID and token of the answer as CoAP wants them. With None it has no Partial IV of its own, and uses the request's
     // nonce.
     let len = seal_response(server, &RequestRef::new(number), None, answer, out)?;
     Ok(len)

@@ -47,7 +47,7 @@ pub fn protect_notification(
     note: &Message<'_>,
     out: &mut [u8],
 ) -> Result<usize, ProtectError> {
-    // At the server the registration opens as any request. Notify with an own number each time.
+    // At the server the registration opens as any request. Notify with a Partial IV of its own each time.
     let request = RequestRef::registering(number);
     let len = seal_response(server, &request, Some(own), note, out)?;
     Ok(len)

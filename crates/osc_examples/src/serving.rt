@@ -29,7 +29,7 @@ pub fn serve<'m, 'o>(
 ) -> Result<&'o [u8], (ReplyError, Ticket)> {
     let decided = server.decide(now, Fresh { echo, mid }, datagram, out);
     if let Outcome::Deliver(request, ticket) = decided.decision.outcome(datagram) {
-        // The request is new. Its ticket is for one reply (`false`: no own number). A refusal hands it back.
+        // The request is new. Its ticket is for one reply (`false`: no Partial IV of its own). A refusal hands it back.
         let answer = if request.payload == order { yes } else { no };
         let len = server.reply(ticket, false, mid, answer, buffer)?;
         return Ok(&buffer[..len]);

@@ -370,7 +370,7 @@ reply_as of own mid room plain entry n number k kind m message_id bytes token a 
     (subst (λ x. LifeReply of n own (as_reply x message_id token mid plain) room entry) b
     (subst (λ x. LifeReply of n own (as_reply k x token mid plain) room entry) c (subst (λ x. LifeReply of n own (as_reply k m x mid plain) room entry) d row)))
 
--- the same reply, where it is known otherwise whether it asks for an own number
+-- the same reply, where it is known otherwise whether it asks for a Partial IV of its own
 pub asked_as : (h : server.History) (t : server.TicketValues) (own asked : Bool) (mid room : ℕ) (plain : Parts) (entry : server.Entry) (s : ServerHandle) → asked ≡ own → RepliesIn h t asked mid plain room entry s
     → RepliesIn h t own mid plain room entry s
 asked_as h t own asked mid room plain entry s e r = subst (λ o. RepliesIn h t o mid plain room entry s) e r

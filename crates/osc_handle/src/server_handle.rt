@@ -198,10 +198,10 @@ impl ServerHandle {
         Some(Taken { outcome, reply })
     }
 
-    /// Seals a reply to the request of a ticket, writes it to the front of `out`, and returns how many bytes it wrote (RFC 8613,
-    /// 8.3). It uses the code, options and payload of the plain message. If the ticket's request registers an observation, the reply has
-    /// an own number in any case, and ends the observation (RFC 8613, 4.1.3.5). Refuses, in this order, bad bytes, a stale ticket, a
-    /// spent ticket, and whatever else a `Server` refuses, in the order of `ReplyError`. A refusal changes nothing.
+    /// Seals a reply to the request of a ticket, writes it to the front of `out`, and returns how many bytes it wrote (RFC 8613, 8.3). It
+    /// uses the code, options and payload of the plain message. If the ticket's request registers an observation, the reply has a Partial
+    /// IV of its own in any case, and ends the observation (RFC 8613, 4.1.3.5). Refuses, in this order, bad bytes, a stale ticket, a spent
+    /// ticket, and whatever else a `Server` refuses, in the order of `ReplyError`. A refusal changes nothing.
     pub fn reply(
         &mut self,
         ticket: &TicketHandle,
@@ -249,9 +249,9 @@ impl ServerHandle {
     }
 
     /// Seals a notification to the request of a ticket, writes it to the front of `out`, and returns how many bytes it wrote (RFC 8613,
-    /// 8.3.1). It uses the plain message, except the token, which is the ticket's: Type and Message ID are yours. Each notification has
-    /// a new own number, so the request needn't wait for its answer, and still does if it did. Returns `None` if the bytes can't have
-    /// been written by a call. Returns the first refusal in the order of `ReplyError`; a refusal changes nothing.
+    /// 8.3.1). It uses the plain message, except the token, which is the ticket's: Type and Message ID are yours. Each notification has a
+    /// new Partial IV of its own, so the request needn't wait for its answer, and still does if it did. Returns `None` if the bytes can't
+    /// have been written by a call. Returns the first refusal in the order of `ReplyError`; a refusal changes nothing.
     pub fn notify(
         &mut self,
         ticket: &TicketHandle,

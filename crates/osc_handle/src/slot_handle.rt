@@ -128,7 +128,7 @@ impl SlotHandle {
         }
     }
 
-    /// Keeps the new state of a context: the gate, the next own number and the life. The context and the size stay.
+    /// Keeps the new state of a context: the gate, the next Sender Sequence Number and the life. The context and the size stay.
     pub(crate) fn keep(&mut self, slot: &Slot)
         ensures kept { (before : SlotOf) → IsSlotIn self.old before → slot.now.context ≡ before.context → slot.now.size ≡ before.size → IsSlotIn self.new slot.now }
         ensures bytes { IsSlotBytes self.old → IsSlotBytes self.new }

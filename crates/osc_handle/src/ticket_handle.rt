@@ -134,7 +134,7 @@ impl TicketHandle {
         self.observes != 0
     }
 
-    /// Returns whether a reply has an own number: one is asked for, or the request registers an observation (RFC 8613, 4.1.3.5).
+    /// Returns whether a reply has a Partial IV of its own: one is asked for, or the request registers an observation (RFC 8613, 4.1.3.5).
     #[doc(hidden)]
     #[must_use]
     pub fn asks_own(&self, own: bool) -> bool

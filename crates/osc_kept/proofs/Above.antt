@@ -72,7 +72,7 @@ sends_small n s (Then w event) a r k = sends_small n s w a.0 r k
 
 -- ---- the server's
 
--- an own number of the server is that of a response
+-- a Partial IV of its own of the server is that of a response
 own_answered : (ds : List Deed) (o : ℕ) → Has o (owns ds) → (r : Response) × Has r (answers ds) × (r.own ≡ Some o)
 own_answered (Challenges n echo issued own m ∷ ds) o (inl e) = (record { number = n; own = Some own; message = m }, inl refl, ap (λ x. Some x) (sym e))
 own_answered (Challenges n echo issued own m ∷ ds) o (inr k) = let (r, has, is) = own_answered ds o k in (r, inr has, is)
@@ -120,7 +120,7 @@ own_low s ds h (server.Reply t false mid q room) (server.Replied bytes) own p on
 own_low s ds h (server.Restart c next) server.Restarted own p only a e = cc
 own_low s ds h event entry own p only a e = cc
 
--- the server's own numbers are below the next one of its life, and below 2 ^ 40
+-- the server's Sender Sequence Numbers are below the next one of its life, and below 2 ^ 40
 pub record OwnsBelow (s : SecurityContext) (ds : List Deed) : Type 0 where
   pub below : AllBelow (owns ds) (next_own (life_in s ds))
   pub small : AllBelow (owns ds) (2 ^ 40)

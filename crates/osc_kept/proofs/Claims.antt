@@ -121,7 +121,7 @@ new_for_client laws n s w k i small above r h e =
     let less : r.number < k = above r is in
     omega (arith, same, less)
 
--- with an own number
+-- with a Partial IV of its own
 own_differs : LawsBelow → (n : ℕ) (s : SecurityContext) (w : World) (k own : ℕ) (r : Response) (o : Option ℕ) → IsLawful n s w → own < 2 ^ 40 → AllBelow (owns (digest s w)) own
     → Has r (answered s w) → r.own ≡ o → response_nonce s.common_iv s.client s.server r.number o ≡ nonce_of s.common_iv s.server own → ⊥
 own_differs laws n s w k own r (Some x) i small above h f e =
@@ -145,7 +145,7 @@ shared_differs laws n s w t r None i holds small h f e =
 held_small : LawsBelow → (n : ℕ) (s : SecurityContext) (w : World) (t : server.TicketValues) → IsLawful n s w → Holds (digest s w) t → t.number < 2 ^ 40
 held_small laws n s w t i holds = sent_small n s w t.number i (delivered_sent s (digest s w) t.number (all_fit laws n s w i) (given_delivered (digest s w) t holds.0))
 
--- what a server seals under its next own number is new
+-- what a server seals under its next Sender Sequence Number is new
 new_own : LawsBelow → (n : ℕ) (s : SecurityContext) (w : World) (k : ℕ) (event : server.Event) (entry : server.Entry) (of : Life) → IsLawful n s (Then w (AtServer event entry))
     → server_life s w ≡ Some of → own_use (server_deed (Some of) event entry) ≡ Use (next_own of) → IsNewForServer s w k (Some (next_own of))
 new_own laws n s w k event entry of i f is_used r h e =

@@ -80,7 +80,7 @@ answers (Replies t own m ∷ ds) = record { number = t.number; own = own; messag
 answers (Notifies t own m ∷ ds) = record { number = t.number; own = Some own; message = m } ∷ answers ds
 answers (d ∷ ds) = answers ds
 
--- the server's own numbers
+-- the server's Sender Sequence Numbers
 abbrev pub owns : List Deed → List ℕ
 owns [] = []
 owns (Challenges n echo issued own m ∷ ds) = own ∷ owns ds
@@ -171,7 +171,7 @@ cases_option : {A : Type 0} (o : Option A) → (o ≡ None) ⊎ ((x : A) × (o �
 cases_option None = inl refl
 cases_option (Some x) = inr (x, refl)
 
--- ---- requests: each of its own number
+-- ---- requests: each of its own Partial IV
 
 pub one_request : (s : SecurityContext) (ds : List Deed) (r q : Request) → AllFit s ds → Has r (sends ds) → Has q (sends ds) → r.number ≡ q.number → r ≡ q
 one_request s (Sends n m ∷ ds) r q a (inl e) (inl f) g = e ∙ sym f
@@ -365,7 +365,7 @@ never_again s ds n m a passes may sent h =
 pub not_before : (s : SecurityContext) (ds : List Deed) (t : TicketValues) (m : InnerParts) → AllFit s (Delivers t m ∷ ds) → Has t.number (delivers ds) → ⊥
 not_before s ds t m a h = never_again s ds t.number m a.0 a.1.0 a.1.1 a.1.2 h
 
--- ---- tickets: a response without an own number answers a request that no such one answered before
+-- ---- tickets: a response without a Partial IV of its own answers a request that no such one answered before
 
 -- the numbers that were delivered before the server last started
 abbrev pub past : List Deed → List ℕ
@@ -434,7 +434,7 @@ shared s (Notifies t own m ∷ ds) r a (inr h) e = shared s ds r a.0 h e
 shared s (d ∷ ds) r a h e = shared s ds r a.0 h e
 shared s [] r a h e = absurd h
 
--- no response without an own number was sealed before to the request of a ticket that is held
+-- no response without a Partial IV of its own was sealed before to the request of a ticket that is held
 pub not_shared : (s : SecurityContext) (ds : List Deed) (t : TicketValues) (r : Response) → AllFit s ds → Holds ds t → Has r (answers ds) → r.own ≡ None → r.number ≡ t.number → ⊥
 not_shared s ds t r a held h e n = elim (shared s ds r a h e) [
   | inl k ↦ given_not_past s ds t a held.0 (subst (λ x. Has x (past ds)) n k)
@@ -457,7 +457,7 @@ answered_sent s (Sends n m ∷ ds) r a h = sent_more n m ds r.number (answered_s
 answered_sent s (d ∷ ds) r a h = answered_sent s ds r a.0 h
 answered_sent s [] r a h = absurd h
 
--- its own number is one of the server's
+-- its own Partial IV is one of the server's
 pub owned : (ds : List Deed) (r : Response) (o : ℕ) → Has r (answers ds) → r.own ≡ Some o → Has o (owns ds)
 owned (Challenges n echo issued own m ∷ ds) r o (inl f) e = inl (some_is (sym e ∙ ap (λ (x : Response). x.own) f))
 owned (Challenges n echo issued own m ∷ ds) r o (inr h) e = inr (owned ds r o h e)

@@ -48,7 +48,7 @@ sent_opens laws s w d k q seals has n m p =
       text_is = ap (λ (x : Parts). x.payload) (laws.one alone.opens.outer p.outer d alone.opens.datagram p.datagram);
     }
 
--- an own number that a response to request k has, whether a registration or another request waits for it
+-- a Partial IV of its own that a response to request k has, whether a registration or another request waits for it
 same_own : OpeningLaws → (s : SecurityContext) (a : List ℕ) (k : ℕ) (own : Option ℕ) (q : Parts) (b : Bool) (other : Option ℕ) (m : InnerParts) → SealsResponse s k own q a
     → Protects (responses_to s b k) other m a → other ≡ own
 same_own laws s a k own q false other m seals p = ((laws.opens.response s k own q a seals).nothing_else other m p).0
@@ -97,7 +97,7 @@ asked_seals n s w q h k e c f a =
     (subst (λ x. SealsRequest x (client.next h) q.plain q.bytes) c
     (subst (λ x. SealsRequest (client.context x) (client.next x) q.plain q.bytes) same a.2.1))
 
--- a reply without an own number
+-- a reply without a Partial IV of its own
 replied_seals : (n : ℕ) (s : SecurityContext) (w : World) (t : server.TicketValues) (p : Parts) (room : ℕ) (a : List ℕ) (h : server.History) (l : Life) → server_history s w ≡ Some h
     → server.life h t.context ≡ Some l → l.context ≡ s → Answers n s w (AtServer (server.Reply t false 0 p room) (server.Replied a))
     → SealsResponse s t.number None (as_reply t.kind t.message_id t.token 0 p) a

@@ -36,7 +36,7 @@ use Rattle.osc_endpoint.proofs.Inside.{registers_inside}
 use Rattle.osc_kept.proofs.Lives.{some_is}
 use Rattle.osc_kept.proofs.Owned.{runs, same_number, still_sent}
 
--- ---- in the list of what was sealed, what has a greater own number was sealed later
+-- ---- in the list of what was sealed, what has a greater own Partial IV was sealed later
 
 after_step : (z x y : Response) (rs : List Response) (k j : ℕ) → x.own ≡ Some k → y.own ≡ Some j → j < k
     → ((i : ℕ) → z.own ≡ Some i → (u : Response) (l : ℕ) → Has u rs → u.own ≡ Some l → l < i)
@@ -69,7 +69,7 @@ after s (Notifies t own m ∷ ds) x y k j a x_own y_own less h g =
 after s (d ∷ ds) x y k j a x_own y_own less h g = after s ds x y k j a.0 x_own y_own less h g
 after s [] x y k j a x_own y_own less h g = absurd h
 
--- a notification has an own number
+-- a notification has a Partial IV of its own
 notified_own : (s : SecurityContext) (ds : List Deed) (y : Response) (o : Option ℕ) → AllFit s ds → Has y (answers ds) → is_notification y.message.code y.message.options ≡ true
     → y.own ≡ o → (j : ℕ) × (y.own ≡ Some j)
 notified_own s ds y (Some j) a h is e = (j, e)
@@ -123,7 +123,7 @@ heard_for laws n s Begin y i h = absurd h
 
 -- ---- a request that was asked, and what was heard for it
 
--- what was heard for it has an own number, and its place is before the one from which it waits; if it waits for notifications, it registers
+-- what was heard for it has a Partial IV of its own, and its place is before the one from which it waits; if it waits for notifications, it registers
 record Follows (s : SecurityContext) (ds : List Deed) (hs : List Response) (r : client.Asked) : Type 0 where
   pub own : (y : Response) → Has y hs → y.number ≡ r.number → (j : ℕ) × (y.own ≡ Some j)
   pub earlier : (y : Response) → Has y hs → y.number ≡ r.number → place_of y.own < client.first_place r.wait

@@ -1,4 +1,4 @@
--- What a server's history says is what the digest of its world says: its present life, its tickets, and what each event does to its own numbers.
+-- What a server's history says is what the digest of its world says: its present life, its tickets, and what each event does to its Sender Sequence Numbers.
 -- h is the history of the server that runs, ds the deeds so far.
 use Rattle.std.proofs.Common.{◌≡◌, ℕ, ◌∙◌, sym, ap, subst, refl, Bool, true, false, Option, Some, None, List, ◌∷◌, if◌then◌else◌, ◌==◌, max}
 use Rattle.std.proofs.lemmas.Bool.{eqb-true}
@@ -124,7 +124,7 @@ taken_step l ds h (server.Notify t q room) (server.Replied bytes) e = e
 taken_step l ds h (server.Restart c next) server.Restarted e = e
 taken_step l ds h event entry e = e
 
--- ---- its own numbers
+-- ---- its Sender Sequence Numbers
 
 -- what a deed of the server does to them
 abbrev pub own_use : Deed → Effect

@@ -19,7 +19,7 @@ use Rattle.osc_kept.proofs.Examples.{OpeningLaws, asked_seals, floor_of, none_ca
 use Rattle.osc_kept.proofs.Lives.{some_is}
 use Rattle.osc_kept.proofs.Observation.{AllAsk, heard_asks, notified_all, notified_own, notified_seals}
 
--- what is delivered or notified of a response for request k has the own number with which the server sealed it
+-- what is delivered or notified of a response for request k has the Partial IV with which the server sealed it, or none
 own_heard : OpeningLaws → (n : ℕ) (s : SecurityContext) (w : World) (h : client.History) (k : ℕ) (a : List ℕ) (own : Option ℕ) (q : Parts) (v : Received) → client_history s w ≡ Some h → client.context h ≡ s
     → SealsNotification s k own q a → Answers n s w (AtClient (client.Datagram 0 a) (client.Took (client.Notified v k))) → v.number ≡ own
 own_heard laws n s w h k a own q v e c seals x =
@@ -30,7 +30,7 @@ own_heard laws n s w h k a own q v e c seals x =
     let protects : P s k = subst (λ i. P s i) (sym is) (subst (λ z. P z r.number) context_is receives.protects) in
     receives.number ∙ notified_own laws s a k own q (client.observes r.wait) other v.message seals protects
 
--- equal responses have one own number
+-- equal responses have one Partial IV
 other_own : (z y : Response) (i j : ℕ) → z.own ≡ Some i → z ≡ y → y.own ≡ Some j → i ≡ j
 other_own z y i j e f g = some_is (sym e ∙ ap (λ (u : Response). u.own) f ∙ g)
 

@@ -28,7 +28,7 @@ use Rattle.osc_kept.proofs.Owned.{same_number}
 
 -- ---- what a kept end sealed as a notification is no forgery
 
--- the own number that a notification to request k has, whether a registration or another request waits for it
+-- the Partial IV that a notification to request k has, whether a registration or another request waits for it
 pub notified_own : OpeningLaws → (s : SecurityContext) (a : List ℕ) (k : ℕ) (own : Option ℕ) (q : Parts) (b : Bool) (other : Option ℕ) (m : InnerParts) → SealsNotification s k own q a
     → Protects (responses_to s b k) other m a → other ≡ own
 notified_own laws s a k own q true other m seals p = ((laws.opens.notification s k own q a seals).nothing_else other m p).0
@@ -91,7 +91,7 @@ notified_seals n s w t y h l e there c x =
     subst (λ z. SealsNotification z t.number (Some (next_own l)) (with_token t.token y.plain) y.bytes) (ap (λ (z : Life). z.context) of ∙ c)
     (subst (λ z. SealsNotification x.2.1.0.context t.number (Some (next_own z)) (with_token t.token y.plain) y.bytes) of x.2.1.2.2)
 
--- a reply with an own number
+-- a reply with a Partial IV of its own
 replied_own_seals : (n : ℕ) (s : SecurityContext) (w : World) (t : server.TicketValues) (y : Answered) (h : server.History) (l : Life) → server_history s w ≡ Some h
     → server.life h t.context ≡ Some l → l.context ≡ s → Answers n s w (AtServer (server.Reply t true 0 y.plain y.room) (server.Replied y.bytes))
     → SealsResponse s t.number (Some (next_own l)) (as_reply t.kind t.message_id t.token 0 y.plain) y.bytes

@@ -25,9 +25,9 @@ use Rattle.osc_kept.specs.KeptServing.{IsKept, KeptStep, uses}
 use Rattle.osc_kept.specs.Numbering.{Own, Draws, Goes, Steps, Use, after, upcoming, use_of}
 use Rattle.osc_kept.proofs.Drawing.{in_hand, upcoming_stays}
 
--- ---- marks and own numbers
+-- ---- marks and Sender Sequence Numbers
 
--- how many own numbers a mark stands for
+-- how many Sender Sequence Numbers a mark stands for
 abbrev spends : Option Mark → ℕ
 spends None = 0
 spends (Some (Delivered n)) = 0
@@ -162,7 +162,7 @@ answers_one false e = cc
 is_zero : (i : ℕ) → i ≡ 0 → (0 == i) ≡ true
 is_zero i e = subst (λ (k : ℕ). (0 == k) ≡ true) (sym e) refl
 
--- what a text with an own number does to the numbers: a reply with one, or a notification
+-- what a text with a Partial IV of its own does to the numbers: a reply with one, or a notification
 abbrev UsesOwn : History → TicketValues → Own → Own → Type 0
 UsesOwn h v old new = (option_map next_own (option_map (marked (reply_mark_at 0 v true)) (life h 0)) ≡ Some (upcoming new)) × Steps true (option_map next_own (life h v.context)) old new
 
@@ -209,7 +209,7 @@ notify_refused s t h v p room e old new k row a drawn =
       numbers = (new, drawn, (tt, refl));
     }
 
--- a reply with no own number
+-- a reply with no Partial IV of its own
 pub reply_shared : (s t : Server) (h : History) (v : TicketValues) (m : ℕ) (p : Parts) (room : ℕ) (bytes : List ℕ) (own : Own)
     → IsKept s (upcoming own) h → ServerAnswer h (Reply v false m p room) (Replied bytes) → Agrees t (Then h (Reply v false m p room) (Replied bytes))
     → KeptStep h (Reply v false m p room) (Replied bytes) own own t
@@ -220,7 +220,7 @@ reply_shared s t h v m p room bytes own k row a =
       numbers = (own, refl, (tt, refl));
     }
 
--- a reply with an own number
+-- a reply with a Partial IV of its own
 pub reply_own : (s t : Server) (h : History) (v : TicketValues) (m : ℕ) (p : Parts) (room : ℕ) (bytes : List ℕ) (old mid new : Own)
     → IsKept s (upcoming old) h → ServerAnswer h (Reply v true m p room) (Replied bytes) → Agrees t (Then h (Reply v true m p room) (Replied bytes))
     → Draws true old mid → ((k : ℕ) → mid.hand ≡ Some k → k + 1 ≡ mid.next) → ((k : ℕ) → new ≡ after (Use k) mid)
@@ -240,7 +240,7 @@ notify_own s t h v p room bytes old mid new k row a drawn last used =
     let (next, steps) = uses_own s h v of old mid new k present.0 answer.1 drawn last used in
     record { row = row; kept = record { agrees = a; one = k.one; next_is = next }; numbers = steps }
 
--- a reply that is sealed, with an own number in hand or without one
+-- a reply that is sealed, with a Partial IV of its own in hand or without one
 pub reply_with : (s t : Server) (h : History) (v : TicketValues) (own : Bool) (m : ℕ) (p : Parts) (room : ℕ) (bytes : List ℕ) (old mid new : Own) → own ≡ true
     → IsKept s (upcoming old) h → ServerAnswer h (Reply v own m p room) (Replied bytes) → Agrees t (Then h (Reply v own m p room) (Replied bytes))
     → Draws own old mid → ((k : ℕ) → mid.hand ≡ Some k → k + 1 ≡ mid.next) → ((k : ℕ) → new ≡ after (Use k) mid)

@@ -175,7 +175,7 @@ restarts_below x high q r echo early c =
     challenges 0 echo q.bytes c (Then (Then (notifies (observing 0 0 r) early (delivers_registration 0 0 r echo q.bytes
     (Then (Then (asks q (start_client x 0 Begin)) (ServerStarts (starts.Fresh high) x.size)) (Reserves Server)))) (AtServer (server.Restart 0 0) server.Restarted)) (Reserves Server))
 
--- the client starts anew at 0 too, and registers with the value; that is delivered and notified, with own number 1; the client hears this notification, and then
+-- the client starts anew at 0 too, and registers with the value; that is delivered and notified, with the Partial IV 1; the client hears this notification, and then
 -- the first one, which comes late (RFC 8613, 7.2.1 and 7.4.1)
 abbrev pub own_out_of_order : Ends → Piv → Asked → Asked → Received → Received → Received → Received → List ℕ → List ℕ → Answered → Answered → World
 own_out_of_order x high q again r k u v echo c early late =
@@ -191,7 +191,7 @@ OwnOutOfOrderBreaks = (n : ℕ) (s : SecurityContext) (x : Ends) (high : Piv) (q
     × AtEach FreshWhileNothingDelivered (own_out_of_order x high q again r k u v echo c early late)
     × (AtEachHeard (IsNext s) (own_out_of_order x high q again r k u v echo c early late) → ⊥)
 
--- a request is delivered and answered without an own number; the server starts fresh again, at a number that it didn't use, and does the same (RFC 8613, B.1.2)
+-- a request is delivered and answered without a Partial IV of its own; the server starts fresh again, at a number that it didn't use, and does the same (RFC 8613, B.1.2)
 abbrev pub fresh_again : Ends → Piv → Asked → Received → Received → List ℕ → Answered → Answered → World
 fresh_again x later q r k echo y z =
     replies (ticket_of 0 0 k) false z (delivers 0 0 k echo q.bytes (Then (replies (ticket_of 0 0 r) false y (delivers 0 0 r echo q.bytes

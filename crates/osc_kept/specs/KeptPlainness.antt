@@ -9,7 +9,8 @@ use Rattle.osc_endpoint.specs.ServerHistory as server
 use Rattle.osc_kept.specs.Premises.{Answers, AtEach}
 use Rattle.osc_kept.specs.World.{World, Event, AtClient, AtServer, client_history}
 
--- no ticket observes, nothing is notified, a reply has an own number exactly if one is asked for, and no response is old or a notification (RFC 8613, 4.1.3.5)
+-- no ticket observes, nothing is notified, a reply has a Partial IV of its own exactly if one is asked for, and no response is old or a notification
+-- (RFC 8613, 4.1.3.5)
 abbrev pub IsPlain : World → Event → Type 0
 IsPlain w (AtServer (server.Datagram now echo mid d) (server.Took (server.Deliver received ticket) reply)) = ticket.observes ≡ false
 IsPlain w (AtServer (server.Notify t p room) (server.Replied bytes)) = ⊥

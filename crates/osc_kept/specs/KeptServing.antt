@@ -17,14 +17,15 @@ use Rattle.osc_endpoint.specs.ServerHistory.{History, Then, Event, Entry, Answer
 use Rattle.osc_endpoint.specs.Views.{Shows}
 use Rattle.osc_kept.specs.Numbering.{Own, Load, Reserve, Steps, after, upcoming}
 
--- whether a number is drawn before an event: if a challenge may be the answer, if a reply asks for its own number, or for a notification (RFC 8613, 8.3 and B.1.2)
+-- whether a number is drawn before an event: if a challenge may be the answer, if a reply asks for its own Partial IV, or for a notification
+-- (RFC 8613, 8.3 and B.1.2)
 abbrev pub draws : History → Event → Bool
 draws h (Datagram now echo mid d) = not (is_open_life (life h 0))
 draws h (Reply ticket own mid plain room) = own
 draws h (Notify ticket plain room) = true
 draws h event = false
 
--- the own number that an event used, if it used one: a challenge and a notification do, and so does a reply that asked for it (RFC 8613, 7.2.1)
+-- the Sender Sequence Number that an event used, if it used one: a challenge and a notification do, and so does a reply that asked for it (RFC 8613, 7.2.1)
 abbrev pub uses : History → Event → Entry → Option ℕ
 uses h (Datagram now echo mid d) (Took (Challenge i n given issued) reply) = option_map next_own (life h i)
 uses h (Reply ticket true mid plain room) (Replied bytes) = option_map next_own (life h ticket.context)
@@ -37,7 +38,7 @@ pub record IsKept (s : Server) (next : ℕ) (h : History) : Type 0 where
   pub one : added h ≡ 1
   pub next_is : option_map next_own (life h 0) ≡ Some next
 
--- this is how the server answers the event; if it seals with its own number, it uses the one in hand, which was drawn before (RFC 8613, 8.2, 8.3 and B.1.1)
+-- this is how the server answers the event; if it seals with its own Partial IV, it uses the one in hand, which was drawn before (RFC 8613, 8.2, 8.3 and B.1.1)
 pub record KeptStep (h : History) (event : Event) (entry : Entry) (old new : Own) (s : Server) : Type 0 where
   pub row : ServerAnswer h event entry
   pub kept : IsKept s (upcoming new) (Then h event entry)

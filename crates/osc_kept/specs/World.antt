@@ -102,7 +102,7 @@ pub record Request : Type 0 where
   pub number : ℕ
   pub message : InnerParts
 
--- a response that the server sealed: the number of the request that it answers, its own number or none, and what it says inside (RFC 8613, 8.3)
+-- a response that the server sealed: the number of the request that it answers, its own Partial IV or none, and what it says inside (RFC 8613, 8.3)
 pub record Response : Type 0 where
   pub number : ℕ
   pub own : Option ℕ
@@ -114,7 +114,7 @@ sent s Begin = []
 sent s (Then w (AtClient (client.Request now p room) (client.Sent bytes))) = cons_option (option_map (λ h. record { number = client.next h; message = inside p }) (client_history s w)) (sent s w)
 sent s (Then w event) = sent s w
 
--- the response to request n that a running server seals, if its context has a life, with the next own number if one is asked for (RFC 8613, 8.3)
+-- the response to request n that a running server seals, if its context has a life, with the next Sender Sequence Number if one is asked for (RFC 8613, 8.3)
 abbrev pub response_in : Option Life → ℕ → Bool → Parts → List Response
 response_in None n own p = []
 response_in (Some of) n own p = record { number = n; own = own_number own of; message = inside p } ∷ []

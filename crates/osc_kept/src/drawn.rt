@@ -34,14 +34,15 @@ pub(crate) fn draw_for_datagram<K: Keeper>(
     source.draw()
 }
 
-/// Returns whether a reply has an own number: one is asked for, or the ticket's request registers an observation (RFC 8613, 4.1.3.5).
+/// Returns whether a reply has a Partial IV of its own: one is asked for, or the ticket's request registers an observation (RFC 8613,
+/// 4.1.3.5).
 fn has_own(ticket: &Ticket, own: bool) -> bool
     ensures { result ≡ asks_own (values_of ticket.now) own }
 {
     ticket.observes() || own
 }
 
-/// Draws a number for a reply, if the reply has an own number.
+/// Draws a number for a reply, if the reply has a Partial IV of its own.
 pub(crate) fn draw_for_reply<K: Keeper>(
     ticket: &Ticket,
     own: bool,
@@ -83,7 +84,7 @@ pub(crate) fn decide_drawn<K: Keeper>(
     decided
 }
 
-/// Seals a reply, after the draw for it. A reply with an own number uses the number in hand.
+/// Seals a reply, after the draw for it. A reply with a Partial IV of its own uses the number in hand.
 pub(crate) fn reply_drawn<K: Keeper>(
     server: &mut Server,
     source: &mut Source<K>,

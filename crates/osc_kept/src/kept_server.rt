@@ -1,4 +1,4 @@
-//! A server of one context whose own Sender Sequence Numbers outlive it (RFC 8613, 7.2.1 and B.1.1).
+//! A server of one context whose Sender Sequence Numbers outlive it (RFC 8613, 7.2.1 and B.1.1).
 
 ghost use Rattle.std.specs.Prelude.{◌≡◌, ◌≢◌, ◌≤◌, ◌+◌, ℕ, Ok, Err, IsOk, IsErr, IfOk, IfErr, OnErr, length, take, drop};
 ghost use Rattle.osc_coap.specs.Views.{parts_of};
@@ -27,8 +27,8 @@ use osc_context::{Context, Keeper, KeeperError};
 use osc_endpoint::{Decided, Fresh, Outcome, ReplyError, Server, Start, Taken, Ticket};
 use osc_window::WindowSize;
 
-/// A server of one context, and the keeper of its own numbers. It seals only with numbers that it has drawn, and the keeper reserved
-/// each of them before. No later life begins at a number below what was saved.
+/// A server of one context, and the keeper of its Sender Sequence Numbers. It seals only with numbers that it has drawn, and the keeper
+/// reserved each of them before. No later life begins at a number below what was saved.
 #[derive(Drop)]
 pub struct KeptServer<K: Keeper> {
     pub(crate) server: Server,

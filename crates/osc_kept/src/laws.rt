@@ -18,11 +18,11 @@ use osc_protect::{one_cipher_input, one_notification, sealed_opens};
 /// States what holds for each list of what happens at both ends and between them, including restarts and lost memory of either end. A
 /// request is delivered at most once, and the client sealed it. A response is delivered for the very request that it answers, and the
 /// server sealed it for that request. Each response is delivered at most once, and those to one request in the order in which they were
-/// sealed. A notification is delivered for a request that registers an observation. A request that registers nothing has at most one response,
-/// and behind the last response to a request nothing is delivered for it. What opens a restarted life of the server was sealed at most 30,000
-/// ms before, by the server's clock. No end seals twice under one nonce. The list has to
-/// meet the premises (`IsLawful`): both ends answer by their tables, nobody else makes texts that open, Echo values are new, each life of
-/// an end begins above all numbers with which it sealed before, and a server starts fresh only while nothing was delivered.
+/// sealed. A notification is delivered for a request that registers an observation. A request that registers nothing has at most one
+/// response, and behind the last response to a request nothing is delivered for it. What opens a restarted life of the server was sealed at
+/// most 30,000 ms before, by the server's clock. No end seals twice under one nonce. The list has to meet the premises (`IsLawful`): both
+/// ends answer by their tables, nobody else makes texts that open, Echo values are new, each life of an end begins above all numbers with
+/// which it sealed before, and a server starts fresh only while nothing was delivered.
 pub fn both_ends()
     ensures { TwoEnds }
 {
@@ -33,9 +33,9 @@ pub fn both_ends()
     one_nonce();
 }
 
-/// States the same of each context of a server of many, and of its client (`IsLawfulAmong`). What happens to the context is its share of what
-/// happens to that server, whose replies take tickets that its deliveries gave. A context may be added at any time; its clock is then set to
-/// the server's.
+/// States the same of each context of a server of many, and of its client (`IsLawfulAmong`). What happens to the context is its share of
+/// what happens to that server, whose replies take tickets that its deliveries gave. A context may be added at any time; its clock is then
+/// set to the server's.
 pub fn each_context()
     ensures { EachContext }
 {
@@ -52,7 +52,7 @@ pub fn shares_stay_like()
 }
 
 /// States what both ends of a context that takes no part in Observe do, over all their lives: no ticket observes, nothing is notified,
-/// a reply has an own number exactly if one is asked for, each request waits for one response, and no response is old or a
+/// a reply has a Partial IV of its own exactly if one is asked for, each request waits for one response, and no response is old or a
 /// notification. Of the premises this takes one alone: both ends answer by their tables (`Answers`).
 pub fn kept_ends_are_plain()
     ensures { KeptEndsArePlain }

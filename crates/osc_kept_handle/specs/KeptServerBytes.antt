@@ -20,7 +20,7 @@ use Rattle.osc_kept_handle.specs.declared.kept_refusal.KeptReplyRefusal.{KeptRep
 use Rattle.osc_kept_handle.specs.declared.kept_refusal.KeptReplyRefusal.TheVariants.{BadHandle, SaveFirst, TicketSpent, Refused}
 use Rattle.osc_kept_handle.specs.declared.kept_server_handle.KeptServerHandle.{KeptServerHandle}
 
--- bytes that a call may have written: the next own number of the context isn't above the first number that isn't reserved (RFC 8613, 7.2.1)
+-- bytes that a call may have written: the next Sender Sequence Number of the context isn't above the first number that isn't reserved (RFC 8613, 7.2.1)
 pub record IsKeptServer (k : KeptServerHandle) : Type 0 where
   pub bytes : IsSlotBytes k.server.slot
   pub next : k.server.slot.next ≤ k.reserved

@@ -1,4 +1,4 @@
-//! A server of one context whose own Sender Sequence Numbers outlive it, as bytes.
+//! A server of one context whose Sender Sequence Numbers outlive it, as bytes.
 
 ghost use Rattle.std.specs.Prelude.{◌≡◌, ◌≢◌, ◌≤◌, ℕ, List, Option, Ok, Err, IfOk, IfSome, IsSome, None, OnErr, Some, true, false, not, length, take, drop};
 ghost use Rattle.osc_coap.specs.Views.{parts_of};
@@ -32,8 +32,8 @@ use osc_endpoint::{Decided, Fresh, Start, Taken};
 use osc_handle::{ContextHandle, ReplyRefusal, SingleServerHandle, TicketHandle};
 use osc_window::WindowSize;
 
-/// A server of one context, and the first of its own numbers that isn't reserved. It seals only with reserved numbers, and tells its
-/// caller when a number has to be saved first.
+/// A server of one context, and the first of its Sender Sequence Numbers that isn't reserved. It seals only with reserved numbers, and
+/// tells its caller when a number has to be saved first.
 #[repr(C)]
 #[derive(Clone, Copy)]
 pub struct KeptServerHandle {

@@ -34,11 +34,11 @@ request_inputs plaintext inner additional = record {
 }
 
 module _ (nonce : OneNonce) (s : SecurityContext) (usable : IsUsable s) where
-  -- no own number makes the nonce of a request
+  -- no Partial IV of its own makes the nonce of a request
   own_differs : (n j k : ℕ) → j < 2 ^ 40 → k < 2 ^ 40 → response_nonce s.common_iv s.client s.server n (Some k) ≢ response_nonce s.common_iv s.client s.server j None
   own_differs n j k h g e = usable.differ (sym (nonce s.common_iv s.server s.client k j usable.server_fits usable.client_fits g h e).0)
 
-  -- a response's nonce is of one own number or none
+  -- a response's nonce is of one Partial IV or none
   own_number : (n k : ℕ) (own other : Option ℕ) → n < 2 ^ 40 → k < 2 ^ 40 → IfSome own (λ i. i < 2 ^ 40) → IfSome other (λ i. i < 2 ^ 40)
       → response_nonce s.common_iv s.client s.server n own ≡ response_nonce s.common_iv s.client s.server k other → own ≡ other
   own_number n k None None h g a b e = refl

@@ -1,6 +1,6 @@
 -- To be believed: what the cipher of a message takes besides the plaintext, and what that input fixes (RFC 8613, 5): a contract of laws.rt.
 -- s and t are security contexts, n, j and k are numbers of requests, a and b are whether requests register an observation, i is a
--- response's own number, own and other are such a number or none, m and l are messages, d and e are datagrams.
+-- response's own Partial IV, own and other are such a number or none, m and l are messages, d and e are datagrams.
 use Rattle.std.specs.Prelude.{◌≡◌, ◌≢◌, ◌<◌, ◌^◌, ℕ, Bool, List, Option, Some, None, IfSome}
 use Rattle.osc_coap.specs.Inner.{InnerParts}
 use Rattle.osc_context.specs.SecurityContext.{SecurityContext, IsUsable}
@@ -34,7 +34,8 @@ pub record OneRequestInput : Type 0 where
   pub message : (s t : SecurityContext) (n k : ℕ) (m l : InnerParts) (d e : List ℕ) (x : Protects (requests s) n m d) (y : Protects (requests t) k l e)
       → request_seal s n ≡ request_seal t k → x.outer.payload ≡ y.outer.payload → m ≡ l
 
--- the same for responses, notifications or not: the input belongs to the request's number and to one own number or none; no own number gives the nonce of a request (RFC 8613, 5 and 5.2)
+-- the same for responses, notifications or not: the input belongs to the request's number and to one Partial IV or none; no Partial IV of a response gives the nonce of a request
+-- (RFC 8613, 5 and 5.2)
 pub record OneResponseInput : Type 0 where
   pub cipher : (s : SecurityContext) (n : ℕ) (own : Option ℕ) (plaintext : List ℕ) → response_cipher s n own plaintext ≡ ccm_of (response_seal s n own) plaintext
   pub numbers : (s : SecurityContext) (n k : ℕ) (own other : Option ℕ) → IsUsable s → n < 2 ^ 40 → k < 2 ^ 40 → IfSome own (λ i. i < 2 ^ 40) → IfSome other (λ i. i < 2 ^ 40)

@@ -1,5 +1,5 @@
 -- To be believed: what protects a request, and what protects a response to it (RFC 8613, 5 and 8.1 to 8.4). s is a security context, n the
--- request's number, own the response's own number or none, d a datagram, p what a plain message says; a message is its code, inner options
+-- request's number, own the response's own Partial IV or none, d a datagram, p what a plain message says; a message is its code, inner options
 -- and payload. In these names, a notification is any response to a request that registers an observation (RFC 7641, 3.1).
 use Rattle.std.specs.Prelude.{◌≡◌, ℕ, List, [], ◌∷◌, Option, Some, None, Bool, true, false, if◌then◌else◌}
 use Rattle.osc_coap.specs.OptionSpelling.{Entry}
@@ -23,7 +23,7 @@ use Rattle.osc_protect.specs.declared.usage.Usage.TheVariants.{Request, Response
 unfoldable pub request_cipher : SecurityContext → ℕ → List ℕ → List ℕ
 request_cipher s n plaintext = ccm s.client_key (nonce_of s.common_iv s.client n) (additional_data_of s.client n) plaintext
 
--- the nonce of a response: from the server and its own number, or else the nonce of the client's request (RFC 8613, 5.2)
+-- the nonce of a response: from the server and its own Partial IV, or else the nonce of the client's request (RFC 8613, 5.2)
 abbrev pub response_nonce : List ℕ → List ℕ → List ℕ → ℕ → Option ℕ → List ℕ
 response_nonce common_iv client server n None = nonce_of common_iv client n
 response_nonce common_iv client server n (Some own) = nonce_of common_iv server own
@@ -57,7 +57,8 @@ pub record Protection (I : Type 0) : Type 0 where
 abbrev pub requests : SecurityContext → Protection ℕ
 requests s = record { usage = Request; features = s.features; says = as_it_is; parts = λ n. value_of_request n s.id_context s.client; cipher = request_cipher s }
 
--- the protection of responses to request n, each under its own number or none: if the request registers an observation, a response may have Observe; otherwise it may not (RFC 8613, 4.1.3.5.2 and 8.3)
+-- the protection of responses to request n, each under its own Partial IV or none: if the request registers an observation, a response may have Observe; otherwise it may not
+-- (RFC 8613, 4.1.3.5.2 and 8.3)
 abbrev pub responses_to : SecurityContext → Bool → ℕ → Protection (Option ℕ)
 responses_to s registers n = record {
   usage = Response;

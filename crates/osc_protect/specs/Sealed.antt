@@ -1,6 +1,6 @@
 -- To be believed: the one datagram that sealing makes (RFC 8613, 8.1 and 8.3). p is what the plain message says, says what it says inside,
 -- x the features that count, code the outer code, value the value of the OSCORE option, f a protection, i one of its numbers, s a security
--- context, n a request's number, own a response's own number or none, d a datagram.
+-- context, n a request's number, own a response's own Partial IV or none, d a datagram.
 use Rattle.std.specs.Prelude.{◌≡◌, ℕ, ◌+◌, Bool, List, [], ◌∷◌, ◌++◌, Option, true, false, if◌then◌else◌}
 use Rattle.osc_coap.specs.Class.{inner_options}
 use Rattle.osc_coap.specs.OptionSpelling.{Entry}

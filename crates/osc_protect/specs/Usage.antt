@@ -50,6 +50,6 @@ is_complete Response v = is_none v.kid && is_none v.kid_context
 abbrev pub value_of_request : ℕ → Option (List ℕ) → List ℕ → OscoreParts
 value_of_request number kid_context kid = record { piv = Some number; kid_context = kid_context; kid = Some kid }
 
--- what a response's OSCORE option says: its own number if it has one, and no more (RFC 8613, 6.1 and 8.3)
+-- what a response's OSCORE option says: its own Partial IV if it has one, and no more (RFC 8613, 6.1 and 8.3)
 abbrev pub value_of_response : Option ℕ → OscoreParts
 value_of_response own = record { piv = own; kid_context = None; kid = None }

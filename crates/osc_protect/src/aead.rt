@@ -32,8 +32,8 @@ pub(crate) struct Aead<'a> {
 ghost use Rattle.osc_protect.specs.Views.{cipher_of};
 ghost use Rattle.osc_protect.specs.Halves.{HasPayload, DecryptsPayload};
 
-/// Returns the nonce of a response. It comes from the server's own number if the response has one, and otherwise from the client's request
-/// (RFC 8613, 5.2).
+/// Returns the nonce of a response. It comes from the server's own Partial IV if the response has one, and otherwise from the client's
+/// request (RFC 8613, 5.2).
 fn nonce_of_response(
     common_iv: &[u8; 13],
     client: &Kid,
@@ -62,8 +62,8 @@ impl<'a> Aead<'a> {
         }
     }
 
-    /// Makes the cipher of a response to a client's request. The nonce comes from the server's own number if the response has one, and is
-    /// otherwise the request's. The additional data is the request's (RFC 8613, 5.2 and 5.4).
+    /// Makes the cipher of a response to a client's request. The nonce comes from the server's own Partial IV if the response has one, and
+    /// is otherwise the request's. The additional data is the request's (RFC 8613, 5.2 and 5.4).
     pub(crate) fn of_response(
         server: End<'a>,
         common_iv: &[u8; 13],

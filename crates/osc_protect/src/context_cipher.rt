@@ -7,8 +7,8 @@ ghost use Rattle.osc_protect.specs.ContextCipher.{is_in_constant_time, key_under
 use osc_aes::{PlaneAes, TableAes};
 use osc_ccm::{OpenError, SealError, open, seal};
 
-/// AES-CCM under one key of a context: over a schedule that is kept, or over one that each call makes of the key. Each call checks once which
-/// cipher this is.
+/// AES-CCM under one key of a context: over a schedule that is kept, or over one that each call makes of the key. Each call checks once
+/// which cipher this is.
 #[derive(Clone, Copy)]
 pub(crate) enum ContextCipher<'a> {
     ByTables(&'a TableAes),
@@ -103,7 +103,8 @@ impl<'a> ContextCipher<'a> {
     }
 }
 
-/// Seals so under a key whose planes are made here. It stays a separate call, so that the cipher by tables has no room for planes in its frame.
+/// Seals so under a key whose planes are made here. It stays a separate call, so that the cipher by tables has no room for planes in its
+/// frame.
 #[inline(never)]
 fn seal_in_planes(
     key: &[u8; 16],

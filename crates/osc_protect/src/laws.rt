@@ -29,15 +29,15 @@ pub fn one_head()
     layer_laws();
 }
 
-/// States which options are left out: by a context without features Observe, Block2 and Block1, by one with blocks Observe alone, and by one
-/// with Observe Block2 and Block1. Without Observe, a sealed message has outside the options of class U alone, and the code 0.02 or 2.04
-/// (own rule; RFC 8613, 4.1.2 and 4.2).
+/// States which options are left out: by a context without features Observe, Block2 and Block1, by one with blocks Observe alone, and by
+/// one with Observe Block2 and Block1. Without Observe, a sealed message has outside the options of class U alone, and the code 0.02 or
+/// 2.04 (own rule; RFC 8613, 4.1.2 and 4.2).
 pub fn options_left_out()
     ensures { LeavesOut }
 {}
 
-/// States that of the Observe options of a message the first one counts, if its value has at most 3 bytes: it alone stands outside, and in a
-/// notification it has an empty value inside. Where none counts, the message is sealed as one without Observe (RFC 7252, 5.4.3 and 5.4.5;
+/// States that of the Observe options of a message the first one counts, if its value has at most 3 bytes: it alone stands outside, and in
+/// a notification it has an empty value inside. Where none counts, the message is sealed as one without Observe (RFC 7252, 5.4.3 and 5.4.5;
 /// RFC 7641, 2; RFC 8613, 4.1.3.5).
 pub fn one_observe()
     ensures { OneObserve }
@@ -74,8 +74,8 @@ pub fn one_request()
     layer_laws();
 }
 
-/// States that a datagram protects at most one response to a request, under one own number or none, or has at most one refusal, never both
-/// (RFC 8613, 8.4).
+/// States that a datagram protects at most one response to a request, under one Partial IV or none, or has at most one refusal,
+/// never both (RFC 8613, 8.4).
 pub fn one_response()
     ensures { OneResponse }
 {
@@ -125,9 +125,9 @@ pub fn one_sealed()
 }
 
 /// States what the input of a message's cipher fixes: the key, the nonce and the additional data, which the cipher takes besides the
-/// plaintext. In a usable context this input belongs to one request number, and for a response also to one own number or none. There, the
-/// nonce of a response's own number is never the nonce of a request. In all contexts and datagrams, one payload protects one message under
-/// the same input (RFC 8613, 5 and 5.2).
+/// plaintext. In a usable context this input belongs to one request number, and for a response also to one Partial IV or none.
+/// There, the nonce of a response's own Partial IV is never the nonce of a request. In all contexts and datagrams, one payload protects one
+/// message under the same input (RFC 8613, 5 and 5.2).
 pub fn one_cipher_input()
     ensures request { OneRequestInput }
     ensures response { OneResponseInput }

@@ -106,8 +106,8 @@ fn open_request_forward<'b>(
     }
 }
 
-/// Opens a request in its datagram as [`open_request`] does, and borrows nothing: `ReadRequest::opened` lends what was read, without reading
-/// it again. A refusal leaves the datagram as it was; for `Inner` it was decrypted, as [`crate::decrypt_request`] says.
+/// Opens a request in its datagram as [`open_request`] does, and borrows nothing: `ReadRequest::opened` lends what was read, without
+/// reading it again. A refusal leaves the datagram as it was; for `Inner` it was decrypted, as [`crate::decrypt_request`] says.
 pub fn unprotect_request(
     context: &Context,
     datagram: &mut [u8],

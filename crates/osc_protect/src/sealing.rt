@@ -208,11 +208,12 @@ pub fn seal_request(
     seal_request_by(Sender::of(context), number, plain, out)
 }
 
-/// Seals a response to a request, with the server's own Partial IV or else with the request's nonce. Returns how many bytes it takes at
-/// the front of `out`; the bytes after them stay unchanged. Type, Message ID and token are the plain message's; the outer code is 2.04, or
-/// 2.05 if the message has Observe. A response may have Observe only if its code is of class 2 and the request registers an observation; its
-/// value then stands outside alone. What counts as Observe is as for a request. Returns the first refusal in the order of `ProtectError`. A refusal leaves `out` unchanged. The caller
-/// keeps the own number fresh, and seals at most one response without one to each request (RFC 8613, 4.1.3.5.2 and 8.3).
+/// Seals a response to a request, with the server's own Partial IV or else with the request's nonce. Returns how many bytes it takes at the
+/// front of `out`; the bytes after them stay unchanged. Type, Message ID and token are the plain message's; the outer code is 2.04, or 2.05
+/// if the message has Observe. A response may have Observe only if its code is of class 2 and the request registers an observation; its
+/// value then stands outside alone. What counts as Observe is as for a request. Returns the first refusal in the order of `ProtectError`. A
+/// refusal leaves `out` unchanged. The caller keeps that Partial IV fresh, and seals at most one response without one to each request (RFC
+/// 8613, 4.1.3.5.2 and 8.3).
 pub fn seal_response(
     context: &Context,
     request: &RequestRef,

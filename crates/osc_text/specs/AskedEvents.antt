@@ -9,7 +9,7 @@ pub data AskedEvent : Type 0 where
   Forget : (token : List ℕ) → AskedEvent
   Restart : (next : ℕ) → AskedEvent
 
--- the line spells this event (own rule: moments are below 2 ^ 64, own numbers below 2 ^ 40)
+-- the line spells this event (own rule: moments are below 2 ^ 64, Sender Sequence Numbers below 2 ^ 40)
 abbrev pub SpellsAsked : List ℕ → AskedEvent → Type 0
 SpellsAsked line (Request now plain) =
     (n p : List ℕ) × (line ≡ parted (codes "request" ∷ n ∷ p ∷ [])) × SaysBelow (2 ^ 64) n now × SaysBytes p plain

@@ -1,5 +1,5 @@
 -- To be believed: how the entries of a client's log print, one per line (own rule: the words). number is the number of a request, own is
--- the own number of a response, if it has one.
+-- the Partial IV of a response, if it has one.
 use Rattle.std.specs.Prelude.{ℕ, Bool, true, false, List, ◌++◌, Option, codes}
 use Rattle.std.specs.Fmt.{decimal}
 use Rattle.osc_coap.specs.Inner.{InnerParts}
@@ -7,7 +7,7 @@ use Rattle.osc_endpoint.specs.ClientHistory.{Answer, Malformed, NotResponse, Unk
 use Rattle.osc_text.specs.EntryLines.{entry_line, fault_text, message_text}
 use Rattle.osc_text.specs.Lines.{bytes_text, number_text}
 
--- what a response says: number, own number or a dash if there is none, code, options and payload (own rule)
+-- what a response says: number, own Partial IV or a dash if there is none, code, options and payload (own rule)
 abbrev pub response_text : (number : ℕ) (own : Option ℕ) → InnerParts → List ℕ
 response_text number own m = decimal number ++ (codes " " ++ (number_text own ++ (codes " " ++ message_text m)))
 

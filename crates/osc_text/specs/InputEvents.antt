@@ -20,12 +20,12 @@ SaysMessageId word mid = (mid < 2 ^ 16) × SpellsBytes word (to_be_bytes w16 mid
 abbrev pub SaysEcho : List ℕ → List ℕ → Type 0
 SaysEcho word echo = (length echo ≡ 8) × SpellsBytes word echo
 
--- the word for a reply with an own number, and for a reply without one (own rule)
+-- the word for a reply with a Partial IV of its own, and for a reply without one (own rule)
 abbrev pub own_word : Bool → List ℕ
 own_word true = codes "own"
 own_word false = codes "shared"
 
--- the line spells this event (own rule: moments and the indices of answered events are below 2 ^ 64, own numbers below 2 ^ 40)
+-- the line spells this event (own rule: moments and the indices of answered events are below 2 ^ 64, Sender Sequence Numbers below 2 ^ 40)
 abbrev pub SpellsEvent : List ℕ → InputEvent → Type 0
 SpellsEvent line (Take now echo mid datagram) =
     (n e m d : List ℕ) × (line ≡ parted (codes "take" ∷ n ∷ e ∷ m ∷ d ∷ []))

@@ -13,7 +13,7 @@ use Rattle.osc_text.specs.InputReading.{SpellsSeen, bytes_read, fixed_read, numb
 abbrev pub message_id_read : List ℕ → Option ℕ
 message_id_read word = option_map (from_be_bytes w16) (fixed_read 2 word)
 
--- whether a word asks for an own number (how the code is seen)
+-- whether a word asks for a Partial IV of its own (how the code is seen)
 unfoldable pub own_read : List ℕ → Option Bool
 own_read word = if bytes_eq word (codes "own") then Some true else if bytes_eq word (codes "shared") then Some false else None
 

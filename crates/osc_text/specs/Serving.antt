@@ -43,7 +43,7 @@ pub data AnsweredLine (h : History) (ts : List (Option TicketValues)) (of : ℕ)
   refused : (t : TicketValues) (p : Parts) (e : ReplyError) → ticket_at ts of ≡ Some t → IsDatagram p plain
       → GoesOn h (event t p) (NotReplied e) k → line ≡ not_done_line (reply_error_text e) → us ≡ ts → AnsweredLine h ts of event left plain line k us
 
--- a reply, which takes the ticket if it is sealed, and has an own number if the ticket's request registers an observation (RFC 8613, 4.1.3.5 and 8.3)
+-- a reply, which takes the ticket if it is sealed, and has a Partial IV of its own if the ticket's request registers an observation (RFC 8613, 4.1.3.5 and 8.3)
 abbrev pub ReplyLine : History → List (Option TicketValues) → ℕ → Bool → ℕ → List ℕ → List ℕ → History → List (Option TicketValues) → Type 0
 ReplyLine h ts of own mid plain line k us = AnsweredLine h ts of (λ t p. Reply t (asks_own t own) mid p (reply_room plain)) (slice_set ts of None) plain line k us
 

@@ -13,7 +13,7 @@ use osc_endpoint::{ClientEntry, ClientOutcome};
 use osc_protect::Opened;
 use std::alloc::{AllocError, Global};
 
-/// Returns the text of a response: the request's number, its own number or a dash if it has none, code, options and payload.
+/// Returns the text of a response: the request's number, its own Partial IV or a dash if it has none, code, options and payload.
 fn response_text(alloc: Global, opened: &Opened<'_>, number: Piv) -> Result<String, AllocError>
     ensures { IfOk result (λ text. string_bytes text
         ≡ response_text (number_of number) (opened_number opened.now) (message_of opened.now)) }

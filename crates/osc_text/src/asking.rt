@@ -18,7 +18,7 @@ use std::io::Write;
 /// How a client begins.
 #[derive(Clone, Copy, Debug)]
 pub struct Asking {
-    /// The next own Sender Sequence Number.
+    /// The next Sender Sequence Number.
     pub next: Piv,
     /// How long a request is pending, in milliseconds.
     pub life_ms: u64,

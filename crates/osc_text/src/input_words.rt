@@ -81,7 +81,7 @@ pub(crate) fn read_message_id(word: &[u8]) -> Option<u16>
     }
 }
 
-/// Returns whether a word asks for an own number.
+/// Returns whether a word asks for a Partial IV of its own.
 #[tactic(auto, unfolding(crate::specs::ServedReading::own_read))]
 pub(crate) fn read_own(word: &[u8]) -> Option<bool>
     ensures { result ≡ own_read word.now }

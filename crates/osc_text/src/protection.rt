@@ -18,7 +18,7 @@ use std::io::Write;
 pub enum Sealing {
     /// A request with this number, sealed by its client.
     Request(Piv),
-    /// A response to a request, under an own number of the server or under none.
+    /// A response to a request, under a Partial IV of its own of the server or under none.
     Response {
         request: RequestRef,
         own: Option<Piv>,
@@ -32,7 +32,7 @@ ghost use Rattle.osc_text.specs.Written.{Writes};
 /// Derives a context, and seals a plain datagram as a request or as a response. Writes the sealed datagram in hex, on one line, or the one
 /// line of a refusal: the context's refusal comes before the datagram's. This end is the sender of the context. Returns the status: 0 if
 /// the datagram is sealed, 2 if it or the context is refused. Builds the line completely before writing it. The caller keeps each number
-/// fresh, and seals at most one response without an own number to a request.
+/// fresh, and seals at most one response without a Partial IV of its own to a request.
 pub fn protect_text<W: Write>(
     alloc: Global,
     agreed: Agreed<'_>,

@@ -19,7 +19,7 @@ use std::io::Write;
 /// How a server begins.
 #[derive(Clone, Copy, Debug)]
 pub struct Serving {
-    /// The next own Sender Sequence Number.
+    /// The next Sender Sequence Number.
     pub next: Piv,
     /// Whether the context may have received requests before.
     pub is_restarted: bool,

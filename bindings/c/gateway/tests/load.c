@@ -3,9 +3,9 @@
        load LINES PORT [NAME=VALUE ..]
 
    requests=N, or seconds=S with no loss; outstanding=64; next=0, each client's first number; of a hundred datagrams lose=0 are lost, both
-   ways, double=0 come twice, late=0 come late, and behind replay=0 one of before comes again; of a hundred requests own=0 ask for a reply under
-   an own number, long=0 have a text of 100 bytes, and non=0 are NON; keep=FILE keeps what was sent, again=FILE sends that first; results=FILE
-   says what each context came to; seed=1.
+   ways, double=0 come twice, late=0 come late, and behind replay=0 one of before comes again; of a hundred requests own=0 ask for a reply
+   with a Partial IV of its own, long=0 have a text of 100 bytes, and non=0 are NON; keep=FILE keeps what was sent, again=FILE sends that
+   first; results=FILE says what each context came to; seed=1.
 
    The status is 1 where a reply is wrong: its text isn't that of its request, or it says of two requests that each was, say, the third. */
 #include "lines.h"

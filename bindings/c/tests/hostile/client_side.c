@@ -12,7 +12,7 @@ struct client_end {
 static struct client_end ends[ENDS];
 static struct client_judge judge;
 static uint64_t last_moment;
-/* The next own number of the server that the test itself is. */
+/* The next Sender Sequence Number of the server that the test itself is. */
 static uint64_t next_own;
 
 static void make_rooms(struct client_end *end, int place) {

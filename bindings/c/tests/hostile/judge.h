@@ -38,7 +38,7 @@ struct challenge {
 };
 
 /* A context of a server in its present life (RFC 8613, 7.4 and B.1): whether requests are judged by their number or by an Echo value, the
-   least number that is new, the numbers that are spent, the next own number, and which requests wait for their answers. */
+   least number that is new, the numbers that are spent, the next Sender Sequence Number, and which requests wait for their answers. */
 struct life {
     const struct agreed *agreed;
     bool is_open, is_challenged;
@@ -56,7 +56,7 @@ void spend(struct life *life, uint64_t number);
 void deliver_in(struct life *life, uint64_t number);
 /* Whether a request with this first Echo value, or with none, is delivered. */
 bool admits(const struct life *life, uint64_t clock, bool has_echo, struct bytes echo);
-/* Gives the challenge in force, or else a fresh one, and spends an own number for it. False where none is left. */
+/* Gives the challenge in force, or else a fresh one, and spends a Sender Sequence Number for it. False where none is left. */
 bool challenge_in(struct life *life, uint64_t clock, const uint8_t echo[8]);
 bool is_waiting(const struct life *life, uint64_t number);
 void answered_in(struct life *life, uint64_t number);
@@ -86,11 +86,11 @@ struct answer {
 };
 
 void judge_reply(struct server_judge *judge, const struct answer *answer, struct judged *judged);
-/* The same of a notification, which has an own number always, and a kind and a message ID of its own. */
+/* The same of a notification, which has a Partial IV of its own always, and a kind and a message ID of its own. */
 void judge_notify(struct server_judge *judge, const struct answer *answer, struct judged *judged);
 
-/* A registration is notified from the place `from` on: 0 is that of a response without an own number, and each other one has its number and
-   1 (RFC 8613, 7.4.1). */
+/* A registration is notified from the place `from` on: 0 is that of a response without a Partial IV of its own, and each other one has its
+   number and 1 (RFC 8613, 7.4.1). */
 struct pending {
     struct text token;
     uint64_t number, moment;

@@ -38,7 +38,7 @@ static struct text additional_data(struct bytes kid, uint64_t request) {
     return data;
 }
 
-/* The ciphertext of a plaintext. A response without an own number has the nonce of its request (RFC 8613, 5.2). */
+/* The ciphertext of a plaintext. A response without a Partial IV of its own has the nonce of its request (RFC 8613, 5.2). */
 static struct text encrypt(struct sealed_as as, struct bytes plaintext) {
     const oscore_context *context = &ends[as.context][as.is_response].context;
     struct bytes sender = {context->sender, context->sender_len}, recipient = {context->recipient, context->recipient_len};
@@ -50,7 +50,7 @@ static struct text encrypt(struct sealed_as as, struct bytes plaintext) {
 }
 
 /* The value of the OSCORE option: of a request the number, the kid, and the kid context where there is an ID Context; of a response its
-   own number, where it has one (RFC 8613, 6.1). */
+   own Partial IV, where it has one (RFC 8613, 6.1). */
 static struct text oscore_value(struct sealed_as as) {
     const struct agreed *agreed = &AGREED[as.context];
     struct value value = {.has_number = as.has_own, .number = as.own};
@@ -125,7 +125,8 @@ static void needs_cipher(void) {
     NEEDS(!memcmp(block, wanted, 16));
 }
 
-/* RFC 8613, C.4 to C.8: a request under the number 20 in each context, and its response in the first, without and with an own number. */
+/* RFC 8613, C.4 to C.8: a request under the number 20 in each context, and its response in the first, without and with a Partial IV of its
+   own. */
 static void needs_messages(void) {
     static const struct bytes plains[2] = {{(const uint8_t *)"\x44\x01\x5d\x1f\0\0\x39\x74\x39localhost\x83tv1", 22},
                                            {(const uint8_t *)"\x64\x45\x5d\x1f\0\0\x39\x74\xffHello World!", 21}};

@@ -21,7 +21,8 @@ extern const struct agreed AGREED[CONTEXTS];
 void derive(size_t place, bool of_server, bool constant_time, oscore_context *context);
 
 /* What a plaintext was sealed as: a request of the client of a context, by its place, under the number `request`; or the response to the
-   request of that number, under an own number or none. A response to a registration may be a notification (RFC 8613, 4.1.3.5.2). */
+   request of that number, with a Partial IV of its own or without. A response to a registration may be a notification (RFC 8613,
+   4.1.3.5.2). */
 struct sealed_as {
     bool is_response, has_own;
     size_t context;

@@ -29,7 +29,7 @@ static void write_error(const struct handed *handed, struct judged *judged) {
     }
 }
 
-/* A challenge is 4.01 with the Echo value, sealed under an own number (RFC 8613, B.1.2). */
+/* A challenge is 4.01 with the Echo value, sealed with a Partial IV of its own (RFC 8613, B.1.2). */
 static void write_challenge(const struct life *life, const struct handed *handed, struct judged *judged) {
     struct head asked = judged->seen.head;
     struct sealed_as as = {true, true, judged->opened->as.context, judged->opened->as.request, life->next - 1, false};
@@ -107,7 +107,7 @@ static uint32_t refuses_ticket(const struct server_judge *judge, const struct an
     return is_stale ? OSCORE_STALE_TICKET : OSCORE_DONE;
 }
 
-/* The answer to a registration has an own number always (RFC 8613, 4.1.3.5). */
+/* The answer to a registration has a Partial IV of its own always (RFC 8613, 4.1.3.5). */
 static bool has_own(const struct answer *answer) {
     return answer->own || answer->ticket.observes;
 }

@@ -59,7 +59,7 @@ void begin_servers(void) {
     }
 }
 
-/* What a server shows of itself: its clock, and of each context the next own number, the life, and what opens and closes it. */
+/* What a server shows of itself: its clock, and of each context the next Sender Sequence Number, the life, and what opens and closes it. */
 static bool is_state(const oscore_server *server) {
     if (server->clock != judge.clock || server->count != CONTEXTS) return false;
     for (size_t i = 0; i < CONTEXTS; i++) {

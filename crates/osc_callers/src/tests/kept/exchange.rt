@@ -39,7 +39,7 @@ pub struct Seen<'a> {
     pub client: &'a Watch,
     /// The numbers of the requests that were sent.
     pub sent: Vec<u64>,
-    /// The server's own numbers, in replies and challenges.
+    /// The server's Sender Sequence Numbers, in replies and challenges.
     pub own: Vec<u64>,
     /// The numbers of the requests that were delivered.
     pub delivered: Vec<u64>,
@@ -126,7 +126,7 @@ fn send(
     }
 }
 
-/// Has the client take a response, and notes the response's own number, if it has one.
+/// Has the client take a response, and notes the response's own Partial IV, if it has one.
 fn take_response(
     rt: &impl Abort,
     now: u64,
@@ -142,8 +142,8 @@ fn take_response(
     }
 }
 
-/// Has the server reply with an own number, a second time if the keeper failed. The client takes the reply. A server that was stopped sends
-/// none.
+/// Has the server reply with a Partial IV of its own, a second time if the keeper failed. The client takes the reply. A server that was
+/// stopped sends none.
 fn reply(
     rt: &impl Abort,
     now: u64,

@@ -143,7 +143,8 @@ pub fn challenge(
     None
 }
 
-/// Has the server reply to the request of a ticket, without an own number. Returns how many bytes the reply takes at the front of `out`.
+/// Has the server reply to the request of a ticket, without a Partial IV of its own. Returns how many bytes the reply takes at the front of
+/// `out`.
 pub fn answer(
     server: &mut Server,
     ticket: Ticket,

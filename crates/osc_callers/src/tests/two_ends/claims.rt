@@ -52,8 +52,8 @@ fn may_deliver(request: Request, before: &[Entry]) -> bool {
     !is_delivered && before.contains(&Entry::RequestSealed(request))
 }
 
-/// Returns whether the server sealed a response with the same own number or, for a response without one, another without one to the same
-/// request: that one is under the nonce of the request.
+/// Returns whether the server sealed a response with the same Partial IV or, for a response without one, another without one to
+/// the same request: that one is under the nonce of the request.
 fn is_nonce_used(response: Response, before: &[Entry]) -> bool {
     before.iter().any(|entry| match entry {
         Entry::ResponseSealed(other) => {

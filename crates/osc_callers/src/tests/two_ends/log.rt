@@ -27,7 +27,7 @@ pub struct Request {
     pub payload: Payload,
 }
 
-/// A response: its token, the number of its request, and its own number, if it has one. A challenge has no payload.
+/// A response: its token, the number of its request, and its own Partial IV, if it has one. A challenge has no payload.
 #[derive(Clone, Copy, Debug, PartialEq, Eq)]
 pub struct Response {
     pub token: u8,

@@ -40,7 +40,8 @@ pub fn take_request(
     Ok(())
 }
 
-/// Has the application answer a request. It answers the request with token 1 under an own number. A ticket of an earlier life is refused.
+/// Has the application answer a request. It answers the request with token 1 under a Partial IV of its own. A ticket of an earlier life is
+/// refused.
 pub fn answer(
     rt: &impl Abort,
     world: &mut World,
