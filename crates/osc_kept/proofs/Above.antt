@@ -29,14 +29,14 @@ restarts_above : (s : SecurityContext) (w : World) (event : client.Event) (entry
 restarts_above s w (client.Restart first) entry above = λ r k. above r (subst (λ rs. Has r rs) (sym (sent_is s w)) k)
 restarts_above s w event entry above = tt
 
-client_below : (n : ℕ) (h : client.History) (event : client.Event) (entry : client.Entry) (ds : List Deed) → RestartsAbove ds event → AllSentBelow ds (client.next h)
+client_below : (h : client.History) (event : client.Event) (entry : client.Entry) (ds : List Deed) → RestartsAbove ds event → AllSentBelow ds (client.next h)
     → AllSentBelow (client_deed (Some h) event entry ∷ ds) (client.next (client.Then h event entry))
-client_below n h (client.Request now p room) (client.Sent bytes) ds restarts below r (inl e) =
+client_below h (client.Request now p room) (client.Sent bytes) ds restarts below r (inl e) =
     let same : r.number ≡ client.next h = ap (λ (x : Request). x.number) e in
     omega (arith, same)
-client_below n h (client.Request now p room) (client.Sent bytes) ds restarts below r (inr k) = let less = below r k in omega (arith, less)
-client_below n h (client.Restart first) entry ds restarts below r k = restarts r k
-client_below n h event entry ds restarts below r k = below r k
+client_below h (client.Request now p room) (client.Sent bytes) ds restarts below r (inr k) = let less = below r k in omega (arith, less)
+client_below h (client.Restart first) entry ds restarts below r k = restarts r k
+client_below h event entry ds restarts below r k = below r k
 
 -- all requests that were sealed have numbers below the next one of the client that runs
 pub sends_below : (n : ℕ) (s : SecurityContext) (w : World) (h : client.History) → AtEach (Answers n s) w → AtEach (BeginsAbove s) w → client_history s w ≡ Some h
@@ -49,7 +49,7 @@ sends_below n s (Then w (AtClient event entry)) h a b e =
     let same : client.Then a.1.0 event entry ≡ h = some_is (sym (ap (λ x. option_map (λ g. client.Then g event entry) x) a.1.1) ∙ e) in
     subst (λ x. AllSentBelow (digest s (Then w (AtClient event entry))) (client.next x)) same
     (subst (λ o. AllSentBelow (client_deed o event entry ∷ digest s w) (client.next (client.Then a.1.0 event entry))) (sym a.1.1)
-    (client_below n a.1.0 event entry (digest s w) (restarts_above s w event entry b.1) (sends_below n s w a.1.0 a.0 b.0 a.1.1)))
+    (client_below a.1.0 event entry (digest s w) (restarts_above s w event entry b.1) (sends_below n s w a.1.0 a.0 b.0 a.1.1)))
 sends_below n s (Then w (AtServer event entry)) h a b e = λ r k.
     sends_below n s w h a.0 b.0 e r (subst (λ rs. Has r rs) (sends_server (server_life s w) event entry (digest s w)) k)
 sends_below n s (Then w event) h a b e = sends_below n s w h a.0 b.0 e

@@ -1,6 +1,6 @@
 //! The calls and runs of kept ends within the list of what happened at both ends (RFC 8613, 7.4, 8.1 to 8.4 and B.1). Each function
-//! makes the call that it is named for, and nothing else; its contract is about that list. If the list meets the premises and this
-//! end runs in it, the call adds to the list, the longer list meets the premises too, and all of it is as `both_ends` says.
+//! makes the call that it is named for, and nothing else; its contract is about that list. If the list meets the premises, with kept
+//! numbers, and this end runs in it, the call adds to the list, the longer list does so too, and all of it is as `both_ends` says.
 
 ghost use Rattle.std.specs.Prelude.{◌≡◌, ◌≢◌, ◌≤◌, ◌<◌, ◌+◌, ℕ, [], Err, IsErr, IsOk, IfErr, IfOk, IsErrOf, OnErr, OnOk, drop, length, take, vec_len};
 ghost use Rattle.osc_coap.specs.Views.{parts_of};
