@@ -6,10 +6,10 @@ ghost use Rattle.osc_aes.specs.Aes128.{added_word, expanded_key, next_word, word
 
 use crate::substitution_box::substitute_byte;
 
-// The first bytes of Rcon(1) to Rcon(10); their other three bytes are zero.
+/// The first bytes of Rcon(1) to Rcon(10); their other three bytes are zero.
 const ROUND_CONSTANTS: [u8; 10] = [0x01, 0x02, 0x04, 0x08, 0x10, 0x20, 0x40, 0x80, 0x1b, 0x36];
 
-// Returns the first byte of Rcon(round + 1).
+/// Returns the first byte of Rcon(round + 1).
 #[inline(always)]
 pub(crate) fn round_constant(round: usize) -> u8
     requires { round < 10 }
@@ -18,7 +18,7 @@ pub(crate) fn round_constant(round: usize) -> u8
     ROUND_CONSTANTS[round]
 }
 
-// Expands a key into all its words.
+/// Expands a key into all its words.
 pub(crate) fn expand(key: &[u8; 16]) -> [u8; 176]
     ensures { result ≡ expanded_key key.now }
 {
@@ -31,7 +31,7 @@ pub(crate) fn expand(key: &[u8; 16]) -> [u8; 176]
     words
 }
 
-// Computes word `index` from the words before it.
+/// Computes word `index` from the words before it.
 fn next_word(words: &[u8; 176], index: usize) -> [u8; 4]
     requires low { 4 ≤ index }
     requires high { index < 44 }
@@ -41,7 +41,7 @@ fn next_word(words: &[u8; 176], index: usize) -> [u8; 4]
     xor_word(word_at(words, index - 4), added)
 }
 
-// Returns what is added to word `index - 4` to make word `index`. `last` is word `index - 1`.
+/// Returns what is added to word `index - 4` to make word `index`. `last` is word `index - 1`.
 fn added_word(last: [u8; 4], index: usize) -> [u8; 4]
     requires low { 4 ≤ index }
     requires high { index < 44 }
@@ -61,6 +61,7 @@ fn added_word(last: [u8; 4], index: usize) -> [u8; 4]
     }
 }
 
+/// Returns word `index` of some bytes.
 pub(crate) fn word_at(words: &[u8], index: usize) -> [u8; 4]
     requires { 4 * index + 4 ≤ length words.now }
     ensures { result ≡ word_at words.now index }
@@ -74,6 +75,7 @@ pub(crate) fn word_at(words: &[u8], index: usize) -> [u8; 4]
     ]
 }
 
+/// Adds two words, byte by byte.
 pub(crate) fn xor_word(u: [u8; 4], v: [u8; 4]) -> [u8; 4]
     ensures { result ≡ xor_word u v }
 {

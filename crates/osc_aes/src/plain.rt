@@ -37,6 +37,7 @@ impl BlockCipher for PlainAes {
     ghost key_len = { λ s. s.key_len };
 }
 
+/// Returns the block after all rounds (FIPS 197, 5.1).
 fn cipher(words: &[u8; 176], block: &[u8; 16]) -> [u8; 16]
     ensures { result ≡ cipher words.now block.now }
 {
@@ -52,6 +53,7 @@ fn cipher(words: &[u8; 176], block: &[u8; 16]) -> [u8; 16]
     add_round_key(&shifted, words, 10)
 }
 
+/// Substitutes each byte (FIPS 197, 5.1.1).
 fn sub_bytes(block: &[u8; 16]) -> [u8; 16]
     ensures { result ≡ block_of (sub_bytes (state_of block.now)) }
 {
@@ -62,6 +64,7 @@ fn sub_bytes(block: &[u8; 16]) -> [u8; 16]
     out
 }
 
+/// Rotates row r left by r columns (FIPS 197, 5.1.2).
 fn shift_rows(block: &[u8; 16]) -> [u8; 16]
     ensures { result ≡ block_of (shift_rows (state_of block.now)) }
 {
@@ -74,6 +77,7 @@ fn shift_rows(block: &[u8; 16]) -> [u8; 16]
     out
 }
 
+/// Multiplies each column by the matrix whose first row is 02 03 01 01 (FIPS 197, 5.1.3).
 fn mix_columns(block: &[u8; 16]) -> [u8; 16]
     ensures { result ≡ block_of (mix_columns (state_of block.now)) }
 {
@@ -90,6 +94,7 @@ fn mix_columns(block: &[u8; 16]) -> [u8; 16]
     out
 }
 
+/// Adds a round key (FIPS 197, 5.1.4).
 fn add_round_key(block: &[u8; 16], words: &[u8; 176], round: usize) -> [u8; 16]
     requires { round < 11 }
     ensures { result ≡ block_of (add_round_key words.now round (state_of block.now)) }
@@ -101,7 +106,7 @@ fn add_round_key(block: &[u8; 16], words: &[u8; 176], round: usize) -> [u8; 16]
     out
 }
 
-// Multiplies an element of the field by 02.
+/// Multiplies an element of the field by 02.
 #[inline(always)]
 fn double(element: u8) -> u8
     ensures { result ≡ mul 2 element }
@@ -109,7 +114,7 @@ fn double(element: u8) -> u8
     (element << 1) ^ ((element >> 7) * 0x1b)
 }
 
-// Multiplies an element of the field by 03.
+/// Multiplies an element of the field by 03.
 #[inline(always)]
 fn triple(element: u8) -> u8
     ensures { result ≡ mul 3 element }

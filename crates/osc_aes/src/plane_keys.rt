@@ -10,11 +10,11 @@ use crate::plane_packing::pack;
 use crate::plane_substitution::sub_bytes;
 use byteorder::{ByteOrder, LittleEndian};
 
-// Lanes 0, 8, 16 and 24, which hold the bytes of a word.
+/// Lanes 0, 8, 16 and 24, which hold the bytes of a word.
 const LANES: u32 = 0x0101_0101;
 
-// Returns round keys 0 to 10 of a key, each in the lanes of both blocks and rotated like the state that it is added to.
-// It isn't inlined, and neither is the call that runs the rounds.
+/// Returns round keys 0 to 10 of a key, each in the lanes of both blocks and rotated like the state that it is added to.
+/// It isn't inlined, and neither is the call that runs the rounds.
 #[inline(never)]
 pub(crate) fn round_keys(key: &[u8; 16]) -> [[u32; 8]; 11]
     ensures { AreKeysOf result (expanded_key key.now) }
@@ -30,7 +30,7 @@ pub(crate) fn round_keys(key: &[u8; 16]) -> [[u32; 8]; 11]
     keys
 }
 
-// Puts a round key into the lanes of both blocks, with row r rotated right by `round` times r columns.
+/// Puts a round key into the lanes of both blocks, with row r rotated right by `round` times r columns.
 fn turned_planes(round_key: &[u8; 16], round: usize) -> [u32; 8]
     requires { round < 11 }
     ensures { (b row column : ℕ) → b < 2 → row < 4 → column < 4
@@ -44,7 +44,7 @@ fn turned_planes(round_key: &[u8; 16], round: usize) -> [u32; 8]
     pack(&turned, &turned)
 }
 
-// Computes round key `round + 1` from the one before it, word by word.
+/// Computes round key `round + 1` from the one before it, word by word.
 fn next_round_key(round_key: &[u8; 16], round: usize) -> [u8; 16]
     requires { round < 10 }
     ensures { (key : List ℕ) → length key ≡ 16 → round_key.now ≡ block_at (expanded_key key) round
@@ -61,8 +61,8 @@ fn next_round_key(round_key: &[u8; 16], round: usize) -> [u8; 16]
     ]
 }
 
-// Returns what is added to the first word of round key `round` to make the first word of the next round key. `last` is
-// the last word of round key `round`.
+/// Returns what is added to the first word of round key `round` to make the first word of the next round key. `last` is
+/// the last word of round key `round`.
 fn added_word(last: [u8; 4], round: usize) -> [u8; 4]
     requires { round < 10 }
     ensures { result ≡ added_word last (4 * round + 4) }
@@ -72,7 +72,7 @@ fn added_word(last: [u8; 4], round: usize) -> [u8; 4]
     [b ^ round_constant(round), c, d, a]
 }
 
-// Applies the substitution box to each byte of a word.
+/// Applies the substitution box to each byte of a word.
 fn sub_word(word: [u8; 4]) -> [u8; 4]
     ensures { result ≡ sub_word word }
 {
@@ -80,7 +80,7 @@ fn sub_word(word: [u8; 4]) -> [u8; 4]
     word_in(&planes)
 }
 
-// Returns planes whose lane 8n is byte n of a word. They are the word itself, shifted.
+/// Returns planes whose lane 8n is byte n of a word. They are the word itself, shifted.
 #[inline(always)]
 fn word_planes(word: &[u8; 4]) -> [u32; 8]
     ensures { (n : ℕ) → n < 4 → lane result (8 * n) ≡ slice_index word.now n }
@@ -98,7 +98,7 @@ fn word_planes(word: &[u8; 4]) -> [u32; 8]
     ]
 }
 
-// Returns the word whose byte n is lane 8n of planes.
+/// Returns the word whose byte n is lane 8n of planes.
 #[inline(always)]
 fn word_in(planes: &[u32; 8]) -> [u8; 4]
     ensures { (n : ℕ) → n < 4 → slice_index result n ≡ lane planes.now (8 * n) }

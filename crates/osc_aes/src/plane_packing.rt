@@ -7,7 +7,7 @@ ghost use Rattle.osc_aes.specs.Lanes.{block_in, exchanged, pairs_exchanged};
 
 use byteorder::{ByteOrder, LittleEndian};
 
-// Returns the planes of two blocks, before any round.
+/// Returns the planes of two blocks, before any round.
 pub(crate) fn pack(first: &[u8; 16], second: &[u8; 16]) -> [u32; 8]
     ensures first { block_in 0 result 0 ≡ first.now }
     ensures second { block_in 0 result 1 ≡ second.now }
@@ -19,7 +19,7 @@ pub(crate) fn pack(first: &[u8; 16], second: &[u8; 16]) -> [u32; 8]
     transpose(&[a[0], b[0], a[1], b[1], a[2], b[2], a[3], b[3]])
 }
 
-// Writes the two blocks that planes hold after ten rounds.
+/// Writes the two blocks that planes hold after ten rounds.
 pub(crate) fn unpack(planes: [u32; 8], first: &mut [u8; 16], second: &mut [u8; 16])
     ensures first { first.new ≡ block_in 10 planes 0 }
     ensures second { second.new ≡ block_in 10 planes 1 }
@@ -29,8 +29,8 @@ pub(crate) fn unpack(planes: [u32; 8], first: &mut [u8; 16], second: &mut [u8; 1
     LittleEndian::write_u32_into(&[w1, w3, w5, w7], second);
 }
 
-// Transposes the bits of eight words, byte by byte: bit t of a byte of word k becomes bit k of the same byte of word t.
-// Each exchange swaps one binary digit of a word's number with one binary digit of a bit's number.
+/// Transposes the bits of eight words, byte by byte: bit t of a byte of word k becomes bit k of the same byte of word t.
+/// Each exchange swaps one binary digit of a word's number with one binary digit of a bit's number.
 #[inline(always)]
 fn transpose(words: &[u32; 8]) -> [u32; 8]
     ensures { (t i : ℕ) → t < 8 → i < 32
@@ -44,7 +44,7 @@ fn transpose(words: &[u32; 8]) -> [u32; 8]
     [w0, w1, w2, w3, w4, w5, w6, w7]
 }
 
-// Rotates back eight columns whose row r is rotated by ten times r columns: rows 1 and 3 move two columns.
+/// Rotates back eight columns whose row r is rotated by ten times r columns: rows 1 and 3 move two columns.
 #[inline(always)]
 fn turn_back(words: &[u32; 8]) -> [u32; 8]
     ensures { (k p : ℕ) → k < 8 → p < 32
@@ -56,7 +56,7 @@ fn turn_back(words: &[u32; 8]) -> [u32; 8]
     [w0, w1, w2, w3, w4, w5, w6, w7]
 }
 
-// Exchanges the bits of four pairs of neighbours.
+/// Exchanges the bits of four pairs of neighbours.
 #[inline(always)]
 fn exchange_pairs(words: [u32; 8], distance: u32, mask: u32) -> [u32; 8]
     requires { distance < 32 }
@@ -70,8 +70,8 @@ fn exchange_pairs(words: [u32; 8], distance: u32, mask: u32) -> [u32; 8]
     [w0, w1, w2, w3, w4, w5, w6, w7]
 }
 
-// Returns two words after the bits of `second` under the mask have swapped with the bits of `first` that are `distance`
-// places higher.
+/// Returns two words after the bits of `second` under the mask have swapped with the bits of `first` that are `distance`
+/// places higher.
 #[inline(always)]
 fn exchange(first: u32, second: u32, distance: u32, mask: u32) -> [u32; 2]
     requires { distance < 32 }

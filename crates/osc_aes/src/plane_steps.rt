@@ -7,8 +7,8 @@ ghost use Rattle.osc_aes.specs.Field.{mul};
 ghost use Rattle.osc_aes.specs.Views.{lane};
 ghost use Rattle.osc_aes.specs.Lanes.{below};
 
-// Multiplies each column by the matrix whose first row is 02 03 01 01. A row becomes 02 times the sum of itself and the
-// row below, plus the three rows below. The planes are taken one by one, in an order of which LLVM makes few instructions.
+/// Multiplies each column by the matrix whose first row is 02 03 01 01. A row becomes 02 times the sum of itself and the
+/// row below, plus the three rows below. The planes are taken one by one, in an order of which LLVM makes few instructions.
 #[inline(always)]
 pub(crate) fn mix_columns(planes: [u32; 8], turned: usize) -> [u32; 8]
     requires { turned < 4 }
@@ -37,7 +37,7 @@ pub(crate) fn mix_columns(planes: [u32; 8], turned: usize) -> [u32; 8]
     add_planes(add_planes(double_planes(sum), next), far)
 }
 
-// What stands below the rows of one plane: the row below each, the sum of both, and the sum of the two rows below these.
+/// What stands below the rows of one plane: the row below each, the sum of both, and the sum of the two rows below these.
 #[derive(Clone, Copy)]
 struct RowsBelow {
     next: u32,
@@ -45,7 +45,7 @@ struct RowsBelow {
     far: u32,
 }
 
-// Returns what stands below the rows of one plane.
+/// Returns what stands below the rows of one plane.
 #[inline(always)]
 fn rows_below(plane: u32, turned: usize) -> RowsBelow
     requires { turned < 4 }
@@ -62,8 +62,8 @@ fn rows_below(plane: u32, turned: usize) -> RowsBelow
     }
 }
 
-// Moves each row of one plane to the place of the row above it. A row has eight bits, and each of its columns has two. The bits that stay in
-// order and those that come around are each one rotation of the whole plane.
+/// Moves each row of one plane to the place of the row above it. A row has eight bits, and each of its columns has two. The bits that stay in
+/// order and those that come around are each one rotation of the whole plane.
 #[inline(always)]
 fn turn_plane(plane: u32, turned: usize) -> u32
     requires { turned < 4 }
@@ -86,7 +86,7 @@ fn turn_plane(plane: u32, turned: usize) -> u32
     }
 }
 
-// Moves each row of one plane to the place of the second row above it.
+/// Moves each row of one plane to the place of the second row above it.
 #[inline(always)]
 fn turn_plane_twice(plane: u32, turned: usize) -> u32
     requires { turned < 4 }
@@ -100,7 +100,7 @@ fn turn_plane_twice(plane: u32, turned: usize) -> u32
     }
 }
 
-// Multiplies each lane by 02. A bit that leaves at the top comes back as the modulus, 1b.
+/// Multiplies each lane by 02. A bit that leaves at the top comes back as the modulus, 1b.
 #[inline(always)]
 fn double_planes(planes: [u32; 8]) -> [u32; 8]
     ensures { (i : ℕ) → i < 32 → lane result i ≡ mul 2 (lane planes i) }
@@ -109,7 +109,7 @@ fn double_planes(planes: [u32; 8]) -> [u32; 8]
     [p7, p0 ^ p7, p1, p2 ^ p7, p3 ^ p7, p4, p5, p6]
 }
 
-// Adds lane by lane: a state and a round key, or two states.
+/// Adds lane by lane: a state and a round key, or two states.
 #[inline(always)]
 pub(crate) fn add_planes(left: [u32; 8], right: [u32; 8]) -> [u32; 8]
     ensures { (i : ℕ) → i < 32 → lane result i ≡ bit_xor (lane left i) (lane right i) }

@@ -5,8 +5,8 @@ ghost use Rattle.std.specs.Prelude.{◌≡◌, ◌<◌, ℕ};
 ghost use Rattle.osc_aes.specs.SubstitutionBox.{substitute};
 ghost use Rattle.osc_aes.specs.Views.{lane};
 
-// Substitutes the byte of each lane. Each line is one gate, with the circuit's own names; x0 is the highest bit.
-// Of the orders that were tried within each part, LLVM makes the fewest instructions of this one.
+/// Substitutes the byte of each lane. Each line is one gate, with the circuit's own names; x0 is the highest bit.
+/// Of the orders that were tried within each part, LLVM makes the fewest instructions of this one.
 #[inline(always)]
 pub(crate) fn sub_bytes(planes: [u32; 8]) -> [u32; 8]
     ensures { (i : ℕ) → i < 32 → lane result i ≡ substitute (lane planes i) }

@@ -54,8 +54,8 @@ impl BlockCipher for PlaneAes {
     ghost key_len = { λ s. s.key_len };
 }
 
-// Encrypts two blocks, each in place. It is never inlined, so that code that uses tables sets aside no room for its
-// planes.
+/// Encrypts two blocks, each in place. It is never inlined, so that code that uses tables sets aside no room for its
+/// planes.
 #[inline(never)]
 fn encrypt_both(keys: &[[u32; 8]; 11], first: &mut [u8; 16], second: &mut [u8; 16])
     ensures first { (key : List ℕ) → AreKeysOf keys.now (expanded_key key) → first.new ≡ aes128 key first.old }
@@ -65,7 +65,7 @@ fn encrypt_both(keys: &[[u32; 8]; 11], first: &mut [u8; 16], second: &mut [u8; 1
     unpack(planes, first, second);
 }
 
-// Returns the planes after all rounds.
+/// Returns the planes after all rounds.
 fn cipher(planes: [u32; 8], keys: &[[u32; 8]; 11]) -> [u32; 8]
     ensures { (w : List ℕ) → AreKeysOf keys.now w → (b : ℕ) → b < 2
         → block_in 10 result b ≡ cipher w (block_in 0 planes b) }
@@ -79,7 +79,7 @@ fn cipher(planes: [u32; 8], keys: &[[u32; 8]; 11]) -> [u32; 8]
     add_planes(sub_bytes(mixed), keys[10])
 }
 
-// Runs four rounds after the first `done`. They are written out, because the rows are rotated differently in each.
+/// Runs four rounds after the first `done`. They are written out, because the rows are rotated differently in each.
 #[inline(always)]
 fn four_rounds(planes: [u32; 8], keys: &[[u32; 8]; 11], done: usize) -> [u32; 8]
     requires fours { done % 4 ≡ 0 }
@@ -93,7 +93,7 @@ fn four_rounds(planes: [u32; 8], keys: &[[u32; 8]; 11], done: usize) -> [u32; 8]
     round(three, keys[done + 4], 0)
 }
 
-// Runs a round with a key. `turned` is how many rounds are done after it, modulo 4.
+/// Runs a round with a key. `turned` is how many rounds are done after it, modulo 4.
 #[inline(always)]
 fn round(planes: [u32; 8], key: [u32; 8], turned: usize) -> [u32; 8]
     requires { turned < 4 }

@@ -148,10 +148,10 @@ const T3: [u32; 256] = [
     0x4141c382, 0x9999b029, 0x2d2d775a, 0x0f0f111e, 0xb0b0cb7b, 0x5454fca8, 0xbbbbd66d, 0x16163a2c,
 ];
 
-// The tables one after the other, so that a round needs one place in memory for all four.
+/// The tables one after the other, so that a round needs one place in memory for all four.
 const TABLES: [[u32; 256]; 4] = [T0, T1, T2, T3];
 
-// Returns the column that a byte of row 0 becomes.
+/// Returns the column that a byte of row 0 becomes.
 #[inline(always)]
 pub(crate) fn table_0(byte: u8) -> u32
     ensures { result ≡ round_word 0 byte }
@@ -159,7 +159,7 @@ pub(crate) fn table_0(byte: u8) -> u32
     TABLES[0][byte as usize]
 }
 
-// Returns the column that a byte of row 1 becomes.
+/// Returns the column that a byte of row 1 becomes.
 #[inline(always)]
 pub(crate) fn table_1(byte: u8) -> u32
     ensures { result ≡ round_word 1 byte }
@@ -167,7 +167,7 @@ pub(crate) fn table_1(byte: u8) -> u32
     TABLES[1][byte as usize]
 }
 
-// Returns the column that a byte of row 2 becomes.
+/// Returns the column that a byte of row 2 becomes.
 #[inline(always)]
 pub(crate) fn table_2(byte: u8) -> u32
     ensures { result ≡ round_word 2 byte }
@@ -175,7 +175,7 @@ pub(crate) fn table_2(byte: u8) -> u32
     TABLES[2][byte as usize]
 }
 
-// Returns the column that a byte of row 3 becomes.
+/// Returns the column that a byte of row 3 becomes.
 #[inline(always)]
 pub(crate) fn table_3(byte: u8) -> u32
     ensures { result ≡ round_word 3 byte }
@@ -183,7 +183,7 @@ pub(crate) fn table_3(byte: u8) -> u32
     TABLES[3][byte as usize]
 }
 
-// Returns the column with the substituted byte in row 0, and zeros in the other rows.
+/// Returns the column with the substituted byte in row 0, and zeros in the other rows.
 #[inline(always)]
 pub(crate) fn substituted_0(byte: u8) -> u32
     ensures { to_be_bytes w32 result ≡ substitute byte ∷ 0 ∷ 0 ∷ 0 ∷ [] }
@@ -191,7 +191,7 @@ pub(crate) fn substituted_0(byte: u8) -> u32
     table_2(byte) & 0xff00_0000
 }
 
-// Returns the column with the substituted byte in row 1, and zeros in the other rows.
+/// Returns the column with the substituted byte in row 1, and zeros in the other rows.
 #[inline(always)]
 pub(crate) fn substituted_1(byte: u8) -> u32
     ensures { to_be_bytes w32 result ≡ 0 ∷ substitute byte ∷ 0 ∷ 0 ∷ [] }
@@ -199,7 +199,7 @@ pub(crate) fn substituted_1(byte: u8) -> u32
     table_3(byte) & 0x00ff_0000
 }
 
-// Returns the column with the substituted byte in row 2, and zeros in the other rows.
+/// Returns the column with the substituted byte in row 2, and zeros in the other rows.
 #[inline(always)]
 pub(crate) fn substituted_2(byte: u8) -> u32
     ensures { to_be_bytes w32 result ≡ 0 ∷ 0 ∷ substitute byte ∷ 0 ∷ [] }
@@ -207,7 +207,7 @@ pub(crate) fn substituted_2(byte: u8) -> u32
     table_0(byte) & 0x0000_ff00
 }
 
-// Returns the column with the substituted byte in row 3, and zeros in the other rows.
+/// Returns the column with the substituted byte in row 3, and zeros in the other rows.
 #[inline(always)]
 pub(crate) fn substituted_3(byte: u8) -> u32
     ensures { to_be_bytes w32 result ≡ 0 ∷ 0 ∷ 0 ∷ substitute byte ∷ [] }

@@ -49,7 +49,7 @@ impl BlockCipher for TableAes {
     ghost key_len = { λ s. s.key_len };
 }
 
-// Expands a key into all its words, column by column.
+/// Expands a key into all its words, column by column.
 fn round_key_words(key: &[u8; 16]) -> [u32; 44]
     ensures { AreWordsOf result (expanded_key key.now) }
 {
@@ -68,7 +68,7 @@ fn round_key_words(key: &[u8; 16]) -> [u32; 44]
     words
 }
 
-// Computes the four words of round key `round + 1` from the words before them.
+/// Computes the four words of round key `round + 1` from the words before them.
 #[inline(always)]
 fn next_words(words: &[u32; 44], round: usize) -> [u32; 4]
     requires { round < 10 }
@@ -82,8 +82,8 @@ fn next_words(words: &[u32; 44], round: usize) -> [u32; 4]
     [a, b, c, last ^ c]
 }
 
-// Returns what is added to the first word of round key `round` to make the first word of the next round key: RotWord,
-// SubWord and Rcon on `last`, the last word of round key `round`.
+/// Returns what is added to the first word of round key `round` to make the first word of the next round key: RotWord,
+/// SubWord and Rcon on `last`, the last word of round key `round`.
 #[inline(always)]
 fn added_word(last: u32, round: usize) -> u32
     requires { round < 10 }
@@ -96,7 +96,7 @@ fn added_word(last: u32, round: usize) -> u32
     word_of(row0, row1, row2, row3)
 }
 
-// Returns word `index` of some bytes.
+/// Returns word `index` of some bytes.
 #[inline(always)]
 fn read_word(bytes: &[u8], index: usize) -> u32
     requires { 4 * index + 4 ≤ length bytes.now }
@@ -105,7 +105,7 @@ fn read_word(bytes: &[u8], index: usize) -> u32
     BigEndian::read_u32(&bytes[4 * index..])
 }
 
-// Returns the word of round key `round` that is added to a column.
+/// Returns the word of round key `round` that is added to a column.
 #[inline(always)]
 fn key_word(words: &[u32; 44], round: usize, column: usize) -> u32
     requires round { round < 11 }
@@ -115,8 +115,8 @@ fn key_word(words: &[u32; 44], round: usize, column: usize) -> u32
     words[11 * column + round]
 }
 
-// Returns the columns of the block after all rounds. Each round has a line of its own, because a loop would move the
-// columns around in each.
+/// Returns the columns of the block after all rounds. Each round has a line of its own, because a loop would move the
+/// columns around in each.
 fn cipher(words: &[u32; 44], block: &[u8; 16]) -> [u32; 4]
     ensures { (w : List ℕ) → AreWordsOf words.now w
         → block_of_words result ≡ cipher w block.now }
@@ -134,7 +134,7 @@ fn cipher(words: &[u32; 44], block: &[u8; 16]) -> [u32; 4]
     last_columns(columns, words)
 }
 
-// Returns the block's columns with the first round key added.
+/// Returns the block's columns with the first round key added.
 #[inline(always)]
 fn first_columns(block: &[u8; 16], words: &[u32; 44]) -> [u32; 4]
     ensures { block_of_words result
@@ -148,7 +148,7 @@ fn first_columns(block: &[u8; 16], words: &[u32; 44]) -> [u32; 4]
     ]
 }
 
-// Returns a column of the block with its word of the key added.
+/// Returns a column of the block with its word of the key added.
 #[inline(always)]
 fn first_word(block: &[u8; 16], column: usize, key: u32) -> u32
     requires { column < 4 }
@@ -160,7 +160,7 @@ fn first_word(block: &[u8; 16], column: usize, key: u32) -> u32
     read_word(block, column) ^ key
 }
 
-// Returns the columns after one more round of all four steps.
+/// Returns the columns after one more round of all four steps.
 #[inline(always)]
 fn next_columns(columns: [u32; 4], words: &[u32; 44], round: usize) -> [u32; 4]
     requires { round < 11 }
@@ -177,7 +177,7 @@ fn next_columns(columns: [u32; 4], words: &[u32; 44], round: usize) -> [u32; 4]
     ]
 }
 
-// Returns a column of a round. Rows 0 to 3 come from the columns a, b, c and d, because row r is rotated left by r.
+/// Returns a column of a round. Rows 0 to 3 come from the columns a, b, c and d, because row r is rotated left by r.
 #[inline(always)]
 fn mixed_word(a: u32, b: u32, c: u32, d: u32, key: u32) -> u32
     ensures row0 { byte_at 3 result
@@ -192,7 +192,7 @@ fn mixed_word(a: u32, b: u32, c: u32, d: u32, key: u32) -> u32
     (table_0(byte3(a)) ^ table_1(byte2(b))) ^ (table_2(byte1(c)) ^ table_3(byte0(d))) ^ key
 }
 
-// Returns the columns after the last round, which doesn't mix columns.
+/// Returns the columns after the last round, which doesn't mix columns.
 #[inline(always)]
 fn last_columns(columns: [u32; 4], words: &[u32; 44]) -> [u32; 4]
     ensures { block_of_words result
@@ -208,7 +208,7 @@ fn last_columns(columns: [u32; 4], words: &[u32; 44]) -> [u32; 4]
     ]
 }
 
-// Returns a column of the last round.
+/// Returns a column of the last round.
 #[inline(always)]
 fn last_word(a: u32, b: u32, c: u32, d: u32, key: u32) -> u32
     ensures row0 { byte_at 3 result ≡ bit_xor (substitute (byte_at 3 a)) (byte_at 3 key) }
@@ -221,7 +221,7 @@ fn last_word(a: u32, b: u32, c: u32, d: u32, key: u32) -> u32
         ^ key
 }
 
-// Returns the word with these bytes, the highest first. It calls std, whose law gives the bytes back.
+/// Returns the word with these bytes, the highest first. It calls std, whose law gives the bytes back.
 #[inline(always)]
 fn word_of(row0: u8, row1: u8, row2: u8, row3: u8) -> u32
     ensures { to_be_bytes w32 result ≡ row0 ∷ row1 ∷ row2 ∷ row3 ∷ [] }
@@ -229,7 +229,7 @@ fn word_of(row0: u8, row1: u8, row2: u8, row3: u8) -> u32
     u32::from_be_bytes([row0, row1, row2, row3])
 }
 
-// These four return byte 3, the highest, to byte 0 of a word.
+/// Returns the highest byte of a word.
 #[inline(always)]
 fn byte3(word: u32) -> u8
     ensures { result ≡ byte_at 3 word }
@@ -237,6 +237,7 @@ fn byte3(word: u32) -> u8
     (word >> 24) as u8
 }
 
+/// Returns the byte below the highest.
 #[inline(always)]
 fn byte2(word: u32) -> u8
     ensures { result ≡ byte_at 2 word }
@@ -244,6 +245,7 @@ fn byte2(word: u32) -> u8
     ((word >> 16) & 0xff) as u8
 }
 
+/// Returns the byte above the lowest.
 #[inline(always)]
 fn byte1(word: u32) -> u8
     ensures { result ≡ byte_at 1 word }
@@ -251,6 +253,7 @@ fn byte1(word: u32) -> u8
     ((word >> 8) & 0xff) as u8
 }
 
+/// Returns the lowest byte of a word.
 #[inline(always)]
 fn byte0(word: u32) -> u8
     ensures { result ≡ byte_at 0 word }

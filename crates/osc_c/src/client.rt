@@ -90,6 +90,7 @@ pub extern "C" fn oscore_client_forget(client: &mut ClientHandle, token: &[u8]) 
     ensures refuses { (IsClient client.old → ⊥) → result ≡ code BadHandle }
     ensures answers { (h : History) (entry : Entry) → Asks client.old h → ClientAnswer 8 h (Forget token.now) entry → ReadsForgetting entry result }
 {
+    // For the proof alone.
     one_client_answer();
     match client.forget(token) {
         Some(true) => DONE,
@@ -179,6 +180,7 @@ pub extern "C" fn oscore_client_request(
         → ClientAnswer 8 h (Request now p (length out.old)) entry → ReadsAsking entry result detail.new (take out_len.new out.new) }
     ensures unchanged { result ≢ 0 → (out.new ≡ out.old) × (out_len.new ≡ out_len.old) }
 {
+    // For the proof alone.
     one_client_answer();
     room_laws();
     one_datagram();
@@ -262,6 +264,7 @@ pub extern "C" fn oscore_client_take<'b>(
         → ReadsTaking entry result detail.new request.new opened.new.is_notification }
     ensures unchanged { result ≢ 0 → (opened.new ≡ opened.old) × (options.new ≡ options.old) × (request.new ≡ request.old) }
 {
+    // For the proof alone.
     one_client_answer();
     match take_in(client, now, datagram) {
         Ok((message, number, stays)) => {

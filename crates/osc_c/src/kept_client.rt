@@ -147,6 +147,7 @@ pub extern "C" fn oscore_kept_client_request(
     ensures behind { result ≡ 0 → drop out_len.new out.new ≡ drop out_len.new out.old }
     ensures unchanged { result ≢ 0 → (out.new ≡ out.old) × (out_len.new ≡ out_len.old) }
 {
+    // For the proof alone.
     one_client_answer();
     one_datagram();
     match request_in(client, now, plain, out) {
@@ -204,6 +205,7 @@ pub extern "C" fn oscore_kept_client_take<'b>(
         → ReadsTaking entry result detail.new request.new opened.new.is_notification }
     ensures unchanged { result ≢ 0 → (opened.new ≡ opened.old) × (options.new ≡ options.old) × (request.new ≡ request.old) }
 {
+    // For the proof alone.
     one_client_answer();
     match take_in(client, now, datagram) {
         Ok((message, number, stays)) => {
@@ -227,6 +229,7 @@ pub extern "C" fn oscore_kept_client_forget(client: &mut KeptClientHandle, token
     ensures refuses { (IsKeptClient client.old → ⊥) → result ≡ code BadHandle }
     ensures answers { (h : History) (o : Own) (entry : Entry) → AsksWith client.old o h → ClientAnswer 8 h (Forget token.now) entry → ReadsForgetting entry result }
 {
+    // For the proof alone.
     one_client_answer();
     match client.forget(token) {
         Some(true) => DONE,

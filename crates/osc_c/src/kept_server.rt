@@ -176,6 +176,7 @@ pub extern "C" fn oscore_kept_server_take<'b>(
     ensures behind { drop out_len.new out.new ≡ drop out_len.new out.old }
     ensures unchanged { result ≢ 0 → (opened.new ≡ opened.old) × (options.new ≡ options.old) × (ticket.new ≡ ticket.old) }
 {
+    // For the proof alone.
     one_server_answer();
     let fresh = Fresh { echo: *echo, mid };
     match take_in(server, now, fresh, datagram, out, out_len) {
@@ -263,6 +264,7 @@ pub extern "C" fn oscore_kept_server_reply(
     ensures behind { result ≡ 0 → drop out_len.new out.new ≡ drop out_len.new out.old }
     ensures unchanged { result ≢ 0 → (server.new ≡ server.old) × (out.new ≡ out.old) × (out_len.new ≡ out_len.old) }
 {
+    // For the proof alone.
     one_server_answer();
     one_datagram();
     match reply_in(server, ticket, own, mid, plain, out) {
@@ -340,6 +342,7 @@ pub extern "C" fn oscore_kept_server_notify(
     ensures behind { result ≡ 0 → drop out_len.new out.new ≡ drop out_len.new out.old }
     ensures unchanged { result ≢ 0 → (server.new ≡ server.old) × (out.new ≡ out.old) × (out_len.new ≡ out_len.old) }
 {
+    // For the proof alone.
     one_server_answer();
     one_datagram();
     match notify_in(server, ticket, plain, out) {

@@ -86,6 +86,7 @@ pub extern "C" fn oscore_server_notify(
     ensures room { (h : History) → Serves server.old h → HasRoomFor true plain.now (length out.old) → result ≢ code NoRoom }
     ensures unchanged { result ≢ 0 → (server.new ≡ server.old) × (out.new ≡ out.old) × (out_len.new ≡ out_len.old) }
 {
+    // For the proof alone.
     one_server_answer();
     room_laws();
     one_datagram();
@@ -159,6 +160,7 @@ pub extern "C" fn oscore_server1_notify(
     ensures room { (h : History) → Serves (server_of_one server.old) h → HasRoomFor true plain.now (length out.old) → result ≢ code NoRoom }
     ensures unchanged { result ≢ 0 → (server.new ≡ server.old) × (out.new ≡ out.old) × (out_len.new ≡ out_len.old) }
 {
+    // For the proof alone.
     one_server_answer();
     room_laws();
     one_datagram();

@@ -19,28 +19,45 @@ use osc_context::Piv;
 use osc_handle::ContextHandle;
 use osc_protect::{ReadRequest, ReadResponse, RequestRef, unprotect_request, unprotect_response};
 
-/// Opens a request as the context's server, and borrows nothing.
-fn open_request_in(context: &ContextHandle, datagram: &mut [u8]) -> Result<ReadRequest, Refusal>
-    ensures lends { IfOk result (λ x. LendsRequest (requests (server_in context.now)) datagram.old x datagram.new) }
-    ensures accepts { (n : ℕ) (m : InnerParts) → IsContext context.now → ProtectsRequest (server_in context.now) n m datagram.old → IsOk result }
-    ensures refused { IfErr result (λ r. RefusesOpening (IsContext context.now) Unit (requests (server_in context.now)) datagram.old r.status r.detail) }
+/// What was read of a datagram, or the refusal that C reads, and the datagram as it is left. It is lent for reading alone: the call that
+/// has this can't write to it any more, and no clause of its own has to say so.
+struct Left<'b, R> {
+    read: Result<R, Refusal>,
+    datagram: &'b [u8],
+}
+
+/// Opens a request as the context's server.
+fn open_request_in<'b>(context: &ContextHandle, datagram: &'b mut [u8]) -> Left<'b, ReadRequest>
+    ensures lends { IfOk result.read (λ x. LendsRequest (requests (server_in context.now)) datagram.old x result.datagram.now) }
+    ensures accepts { (n : ℕ) (m : InnerParts) → IsContext context.now → ProtectsRequest (server_in context.now) n m datagram.old → IsOk result.read }
+    ensures refused { IfErr result.read (λ r. RefusesOpening (IsContext context.now) Unit (requests (server_in context.now)) datagram.old r.status r.detail) }
     ensures refuses { (status : StatusOf) (why : ℕ) → RefusesOpening (IsContext context.now) Unit (requests (server_in context.now)) datagram.old status why
-        → IsErrAnd result (λ r. (r.status ≡ status) × (r.detail ≡ why)) }
-    ensures left { IfErr result (λ r. LeavesRequestIn (requests (server_in context.now)) datagram.old r.status datagram.new) }
+        → IsErrAnd result.read (λ r. (r.status ≡ status) × (r.detail ≡ why)) }
+    ensures left { IfErr result.read (λ r. LeavesRequestIn (requests (server_in context.now)) datagram.old r.status result.datagram.now) }
 {
     let Some(context) = context.context() else {
-        return Err(Status::BadHandle.into());
+        return Left {
+            read: Err(Status::BadHandle.into()),
+            datagram,
+        };
     };
     match unprotect_request(&context, datagram) {
-        Ok(read) => Ok(read),
-        Err(error) => Err(error.into()),
+        Ok(read) => Left {
+            read: Ok(read),
+            datagram,
+        },
+        Err(error) => Left {
+            read: Err(error.into()),
+            datagram,
+        },
     }
 }
 
 /// Opens a request in its datagram (RFC 8613, 8.2), as the context's server. `options` has room for a number of options; `view` says
 /// whether there are more. A refusal is BadHandle, one of the datagram's faults with its place, NotThatKind, NoOscore, Undecodable,
 /// WrongContext, Tag or Inner, in this order. At Inner and when it is done, the payload has become the plaintext, with the old tag
-/// after it. Any refusal before Inner leaves the datagram unchanged: `open_request_in` says so, since this call lends its bytes.
+/// after it. Any refusal before Inner leaves the datagram unchanged: `open_request_in` says so, and from there on this call has the datagram
+/// for reading alone.
 #[unsafe(no_mangle)]
 pub extern "C" fn oscore_open_request<'b>(
     context: &ContextHandle,
@@ -59,7 +76,8 @@ pub extern "C" fn oscore_open_request<'b>(
         → (result ≡ code status) × (detail.new ≡ why) }
     ensures unchanged { result ≢ 0 → (view.new ≡ view.old) × (options.new ≡ options.old) }
 {
-    match open_request_in(context, datagram) {
+    let Left { read, datagram } = open_request_in(context, datagram);
+    match read {
         Ok(read) => {
             show(&read.opened(datagram), options, view);
             DONE
@@ -71,29 +89,41 @@ pub extern "C" fn oscore_open_request<'b>(
     }
 }
 
-/// Opens a response as the context's client, and borrows nothing.
-fn open_response_in(
+/// Opens a response as the context's client.
+fn open_response_in<'b>(
     context: &ContextHandle,
     request: u64,
-    datagram: &mut [u8],
-) -> Result<ReadResponse, Refusal>
-    ensures lends { IfOk result (λ x. LendsResponse (responses (client_in context.now) request) datagram.old x datagram.new) }
+    datagram: &'b mut [u8],
+) -> Left<'b, ReadResponse>
+    ensures lends { IfOk result.read (λ x. LendsResponse (responses (client_in context.now) request) datagram.old x result.datagram.now) }
     ensures accepts { (own : Option ℕ) (m : InnerParts) → IsContext context.now → request < 2 ^ 40
-        → ProtectsResponse (client_in context.now) request own m datagram.old → IsOk result }
-    ensures refused { IfErr result (λ r. RefusesOpening (IsContext context.now) (request < 2 ^ 40) (responses (client_in context.now) request) datagram.old r.status r.detail) }
+        → ProtectsResponse (client_in context.now) request own m datagram.old → IsOk result.read }
+    ensures refused { IfErr result.read (λ r. RefusesOpening (IsContext context.now) (request < 2 ^ 40) (responses (client_in context.now) request) datagram.old r.status r.detail) }
     ensures refuses { (status : StatusOf) (why : ℕ) → RefusesOpening (IsContext context.now) (request < 2 ^ 40) (responses (client_in context.now) request) datagram.old status why
-        → IsErrAnd result (λ r. (r.status ≡ status) × (r.detail ≡ why)) }
-    ensures left { IfErr result (λ r. LeavesResponseIn (responses (client_in context.now) request) datagram.old r.status datagram.new) }
+        → IsErrAnd result.read (λ r. (r.status ≡ status) × (r.detail ≡ why)) }
+    ensures left { IfErr result.read (λ r. LeavesResponseIn (responses (client_in context.now) request) datagram.old r.status result.datagram.now) }
 {
     let Some(context) = context.context() else {
-        return Err(Status::BadHandle.into());
+        return Left {
+            read: Err(Status::BadHandle.into()),
+            datagram,
+        };
     };
     let Some(request) = Piv::new(request) else {
-        return Err(Status::BadNumber.into());
+        return Left {
+            read: Err(Status::BadNumber.into()),
+            datagram,
+        };
     };
     match unprotect_response(&context, &RequestRef::new(request), datagram) {
-        Ok(read) => Ok(read),
-        Err(error) => Err(error.into()),
+        Ok(read) => Left {
+            read: Ok(read),
+            datagram,
+        },
+        Err(error) => Left {
+            read: Err(error.into()),
+            datagram,
+        },
     }
 }
 
@@ -119,7 +149,8 @@ pub extern "C" fn oscore_open_response<'b>(
         → (result ≡ code status) × (detail.new ≡ why) }
     ensures unchanged { result ≢ 0 → (view.new ≡ view.old) × (options.new ≡ options.old) }
 {
-    match open_response_in(context, request, datagram) {
+    let Left { read, datagram } = open_response_in(context, request, datagram);
+    match read {
         Ok(read) => {
             show(&read.opened(datagram), options, view);
             DONE

@@ -39,13 +39,14 @@ fn seal_request_in(
         → IsErrAnd result (λ r. (r.status ≡ status) × (r.detail ≡ why)) }
     ensures unchanged { OnErr result (out.new ≡ out.old) }
 {
+    // For the proof alone.
+    one_datagram();
     let Some(context) = context.context() else {
         return Err(Status::BadHandle.into());
     };
     let Some(number) = Piv::new(number) else {
         return Err(Status::BadNumber.into());
     };
-    one_datagram();
     let message = match parse(plain) {
         Ok(message) => message,
         Err(error) => return Err(error.into()),
@@ -82,6 +83,7 @@ pub extern "C" fn oscore_seal_request(
         → (result ≡ code status) × (detail.new ≡ why) }
     ensures unchanged { result ≢ 0 → (out.new ≡ out.old) × (out_len.new ≡ out_len.old) }
 {
+    // For the proof alone.
     room_laws();
     match seal_request_in(context, number, plain, out) {
         Ok(len) => {
@@ -130,6 +132,8 @@ fn seal_response_in(
         → IsErrAnd result (λ r. (r.status ≡ status) × (r.detail ≡ why)) }
     ensures unchanged { OnErr result (out.new ≡ out.old) }
 {
+    // For the proof alone.
+    one_datagram();
     let Some(context) = context.context() else {
         return Err(Status::BadHandle.into());
     };
@@ -139,7 +143,6 @@ fn seal_response_in(
     let Some(own) = own_number(has_own, own) else {
         return Err(Status::BadNumber.into());
     };
-    one_datagram();
     let message = match parse(plain) {
         Ok(message) => message,
         Err(error) => return Err(error.into()),
@@ -179,6 +182,7 @@ pub extern "C" fn oscore_seal_response(
         → (result ≡ code status) × (detail.new ≡ why) }
     ensures unchanged { result ≢ 0 → (out.new ≡ out.old) × (out_len.new ≡ out_len.old) }
 {
+    // For the proof alone.
     room_laws();
     match seal_response_in(context, request, has_own, own, plain, out) {
         Ok(len) => {

@@ -121,6 +121,7 @@ pub extern "C" fn oscore_server_add(
     ensures bytes { IsTable server.old.contexts → IsTable server.new.contexts }
     ensures unchanged { result ≢ 0 → (server.new ≡ server.old) × (index.new ≡ index.old) }
 {
+    // For the proof alone.
     one_server_answer();
     match add_in(server, context, restarted, next, window_places) {
         Ok(added) => {
@@ -176,6 +177,7 @@ pub extern "C" fn oscore_server_restart(server: &mut ServerHandle, context: usiz
     ensures bytes { IsTable server.old.contexts → IsTable server.new.contexts }
     ensures unchanged { result ≢ 0 → server.new ≡ server.old }
 {
+    // For the proof alone.
     one_server_answer();
     match restart_in(server, context, next) {
         Ok(()) => DONE,
@@ -272,6 +274,7 @@ pub extern "C" fn oscore_server_take<'b>(
     ensures behind { drop out_len.new out.new ≡ drop out_len.new out.old }
     ensures unchanged { result ≢ 0 → (opened.new ≡ opened.old) × (options.new ≡ options.old) × (ticket.new ≡ ticket.old) }
 {
+    // For the proof alone.
     one_server_answer();
     let fresh = Fresh { echo: *echo, mid };
     match take_in(server, now, fresh, datagram, out, out_len) {
@@ -380,6 +383,7 @@ pub extern "C" fn oscore_server_reply(
     ensures room { (h : History) → Serves server.old h → length plain.now + 59 ≤ length out.old → result ≢ code NoRoom }
     ensures unchanged { result ≢ 0 → (server.new ≡ server.old) × (out.new ≡ out.old) × (out_len.new ≡ out_len.old) }
 {
+    // For the proof alone.
     one_server_answer();
     room_laws();
     one_datagram();

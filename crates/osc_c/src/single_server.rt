@@ -124,6 +124,7 @@ pub extern "C" fn oscore_server1_restart(server: &mut SingleServerHandle, next: 
     ensures bytes { IsSlotBytes server.old.slot → IsSlotBytes server.new.slot }
     ensures unchanged { result ≢ 0 → server.new ≡ server.old }
 {
+    // For the proof alone.
     one_server_answer();
     match restart_in(server, next) {
         Ok(()) => DONE,
@@ -194,6 +195,7 @@ pub extern "C" fn oscore_server1_take<'b>(
     ensures behind { drop out_len.new out.new ≡ drop out_len.new out.old }
     ensures unchanged { result ≢ 0 → (opened.new ≡ opened.old) × (options.new ≡ options.old) × (ticket.new ≡ ticket.old) }
 {
+    // For the proof alone.
     one_server_answer();
     let fresh = Fresh { echo: *echo, mid };
     match take_in(server, now, fresh, datagram, out, out_len) {
@@ -276,6 +278,7 @@ pub extern "C" fn oscore_server1_reply(
     ensures room { (h : History) → Serves (server_of_one server.old) h → length plain.now + 59 ≤ length out.old → result ≢ code NoRoom }
     ensures unchanged { result ≢ 0 → (server.new ≡ server.old) × (out.new ≡ out.old) × (out_len.new ≡ out_len.old) }
 {
+    // For the proof alone.
     one_server_answer();
     room_laws();
     one_datagram();

@@ -237,6 +237,7 @@ pub extern "C" fn oscore_write_message(
         → (result ≡ status_code status) × (detail.new ≡ why) }
     ensures unchanged { result ≢ 0 → (out.new ≡ out.old) × (out_len.new ≡ out_len.old) }
 {
+    // For the proof alone.
     lengths_by_parts();
     options_ascend();
     match judge(kind, code, token, options, payload, out.len()) {

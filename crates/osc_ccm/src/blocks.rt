@@ -15,18 +15,18 @@ pub const MOST_PLAINTEXT: usize = 65_535;
 /// The most bytes of additional data whose length is written in two bytes (RFC 3610, 2.2).
 pub const MOST_AAD: usize = 65_280 - 1;
 
-// The first byte of B_0: 8 M' + L', where M' = (M - 2) / 2 and L' = L - 1; plus 64 if there is additional data.
+/// The first byte of B_0: 8 M' + L', where M' = (M - 2) / 2 and L' = L - 1; plus 64 if there is additional data.
 pub(crate) const FLAGS: u8 = 8 * 3 + 1;
 
 pub(crate) const FLAGS_WITH_AAD: u8 = 64 + FLAGS;
 
-// The first byte of A_i: L'.
+/// The first byte of A_i: L'.
 pub(crate) const COUNTER_FLAGS: u8 = 1;
 
-// How many bytes the first block of additional data has left after the length.
+/// How many bytes the first block of additional data has left after the length.
 const FIRST_AAD: usize = 16 - 2;
 
-// Makes a block of a first byte, the nonce, and a number, high byte first: the form of B_0 and of each A_i.
+/// Makes a block of a first byte, the nonce, and a number, high byte first: the form of B_0 and of each A_i.
 pub(crate) fn numbered_block(first: u8, nonce: &[u8; 13], number: u16) -> [u8; 16]
     ensures { result ≡ (first ∷ nonce.now) ++ two_bytes number }
 {
@@ -36,8 +36,8 @@ pub(crate) fn numbered_block(first: u8, nonce: &[u8; 13], number: u16) -> [u8; 1
     block
 }
 
-// Returns the first block of some additional data, which begins with its length, and how many bytes of the data it
-// holds.
+/// Returns the first block of some additional data, which begins with its length, and how many bytes of the data it
+/// holds.
 pub(crate) fn aad_block(aad: &[u8]) -> ([u8; 16], usize)
     requires { length aad.now ≤ 65279 }
     ensures block { result.0 ≡ padded_block (two_bytes (length aad.now) ++ aad.now) 0 }
@@ -50,7 +50,7 @@ pub(crate) fn aad_block(aad: &[u8]) -> ([u8; 16], usize)
     (block, taken)
 }
 
-// Adds `more` to the front of `bytes`.
+/// Adds `more` to the front of `bytes`.
 #[inline(always)]
 pub(crate) fn xor_front(bytes: &mut [u8], more: &[u8])
     requires { length more.now ≤ length bytes.old }

@@ -6,7 +6,7 @@ ghost use Rattle.osc_ccm.specs.Ccm.{encrypted, stream_block};
 use crate::blocks::{COUNTER_FLAGS, numbered_block, xor_front};
 use osc_aes::{BlockCipher, encrypted_length};
 
-// Returns S_i. S_0 hides the tag, and the message begins at S_1.
+/// Returns S_i. S_0 hides the tag, and the message begins at S_1.
 pub(crate) fn stream_block<C: BlockCipher>(cipher: &C, nonce: &[u8; 13], i: usize) -> [u8; 16]
     requires { i < 65536 }
     ensures { result ≡ stream_block (C.cipher_key cipher.now) nonce.now i }
@@ -16,7 +16,7 @@ pub(crate) fn stream_block<C: BlockCipher>(cipher: &C, nonce: &[u8; 13], i: usiz
     block
 }
 
-// Adds the key stream to a message. Adding it twice gives the message back.
+/// Adds the key stream to a message. Adding it twice gives the message back.
 pub(crate) fn add_key_stream<C: BlockCipher>(cipher: &C, nonce: &[u8; 13], message: &mut [u8])
     requires { length message.old ≤ 65535 }
     ensures { message.new ≡ encrypted (C.cipher_key cipher.now) nonce.now message.old }

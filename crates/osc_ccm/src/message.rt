@@ -8,8 +8,8 @@ use crate::blocks::xor_front;
 use crate::tag::{absorb_beside, begin, hidden_tag};
 use osc_aes::{BlockCipher, encrypted_length};
 
-// Encrypts a message in place, and returns its tag as it is sent. S_0 is made together with B_0, and S_i together with
-// block i.
+/// Encrypts a message in place, and returns its tag as it is sent. S_0 is made together with B_0, and S_i together with
+/// block i.
 pub(crate) fn seal_message<C: BlockCipher>(
     cipher: &C,
     nonce: &[u8; 13],
@@ -33,9 +33,9 @@ pub(crate) fn seal_message<C: BlockCipher>(
     hidden_tag(&state, &hiding)
 }
 
-// Decrypts a message in place, and returns the tag that it must have. A block is decrypted before it goes into the
-// chain. So S_1 is made together with B_0, each block of the key stream together with the block before its own, and S_0
-// together with the last.
+/// Decrypts a message in place, and returns the tag that it must have. A block is decrypted before it goes into the
+/// chain. So S_1 is made together with B_0, each block of the key stream together with the block before its own, and S_0
+/// together with the last.
 pub(crate) fn open_message<C: BlockCipher>(
     cipher: &C,
     nonce: &[u8; 13],
@@ -66,8 +66,8 @@ pub(crate) fn open_message<C: BlockCipher>(
     hidden_tag(&state, &stream)
 }
 
-// Returns which block of the key stream is needed next after `decrypted` of a message's `blocks` are decrypted: S_0
-// after the last.
+/// Returns which block of the key stream is needed next after `decrypted` of a message's `blocks` are decrypted: S_0
+/// after the last.
 #[inline(always)]
 fn wanted(decrypted: usize, blocks: usize) -> usize
     requires { blocks < 65536 }

@@ -9,8 +9,8 @@ use crate::blocks::{
 };
 use osc_aes::BlockCipher;
 
-// Returns the state after B_0 and the additional data, for a message of `len` bytes, and S_i, which is made together
-// with B_0.
+/// Returns the state after B_0 and the additional data, for a message of `len` bytes, and S_i, which is made together
+/// with B_0.
 pub(crate) fn begin<C: BlockCipher>(
     cipher: &C,
     nonce: &[u8; 13],
@@ -37,7 +37,7 @@ pub(crate) fn begin<C: BlockCipher>(
     (state, stream)
 }
 
-// Takes up to 16 bytes into the state, as a block padded with zeros, and makes S_i together with it.
+/// Takes up to 16 bytes into the state, as a block padded with zeros, and makes S_i together with it.
 pub(crate) fn absorb_beside<C: BlockCipher>(
     cipher: &C,
     nonce: &[u8; 13],
@@ -56,7 +56,7 @@ pub(crate) fn absorb_beside<C: BlockCipher>(
     stream
 }
 
-// Takes the length of the additional data into the state, and then the data.
+/// Takes the length of the additional data into the state, and then the data.
 fn absorb_aad<C: BlockCipher>(cipher: &C, state: &mut [u8; 16], aad: &[u8])
     requires { length aad.now ≤ 65279 }
     ensures { state.new ≡ fold (mac_step (C.cipher_key cipher.now)) state.old (padded_blocks (encoded_aad aad.now)) }
@@ -69,7 +69,7 @@ fn absorb_aad<C: BlockCipher>(cipher: &C, state: &mut [u8; 16], aad: &[u8])
     absorb(cipher, state, &aad[taken..]);
 }
 
-// Takes bytes into the state, block by block.
+/// Takes bytes into the state, block by block.
 fn absorb<C: BlockCipher>(cipher: &C, state: &mut [u8; 16], bytes: &[u8])
     requires { length bytes.now ≤ 65535 }
     ensures { state.new ≡ fold (mac_step (C.cipher_key cipher.now)) state.old (padded_blocks bytes.now) }
@@ -81,7 +81,7 @@ fn absorb<C: BlockCipher>(cipher: &C, state: &mut [u8; 16], bytes: &[u8])
     }
 }
 
-// Takes up to 16 bytes into the state, as a block padded with zeros. Adding zeros changes nothing.
+/// Takes up to 16 bytes into the state, as a block padded with zeros. Adding zeros changes nothing.
 fn absorb_block<C: BlockCipher>(cipher: &C, state: &mut [u8; 16], part: &[u8])
     requires { length part.now ≤ 16 }
     ensures { state.new ≡ mac_step (C.cipher_key cipher.now) state.old (padded_block part.now 0) }
@@ -90,7 +90,7 @@ fn absorb_block<C: BlockCipher>(cipher: &C, state: &mut [u8; 16], part: &[u8])
     cipher.encrypt(state);
 }
 
-// Returns the tag as it is sent: the front of the last state, added to the front of S_0.
+/// Returns the tag as it is sent: the front of the last state, added to the front of S_0.
 pub(crate) fn hidden_tag(state: &[u8; 16], stream: &[u8; 16]) -> [u8; 8]
     ensures { result ≡ xor_bytes (take tag_length state.now) (take tag_length stream.now) }
 {
@@ -101,7 +101,7 @@ pub(crate) fn hidden_tag(state: &[u8; 16], stream: &[u8; 16]) -> [u8; 8]
     tag
 }
 
-// Returns whether two tags are equal. It gathers the differences of all bytes, and tests them once.
+/// Returns whether two tags are equal. It gathers the differences of all bytes, and tests them once.
 pub(crate) fn is_same_tag(tag: &[u8; 8], received: &[u8]) -> bool
     requires { length received.now ≡ 8 }
     ensures { IsTrue result ↔ (tag.now ≡ received.now) }

@@ -43,7 +43,7 @@ pub(crate) struct Parts<'a> {
 }
 
 /// Cuts what follows the flag byte into its parts, or refuses if one reaches past the end.
-pub(crate) fn cut_parts(flag: u8, bytes: &[u8]) -> Result<Parts<'_>, OptionError>
+pub(crate) fn parse_parts(flag: u8, bytes: &[u8]) -> Result<Parts<'_>, OptionError>
     ensures spelled { IfOk result (λ x. bytes.now
         ≡ x.piv.now ++ (kid_context_bytes (option_copied x.kid_context) ++ x.rest.now)) }
     ensures len { IfOk result (λ x. length x.piv.now ≡ flag % 8) }
@@ -57,7 +57,7 @@ pub(crate) fn cut_parts(flag: u8, bytes: &[u8]) -> Result<Parts<'_>, OptionError
         return Err(OptionError::Cut);
     }
     let (piv, bytes) = bytes.split_at(piv_len);
-    let Some(cut) = cut_kid_context(flag, bytes) else {
+    let Some(cut) = parse_kid_context(flag, bytes) else {
         return Err(OptionError::Cut);
     };
     Ok(Parts {
@@ -76,7 +76,7 @@ struct ContextCut<'a> {
 
 /// Takes a length and a kid context off the front, if the flag says that there is one.
 #[tactic(auto, using(crate::proofs::Masks::mask_kid_context))]
-fn cut_kid_context(flag: u8, bytes: &[u8]) -> Option<ContextCut<'_>>
+fn parse_kid_context(flag: u8, bytes: &[u8]) -> Option<ContextCut<'_>>
     ensures spelled { IfSome result (λ x. bytes.now
         ≡ kid_context_bytes (option_copied x.kid_context) ++ x.rest.now) }
     ensures present { IfSome result (λ x. flag_if_some 16 (option_copied x.kid_context)

@@ -17,7 +17,7 @@ ghost use Rattle.osc_context.specs.PrivateWords.{parts_len};
 ghost use Rattle.osc_context.specs.Views.{number_of, oscore_parts_of, IsRead};
 
 use crate::option_error::OptionError;
-use crate::option_parts::{check_flag, cut_parts, kid_of, piv_of};
+use crate::option_parts::{check_flag, kid_of, parse_parts, piv_of};
 use crate::partial_iv::{Piv, byte_len};
 use arrayvec::ArrayVec;
 
@@ -92,7 +92,7 @@ impl<'a> OscoreOption<'a> {
         };
         let flag = *flag;
         check_flag(flag)?;
-        let parts = cut_parts(flag, rest)?;
+        let parts = parse_parts(flag, rest)?;
         let piv = piv_of(parts.piv)?;
         let kid = kid_of(flag, parts.rest)?;
         Ok(OscoreOption {

@@ -1,17 +1,17 @@
 -- Requests of a client: their rows, and the table with one request more.
-use Rattle.std.proofs.Common.{◌≡◌, ◌≢◌, ℕ, ◌+◌, ◌-◌, ◌∙◌, sym, ap, subst, refl, arith, Bool, true, false, List, [], ◌∷◌, ◌++◌, length, get_or, take}
+use Rattle.std.proofs.Common.{◌≡◌, ◌≢◌, ℕ, ◌+◌, ◌-◌, ◌∙◌, sym, ap, subst, refl, arith, Bool, true, false, List, [], ◌∷◌, ◌++◌, length, get_or, take, inl, inr}
 use Rattle.std.specs.Prelude.{◌||◌, cond, map, max, nat_le, nat_lt}
-use Rattle.std.proofs.lemmas.Bool.{both_ways}
 use Rattle.std.proofs.lemmas.Bool.Decides.{nat_tests}
 use Rattle.std.proofs.lemmas.List.{get_or_default, map-append}
 use Rattle.std.proofs.lemmas.List.Elements.{filter-append}
 use Rattle.std.proofs.lemmas.List.Quantifiers.{all_pairs_push}
 use Rattle.osc_coap.specs.Datagram.{Parts}
 use Rattle.osc_context.specs.SecurityContext.{SecurityContext}
+use Rattle.osc_context.specs.declared.features.Features.{Features}
 use Rattle.osc_context.specs.Views.{as_client, number_of}
 use Rattle.osc_protect.specs.Protection.{requests}
 use Rattle.osc_protect.specs.Sealed.{SealsRequest}
-use Rattle.osc_protect.specs.SealRefusals.{RefusesPlainRequest, RefusesToSeal}
+use Rattle.osc_protect.specs.SealRefusals.{IsPlainRequest, RefusesPlainRequest, RefusesToSeal}
 use Rattle.osc_protect.specs.Views.{context_of}
 use Rattle.osc_protect.specs.declared.protect_error.ProtectError.{ProtectError}
 use Rattle.osc_protect.specs.declared.protect_error.ProtectError.TheVariants as protects
@@ -22,9 +22,8 @@ use Rattle.osc_endpoint.specs.declared.pending.Pending.{Pending}
 use Rattle.osc_endpoint.specs.Agrees.{ClientAgrees, TokensDiffer}
 use Rattle.osc_endpoint.specs.ClientAnswer.{CanAsk, IsAmong, RequestAnswer}
 use Rattle.osc_endpoint.specs.ClientHistory.{Asked, History, Then, Request, Advance, Advanced, Sent, NotSent, alive, asked, clock, context, first_place, is_alive, life_ms, next, pending_at, wait_of}
-use Rattle.osc_endpoint.specs.Requesting.{lifted}
+use Rattle.osc_endpoint.specs.Requesting.{IsFirstReason, lifted}
 use Rattle.osc_endpoint.specs.Views.{asked_of}
-use Rattle.osc_endpoint.proofs.LifeReplies.{unsupported_among}
 use Rattle.osc_endpoint.proofs.SealedReplies.{front_fits}
 
 -- ---- refusals
@@ -41,20 +40,26 @@ refused_now n h now room p TooLong r = r
 refused_now n h now room p NoRoom r = r
 refused_now n h now room p KeeperFailed r = r
 
-pub plain_refused : (n : ℕ) (h : History) (moment room : ℕ) (p : Parts) (e : ProtectError)
-    → RefusesPlainRequest (context h).features p e → RequestAnswer n h moment p room (NotSent (lifted e))
-plain_refused n h moment room p protects.NotThatKind r = r
-plain_refused n h moment room p (protects.Unsupported k) r = r
-plain_refused n h moment room p protects.TooLong r = absurd r
-plain_refused n h moment room p protects.NoRoom r = absurd r
+module _ (n : ℕ) (h : History) (moment room : ℕ) (p : Parts) where
+  plain_refused : (e : ProtectError) → RefusesPlainRequest (context h).features p e → RequestAnswer n h moment p room (NotSent (lifted e))
+  plain_refused protects.NotThatKind r = r
+  plain_refused (protects.Unsupported k) r = r
+  plain_refused protects.TooLong r = absurd r
+  plain_refused protects.NoRoom r = absurd r
 
-pub seal_refused : (n : ℕ) (h : History) (moment room : ℕ) (p : Parts) (e : ProtectError) → CanAsk n h moment p
-    → RefusesToSeal (requests (context h)) (next h) p room e → RequestAnswer n h moment p room (NotSent (lifted e))
-seal_refused n h moment room p protects.NotThatKind can r = absurd (both_ways _ r can.0.0.0)
-seal_refused n h moment room p (protects.Unsupported k) can r =
-    absurd (both_ways _ can.0.0.1 (unsupported_among (context h).features k p.options r.1.unsupported r.1.among))
-seal_refused n h moment room p protects.TooLong can r = (can, r)
-seal_refused n h moment room p protects.NoRoom can r = (can, r)
+  -- what keeps it from being sealed comes first, and else the other reason
+  pub first_refused : (x : Features) (other reason : RequestError) → x ≡ (context h).features
+      → (IsPlainRequest (context h).features p → RequestAnswer n h moment p room (NotSent other)) → IsFirstReason x p other reason → RequestAnswer n h moment p room (NotSent reason)
+  first_refused x other reason same row (inl first) = subst (λ e. RequestAnswer n h moment p room (NotSent e)) (sym first.1) (row (subst (λ y. IsPlainRequest y p) same first.0))
+  first_refused x other reason same row (inr first) =
+      subst (λ e. RequestAnswer n h moment p room (NotSent e)) (sym first.2) (plain_refused (first.0) (subst (λ y. RefusesPlainRequest y p (first.0)) same first.1))
+
+  pub seal_refused : (e : ProtectError) → (IsPlainRequest (context h).features p → CanAsk n h moment p)
+      → RefusesToSeal (requests (context h)) (next h) p room e → RequestAnswer n h moment p room (NotSent (lifted e))
+  seal_refused protects.NotThatKind can r = r
+  seal_refused (protects.Unsupported k) can r = r
+  seal_refused protects.TooLong can r = (can r.0, r)
+  seal_refused protects.NoRoom can r = (can r.0, r)
 
 -- ---- the table with one request more
 
@@ -73,6 +78,11 @@ differ_more xs a h new =
     all_pairs_push (λ (r q : Asked). r.token ≢ q.token) xs a h (λ k d within same. new (get_or xs k d, (k, within, get_or_default xs k (get_or xs k d) d within), same))
 
 -- ---- a request that is sealed
+
+-- what was sealed can be sealed
+pub plainly_sealed : {N : ℕ} (c : Client N) (h : History) (number : ℕ) (p : Parts) (bytes : List ℕ) → ClientAgrees c h
+    → SealsRequest (as_client (context_of c.context)) number p bytes → IsPlainRequest (context h).features p
+plainly_sealed c h number p bytes a sealed = subst (λ (s : SecurityContext). IsPlainRequest s.features p) a.context_is (sealed.used, sealed.supported)
 
 -- a row of the sealed request, by the clock's move before it
 pub sealed_now : {N : ℕ} (c : Client N) (h : History) (now number len : ℕ) (p : Parts) (new old : List ℕ)

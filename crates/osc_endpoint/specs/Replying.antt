@@ -1,6 +1,8 @@
 -- For the proofs: what a context of a server answers to a reply and to a notification by a ticket.
-use Rattle.std.specs.Prelude.{◌≡◌, ℕ, Bool, true, false, Option, Some, None, Result, Ok, Err, if◌then◌else◌}
+use Rattle.std.specs.Prelude.{◌≡◌, ◌⊎◌, ℕ, Bool, true, false, Option, Some, None, Result, Ok, Err, if◌then◌else◌}
 use Rattle.osc_coap.specs.Datagram.{Parts}
+use Rattle.osc_context.specs.declared.features.Features.{Features}
+use Rattle.osc_protect.specs.SealRefusals.{IsPlainResponse, RefusesPlainResponse}
 use Rattle.osc_protect.specs.declared.protect_error.ProtectError.{ProtectError}
 use Rattle.osc_protect.specs.declared.protect_error.ProtectError.TheVariants as protects
 use Rattle.osc_endpoint.specs.declared.server_error.ReplyError.{ReplyError}
@@ -15,6 +17,10 @@ lifted protects.NotThatKind = NotThatKind
 lifted (protects.Unsupported n) = Unsupported n
 lifted protects.TooLong = TooLong
 lifted protects.NoRoom = NoRoom
+
+-- why a response isn't sealed for which there is this other reason: what keeps it from being sealed at all comes first (own rule: the order)
+abbrev pub IsFirstReason : Features → Parts → ReplyError → ReplyError → Type 0
+IsFirstReason x p other reason = (IsPlainResponse x p × (reason ≡ other)) ⊎ ((e : ProtectError) × RefusesPlainResponse x p e × (reason ≡ lifted e))
 
 -- what a reply leaves in its life (RFC 8613, 7.2.1)
 abbrev pub reply_mark : Result ℕ ReplyError → Bool → Option Mark

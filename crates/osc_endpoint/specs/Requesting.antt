@@ -1,6 +1,9 @@
 -- For the proofs: how a client seals a request.
-use Rattle.std.specs.Prelude.{ℕ, List, take, Result, Ok, Err}
+use Rattle.std.specs.Prelude.{◌≡◌, ◌⊎◌, ℕ, List, take, Result, Ok, Err}
+use Rattle.osc_coap.specs.Datagram.{Parts}
+use Rattle.osc_context.specs.declared.features.Features.{Features}
 use Rattle.osc_context.specs.declared.partial_iv.Piv.{Piv}
+use Rattle.osc_protect.specs.SealRefusals.{IsPlainRequest, RefusesPlainRequest}
 use Rattle.osc_protect.specs.declared.protect_error.ProtectError.{ProtectError}
 use Rattle.osc_protect.specs.declared.protect_error.ProtectError.TheVariants as protects
 use Rattle.osc_endpoint.specs.declared.client_outcome.RequestError.{RequestError}
@@ -13,6 +16,10 @@ lifted protects.NotThatKind = NotThatKind
 lifted (protects.Unsupported n) = Unsupported n
 lifted protects.TooLong = TooLong
 lifted protects.NoRoom = NoRoom
+
+-- why a request isn't sealed for which there is this other reason: what keeps it from being sealed at all comes first (own rule: the order)
+abbrev pub IsFirstReason : Features → Parts → RequestError → RequestError → Type 0
+IsFirstReason x p other reason = (IsPlainRequest x p × (reason ≡ other)) ⊎ ((e : ProtectError) × RefusesPlainRequest x p e × (reason ≡ lifted e))
 
 -- the entry of a Request whose number is known too (how the code is seen)
 abbrev pub sent_entry : Result (Piv × ℕ) RequestError → List ℕ → Entry

@@ -51,6 +51,7 @@ pub(crate) fn write_challenge(
     ensures behind { drop result out.new ≡ drop result out.old }
     ensures within { result ≤ 64 }
 {
+    // For the proof alone.
     one_datagram();
     one_option_value();
     let mut plain = [0; PLAIN_ROOM];

@@ -4,7 +4,8 @@ ghost use Rattle.std.specs.Prelude.{◌≡◌, ◌≢◌, ◌≤◌, ◌<◌, �
 ghost use Rattle.arrayvec.specs.ArrayVec.{array_vec_len};
 ghost use Rattle.osc_coap.specs.Views.{parts_of};
 ghost use Rattle.osc_context.specs.Views.{number_of};
-ghost use Rattle.osc_endpoint.specs.Requesting.{lifted};
+ghost use Rattle.osc_endpoint.specs.Requesting.{IsFirstReason, lifted};
+ghost use Rattle.osc_protect.specs.SealRefusals.{IsPlainRequest};
 ghost use Rattle.osc_endpoint.specs.declared.client_outcome.RequestError.TheVariants.{KeeperFailed};
 
 use crate::asker::copy_of;
@@ -13,7 +14,7 @@ use crate::client_outcome::RequestError;
 use crate::observing::registers;
 use crate::pending::{Pending, Wait, find_request};
 use osc_coap::Message;
-use osc_context::Piv;
+use osc_context::{Features, Piv};
 use osc_protect::{ProtectError, check_request};
 
 /// Turns a refusal to seal into the refusal of a request.
@@ -29,28 +30,40 @@ fn lift(error: ProtectError) -> RequestError
     }
 }
 
+/// Returns why a request isn't sealed for which there is this other reason: what keeps it from being sealed at all comes first.
+fn first_reason(plain: &Message<'_>, features: Features, other: RequestError) -> RequestError
+    requires { other ≢ KeeperFailed }
+    ensures first { IsFirstReason features (parts_of plain.now) other result }
+    ensures no_keeper_failed { result ≢ KeeperFailed }
+{
+    match check_request(plain, features) {
+        Ok(()) => other,
+        Err(error) => lift(error),
+    }
+}
+
 impl<const N: usize> Client<N> {
     ghost use Rattle.osc_endpoint.specs.Agrees.{ClientAgrees, HasTokensApart, client_parts};
     ghost use Rattle.osc_endpoint.specs.ClientAnswer.{CanAsk, ClientAnswer, IsAmong, RequestAnswer};
-    ghost use Rattle.osc_endpoint.specs.ClientHistory.{History, Then, Request, NotSent, Advance, Advanced, clock, next, wait_of};
+    ghost use Rattle.osc_endpoint.specs.ClientHistory.{History, Then, Request, NotSent, Advance, Advanced, clock, context, next, wait_of};
     ghost use Rattle.osc_protect.specs.Views.{context_of};
     ghost use Rattle.osc_endpoint.specs.Requesting.{sent_entry};
     ghost use Rattle.osc_endpoint.specs.Views.{request_entry};
 
-    /// Returns the Sender Sequence Number of a request that is sealed now, or why there is none, whatever the room for the request.
+    /// Returns the Sender Sequence Number of a request that is sealed now, or why there is none for a request that can be sealed, whatever
+    /// the room for it.
     fn number_for(&self, plain: &Message<'_>) -> Result<Piv, RequestError>
         ensures accepted { IfOk result (λ number. (h : History) → ClientAgrees self.now h
+            → IsPlainRequest (context h).features (parts_of plain.now)
             → CanAsk N h (clock h) (parts_of plain.now) × (number_of number ≡ next h)) }
+        ensures number { IfOk result (λ number. (h : History) → ClientAgrees self.now h → number_of number ≡ next h) }
         ensures refused { IfErr result (λ e. (h : History) (room : ℕ) → ClientAgrees self.now h
+            → IsPlainRequest (context h).features (parts_of plain.now)
             → RequestAnswer N h (clock h) (parts_of plain.now) room (NotSent e)) }
         ensures fits { OnOk result ((array_vec_len self.now.pending < N) × (self.now.next < 2 ^ 40)) }
         ensures unused { OnOk result (IsAmong (parts_of plain.now).token (client_parts self.now).pending → ⊥) }
         ensures no_keeper_failed { IfErr result (λ e. e ≢ KeeperFailed) }
     {
-        let features = self.context.context().features();
-        if let Err(error) = check_request(plain, features) {
-            return Err(lift(error));
-        }
         if find_request(self.pending.as_slice(), plain.token.as_slice()).is_some() {
             return Err(RequestError::TokenInUse);
         }
@@ -97,7 +110,11 @@ impl<const N: usize> Client<N> {
         self.advance(now);
         let number = match self.number_for(plain) {
             Ok(number) => number,
-            Err(error) => return Err(error),
+            Err(other) => {
+                let features = self.context.context().features();
+                let reason = first_reason(plain, features, other);
+                return Err(reason);
+            }
         };
         match self.context.seal_request(number, plain, out) {
             Ok(len) => {

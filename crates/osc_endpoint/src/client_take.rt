@@ -51,6 +51,7 @@ fn continued(wait: Wait, datagram: &[u8], read: ReadResponse) -> Option<Wait>
     requires { (x : DecryptedResponse) × CanLendResponse datagram.now x read }
     ensures { OfWhatWasRead datagram.now read (λ own m. result ≡ wait_after wait own m) }
 {
+    // For the proof alone.
     one_response();
     one_notification();
     let opened = read.opened(datagram);
@@ -92,6 +93,7 @@ impl<const N: usize> Client<N> {
         ensures within { IfOk result (λ p. p.1.place < array_vec_len self.new.pending) }
         ensures apart { HasTokensApart self.old → HasTokensApart self.new }
     {
+        // For the proof alone.
         one_datagram();
         self.clock = self.clock.max(now);
         drop_expired(&mut self.pending, self.clock, self.life_ms);
@@ -135,6 +137,7 @@ impl<const N: usize> Client<N> {
             → ClientShowsDecided result datagram.new outcome → Hears h now datagram.old c n own m → client_hearing_of outcome ≡ Some (c, n, own, m) }
         ensures apart { HasTokensApart self.old → HasTokensApart self.new }
     {
+        // For the proof alone.
         one_datagram();
         one_head();
         one_response();
@@ -150,6 +153,7 @@ impl<const N: usize> Client<N> {
         ensures left { LeavesBy self.old result datagram.old datagram.new }
         ensures apart { HasTokensApart self.old → HasTokensApart self.new }
     {
+        // For the proof alone.
         one_datagram();
         one_head();
         one_response();

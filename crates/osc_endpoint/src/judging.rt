@@ -77,6 +77,7 @@ fn registers_read(features: Features, datagram: &[u8], read: ReadRequest) -> boo
     if !features.observe {
         return false;
     }
+    // For the proof alone.
     one_request();
     let opened = read.opened(datagram);
     registers(features, opened.code, &opened.inner())
@@ -130,6 +131,7 @@ impl Slot {
             × OfWhatWasRead datagram.now read (λ m. Carries (in_force l clock) m → ⊥) }
         ensures closed { result ≡ false → is_open_gate self.now.gate ≡ false }
     {
+        // For the proof alone.
         one_request();
         if self.gate.is_open() {
             return true;
@@ -160,6 +162,7 @@ impl Slot {
         ensures within { result.reply ≤ 64 }
         ensures behind { drop result.reply out.new ≡ drop result.reply out.old }
     {
+        // For the proof alone.
         one_datagram();
         one_reading();
         one_request();

@@ -7,12 +7,12 @@ ghost use Rattle.osc_endpoint.specs.declared.server_error.ReplyError.TheVariants
 
 use crate::asker::copy_of;
 use crate::observing::is_notification;
-use crate::replying::lift;
+use crate::replying::{first_reason, lift};
 use crate::server_error::ReplyError;
 use crate::slot::Slot;
 use osc_coap::{Message, Token};
 use osc_context::Piv;
-use osc_protect::{RequestRef, check_response};
+use osc_protect::RequestRef;
 
 impl Slot {
     ghost use Rattle.osc_endpoint.specs.Agrees.{SlotAgrees};
@@ -42,14 +42,14 @@ impl Slot {
         ensures no_keeper_failed { IfErr result (λ e. e ≢ KeeperFailed) }
     {
         let message = plain.with_head(plain.kind, plain.message_id, copy_of(token));
-        if let Err(error) = check_response(&message, self.context.context().features()) {
-            return Err(lift(error));
-        }
+        let features = self.context.context().features();
         if !is_notification(message.code, &message.options()) {
-            return Err(ReplyError::NotNotification);
+            let reason = first_reason(&message, features, ReplyError::NotNotification);
+            return Err(reason);
         }
         let Some(own) = Piv::new(self.next) else {
-            return Err(ReplyError::SequenceExhausted);
+            let reason = first_reason(&message, features, ReplyError::SequenceExhausted);
+            return Err(reason);
         };
         let request = RequestRef::registering(number);
         match self

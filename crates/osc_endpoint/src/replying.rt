@@ -4,14 +4,14 @@ ghost use Rattle.std.specs.Prelude.{◌≡◌, ◌≢◌, ◌≤◌, ◌<◌, �
 ghost use Rattle.std.specs.Option.{option_map};
 ghost use Rattle.osc_coap.specs.Views.{parts_of};
 ghost use Rattle.osc_context.specs.Views.{number_of};
-ghost use Rattle.osc_endpoint.specs.Replying.{lifted};
+ghost use Rattle.osc_endpoint.specs.Replying.{IsFirstReason, lifted};
 ghost use Rattle.osc_endpoint.specs.declared.server_error.ReplyError.TheVariants.{KeeperFailed};
 
 use crate::asker::Asker;
 use crate::server_error::ReplyError;
 use crate::slot::Slot;
 use osc_coap::Message;
-use osc_context::Piv;
+use osc_context::{Features, Piv};
 use osc_protect::{ProtectError, RequestRef, check_response};
 
 /// Turns a refusal to seal into the refusal of a reply.
@@ -24,6 +24,18 @@ pub(crate) fn lift(error: ProtectError) -> ReplyError
         ProtectError::Unsupported(number) => ReplyError::Unsupported(number),
         ProtectError::TooLong => ReplyError::TooLong,
         ProtectError::NoRoom => ReplyError::NoRoom,
+    }
+}
+
+/// Returns why a response isn't sealed for which there is this other reason: what keeps it from being sealed at all comes first.
+pub(crate) fn first_reason(plain: &Message<'_>, features: Features, other: ReplyError) -> ReplyError
+    requires { other ≢ KeeperFailed }
+    ensures first { IsFirstReason features (parts_of plain.now) other result }
+    ensures no_keeper_failed { result ≢ KeeperFailed }
+{
+    match check_response(plain, features) {
+        Ok(()) => other,
+        Err(error) => lift(error),
     }
 }
 
@@ -87,12 +99,10 @@ impl Slot {
     {
         let (kind, id) = (asker.reply_kind(), asker.reply_id(mid));
         let message = plain.with_head(kind, id, asker.token());
-        let features = self.context.context().features().unobserved();
-        if let Err(error) = check_response(&message, features) {
-            return Err(lift(error));
-        }
         let Some(own_number) = self.asked_number(own) else {
-            return Err(ReplyError::SequenceExhausted);
+            let features = self.context.context().features().unobserved();
+            let reason = first_reason(&message, features, ReplyError::SequenceExhausted);
+            return Err(reason);
         };
         let request = RequestRef::new(number);
         match self

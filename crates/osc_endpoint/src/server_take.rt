@@ -153,6 +153,7 @@ impl Server {
         ensures within { result.reply ≤ 64 }
         ensures behind { drop result.reply out.new ≡ drop result.reply out.old }
     {
+        // For the proof alone.
         one_reading();
         one_request();
         decide_over(&mut self.clock, &mut self.slots, now, fresh, datagram, out)

@@ -75,10 +75,11 @@ impl ServerHandle {
         ensures same { IfSome result (λ r. OnErr r (self.new ≡ self.old)) }
         ensures unchanged { result ≡ None → self.new ≡ self.old }
     {
+        // For the proof alone.
+        answered_once();
         if !self.contexts.is_whole() || !context.is_whole() {
             return None;
         }
-        answered_once();
         match self.contexts.add(context, start, size) {
             Ok(index) => {
                 self.unanswered[index] = UnansweredHandle::none();
@@ -100,10 +101,11 @@ impl ServerHandle {
         ensures same { IfSome result (λ r. OnErr r (self.new ≡ self.old)) }
         ensures unchanged { result ≡ None → self.new ≡ self.old }
     {
+        // For the proof alone.
+        answered_once();
         if !self.contexts.is_whole() {
             return None;
         }
-        answered_once();
         match self.contexts.restart(context, next) {
             Ok(()) => {
                 self.unanswered[context] = UnansweredHandle::none();

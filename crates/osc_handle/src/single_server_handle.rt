@@ -55,13 +55,14 @@ impl SingleServerHandle {
         ensures accepted { IsSome result → IsContext context.now }
         ensures bytes { IfSome result (λ s. IsSlotBytes s.slot) }
     {
+        // For the proof alone.
+        answered_once();
         if !context.is_whole() {
             return None;
         }
         let Some(made) = context.context() else {
             unreachable!();
         };
-        answered_once();
         Some(SingleServerHandle {
             clock: 0,
             slot: SlotHandle::of(context, &Slot::begin(made, start, size)),
@@ -81,10 +82,11 @@ impl SingleServerHandle {
         ensures same { IfSome result (λ r. OnErr r (self.new ≡ self.old)) }
         ensures unchanged { result ≡ None → self.new ≡ self.old }
     {
+        // For the proof alone.
+        answered_once();
         if !self.slot.is_whole() {
             return None;
         }
-        answered_once();
         match self.slot.restart_alone(next) {
             Ok(()) => {
                 self.unanswered = UnansweredHandle::none();
@@ -173,7 +175,7 @@ impl SingleServerHandle {
     }
 
     /// Returns whether a ticket is of the context's present life.
-    fn is_of(&self, ticket: &TicketHandle) -> bool
+    fn gave(&self, ticket: &TicketHandle) -> bool
         ensures { result ≡ is_present_in (table_of self.now.slot) ticket.now.context ticket.now.life }
     {
         ticket.context == 0 && self.slot.life == ticket.life
@@ -210,7 +212,7 @@ impl SingleServerHandle {
         let Some((number, asker)) = ticket.parts() else {
             return Err(ReplyRefusal::BadHandle);
         };
-        if !self.is_of(ticket) {
+        if !self.gave(ticket) {
             return Err(ReplyRefusal::Refused(ReplyError::StaleTicket));
         }
         if !self.unanswered.has(ticket.number) {
@@ -253,7 +255,7 @@ impl SingleServerHandle {
         let Some((number, asker)) = ticket.parts() else {
             return None;
         };
-        if !self.is_of(ticket) {
+        if !self.gave(ticket) {
             return Some(Err(ReplyError::StaleTicket));
         }
         if !ticket.is_observing() {

@@ -52,6 +52,7 @@ pub fn start_server_in_world<K: Keeper>(
     ensures refused { IfErr result (λ e. RefusesAt K.loads K.failures keeper e.0 e.1) }
     ensures no_lives_exhausted { IfErr result (λ e. e.0 ≢ LivesExhausted) }
 {
+    // For the proof alone.
     kept_ends_in_world();
     KeptServer::start(context, keeper, size)
 }
@@ -63,6 +64,7 @@ pub fn restart_server_in_world<K: Keeper>(server: &mut KeptServer<K>) -> Result<
     ensures refused { IfErr result (λ e. RefusesAt K.loads K.failures server.old.source.keeper e server.new.source.keeper) }
     ensures unchanged { OnErr result ((s : SecurityContext) (w : World) → RunsIn s w server.old → RunsIn s w server.new) }
 {
+    // For the proof alone.
     kept_ends_in_world();
     server.restart()
 }
@@ -84,6 +86,7 @@ pub fn decide_in_world<K: Keeper>(
     ensures failed { IsErr result → K.failures server.new.source.keeper ≡ K.failures server.old.source.keeper + 1 }
     ensures worked { IsOk result → K.failures server.new.source.keeper ≡ K.failures server.old.source.keeper }
 {
+    // For the proof alone.
     kept_ends_in_world();
     server.decide(now, fresh, datagram, out)
 }
@@ -105,6 +108,7 @@ pub fn take_in_world<'b, K: Keeper>(
     ensures failed { result.outcome ≡ outcomes.KeeperFailed → K.failures server.new.source.keeper ≡ K.failures server.old.source.keeper + 1 }
     ensures worked { result.outcome ≢ outcomes.KeeperFailed → K.failures server.new.source.keeper ≡ K.failures server.old.source.keeper }
 {
+    // For the proof alone.
     kept_ends_in_world();
     server.take(now, fresh, datagram, out)
 }
@@ -126,6 +130,7 @@ pub fn reply_in_world<K: Keeper>(
     ensures failed { IfErr result (λ e. e.0 ≡ replies.KeeperFailed → K.failures server.new.source.keeper ≡ K.failures server.old.source.keeper + 1) }
     ensures worked { IfErr result (λ e. e.0 ≢ replies.KeeperFailed) → K.failures server.new.source.keeper ≡ K.failures server.old.source.keeper }
 {
+    // For the proof alone.
     kept_ends_in_world();
     server.reply(ticket, own, mid, plain, out)
 }
@@ -144,6 +149,7 @@ pub fn notify_in_world<K: Keeper>(
     ensures failed { IfErr result (λ e. e ≡ replies.KeeperFailed → K.failures server.new.source.keeper ≡ K.failures server.old.source.keeper + 1) }
     ensures worked { IfErr result (λ e. e ≢ replies.KeeperFailed) → K.failures server.new.source.keeper ≡ K.failures server.old.source.keeper }
 {
+    // For the proof alone.
     kept_ends_in_world();
     server.notify(ticket, plain, out)
 }
@@ -179,6 +185,7 @@ pub fn start_client_in_world<K: Keeper, const N: usize>(
     ensures refused { IfErr result (λ e. RefusesAt K.loads K.failures keeper e.0 e.1) }
     ensures no_lives_exhausted { IfErr result (λ e. e.0 ≢ LivesExhausted) }
 {
+    // For the proof alone.
     kept_ends_in_world();
     KeptClient::start(context, keeper, life_ms)
 }
@@ -193,6 +200,7 @@ pub fn restart_client_in_world<K: Keeper, const N: usize>(
     ensures no_lives_exhausted { result ≢ Err LivesExhausted }
     ensures unchanged { OnErr result ((s : SecurityContext) (w : World) → ClientRunsIn s w client.old → ClientRunsIn s w client.new) }
 {
+    // For the proof alone.
     kept_ends_in_world();
     client.restart()
 }
@@ -211,6 +219,7 @@ pub fn request_in_world<K: Keeper, const N: usize>(
     ensures failed { IsErrOf result requests.KeeperFailed → K.failures client.new.source.keeper ≡ K.failures client.old.source.keeper + 1 }
     ensures worked { (IsErrOf result requests.KeeperFailed → ⊥) → K.failures client.new.source.keeper ≡ K.failures client.old.source.keeper }
 {
+    // For the proof alone.
     kept_ends_in_world();
     client.request(now, plain, out)
 }
@@ -224,6 +233,7 @@ pub fn decide_response_in_world<K: Keeper, const N: usize>(
     ensures answered { (s : SecurityContext) (w : World) → IsKept N s w → ClientRunsIn s w client.old → NobodyForgesTo s w now datagram.old
         → ClientDecidesInWorld s w now datagram.old result datagram.new client.old client.new }
 {
+    // For the proof alone.
     kept_ends_in_world();
     client.decide(now, datagram)
 }
@@ -237,6 +247,7 @@ pub fn take_response_in_world<'b, K: Keeper, const N: usize>(
     ensures answered { (s : SecurityContext) (w : World) → IsKept N s w → ClientRunsIn s w client.old → NobodyForgesTo s w now datagram.old
         → ClientTakesInWorld s w now datagram.old result client.old client.new }
 {
+    // For the proof alone.
     kept_ends_in_world();
     client.take(now, datagram)
 }
@@ -249,6 +260,7 @@ pub fn forget_in_world<K: Keeper, const N: usize>(
     ensures answered { (s : SecurityContext) (w : World) → IsKept N s w → ClientRunsIn s w client.old
         → ClientAfter s w (asked.Forget token.now) (asked.Forgot result) client.old client.new }
 {
+    // For the proof alone.
     kept_ends_in_world();
     client.forget(token)
 }
@@ -258,6 +270,7 @@ pub fn advance_in_world<K: Keeper, const N: usize>(client: &mut KeptClient<K, N>
     ensures advanced { (s : SecurityContext) (w : World) → IsKept N s w → ClientRunsIn s w client.old
         → ClientAfter s w (asked.Advance now) asked.Advanced client.old client.new }
 {
+    // For the proof alone.
     kept_ends_in_world();
     client.advance(now);
 }

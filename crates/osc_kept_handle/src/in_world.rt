@@ -56,6 +56,7 @@ pub fn begin_server_in_world(
     ensures accepts { IsContext context.now → IsSome result }
     ensures accepted { IsSome result → IsContext context.now }
 {
+    // For the proof alone.
     kept_ends_in_world();
     KeptServerHandle::begin(context, loaded, size)
 }
@@ -72,6 +73,7 @@ pub fn server_saved_in_world(server: &mut KeptServerHandle, number: u64) -> Opti
     ensures accepted { IsSome result → IsKeptServer server.old }
     ensures unchanged { result ≢ Some true → server.new ≡ server.old }
 {
+    // For the proof alone.
     both_ends();
     kept_ends_in_world();
     server.saved(number)
@@ -98,6 +100,7 @@ pub fn decide_bytes_in_world(
     ensures behind { IfOk result (λ decided. drop decided.reply out.new ≡ drop decided.reply out.old) }
     ensures unchanged { OnErr result ((server.new ≡ server.old) × (datagram.new ≡ datagram.old) × (out.new ≡ out.old)) }
 {
+    // For the proof alone.
     kept_ends_in_world();
     server.decide(now, fresh, datagram, out)
 }
@@ -123,6 +126,7 @@ pub fn take_bytes_in_world<'b>(
     ensures behind { IfOk result (λ taken. drop taken.reply out.new ≡ drop taken.reply out.old) }
     ensures unchanged { OnErr result ((server.new ≡ server.old) × (out.new ≡ out.old)) }
 {
+    // For the proof alone.
     kept_ends_in_world();
     server.take(now, fresh, datagram, out)
 }
@@ -150,6 +154,7 @@ pub fn reply_bytes_in_world(
     ensures behind { IfOk result (λ n. drop n out.new ≡ drop n out.old) }
     ensures unchanged { OnErr result ((out.new ≡ out.old) × (server.new ≡ server.old)) }
 {
+    // For the proof alone.
     answered_once();
     kept_ends_in_world();
     server.reply(ticket, own, mid, plain, out)
@@ -175,6 +180,7 @@ pub fn notify_bytes_in_world(
     ensures behind { IfOk result (λ n. drop n out.new ≡ drop n out.old) }
     ensures unchanged { OnErr result ((out.new ≡ out.old) × (server.new ≡ server.old)) }
 {
+    // For the proof alone.
     kept_ends_in_world();
     server.notify(ticket, plain, out)
 }
@@ -191,6 +197,7 @@ pub fn begin_client_in_world(
     ensures accepts { IsContext context.now → IsSome result }
     ensures accepted { IsSome result → IsContext context.now }
 {
+    // For the proof alone.
     kept_ends_in_world();
     KeptClientHandle::begin(context, loaded, life_ms)
 }
@@ -205,6 +212,7 @@ pub fn client_saved_in_world(client: &mut KeptClientHandle, number: u64) -> Opti
     ensures accepted { IsSome result → IsKeptClient client.old }
     ensures unchanged { result ≢ Some true → client.new ≡ client.old }
 {
+    // For the proof alone.
     both_ends();
     client.saved(number)
 }
@@ -229,6 +237,7 @@ pub fn request_bytes_in_world(
     ensures same { entry_of_kept_request result out.new ≡ None → client.new ≡ client.old }
     ensures unchanged { OnErr result (out.new ≡ out.old) }
 {
+    // For the proof alone.
     kept_ends_in_world();
     client.request(now, plain, out)
 }
@@ -245,6 +254,7 @@ pub fn decide_response_bytes_in_world(
     ensures accepted { IsSome result → IsKeptClient client.old }
     ensures unchanged { IsNone result → (client.new ≡ client.old) × (datagram.new ≡ datagram.old) }
 {
+    // For the proof alone.
     kept_ends_in_world();
     client.decide(now, datagram)
 }
@@ -261,6 +271,7 @@ pub fn take_response_bytes_in_world<'b>(
     ensures accepted { IsSome result → IsKeptClient client.old }
     ensures unchanged { IsNone result → client.new ≡ client.old }
 {
+    // For the proof alone.
     kept_ends_in_world();
     client.take(now, datagram)
 }
@@ -273,6 +284,7 @@ pub fn forget_bytes_in_world(client: &mut KeptClientHandle, token: &[u8]) -> Opt
     ensures accepted { IsSome result → IsKeptClient client.old }
     ensures unchanged { IsNone result → client.new ≡ client.old }
 {
+    // For the proof alone.
     kept_ends_in_world();
     client.forget(token)
 }

@@ -1,6 +1,6 @@
 -- Which Observe option of a message counts: the one that is interpreted, which is the first, if its value is valid. entries are the options of
 -- a plain message, tail is what stands behind them outside.
-use Rattle.std.proofs.Common.{◌≡◌, ℕ, ◌==◌, Bool, true, false, List, [], ◌∷◌, ◌++◌, length, refl, sym, ap, subst, ◌∙◌, inl, inr, Option, Some, None, if◌then◌else◌}
+use Rattle.std.proofs.Common.{◌≡◌, ℕ, ◌==◌, Bool, true, false, List, [], ◌∷◌, ◌++◌, length, refl, sym, ap, subst, ◌∙◌, inl, inr, Option, Some, None, if◌then◌else◌, is_some, ◌&&◌}
 use Rattle.std.proofs.lemmas.Bool.{eqb-true}
 use Rattle.std.specs.Option.{unwrap_or}
 use Rattle.osc_coap.specs.Class.{class, is_outer, outer_options}
@@ -10,6 +10,7 @@ use Rattle.osc_coap.specs.OptionSpelling.{Entry}
 use Rattle.osc_coap.specs.Search.{values_at}
 use Rattle.osc_protect.specs.Protection.{emptied}
 use Rattle.osc_protect.specs.Sealed.{options_outside}
+use Rattle.osc_protect.specs.Split.{has_observe}
 use Rattle.osc_protect.proofs.Sides.{unsought_outside}
 use Rattle.osc_protect.proofs.Splits.{chosen}
 
@@ -132,3 +133,26 @@ emptied_observe (entry ∷ entries) value h = elim (chosen (entry.0 == observe))
   | inr isnt ↦ ap (interpreted observe) (emptied_other entry entries isnt) ∙ behind entry (emptied true entries) isnt
       ∙ emptied_observe entries value (sym (behind entry entries isnt) ∙ h)
 ]
+
+-- ---- that one counts is that one is interpreted, where one is sought
+
+none_sought : (entries : List Entry) → has_observe false entries ≡ false
+none_sought [] = refl
+none_sought (entry ∷ entries) = none_sought entries
+
+sought_read : (entries : List Entry) → has_observe true entries ≡ is_some (interpreted observe entries)
+sought_read [] = refl
+sought_read (entry ∷ entries) = elim (chosen (entry.0 == observe)) [
+  | inl is ↦ elim (chosen (is_valid_length observe (length entry.1))) [
+    | inl valid ↦ found is valid ∙ sym (ap is_some (here entry entries is valid))
+    | inr invalid ↦ rw (is, invalid) (none_sought entries) ∙ sym (ap is_some (too_long entry entries is invalid))
+  ]
+  | inr isnt ↦ rw isnt (sought_read entries) ∙ sym (ap is_some (behind entry entries isnt))
+]
+  where
+    found : (entry.0 == observe) ≡ true → is_valid_length observe (length entry.1) ≡ true → has_observe true (entry ∷ entries) ≡ true
+    found is valid = rw (is, valid) refl
+
+pub observes_read : (sought : Bool) (entries : List Entry) → has_observe sought entries ≡ sought && is_some (interpreted observe entries)
+observes_read true entries = sought_read entries
+observes_read false entries = none_sought entries

@@ -18,6 +18,7 @@ pub mod StageViews
 -- for the proofs
 pub mod Found
 pub mod Split
+pub mod Checks
 pub mod Ends
 pub mod Halves
 pub mod Layers

@@ -1,6 +1,6 @@
 -- For the proofs: the two sides of a protection (RFC 8613, 4.1), and when a writer takes options. notifies is whether the message is a
 -- notification.
-use Rattle.std.specs.Prelude.{◌≡◌, ℕ, Bool, List, [], ◌∷◌, if◌then◌else◌}
+use Rattle.std.specs.Prelude.{◌≡◌, ◌||◌, ℕ, Bool, false, List, [], ◌∷◌, if◌then◌else◌}
 use Rattle.osc_coap.specs.Class.{class, is_inner}
 use Rattle.osc_coap.specs.Datagram.{Parts}
 use Rattle.osc_coap.specs.OptionSpelling.{Entry, Ascends, last_number}
@@ -28,6 +28,11 @@ entry_on (Inside sought) entry = if counts_as_observe sought entry then (entry.0
 abbrev pub side_behind : Side → Entry → Side
 side_behind (Outside sought) entry = Outside (sought_behind sought entry)
 side_behind (Inside sought) entry = Inside (sought_behind sought entry)
+
+-- one of the options counts as Observe (RFC 7252, 5.4.3 and 5.4.5; RFC 7641, 2)
+abbrev pub has_observe : Bool → List Entry → Bool
+has_observe sought [] = false
+has_observe sought (entry ∷ entries) = counts_as_observe sought entry || has_observe (sought_behind sought entry) entries
 
 -- the options as they stand on this side, in order (RFC 8613, 4.1)
 abbrev pub options_on : Side → List Entry → List Entry

@@ -107,6 +107,7 @@ impl<'a> Aead<'a> {
         ensures refused { IfNone result ((m : List ℕ) → payload.old ≢ cipher_of self.now m) }
         ensures unchanged { IfNone result (payload.new ≡ payload.old) }
     {
+        // For the proof alone.
         protection_length();
         let additional_data = self.additional_data.as_slice();
         let opened = self.cipher.open(&self.nonce, additional_data, payload);
@@ -123,6 +124,7 @@ impl<'a> Aead<'a> {
             → IfNone result ((m : List ℕ) → p.payload ≢ cipher_of self.now m) }
         ensures unchanged { IfNone result (datagram.new ≡ datagram.old) }
     {
+        // For the proof alone.
         payload_stands_last();
         let start = datagram.len() - len;
         self.open(&mut datagram[start..])

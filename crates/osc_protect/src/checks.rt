@@ -37,10 +37,15 @@ pub fn check_response(plain: &Message<'_>, features: Features) -> Result<(), Pro
 }
 
 /// Checks the Type and the code, and then the options.
-fn judge(usage: Usage, features: Features, plain: &Message<'_>) -> Result<(), ProtectError>
+pub(crate) fn judge(
+    usage: Usage,
+    features: Features,
+    plain: &Message<'_>,
+) -> Result<(), ProtectError>
     ensures accepted { IsOk result → CanBeSealed usage features (parts_of plain.now) }
     ensures refused { IfErr result (λ e. RefusesPlain usage features (parts_of plain.now) e) }
 {
+    // For the proof alone.
     options_ascend();
     if !is_used(usage, plain) {
         return Err(ProtectError::NotThatKind);

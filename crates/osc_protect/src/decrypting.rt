@@ -30,6 +30,7 @@ pub fn decrypt_request(
     ensures refuses { RefusesTag (opened_requests (context_of context.now)) datagram.old → IsErr result }
     ensures unchanged { OnErr result (datagram.new ≡ datagram.old) }
 {
+    // For the proof alone.
     one_head();
     decrypt_request_forward(context.recipient(), datagram, sealed)
 }
@@ -50,6 +51,7 @@ pub fn decrypt_response(
     ensures refuses { RefusesTag (opened_responses (context_of context.now) request.now) datagram.old → IsErr result }
     ensures unchanged { OnErr result (datagram.new ≡ datagram.old) }
 {
+    // For the proof alone.
     one_head();
     decrypt_response_forward(context.recipient(), request, datagram, sealed)
 }

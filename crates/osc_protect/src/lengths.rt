@@ -1,31 +1,32 @@
 //! The length of a sealed message, known before a byte is written.
 
-ghost use Rattle.std.specs.Prelude.{◌≡◌, ◌+◌, ◌<◌, ◌≤◌, ◌⊎◌, ◌∷◌, List, length, IfErr, IfNone, IfSome, IsOk};
+ghost use Rattle.std.specs.Prelude.{◌≡◌, ◌+◌, ◌<◌, ◌≤◌, ◌∷◌, List, Some, length, IfErr, IfNone, IfOk, IfSome, IsOk};
 ghost use Rattle.osc_coap.specs.OptionSpelling.{Entry, last_number, marked, spelling_length};
-ghost use Rattle.osc_coap.specs.Views.{options_left, parts_of};
+ghost use Rattle.osc_coap.specs.Views.{parts_of};
+ghost use Rattle.osc_protect.specs.Checks.{Checks};
 ghost use Rattle.osc_protect.specs.Sealed.{sealed_length};
 ghost use Rattle.osc_protect.specs.SealRefusals.{RefusesSize};
 ghost use Rattle.osc_protect.specs.Split.{options_on, said};
-ghost use Rattle.osc_protect.specs.declared.split.Side.TheVariants.{Inside, Outside};
 
+use crate::checked::Lists;
 use crate::family::Family;
 use crate::protect_error::ProtectError;
 use crate::split::Side;
 use osc_ccm::TAG_LEN;
 use osc_coap::option_numbers::OSCORE;
-use osc_coap::{MOST_DATAGRAM, Message, Options, head_len, option_len};
+use osc_coap::{MOST_DATAGRAM, Message, head_len, option_len};
 
 /// A count over the options that stand on a side, up to a place: the side from there on, the number of the last option, and their bytes.
 #[derive(Clone, Copy)]
-struct Tally {
-    side: Side,
-    number: u16,
-    len: usize,
+pub(crate) struct Tally {
+    pub(crate) side: Side,
+    pub(crate) number: u16,
+    pub(crate) len: usize,
 }
 
 impl Tally {
     /// The count before the first option.
-    fn of(side: Side) -> Tally
+    pub(crate) fn of(side: Side) -> Tally
         ensures { (result.side ≡ side) × (result.number ≡ 0) × (result.len ≡ 0) }
     {
         Tally {
@@ -36,7 +37,7 @@ impl Tally {
     }
 
     /// Adds one option, if it stands on the side. Returns `None` if the sum is more than a datagram can hold.
-    fn and(self, number: u16, value: &[u8]) -> Option<Tally>
+    pub(crate) fn and(self, number: u16, value: &[u8]) -> Option<Tally>
         requires { self.len ≤ 65535 }
         ensures length { IfSome result (λ t. (rest : List Entry) → t.len + spelling_length t.number (options_on t.side rest)
             ≡ self.len + spelling_length self.number (options_on self.side ((number, value.now) ∷ rest))) }
@@ -62,25 +63,6 @@ impl Tally {
     }
 }
 
-/// Counts the outer and the inner options. Returns `None` if either of the two lists is longer than a datagram can be.
-fn tally_options(family: Family, options: Options<'_>) -> Option<(Tally, Tally)>
-    ensures outer { IfSome result (λ t. t.0.len ≡ spelling_length 0 (options_on (Outside family.features.observe) (options_left options.entry))) }
-    ensures last { IfSome result (λ t. t.0.number ≡ last_number 0 (options_on (Outside family.features.observe) (options_left options.entry))) }
-    ensures inner { IfSome result (λ t. t.1.len ≡ spelling_length 0 (options_on (Inside family.notifies) (options_left options.entry))) }
-    ensures fits { IfSome result (λ t. (t.0.len ≤ 65535) × (t.1.len ≤ 65535)) }
-    ensures too_long { IfNone result
-        ((65535 < spelling_length 0 (options_on (Outside family.features.observe) (options_left options.entry)))
-        ⊎ (65535 < spelling_length 0 (options_on (Inside family.notifies) (options_left options.entry)))) }
-{
-    let mut outer = Tally::of(Side::Outside(family.features.observe));
-    let mut inner = Tally::of(Side::Inside(family.notifies));
-    for (number, value) in options {
-        outer = outer.and(number, value)?;
-        inner = inner.and(number, value)?;
-    }
-    Some((outer, inner))
-}
-
 /// Returns how many bytes a marker and the payload take, or 0 if the payload is empty.
 fn marked_len(payload: &[u8]) -> usize
     ensures { result ≡ length (marked payload.now) }
@@ -92,24 +74,29 @@ fn marked_len(payload: &[u8]) -> usize
     }
 }
 
-/// Checks the length that the message has once it is sealed with this value of the OSCORE option, for a buffer of `room` bytes.
-pub(crate) fn judge_length(
+/// Checks the length that a message with these lists of options has once it is sealed with this value of the OSCORE option, for a buffer
+/// of `room` bytes. Returns the lists.
+#[inline(always)]
+pub(crate) fn check_length(
     family: Family,
+    lists: Option<Lists>,
     plain: &Message<'_>,
     value: &[u8],
     room: usize,
-) -> Result<(), ProtectError>
-    requires { length value.now ≤ 255 }
+) -> Result<Lists, ProtectError>
+    requires value { length value.now ≤ 255 }
+    requires checked { Checks family (parts_of plain.now) lists }
+    ensures lists { IfOk result (λ s. lists ≡ Some s) }
     ensures short { IsOk result → sealed_length family.features (said family.notifies) (parts_of plain.now) value.now ≤ 65535 }
     ensures room { IsOk result → sealed_length family.features (said family.notifies) (parts_of plain.now) value.now ≤ room }
     ensures refused { IfErr result (λ e. RefusesSize (sealed_length family.features (said family.notifies) (parts_of plain.now) value.now) room e) }
 {
-    let Some((outer, inner)) = tally_options(family, plain.options()) else {
+    let Some(lists) = lists else {
         return Err(ProtectError::TooLong);
     };
-    let delta = OSCORE.saturating_sub(outer.number);
-    let outside = head_len(&plain.token) + outer.len + option_len(delta, value.len() as u16);
-    let plaintext = 1 + inner.len + marked_len(plain.payload());
+    let delta = OSCORE.saturating_sub(lists.outer.number);
+    let outside = head_len(&plain.token) + lists.outer.len + option_len(delta, value.len() as u16);
+    let plaintext = 1 + lists.inner.len + marked_len(plain.payload());
     let sealed = outside + 1 + plaintext + TAG_LEN;
     if sealed > MOST_DATAGRAM {
         return Err(ProtectError::TooLong);
@@ -117,5 +104,5 @@ pub(crate) fn judge_length(
     if sealed > room {
         return Err(ProtectError::NoRoom);
     }
-    Ok(())
+    Ok(lists)
 }

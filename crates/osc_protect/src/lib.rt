@@ -17,6 +17,7 @@
 #![tactic(auto)]
 
 mod aead;
+mod checked;
 mod checks;
 mod context_cipher;
 mod decrypting;

@@ -70,6 +70,7 @@ pub(crate) fn open_request_by<'b>(
     ensures refused { IfErr result (λ e. RefusesToOpen (opened_requests recipient.entry.context.now) datagram.old e) }
     ensures refuses { (e : UnprotectError) → RefusesToOpen (opened_requests recipient.entry.context.now) datagram.old e → IsErrOf result e }
 {
+    // For the proof alone.
     one_request();
     open_request_forward(recipient, datagram)
 }
@@ -87,6 +88,7 @@ pub(crate) fn open_response_by<'b>(
     ensures refuses { (e : UnprotectError) → RefusesToOpen (opened_responses recipient.entry.context.now request.now) datagram.old e → IsErrOf result e }
     ensures no_wrong_context { IfErr result (λ e. e ≢ WrongContext) }
 {
+    // For the proof alone.
     one_response();
     one_notification();
     open_response_forward(recipient, request, datagram)
@@ -100,10 +102,31 @@ fn open_request_forward<'b>(
     ensures opened { IfOk result (λ o. Opens (opened_requests recipient.entry.context.now) datagram.old o) }
     ensures refused { IfErr result (λ e. RefusesToOpen (opened_requests recipient.entry.context.now) datagram.old e) }
 {
-    match unprotect_request_forward(recipient, datagram) {
+    let Unprotected { read, datagram } = unprotect_and_lend_request(recipient, datagram);
+    match read {
         Ok(read) => Ok(read.opened(datagram)),
         Err(error) => Err(error),
     }
+}
+
+/// What was read of a datagram, or why it doesn't open, and the datagram as it is left. It is lent for reading alone: whoever has this
+/// can't write to it any more, and no clause has to say so.
+struct Unprotected<'b, R> {
+    read: Result<R, UnprotectError>,
+    datagram: &'b [u8],
+}
+
+/// Runs the stages of a request, and lends the datagram as they leave it.
+fn unprotect_and_lend_request<'b>(
+    recipient: Recipient<'_>,
+    datagram: &'b mut [u8],
+) -> Unprotected<'b, ReadRequest>
+    ensures lends { IfOk result.read (λ x. LendsRequest (opened_requests recipient.entry.context.now) datagram.old x result.datagram.now) }
+    ensures refused { IfErr result.read (λ e. RefusesToOpen (opened_requests recipient.entry.context.now) datagram.old e) }
+    ensures left { IfErr result.read (λ e. LeavesRequest (opened_requests recipient.entry.context.now) datagram.old e result.datagram.now) }
+{
+    let read = unprotect_request_forward(recipient, datagram);
+    Unprotected { read, datagram }
 }
 
 /// Opens a request in its datagram as [`open_request`] does, and borrows nothing: `ReadRequest::opened` lends what was read, without
@@ -132,6 +155,7 @@ pub(crate) fn unprotect_request_by(
     ensures refuses { (e : UnprotectError) → RefusesToOpen (opened_requests recipient.entry.context.now) datagram.old e → IsErrOf result e }
     ensures left { IfErr result (λ e. LeavesRequest (opened_requests recipient.entry.context.now) datagram.old e datagram.new) }
 {
+    // For the proof alone.
     one_request();
     unprotect_request_forward(recipient, datagram)
 }
@@ -166,10 +190,26 @@ fn open_response_forward<'b>(
     ensures refused { IfErr result (λ e. RefusesToOpen (opened_responses recipient.entry.context.now request.now) datagram.old e) }
     ensures no_wrong_context { IfErr result (λ e. e ≢ WrongContext) }
 {
-    match unprotect_response_forward(recipient, request, datagram) {
+    let Unprotected { read, datagram } = unprotect_and_lend_response(recipient, request, datagram);
+    match read {
         Ok(read) => Ok(read.opened(datagram)),
         Err(error) => Err(error),
     }
+}
+
+/// Runs the stages of a response, and lends the datagram as they leave it.
+fn unprotect_and_lend_response<'b>(
+    recipient: Recipient<'_>,
+    request: &RequestRef,
+    datagram: &'b mut [u8],
+) -> Unprotected<'b, ReadResponse>
+    ensures lends { IfOk result.read (λ x. LendsResponse (opened_responses recipient.entry.context.now request.now) datagram.old x result.datagram.now) }
+    ensures refused { IfErr result.read (λ e. RefusesToOpen (opened_responses recipient.entry.context.now request.now) datagram.old e) }
+    ensures no_wrong_context { IfErr result.read (λ e. e ≢ WrongContext) }
+    ensures left { IfErr result.read (λ e. LeavesResponse (opened_responses recipient.entry.context.now request.now) datagram.old e result.datagram.now) }
+{
+    let read = unprotect_response_forward(recipient, request, datagram);
+    Unprotected { read, datagram }
 }
 
 /// Opens a response in its datagram as [`open_response`] does, and borrows nothing: `ReadResponse::opened` lends what was read, without
@@ -202,6 +242,7 @@ pub(crate) fn unprotect_response_by(
     ensures no_wrong_context { IfErr result (λ e. e ≢ WrongContext) }
     ensures left { IfErr result (λ e. LeavesResponse (opened_responses recipient.entry.context.now request.now) datagram.old e datagram.new) }
 {
+    // For the proof alone.
     one_response();
     one_notification();
     unprotect_response_forward(recipient, request, datagram)

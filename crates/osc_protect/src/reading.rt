@@ -38,6 +38,7 @@ pub fn inspect_request(
     ensures refuses { (s : SecurityContext) (old : List ℕ) → DecryptsRequest (requests s) old decrypted datagram.now
         → RefusesPlaintext (requests s) old → IsErr result }
 {
+    // For the proof alone.
     one_request();
     inspect_request_forward(datagram, decrypted)
 }
@@ -52,6 +53,7 @@ fn inspect_request_forward(
     ensures accepted { OnOk result (AcceptsRequestAfter datagram.now decrypted) }
     ensures refused { OnErr result (RefusesRequestAfter datagram.now decrypted) }
 {
+    // For the proof alone.
     one_datagram();
     let (number, len) = (decrypted.number, decrypted.len);
     match inspect(Usage::Request, decrypted.features, datagram, len) {
@@ -71,6 +73,7 @@ impl ReadRequest {
         requires { (x : DecryptedRequest) × CanLendRequest datagram.now x self }
         ensures { (x : DecryptedRequest) → CanLendRequest datagram.now x self → OpensRequestAfter datagram.now x result }
     {
+        // For the proof alone.
         one_datagram();
         let number = Some(self.number);
         lend(Usage::Request, datagram, number, self.len, self.payload_len)
@@ -87,6 +90,7 @@ pub fn read_request(datagram: &[u8], decrypted: DecryptedRequest) -> Result<Open
     ensures refuses { (s : SecurityContext) (old : List ℕ) → DecryptsRequest (requests s) old decrypted datagram.now
         → RefusesPlaintext (requests s) old → IsErr result }
 {
+    // For the proof alone.
     one_request();
     read_request_forward(datagram, decrypted)
 }
@@ -121,6 +125,7 @@ pub fn inspect_response(
     ensures refuses { (s : SecurityContext) (r : Bool) (n : ℕ) (old : List ℕ) → DecryptsResponse (responses_to s r n) old decrypted datagram.now
         → RefusesPlaintext (responses_to s r n) old → IsErr result }
 {
+    // For the proof alone.
     one_response();
     one_notification();
     inspect_response_forward(datagram, decrypted)
@@ -136,6 +141,7 @@ fn inspect_response_forward(
     ensures accepted { OnOk result (AcceptsResponseAfter datagram.now decrypted) }
     ensures refused { OnErr result (RefusesResponseAfter datagram.now decrypted) }
 {
+    // For the proof alone.
     one_datagram();
     let (number, len) = (decrypted.number, decrypted.len);
     match inspect(Usage::Response, decrypted.features, datagram, len) {
@@ -155,6 +161,7 @@ impl ReadResponse {
         requires { (x : DecryptedResponse) × CanLendResponse datagram.now x self }
         ensures { (x : DecryptedResponse) → CanLendResponse datagram.now x self → OpensResponseAfter datagram.now x result }
     {
+        // For the proof alone.
         one_datagram();
         let number = self.number;
         lend(
@@ -177,6 +184,7 @@ pub fn read_response(datagram: &[u8], decrypted: DecryptedResponse) -> Result<Op
     ensures refuses { (s : SecurityContext) (r : Bool) (n : ℕ) (old : List ℕ) → DecryptsResponse (responses_to s r n) old decrypted datagram.now
         → RefusesPlaintext (responses_to s r n) old → IsErr result }
 {
+    // For the proof alone.
     one_response();
     one_notification();
     read_response_forward(datagram, decrypted)
@@ -203,6 +211,7 @@ fn inspect(usage: Usage, features: Features, datagram: &[u8], len: usize) -> Res
     ensures accepted { IfOk result (λ n. HasPlaintext usage features datagram.now len n) }
     ensures refused { OnErr result (RefusesInner usage features datagram.now len) }
 {
+    // For the proof alone.
     payload_stands_last();
     let start = datagram.len() - (len + TAG_LEN);
     let Ok(inner) = parse_inner(&datagram[start..start + len]) else {
@@ -228,6 +237,7 @@ fn lend(
     requires { (x : Features) × HasPlaintext usage x datagram.now len payload_len }
     ensures { (x : Features) → HasPlaintext usage x datagram.now len payload_len → ReadsInner usage x datagram.now number len result }
 {
+    // For the proof alone.
     one_datagram();
     one_inner();
     let message = parsed(datagram, len + TAG_LEN);

@@ -49,6 +49,7 @@ impl<'a> RequestHead<'a> {
         ensures accepts { (h : Head) → ShowsRequestHead (parts_of message.now) h → IsOkAnd result (λ x. seen_head x ≡ h) }
         ensures refuses { (e : NoHead) → ShowsNoRequestHead (parts_of message.now) e → IsErrOf result e }
     {
+        // For the proof alone.
         one_head();
         RequestHead::read_forward(message)
     }
@@ -125,6 +126,7 @@ pub fn head_of_request(datagram: &[u8]) -> Result<RequestHead<'_>, HeadError>
     ensures accepts { (h : Head) → HasRequestHead datagram.now h → IsOkAnd result (λ x. seen_head x ≡ h) }
     ensures refuses { (e : HeadError) → HasNoRequestHead datagram.now e → IsErrOf result e }
 {
+    // For the proof alone.
     one_head();
     head_of_request_forward(datagram)
 }

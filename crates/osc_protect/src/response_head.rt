@@ -42,6 +42,7 @@ impl<'a> ResponseHead<'a> {
         ensures accepts { (h : Head) → ShowsResponseHead (parts_of message.now) h → IsOkAnd result (λ x. seen_response_head x ≡ h) }
         ensures refuses { (e : NoHead) → ShowsNoResponseHead (parts_of message.now) e → IsErrOf result e }
     {
+        // For the proof alone.
         one_head();
         ResponseHead::read_forward(message)
     }

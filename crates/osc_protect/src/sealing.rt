@@ -16,6 +16,7 @@ ghost use Rattle.osc_coap.specs.Search.{has_number};
 ghost use Rattle.osc_protect.specs.OptionSets.{is_unsupported};
 ghost use Rattle.osc_protect.specs.Sealed.{HoldsSealed, IsSealed, SealsRequest, inside, outside, sealed_length};
 ghost use Rattle.osc_protect.specs.SealRefusals.{FitsToSeal, RefusesSize, RefusesToSeal};
+ghost use Rattle.osc_protect.specs.Checks.{Checks};
 ghost use Rattle.osc_protect.specs.Halves.{Makes};
 ghost use Rattle.osc_protect.specs.Split.{said};
 ghost use Rattle.osc_protect.specs.Usage.{outer_code_of, value_of_response};
@@ -23,14 +24,14 @@ ghost use Rattle.osc_protect.specs.Views.{cipher_of, sealed_requests, sealed_res
 ghost use Rattle.osc_protect.specs.declared.protect_error.ProtectError.{ProtectError};
 
 use crate::aead::Aead;
-use crate::checks::{check_request, check_response};
+use crate::checked::{Lists, check};
 use crate::ends::Sender;
 use crate::family::Family;
-use crate::lengths::judge_length;
+use crate::lengths::check_length;
 use crate::protect_error::ProtectError;
 use crate::request_ref::RequestRef;
 use crate::split::{Side, write_side};
-use crate::usage::{Usage, outer_code, sealing_features};
+use crate::usage::{Usage, outer_code};
 use arrayvec::ArrayVec;
 use osc_ccm::protection_length;
 use osc_coap::option_numbers::OSCORE;
@@ -58,6 +59,7 @@ fn write_outside(
     ensures length { result ≡ datagram_length (outside features (parts_of plain.now) code value.now []) }
     ensures same_length { length out.new ≡ length out.old }
 {
+    // For the proof alone.
     options_ascend();
     let mut writer = Writer::begin(out, plain.kind, code, plain.message_id, &plain.token);
     let side = Side::Outside(features.observe);
@@ -77,6 +79,7 @@ fn write_inside(notifies: bool, plain: &Message<'_>, buf: &mut [u8]) -> usize
     ensures length { result ≡ inner_length (inside (said notifies (parts_of plain.now))) }
     ensures same_length { length buf.new ≡ length buf.old }
 {
+    // For the proof alone.
     options_ascend();
     let mut writer = Writer::begin_inner(buf, plain.code);
     write_side(&mut writer, plain.options(), Side::Inside(notifies));
@@ -96,6 +99,7 @@ fn seal_behind(aead: &Aead<'_>, out: &mut [u8], at: usize, len: usize) -> usize
         (take (at + 9 + len) out.new) }
     ensures behind { drop (at + 9 + len) out.new ≡ drop (at + 9 + len) out.old }
 {
+    // For the proof alone.
     payload_stands_last();
     protection_length();
     out[at] = MARKER;
@@ -141,14 +145,16 @@ fn write_response_value(own: Option<Piv>, value: &mut ArrayVec<u8, 255>)
 }
 
 /// Seals a message that passed the checks: there is room for it.
-fn seal_judged(
+fn seal_checked(
     family: Family,
+    code: u8,
     value: &[u8],
     aead: &Aead<'_>,
     plain: &Message<'_>,
     out: &mut [u8],
 ) -> usize
     requires supported { has_number (is_unsupported family.features) (parts_of plain.now).options ≡ false }
+    requires code { code ≡ outer_code_of family.usage family.features (parts_of plain.now).options }
     requires short { length value.now ≤ 255 }
     requires fits { sealed_length family.features (said family.notifies) (parts_of plain.now) value.now ≤ 65535 }
     requires room { sealed_length family.features (said family.notifies) (parts_of plain.now) value.now ≤ length out.old }
@@ -156,21 +162,22 @@ fn seal_judged(
     ensures length { result ≡ sealed_length family.features (said family.notifies) (parts_of plain.now) value.now }
     ensures behind { drop result out.new ≡ drop result out.old }
 {
-    let code = outer_code(family.usage, family.features, plain);
     let at = write_outside(family.features, plain, code, value, out);
     let len = write_inside(family.notifies, plain, &mut out[at + 1..]);
     seal_behind(aead, out, at, len)
 }
 
 /// Checks the length of a message that can be sealed, then seals it.
+#[inline(always)]
 fn seal_in_room(
     family: Family,
+    lists: Option<Lists>,
     value: &[u8],
     aead: &Aead<'_>,
     plain: &Message<'_>,
     out: &mut [u8],
 ) -> Result<usize, ProtectError>
-    requires supported { has_number (is_unsupported family.features) (parts_of plain.now).options ≡ false }
+    requires checked { Checks family (parts_of plain.now) lists }
     requires short { length value.now ≤ 255 }
     ensures sealed { IfOk result (λ n. HoldsSealed family.features (said family.notifies) (parts_of plain.now) (outer_code_of family.usage family.features (parts_of plain.now).options) value.now (cipher_of aead.now) (take n out.new)) }
     ensures length { IfOk result (λ n. n ≡ sealed_length family.features (said family.notifies) (parts_of plain.now) value.now) }
@@ -181,8 +188,9 @@ fn seal_in_room(
     ensures refused { IfErr result (λ e. RefusesSize (sealed_length family.features (said family.notifies) (parts_of plain.now) value.now) (length out.old) e) }
     ensures unchanged { OnErr result (out.new ≡ out.old) }
 {
-    judge_length(family, plain, value, out.len())?;
-    Ok(seal_judged(family, value, aead, plain, out))
+    let lists = check_length(family, lists, plain, value, out.len())?;
+    let code = outer_code(family.usage, lists.observes);
+    Ok(seal_checked(family, code, value, aead, plain, out))
 }
 
 /// Seals a request with the sender's next Sender Sequence Number, and returns how many bytes it takes at the front of `out`. The bytes
@@ -250,6 +258,7 @@ pub(crate) fn seal_request_by(
         → IsErrOf result e }
     ensures unchanged { OnErr result (out.new ≡ out.old) }
 {
+    // For the proof alone.
     one_option_value();
     seal_request_forward(sender, number, plain, out)
 }
@@ -272,6 +281,7 @@ pub(crate) fn seal_response_by(
         → IsErrOf result e }
     ensures unchanged { OnErr result (out.new ≡ out.old) }
 {
+    // For the proof alone.
     one_option_value();
     seal_response_forward(sender, request, own, plain, out)
 }
@@ -296,11 +306,11 @@ fn seal_request_forward(
         features: context.features(),
         notifies: false,
     };
-    check_request(plain, family.features)?;
+    let lists = check(family, plain)?;
     let mut value = ArrayVec::new();
     write_request_value(context, number, &mut value);
     let aead = Aead::of_request(sender.end(), context.common_iv(), number);
-    seal_in_room(family, value.as_slice(), &aead, plain, out)
+    seal_in_room(family, lists, value.as_slice(), &aead, plain, out)
 }
 
 /// Checks a response, then its length, then seals it.
@@ -325,8 +335,7 @@ fn seal_response_forward(
         features: request.features(context),
         notifies: request.registers,
     };
-    let features = sealing_features(Usage::Response, family.features, plain.code);
-    check_response(plain, features)?;
+    let lists = check(family, plain)?;
     let client = context.recipient();
     let mut value = ArrayVec::new();
     write_response_value(own, &mut value);
@@ -337,5 +346,5 @@ fn seal_response_forward(
         request.number,
         own,
     );
-    seal_in_room(family, value.as_slice(), &aead, plain, out)
+    seal_in_room(family, lists, value.as_slice(), &aead, plain, out)
 }

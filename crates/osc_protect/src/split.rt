@@ -5,8 +5,7 @@ ghost use Rattle.osc_coap.specs.Views.{options_left};
 ghost use Rattle.osc_coap.specs.Writer.{Holds, buffer_of};
 ghost use Rattle.osc_coap.specs.Writing.{Draft, with_options};
 
-use crate::option_sets::counts_as_observe;
-use osc_coap::option_numbers::OBSERVE;
+use crate::option_sets::{counts_as_observe, sought_behind};
 use osc_coap::{Class, Options, Writer, class_of};
 
 /// A side of the protection, as the options up to a place leave it. Only the first Observe is one, so none is sought behind it (RFC 7252,
@@ -49,8 +48,8 @@ impl Side {
         ensures { (value : List ℕ) → result ≡ side_behind self (number, value) }
     {
         match self {
-            Side::Outside(sought) => Side::Outside(sought && number != OBSERVE),
-            Side::Inside(sought) => Side::Inside(sought && number != OBSERVE),
+            Side::Outside(sought) => Side::Outside(sought_behind(sought, number)),
+            Side::Inside(sought) => Side::Inside(sought_behind(sought, number)),
         }
     }
 }

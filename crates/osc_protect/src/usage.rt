@@ -1,10 +1,8 @@
 //! What tells a request from a response.
 
-ghost use Rattle.std.specs.Prelude.{◌≡◌};
-ghost use Rattle.osc_coap.specs.Views.{parts_of};
+ghost use Rattle.std.specs.Prelude.{◌≡◌, if◌then◌else◌};
 ghost use Rattle.osc_context.specs.Views.{oscore_parts_of};
 
-use osc_coap::option_numbers::OBSERVE;
 use osc_coap::{Message, is_request_code, is_response_code};
 use osc_context::{Features, OscoreOption};
 
@@ -27,7 +25,7 @@ pub(crate) enum Usage {
     Response,
 }
 
-ghost use Rattle.osc_protect.specs.Usage.{is_code_of, is_complete, is_used, outer_code_of, sealing_features};
+ghost use Rattle.osc_protect.specs.Usage.{is_code_of, is_complete, is_used, observing_code_of, plain_code_of, sealing_features};
 
 /// Returns whether the code belongs to this usage.
 pub(crate) fn is_code_of(usage: Usage, code: u8) -> bool
@@ -59,11 +57,10 @@ pub(crate) fn sealing_features(usage: Usage, features: Features, code: u8) -> Fe
     }
 }
 
-/// Returns the outer code of a sealed message. Observe is looked for only if the features have it.
-pub(crate) fn outer_code(usage: Usage, features: Features, message: &Message<'_>) -> u8
-    ensures { result ≡ outer_code_of usage features (parts_of message.now).options }
+/// Returns the outer code of a sealed message, of which one option counts as Observe or none does.
+pub(crate) fn outer_code(usage: Usage, observes: bool) -> u8
+    ensures { result ≡ (if observes then observing_code_of usage else plain_code_of usage) }
 {
-    let observes = features.observe && message.options().interpreted(OBSERVE).is_some();
     match (usage, observes) {
         (Usage::Request, false) => OUTER_REQUEST_CODE,
         (Usage::Response, false) => OUTER_RESPONSE_CODE,

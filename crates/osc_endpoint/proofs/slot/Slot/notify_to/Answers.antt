@@ -20,15 +20,15 @@ returns-in-Ok-clause-kept c = λ l a.
       c.count.ensures.kept l c.in-Ok.len a,
     )
 
-pub returns-in-Err-seal_response-clause-kept : goal.returns-in-Err-seal_response-clause-kept
-returns-in-Err-seal_response-clause-kept c = λ l a.
+pub returns-in-Err-clause-kept : goal.returns-in-Err-clause-kept
+returns-in-Err-clause-kept c = λ l a.
     let plain = parts_of c.args.plain.now in
     let p = parts_of c.with_head-message.result in
     let q : Parts = as_notification c.args.token.now.items plain in
     let notifies : is_notification p.code p.options ≡ true = search rules in
     let head : p ≡ q = c.with_head-message.ensures ∙ ap (λ (token : List ℕ). as_notification token plain) c.copy_of.ensures in (
-      subst (λ e. LifeNotify l (number_of c.args.number) q (length c.args.out.now) (NotReplied e)) (sym c.lift-in-Err-seal_response.ensures.value)
-          (refused_to_notify l c.args.self.now c.registering-request.result (number_of c.args.number) (number_of c.in-Some.own) (length c.args.out.now) p q c.in-Err-seal_response.error
-          a c.in-Some.ensures.made c.in-Some.own.in_range c.registering-request.ensures.registering c.registering-request.ensures.number head notifies c.in-Err-seal_response.ensures.refused),
+      subst (λ e. LifeNotify l (number_of c.args.number) q (length c.args.out.now) (NotReplied e)) (sym c.lift.ensures.value)
+          (refused_to_notify l c.args.self.now c.registering-request.result (number_of c.args.number) (number_of c.in-Some.own) (length c.args.out.now) p q c.in-Err.error
+          a c.in-Some.ensures.made c.in-Some.own.in_range c.registering-request.ensures.registering c.registering-request.ensures.number head notifies c.in-Err.ensures.refused),
       a,
     )

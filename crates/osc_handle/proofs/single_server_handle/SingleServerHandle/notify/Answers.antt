@@ -10,23 +10,23 @@ use Rattle.osc_handle.specs.TicketBytes.{ticket_in}
 use Rattle.osc_handle.specs.declared.slot_handle.SlotHandle.{SlotHandle}
 use Rattle.osc_handle.proofs.single_server_handle.SingleServerHandle.notify.Goals as goal
 
-pub returns-then-not-is_of-clause-answered : goal.returns-then-not-is_of-clause-answered
-returns-then-not-is_of-clause-answered c = λ h serves.
+pub returns-then-not-gave-clause-answered : goal.returns-then-not-gave-clause-answered
+returns-then-not-gave-clause-answered c = λ h serves.
     let t = ticket_in c.args.ticket.now in
-    notify_stale (server_of_one c.args.self.now) h t (length c.args.out.now) (parts_of c.args.plain.now) serves (is_absent (server_of_one c.args.self.now) h t serves (sym c.if-not-is_of.ensures))
+    notify_stale (server_of_one c.args.self.now) h t (length c.args.out.now) (parts_of c.args.plain.now) serves (is_absent (server_of_one c.args.self.now) h t serves (sym c.if-not-gave.ensures))
 
 pub returns-then-not-is_observing-clause-answered : goal.returns-then-not-is_observing-clause-answered
 returns-then-not-is_observing-clause-answered c = λ h serves.
     let t = ticket_in c.args.ticket.now in
-    let present = is_there (server_of_one c.args.self.now) h t serves (sym c.if-not-is_of.ensures) in
+    let present = is_there (server_of_one c.args.self.now) h t serves (sym c.if-not-gave.ensures) in
     notify_unobserved (server_of_one c.args.self.now) h t (length c.args.out.now) (parts_of c.args.plain.now) present.0 serves present.1 (sym c.if-not-is_observing.ensures)
 
 pub returns-clause-answered : goal.returns-clause-answered
 returns-clause-answered c = λ h serves.
     let t = ticket_in c.args.ticket.now in
     let s = server_of_one c.args.self.now in
-    let present = is_there s h t serves (sym c.if-not-is_of.ensures) in
-    let used = present_used (table_of c.args.self.now.slot) c.args.ticket.now.context c.args.ticket.now.life (sym c.if-not-is_of.ensures) in
+    let present = is_there s h t serves (sym c.if-not-gave.ensures) in
+    let used = present_used (table_of c.args.self.now.slot) c.args.ticket.now.context c.args.ticket.now.life (sym c.if-not-gave.ensures) in
     let first : c.args.ticket.now.context ≡ 0 = omega (arith, used) in
     let here = life_at_first (life h) c.args.ticket.now.context present.0 first present.1.0 in
     let plain = parts_of c.args.plain.now in

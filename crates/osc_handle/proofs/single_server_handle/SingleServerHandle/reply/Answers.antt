@@ -11,26 +11,26 @@ use Rattle.osc_handle.specs.TicketBytes.{ticket_in}
 use Rattle.osc_handle.specs.declared.slot_handle.SlotHandle.{SlotHandle}
 use Rattle.osc_handle.proofs.single_server_handle.SingleServerHandle.reply.Goals as goal
 
-pub returns-then-not-is_of-clause-answered : goal.returns-then-not-is_of-clause-answered
-returns-then-not-is_of-clause-answered c = λ h serves.
+pub returns-then-not-gave-clause-answered : goal.returns-then-not-gave-clause-answered
+returns-then-not-gave-clause-answered c = λ h serves.
     let t = ticket_in c.args.ticket.now in
-    serves_stale (server_of_one c.args.self.now) h t (asks_own t c.args.own) c.args.mid (length c.args.out.now) (parts_of c.args.plain.now) serves (is_absent (server_of_one c.args.self.now) h t serves (sym c.if-not-is_of.ensures))
+    serves_stale (server_of_one c.args.self.now) h t (asks_own t c.args.own) c.args.mid (length c.args.out.now) (parts_of c.args.plain.now) serves (is_absent (server_of_one c.args.self.now) h t serves (sym c.if-not-gave.ensures))
 
-pub returns-then-not-is_of-clause-once : goal.returns-then-not-is_of-clause-once
-returns-then-not-is_of-clause-once c = λ _ _ h serves spent. absurd (is_absent (server_of_one c.args.self.now) h (ticket_in c.args.ticket.now) serves (sym c.if-not-is_of.ensures) spent.0 spent.1)
+pub returns-then-not-gave-clause-once : goal.returns-then-not-gave-clause-once
+returns-then-not-gave-clause-once c = λ _ _ h serves spent. absurd (is_absent (server_of_one c.args.self.now) h (ticket_in c.args.ticket.now) serves (sym c.if-not-gave.ensures) spent.0 spent.1)
 
 pub returns-then-not-has-clause-spent : goal.returns-then-not-has-clause-spent
 returns-then-not-has-clause-spent c = λ _ h serves.
     let t = ticket_in c.args.ticket.now in
-    let present = is_there (server_of_one c.args.self.now) h t serves (sym c.if-not-is_of.ensures) in
-    let there = number_there c.args.self.now.unanswered c.args.ticket.now.context (present_used (table_of c.args.self.now.slot) c.args.ticket.now.context c.args.ticket.now.life (sym c.if-not-is_of.ensures)) in
+    let present = is_there (server_of_one c.args.self.now) h t serves (sym c.if-not-gave.ensures) in
+    let there = number_there c.args.self.now.unanswered c.args.ticket.now.context (present_used (table_of c.args.self.now.slot) c.args.ticket.now.context c.args.ticket.now.life (sym c.if-not-gave.ensures)) in
     (present.0, present.1, sym (bit_says (server_of_one c.args.self.now) h t present.0 _ serves present.1 there) ∙ sym c.if-not-has.ensures)
 
 pub returns-in-Ok-clause-answered : goal.returns-in-Ok-clause-answered
 returns-in-Ok-clause-answered c = λ h serves.
     let t = ticket_in c.args.ticket.now in
-    let present = is_there (server_of_one c.args.self.now) h t serves (sym c.if-not-is_of.ensures) in
-    let used = present_used (table_of c.args.self.now.slot) c.args.ticket.now.context c.args.ticket.now.life (sym c.if-not-is_of.ensures) in
+    let present = is_there (server_of_one c.args.self.now) h t serves (sym c.if-not-gave.ensures) in
+    let used = present_used (table_of c.args.self.now.slot) c.args.ticket.now.context c.args.ticket.now.life (sym c.if-not-gave.ensures) in
     let there = number_there c.args.self.now.unanswered c.args.ticket.now.context used in
     let plain = parts_of c.args.plain.now in
     let own = c.asks_own-own.result in
@@ -46,14 +46,14 @@ returns-in-Ok-clause-answered c = λ h serves.
 pub returns-in-Ok-clause-once : goal.returns-in-Ok-clause-once
 returns-in-Ok-clause-once c = λ _ _ h serves spent.
     let t = ticket_in c.args.ticket.now in
-    let there = number_there c.args.self.now.unanswered c.args.ticket.now.context (present_used (table_of c.args.self.now.slot) c.args.ticket.now.context c.args.ticket.now.life (sym c.if-not-is_of.ensures)) in
+    let there = number_there c.args.self.now.unanswered c.args.ticket.now.context (present_used (table_of c.args.self.now.slot) c.args.ticket.now.context c.args.ticket.now.life (sym c.if-not-gave.ensures)) in
     absurd (both_ways (waits h t.context t.life t.number) spent.2 (sym (bit_says (server_of_one c.args.self.now) h t spent.0 _ serves spent.1 there) ∙ sym c.if-not-has.ensures))
 
 pub returns-in-Err-clause-answered : goal.returns-in-Err-clause-answered
 returns-in-Err-clause-answered c = λ h serves.
     let t = ticket_in c.args.ticket.now in
-    let present = is_there (server_of_one c.args.self.now) h t serves (sym c.if-not-is_of.ensures) in
-    let used = present_used (table_of c.args.self.now.slot) c.args.ticket.now.context c.args.ticket.now.life (sym c.if-not-is_of.ensures) in
+    let present = is_there (server_of_one c.args.self.now) h t serves (sym c.if-not-gave.ensures) in
+    let used = present_used (table_of c.args.self.now.slot) c.args.ticket.now.context c.args.ticket.now.life (sym c.if-not-gave.ensures) in
     let first : c.args.ticket.now.context ≡ 0 = omega (arith, used) in
     let plain = parts_of c.args.plain.now in
     let own = c.asks_own-own.result in
@@ -66,5 +66,5 @@ returns-in-Err-clause-answered c = λ h serves.
 pub returns-in-Err-clause-once : goal.returns-in-Err-clause-once
 returns-in-Err-clause-once c = λ _ _ h serves spent.
     let t = ticket_in c.args.ticket.now in
-    let there = number_there c.args.self.now.unanswered c.args.ticket.now.context (present_used (table_of c.args.self.now.slot) c.args.ticket.now.context c.args.ticket.now.life (sym c.if-not-is_of.ensures)) in
+    let there = number_there c.args.self.now.unanswered c.args.ticket.now.context (present_used (table_of c.args.self.now.slot) c.args.ticket.now.context c.args.ticket.now.life (sym c.if-not-gave.ensures)) in
     absurd (both_ways (waits h t.context t.life t.number) spent.2 (sym (bit_says (server_of_one c.args.self.now) h t spent.0 _ serves spent.1 there) ∙ sym c.if-not-has.ensures))

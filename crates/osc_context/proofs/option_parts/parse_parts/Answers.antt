@@ -2,7 +2,7 @@ use Rattle.std.proofs.Common.{◌≡◌, ◌++◌, sym, ap₂, ◌∙◌, List, 
 use Rattle.std.proofs.lemmas.List.{take-append-drop}
 use Rattle.std.proofs.lemmas.Nat.{and_mask}
 use Rattle.osc_context.proofs.FrontLens.{cut_short}
-use Rattle.osc_context.proofs.option_parts.cut_parts.Goals as goal
+use Rattle.osc_context.proofs.option_parts.parse_parts.Goals as goal
 
 pub returns-in_default-clause-cut : goal.returns-in_default-clause-cut
 returns-in_default-clause-cut c =

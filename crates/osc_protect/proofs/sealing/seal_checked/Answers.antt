@@ -6,7 +6,7 @@ use Rattle.osc_protect.specs.Usage.{outer_code_of}
 use Rattle.osc_protect.specs.Views.{cipher_of}
 use Rattle.osc_protect.proofs.Placing.{kept, left_behind}
 use Rattle.osc_protect.proofs.Protections.{outer_code_some}
-use Rattle.osc_protect.proofs.sealing.seal_judged.Goals as goal
+use Rattle.osc_protect.proofs.sealing.seal_checked.Goals as goal
 
 pub returns-clause-sealed : goal.returns-clause-sealed
 returns-clause-sealed c =
@@ -23,7 +23,7 @@ returns-clause-sealed c =
     let same_len = c.write_outside-at.ensures.same_length in
     let inside : at < length out = omega (arith, room, at_is, same_len) in
     let both = kept at out buf inside in
-    let written : IsDatagram (outside x p code value []) (take at out) = subst (λ (k : ℕ). IsDatagram (outside x p k value []) (take at out)) c.outer_code-code.ensures c.write_outside-at.ensures.written in
+    let written : IsDatagram (outside x p code value []) (take at out) = subst (λ (k : ℕ). IsDatagram (outside x p k value []) (take at out)) c.requires.code c.write_outside-at.ensures.written in
     let front : IsDatagram (outside x p code value []) _ = subst (λ (z : List ℕ). IsDatagram (outside x p code value []) z) (sym both.0) written in
     let sealed = c.seal_behind.ensures.sealed (outside x p code value []) front refl (outer_code_some c.args.family.usage x p.options) in (
       take len buf,
