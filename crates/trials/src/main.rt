@@ -1,15 +1,16 @@
-//! Two trials of the layers that no row can make: runs whose memory is refused, and what calls cost. README.md says what each does, and how
-//! to run it.
+//! Trials of the layers that no row can make: runs whose memory is refused, the calls that docs/WALK.md follows, and what calls cost.
+//! README.md says what each does, and how to run it.
 #![tactic(auto)]
 
 mod example;
 mod scarce;
 mod speed;
+mod walk;
 
 use std::process::ExitCode;
 use std::{env, io};
 
-const USAGE: &str = "usage: trials [scarce | speed WHAT]
+const USAGE: &str = "usage: trials [scarce | walk | speed WHAT]
 WHAT is all, schedule, block, ccm, message, parse, server, client, large or sizes.";
 
 /// Prints how the program is called, and returns its status.
@@ -27,6 +28,7 @@ fn run(rt: &HostRuntime) -> io::Result<u8> {
     };
     match (trial.as_str(), words.next()) {
         ("scarce", None) => scarce::run(rt),
+        ("walk", None) => Ok(walk::run()),
         ("speed", Some(word)) => speed::run(rt, word.as_str()),
         _ => usage(rt),
     }

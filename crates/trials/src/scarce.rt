@@ -5,9 +5,9 @@
 
 mod runs;
 
-use crate::example::{SERVER, agreed};
-use osc_context::Piv;
-use osc_text::{Asking, Fault, Serving, ask_text, serve_text};
+use crate::example::{SERVER, params};
+use osc_context::{NO_FEATURES, Piv};
+use osc_text::{Agreed, Asking, Fault, Serving, ask_text, serve_text};
 use osc_window::WindowSize;
 use std::alloc::Global;
 use std::io;
@@ -26,6 +26,14 @@ take 1 64445d1f0000397490ff40a006fe1a53a6b1ded204996ac88a1095ba803aa4c7
 take 2 64445d1f0000397490ff40a006fe1a53a6b1ded204996ac88a1095ba803aa4c7
 forget 00003974
 ";
+
+/// Returns what the context of one end of C.1 is derived from, with no features, as a call of the command names it.
+fn agreed<'a>(sender: &'a [u8], recipient: &'a [u8]) -> Agreed<'a> {
+    Agreed {
+        params: params(sender, recipient),
+        features: NO_FEATURES,
+    }
+}
 
 /// Grows memory once for each byte of standard input, at most 99 times.
 fn grow(rt: &HostRuntime) -> Result<(), Fault> {

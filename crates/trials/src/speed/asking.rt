@@ -1,8 +1,7 @@
 //! The figures of a client of osc_endpoint: requests with one token, under ascending numbers, that are answered or forgotten while others
 //! wait. The difference between two of the figures is what `take` costs.
 
-use crate::example::SERVER;
-use crate::speed::messages::{PLAIN, context_of};
+use crate::example::{PLAIN, PLAIN_RESPONSE, SERVER, context_of};
 use crate::speed::stopwatch::Stopwatch;
 use osc_coap::parse;
 use osc_context::Piv;
@@ -21,13 +20,7 @@ const REQUESTS: u64 = 4_096;
 /// How long a request is pending, in milliseconds.
 const LIFE_MS: u64 = 60_000;
 
-/// The response of RFC 8613, C.7, before it is sealed.
-pub(crate) const PLAIN_RESPONSE: [u8; 21] = [
-    0x64, 0x45, 0x5d, 0x1f, 0x00, 0x00, 0x39, 0x74, 0xff, 0x48, 0x65, 0x6c, 0x6c, 0x6f, 0x20, 0x57,
-    0x6f, 0x72, 0x6c, 0x64, 0x21,
-];
-
-/// The response's token, which is the request's.
+/// The token of the request and its response.
 const TOKEN: [u8; 4] = [0x00, 0x00, 0x39, 0x74];
 
 /// A response to a request, as it is sent.

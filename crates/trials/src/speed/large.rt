@@ -1,8 +1,7 @@
 //! The figures of the longest datagrams: one of 65,535 bytes, nearly all of them empty options, and one of half that. Also those of a
 //! datagram with the longest token and the longest kid.
 
-use crate::example::SERVER;
-use crate::speed::messages::context_of;
+use crate::example::{SERVER, context_of};
 use crate::speed::stopwatch::Stopwatch;
 use osc_coap::parse;
 use osc_context::Piv;

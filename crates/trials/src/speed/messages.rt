@@ -1,36 +1,15 @@
 //! The figures of osc_protect and osc_coap: the example request of RFC 8613 (C.4), at the client, which seals it, and at the
 //! server, which opens it.
 
-use crate::example::{SERVER, params};
+use crate::example::{PLAIN, SEALED, SERVER, context_of};
 use crate::speed::stopwatch::Stopwatch;
 use osc_coap::{Message, parse};
-use osc_context::{Context, ContextError, Piv};
+use osc_context::{Context, Piv};
 use osc_protect::{KeyedContext, open_request, seal_request};
 use std::io;
 use std::rt::Clock;
 
 const NUMBER: u64 = 20;
-
-/// The request before it is sealed.
-pub(crate) const PLAIN: [u8; 22] = [
-    0x44, 0x01, 0x5d, 0x1f, 0x00, 0x00, 0x39, 0x74, 0x39, 0x6c, 0x6f, 0x63, 0x61, 0x6c, 0x68, 0x6f,
-    0x73, 0x74, 0x83, 0x74, 0x76, 0x31,
-];
-
-/// The request as it is sent.
-pub(crate) const SEALED: [u8; 35] = [
-    0x44, 0x02, 0x5d, 0x1f, 0x00, 0x00, 0x39, 0x74, 0x39, 0x6c, 0x6f, 0x63, 0x61, 0x6c, 0x68, 0x6f,
-    0x73, 0x74, 0x62, 0x09, 0x14, 0xff, 0x61, 0x2f, 0x10, 0x92, 0xf1, 0x77, 0x6f, 0x1c, 0x16, 0x68,
-    0xb3, 0x82, 0x5e,
-];
-
-/// Derives the context of one end.
-pub(crate) fn context_of<'a>(
-    sender: &'a [u8],
-    recipient: &'a [u8],
-) -> Result<Context, ContextError> {
-    Context::derive(params(sender, recipient))
-}
 
 /// Derives the contexts of the client and the server.
 fn ends() -> io::Result<(Context, Context)> {

@@ -1,13 +1,11 @@
 //! The figures of osc_endpoint: a server that takes the example request of RFC 8613 (C.4), under ascending numbers, a second time, or with
 //! a bad tag, and that runs over events.
 
-use crate::example::SERVER;
-use crate::speed::asking::PLAIN_RESPONSE;
-use crate::speed::messages::{PLAIN, SEALED, context_of};
+use crate::example::{FRESH, PLAIN, PLAIN_RESPONSE, SEALED, SERVER, context_of};
 use crate::speed::stopwatch::Stopwatch;
 use osc_coap::parse;
 use osc_context::Piv;
-use osc_endpoint::{Arrival, Fresh, Outcome, Server, ServerEntry, ServerEvent, Start, run_server};
+use osc_endpoint::{Arrival, Outcome, Server, ServerEntry, ServerEvent, Start, run_server};
 use osc_protect::KeyedContext;
 use osc_window::WindowSize;
 use std::alloc::Global;
@@ -22,12 +20,6 @@ const REQUESTS: u64 = 4_096;
 
 /// A request with such a number.
 type Request = [u8; 36];
-
-/// What is drawn afresh for each datagram.
-const FRESH: Fresh = Fresh {
-    echo: [1, 2, 3, 4, 5, 6, 7, 8],
-    mid: 1,
-};
 
 /// Returns the requests, as the client seals them.
 fn requests_of(alloc: Global) -> io::Result<Vec<Request>> {
