@@ -5,7 +5,6 @@ use std::alloc::{AllocError, Global};
 use std::str;
 
 /// A field of an event.
-#[derive(Clone, Copy)]
 pub(crate) enum Field {
     Now,
     Echo,
@@ -19,7 +18,6 @@ pub(crate) enum Field {
 }
 
 /// An event's first word, the fields that follow it, and their names.
-#[derive(Clone, Copy)]
 pub(crate) struct Form {
     word: &'static str,
     fields: &'static [Field],
@@ -127,7 +125,7 @@ fn is_bytes(word: &str) -> bool {
 
 impl Field {
     /// Returns whether a word can be this field.
-    fn takes(self, word: &str) -> bool {
+    fn takes(&self, word: &str) -> bool {
         match self {
             Field::Now | Field::Event => read_decimal(word).is_some(),
             Field::Next => read_number(word).is_some(),
@@ -139,7 +137,7 @@ impl Field {
     }
 
     /// Returns what this field must be.
-    fn rule(self) -> &'static str {
+    fn rule(&self) -> &'static str {
         match self {
             Field::Now => "NOW must be a number below 2^64",
             Field::Echo => "ECHO must be 16 hex digits",
@@ -164,7 +162,7 @@ fn spelling_fault(line: &str) -> Option<&'static str> {
         Some("it has a tab")
     } else if line.is_empty() {
         Some("it is empty")
-    } else if line.split(' ').any(|word| word.is_empty()) {
+    } else if line.starts_with(' ') || line.ends_with(' ') || line.contains("  ") {
         Some("one space stands between two fields, and no other")
     } else {
         None
@@ -172,7 +170,7 @@ fn spelling_fault(line: &str) -> Option<&'static str> {
 }
 
 /// Returns what the first wrong field of an event must be.
-fn field_fault(form: Form, line: &str) -> Option<&'static str> {
+fn field_fault(form: &Form, line: &str) -> Option<&'static str> {
     let mut words = line.split(' ').skip(1);
     for field in form.fields {
         match words.next() {
@@ -204,7 +202,7 @@ fn line_fault(
     if line.split(' ').count() != form.fields.len() + 1 {
         return format!(in alloc; "line {number}: {} is {}", form.word, form.names);
     }
-    match field_fault(*form, line) {
+    match field_fault(form, line) {
         Some(rule) => format!(in alloc; "line {number}: {rule}"),
         None => not_an_event(alloc, number, forms),
     }

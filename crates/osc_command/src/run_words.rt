@@ -3,6 +3,7 @@
 ghost use Rattle.std.specs.Prelude.{◌≡◌, IfOk, false};
 ghost use Rattle.osc_command.specs.Calls.{IsLocal};
 
+use crate::event_faults::{CLIENT, Forms, KEPT_CLIENT, KEPT_SERVER, SERVER};
 use crate::words::{choice_option, input_fault, optional_number, value_option, with_context};
 use clap::{Arg, ArgAction, ArgMatches, Command};
 use osc_context::Piv;
@@ -65,6 +66,28 @@ const LIFE_MS: u64 = 60_000;
 
 const SIZES: &[&str] = &["32", "64"];
 
+/// How an end begins. Of an end whose numbers are kept, the file says the first one.
+#[derive(Drop)]
+pub(crate) enum Beginning {
+    Server(Serving),
+    KeptServer(WindowSize),
+    Client(Asking),
+    /// How many milliseconds a request is pending.
+    KeptClient(u64),
+}
+
+impl Beginning {
+    /// Returns the events that the end takes.
+    pub(crate) fn forms(&self) -> Forms {
+        match self {
+            Beginning::Server(_) => SERVER,
+            Beginning::KeptServer(_) => KEPT_SERVER,
+            Beginning::Client(_) => CLIENT,
+            Beginning::KeptClient(_) => KEPT_CLIENT,
+        }
+    }
+}
+
 /// Returns the option without a value.
 fn restarted_flag<'a>(alloc: Global) -> Arg<'a>
     ensures { result.global ≡ false }
@@ -120,7 +143,7 @@ fn read_next(matches: &ArgMatches<'_>) -> Result<Piv, Fault> {
 }
 
 /// Reads the size of the server's window. The option that only a client has is a fault.
-pub(crate) fn read_window(matches: &ArgMatches<'_>) -> Result<WindowSize, Fault> {
+fn read_window(matches: &ArgMatches<'_>) -> Result<WindowSize, Fault> {
     if matches.get_str("life").is_some() {
         return Err(input_fault("--life", Wrong::Role));
     }
@@ -132,7 +155,7 @@ pub(crate) fn read_window(matches: &ArgMatches<'_>) -> Result<WindowSize, Fault>
 }
 
 /// Reads how many milliseconds a request is pending. The options that only a server has are faults.
-pub(crate) fn read_life(matches: &ArgMatches<'_>) -> Result<u64, Fault> {
+fn read_life(matches: &ArgMatches<'_>) -> Result<u64, Fault> {
     if matches.get_flag("restarted") {
         return Err(input_fault("--restarted", Wrong::Role));
     }
@@ -149,21 +172,37 @@ pub(crate) fn read_life(matches: &ArgMatches<'_>) -> Result<u64, Fault> {
 }
 
 /// Reads how the server begins.
-pub(crate) fn read_serving(matches: &ArgMatches<'_>) -> Result<Serving, Fault> {
+fn read_server(matches: &ArgMatches<'_>, is_kept: bool) -> Result<Beginning, Fault> {
+    if is_kept {
+        return Ok(Beginning::KeptServer(read_window(matches)?));
+    }
     let next = read_next(matches)?;
     let window = read_window(matches)?;
-    Ok(Serving {
+    Ok(Beginning::Server(Serving {
         next,
         is_restarted: matches.get_flag("restarted"),
         window,
-    })
+    }))
 }
 
 /// Reads how the client begins.
-pub(crate) fn read_asking(matches: &ArgMatches<'_>) -> Result<Asking, Fault> {
+fn read_client(matches: &ArgMatches<'_>, is_kept: bool) -> Result<Beginning, Fault> {
+    if is_kept {
+        return Ok(Beginning::KeptClient(read_life(matches)?));
+    }
     let next = read_next(matches)?;
     let life_ms = read_life(matches)?;
-    Ok(Asking { next, life_ms })
+    Ok(Beginning::Client(Asking { next, life_ms }))
+}
+
+/// Reads which end it is, and how it begins.
+pub(crate) fn read_beginning(matches: &ArgMatches<'_>) -> Result<Beginning, Fault> {
+    let is_kept = matches.get_str("numbers").is_some();
+    if matches.get_str("role") == Some("client") {
+        read_client(matches, is_kept)
+    } else {
+        read_server(matches, is_kept)
+    }
 }
 
 /// Reads the whole input.

@@ -4,10 +4,10 @@ ghost use Rattle.std.specs.Prelude.{◌≡◌, ◌≢◌, ◌⊎◌, IfOk, Ok, t
 ghost use Rattle.clap.specs.Matches.{has_subcommand};
 
 use crate::context_words::ContextWords;
-use crate::event_faults::{CLIENT, Forms, KEPT_CLIENT, KEPT_SERVER, SERVER, event_fault};
+use crate::event_faults::{Forms, event_fault};
 use crate::fault_text::{put_fault, put_help, usage_text};
 use crate::quoting::quoted_words;
-use crate::run_words::{read_asking, read_input, read_life, read_serving, read_window};
+use crate::run_words::{Beginning, read_beginning, read_input};
 use crate::words::{input_fault, optional_number, read_words, required_bytes};
 use clap::error::ErrorKind;
 use clap::{ArgMatches, Error};
@@ -97,55 +97,32 @@ fn told(alloc: Global, done: Result<u8, Fault>, forms: Forms, input: &[u8]) -> R
     }
 }
 
-/// Runs a server. If the words name a file, the server's numbers are kept in it. Reads the whole input first.
-fn run_server<R: Read, W: Write, K: Keeper + Drop, F: FnOnce(&str) -> K + Drop>(
+/// Runs an end over an input. The keeper of the file is made only for an end whose numbers are kept.
+fn run_end<W: Write, K: Keeper + Drop, F: FnOnce(&str) -> K + Drop>(
     alloc: Global,
-    matches: &ArgMatches<'_>,
     agreed: Agreed<'_>,
-    input: &mut R,
-    out: &mut W,
+    beginning: Beginning,
+    file: &str,
     make: F,
+    input: &[u8],
+    out: &mut W,
 ) -> Result<u8, Fault>
     requires { F.IsAlwaysCallable make }
     ensures { IfOk result (λ s. (s ≡ 0) ⊎ (s ≡ 2)) }
 {
-    let Some(file) = matches.get_str("numbers") else {
-        let serving = read_serving(matches)?;
-        let bytes = read_input(alloc, input)?;
-        let done = serve_text(alloc, agreed, serving, bytes.as_slice(), out);
-        return told(alloc, done, SERVER, bytes.as_slice());
-    };
-    let window = read_window(matches)?;
-    let bytes = read_input(alloc, input)?;
-    let done = serve_kept_text(alloc, agreed, make(file), window, bytes.as_slice(), out);
-    told(alloc, done, KEPT_SERVER, bytes.as_slice())
+    match beginning {
+        Beginning::Server(serving) => serve_text(alloc, agreed, serving, input, out),
+        Beginning::KeptServer(window) => {
+            serve_kept_text(alloc, agreed, make(file), window, input, out)
+        }
+        Beginning::Client(asking) => ask_text(alloc, agreed, asking, input, out),
+        Beginning::KeptClient(life_ms) => {
+            ask_kept_text(alloc, agreed, make(file), life_ms, input, out)
+        }
+    }
 }
 
-/// Runs a client. If the words name a file, the client's numbers are kept in it. Reads the whole input first.
-fn run_client<R: Read, W: Write, K: Keeper + Drop, F: FnOnce(&str) -> K + Drop>(
-    alloc: Global,
-    matches: &ArgMatches<'_>,
-    agreed: Agreed<'_>,
-    input: &mut R,
-    out: &mut W,
-    make: F,
-) -> Result<u8, Fault>
-    requires { F.IsAlwaysCallable make }
-    ensures { IfOk result (λ s. (s ≡ 0) ⊎ (s ≡ 2)) }
-{
-    let Some(file) = matches.get_str("numbers") else {
-        let asking = read_asking(matches)?;
-        let bytes = read_input(alloc, input)?;
-        let done = ask_text(alloc, agreed, asking, bytes.as_slice(), out);
-        return told(alloc, done, CLIENT, bytes.as_slice());
-    };
-    let life_ms = read_life(matches)?;
-    let bytes = read_input(alloc, input)?;
-    let done = ask_kept_text(alloc, agreed, make(file), life_ms, bytes.as_slice(), out);
-    told(alloc, done, KEPT_CLIENT, bytes.as_slice())
-}
-
-/// Does what `run` asks for, depending on the role.
+/// Does what `run` asks for. If the words name a file, the end's numbers are kept in it. Reads the whole input first.
 fn run_role<R: Read, W: Write, K: Keeper + Drop, F: FnOnce(&str) -> K + Drop>(
     alloc: Global,
     matches: &ArgMatches<'_>,
@@ -157,11 +134,13 @@ fn run_role<R: Read, W: Write, K: Keeper + Drop, F: FnOnce(&str) -> K + Drop>(
     ensures { IfOk result (λ s. (s ≡ 0) ⊎ (s ≡ 2)) }
 {
     let context = ContextWords::read(alloc, matches)?;
-    let agreed = context.agreed();
-    if matches.get_str("role") == Some("client") {
-        return run_client(alloc, matches, agreed, input, out, make);
-    }
-    run_server(alloc, matches, agreed, input, out, make)
+    let beginning = read_beginning(matches)?;
+    let forms = beginning.forms();
+    let bytes = read_input(alloc, input)?;
+    let input = bytes.as_slice();
+    let file = matches.get_str("numbers").unwrap_or("");
+    let done = run_end(alloc, context.agreed(), beginning, file, make, input, out);
+    told(alloc, done, forms, input)
 }
 
 /// Does what a call asks for, depending on its name.

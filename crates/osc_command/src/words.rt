@@ -39,6 +39,16 @@ Example:
     --salt 9e7ca92223786340 --recipient 01 --sequence 20 \\
     44015d1f00003974396c6f63616c686f737483747631";
 
+const HELP_SECRET: &str = "The Master Secret, 1 to 64 bytes";
+
+const HELP_SALT: &str = "The Master Salt, 0 to 64 bytes [default: empty]";
+
+const HELP_SENDER: &str = "This end's identifier, 0 to 7 bytes [default: empty]";
+
+const HELP_RECIPIENT: &str = "The other end's, 0 to 7 bytes [default: empty]";
+
+const HELP_ID_CONTEXT: &str = "The ID Context, 1 to 32 bytes [optional]";
+
 const HELP_SEQUENCE: &str = "The message's own number, below 2^40 [optional]";
 
 const HELP_REQUEST: &str = "Of a response: the number of its request [optional]";
@@ -113,14 +123,7 @@ fn datagram_word<'a>(alloc: Global) -> Arg<'a>
         .help("The datagram, in hex")
 }
 
-/// Returns the option for what a context takes part in. It may be given more than once.
-fn allow_option<'a>(alloc: Global) -> Arg<'a>
-    ensures { result.global ≡ false }
-{
-    choice_option(alloc, "allow", "WHAT", FEATURES, HELP_ALLOW).action(ArgAction::Append)
-}
-
-/// Adds the options of a context to a command. This end is the sender.
+/// Adds the options of a context to a command. This end is the sender. What the context takes part in may be given more than once.
 pub(crate) fn with_context<'a>(
     command: Command<'a>,
     alloc: Global,
@@ -128,34 +131,13 @@ pub(crate) fn with_context<'a>(
     requires { IsLocal command }
     ensures { IfOk result IsLocal }
 {
-    let secret = hex_option(alloc, "secret", "The Master Secret, 1 to 64 bytes").required(true);
-    let salt = hex_option(
-        alloc,
-        "salt",
-        "The Master Salt, 0 to 64 bytes [default: empty]",
-    );
-    let sender = hex_option(
-        alloc,
-        "sender",
-        "This end's identifier, 0 to 7 bytes [default: empty]",
-    );
-    let recipient = hex_option(
-        alloc,
-        "recipient",
-        "The other end's, 0 to 7 bytes [default: empty]",
-    );
-    let id_context = hex_option(
-        alloc,
-        "id-context",
-        "The ID Context, 1 to 32 bytes [optional]",
-    );
     command
-        .arg(secret)?
-        .arg(salt)?
-        .arg(sender)?
-        .arg(recipient)?
-        .arg(id_context)?
-        .arg(allow_option(alloc))
+        .arg(hex_option(alloc, "secret", HELP_SECRET).required(true))?
+        .arg(hex_option(alloc, "salt", HELP_SALT))?
+        .arg(hex_option(alloc, "sender", HELP_SENDER))?
+        .arg(hex_option(alloc, "recipient", HELP_RECIPIENT))?
+        .arg(hex_option(alloc, "id-context", HELP_ID_CONTEXT))?
+        .arg(choice_option(alloc, "allow", "WHAT", FEATURES, HELP_ALLOW).action(ArgAction::Append))
 }
 
 /// Adds the options of a response to a command: they tell of its request.

@@ -1,6 +1,9 @@
 use Rattle.osc_command.proofs.LocalCommands.{adds_local, may_add_local}
 use Rattle.osc_command.proofs.run_words.run_command.Goals as goal
 
+pub with_context-requires : goal.with_context-requires
+with_context-requires c = rw (c.after_help-command.ensures, c.about.ensures) c.new.ensures.local
+
 pub returns : goal.returns
 returns c =
     let with_role = adds_local _ _ _ c.in_ok-arg.ensures c.in_ok-with_context.ensures c.role_option.ensures in
