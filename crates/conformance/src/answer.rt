@@ -95,6 +95,13 @@ impl Answer {
         }
     }
 
+    /// Adds what the steps of a row left, as another answer spells it.
+    pub(crate) fn leave(&mut self, left: &Answer) {
+        self.word("left");
+        self.push(left.text.as_str());
+        self.is_whole = self.is_whole && left.is_whole;
+    }
+
     /// Adds the bytes at the front of a filled buffer, and whether the bytes after them are still what it was filled with.
     pub(crate) fn written(&mut self, buf: &[u8], len: usize, filled_with: u8) {
         let (front, behind) = buf.split_at(len.min(buf.len()));

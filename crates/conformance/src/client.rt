@@ -1,248 +1,115 @@
-//! Calls of osc_endpoint: a client, step by step.
+//! Rows of clients.
 
 use crate::answer::Answer;
-use crate::client_bytes::by_bytes;
+use crate::client_calls::make;
 use crate::client_entry::show;
-use crate::client_steps::{events_of, is_event};
-use crate::fields::{Fields, NamedContext};
-use crate::steps::{FILLED_WITH, Step, number, steps_of};
-use osc_coap::parse;
-use osc_context::Piv;
-use osc_endpoint::{Client, ClientEntry, ClientEvent, run_client, run_client_on};
-use osc_protect::head_of_request;
-use std::alloc::Global;
+use crate::client_events::{event_of, show_left};
+use crate::ends::{End, Left, in_all_ways, in_both_ways};
+use crate::steps::{Step, Way};
+use osc_context::{Context, Piv};
+use osc_endpoint::{Client, ClientEvent, run_client, run_client_on};
+use osc_handle::{ClientHandle, ContextHandle};
+use osc_kept_handle::KeptClientHandle;
 
-/// How a row's steps are made.
-#[derive(Clone, Copy, PartialEq, Eq)]
-enum Way {
-    ByTake,
-    ByHalves,
-    ByRun,
-    ByRunOn,
-}
-
-/// Makes a client from `CONTEXT ROOM NEXT LIFE`, with room for N pending requests. ROOM is N.
-fn new<const N: usize>(fields: &Fields<'_>, contexts: &[NamedContext<'_>]) -> Option<Client<N>> {
+/// Reads `new CONTEXT ROOM NEXT LIFE`: the context, the next number, and how long a request is pending.
+fn read_new(step: &Step<'_>) -> Option<(Context, Piv, u64)> {
+    if step.verb != "new" {
+        return None;
+    }
+    let fields = &step.fields;
     fields.count(4);
-    let context = fields.context(contexts)?;
-    Some(Client::new(context, number(fields, 2), fields.number(3)))
+    let context = step.context()?;
+    Some((context, fields.sequence_number(2), fields.number(3)))
 }
 
-/// Returns the entry of a sent request. The call returns only a length, so the number is read from the bytes.
-pub(crate) fn sent<'a>(datagram: &'a [u8], answer: &mut Answer) -> ClientEntry<'a> {
-    let number = match head_of_request(datagram) {
-        Ok(head) => head.number,
-        Err(_) => {
-            answer.is_whole = false;
-            Piv::MAX
+impl<const N: usize> End for Client<N> {
+    fn begin(first: &Step<'_>, _answer: &mut Answer) -> Option<Client<N>> {
+        let (context, next, life) = read_new(first)?;
+        Some(Client::new(context, next, life))
+    }
+
+    fn made_by_begin() -> usize {
+        1
+    }
+
+    fn make(&mut self, steps: &[Step<'_>], way: Way, answer: &mut Answer) -> Left {
+        if way.calls(steps) {
+            return Ok(Some(make(self, steps, way, answer)));
         }
-    };
-    ClientEntry::Sent { number, datagram }
-}
-
-/// Makes a request, by one call.
-fn request<'a, const N: usize>(
-    client: &mut Client<N>,
-    now: u64,
-    plain: &[u8],
-    out: &'a mut [u8],
-    answer: &mut Answer,
-) -> ClientEntry<'a> {
-    let message = match parse(plain) {
-        Ok(message) => message,
-        Err(fault) => {
-            client.advance(now);
-            return ClientEntry::BadPlain(fault);
+        let events = steps.iter().filter_map(|step| event_of(step));
+        let mut events: Vec<ClientEvent> = events.collect(answer.alloc)?;
+        let (alloc, mut log) = (answer.alloc, Vec::new(answer.alloc));
+        if way == Way::ByRun {
+            run_client(alloc, self, &mut events, &mut log)?;
+        } else {
+            let mut rest = events.as_mut_slice();
+            run_client_on(alloc, self, &mut rest, &mut log)?;
         }
-    };
-    match client.request(now, &message, out) {
-        Ok(len) => sent(&out[..len], answer),
-        Err(refusal) => ClientEntry::NotSent(refusal),
-    }
-}
-
-/// Takes a datagram, by one call or by its two halves.
-fn take<'a, const N: usize>(
-    client: &mut Client<N>,
-    now: u64,
-    bytes: &'a mut [u8],
-    in_halves: bool,
-) -> ClientEntry<'a> {
-    if in_halves {
-        let decision = client.decide(now, bytes);
-        ClientEntry::Took(decision.outcome(bytes))
-    } else {
-        ClientEntry::Took(client.take(now, bytes))
-    }
-}
-
-/// Runs an event by calls.
-fn call<'a, const N: usize>(
-    client: &mut Client<N>,
-    event: &'a mut ClientEvent,
-    in_halves: bool,
-    answer: &mut Answer,
-) -> ClientEntry<'a> {
-    match event {
-        ClientEvent::Request { now, plain, out } => request(client, *now, plain, out, answer),
-        ClientEvent::Datagram { now, bytes } => take(client, *now, bytes, in_halves),
-        ClientEvent::Forget { token } => ClientEntry::Forgot(client.forget(token)),
-        ClientEvent::Restart { next } => {
-            client.restart(*next);
-            ClientEntry::Restarted
+        for entry in &log {
+            show(entry, answer);
+            answer.word(";");
         }
-    }
-}
-
-/// Shows what is left of each event: for a datagram its bytes, for a request whether nothing was written into its room.
-pub(crate) fn left(steps: &[Step<'_>], events: &[ClientEvent], answer: &mut Answer) {
-    answer.word("left");
-    let mut rest = events;
-    for step in steps {
-        if !is_event(step) {
-            continue;
+        drop(log);
+        let mut left = Answer::new(answer.alloc);
+        for (step, event) in steps.iter().zip(events.iter()) {
+            show_left(step, event, &mut left);
         }
-        let Some((event, tail)) = rest.split_first() else {
-            return;
-        };
-        match event {
-            ClientEvent::Request { out, .. } => answer.rest(out, FILLED_WITH),
-            ClientEvent::Datagram { bytes, .. } => answer.left(step.fields.bytes(1), bytes),
-            ClientEvent::Forget { .. } | ClientEvent::Restart { .. } => {}
-        }
-        rest = tail;
+        Ok(Some(left))
     }
 }
 
-/// Makes the steps after the first, one call each.
-fn by_calls<const N: usize>(
-    mut client: Client<N>,
-    steps: &[Step<'_>],
-    in_halves: bool,
-    answer: &mut Answer,
-) {
-    let mut events = events_of(steps, answer);
-    let mut rest = events.as_mut_slice();
-    for step in steps {
-        if step.verb == "advance" {
-            client.advance(step.fields.number(0));
-            answer.word("advanced ;");
-            continue;
-        }
-        let Some((event, tail)) = rest.split_first_mut() else {
-            return step.fields.refuse();
-        };
-        let entry = call(&mut client, event, in_halves, answer);
-        show(&entry, answer);
-        rest = tail;
+impl End for ClientHandle {
+    fn begin(first: &Step<'_>, _answer: &mut Answer) -> Option<ClientHandle> {
+        let (context, next, life) = read_new(first)?;
+        ClientHandle::begin(&ContextHandle::of(&context), next, life)
     }
-    left(steps, &events, answer);
-}
 
-/// Makes the steps after the first, as the events of a run.
-fn by_a_run<const N: usize>(
-    mut client: Client<N>,
-    steps: &[Step<'_>],
-    keeps_rest: bool,
-    answer: &mut Answer,
-) {
-    let alloc = answer.alloc;
-    let mut events = events_of(steps, answer);
-    run(alloc, &mut client, &mut events, keeps_rest, answer);
-    left(steps, &events, answer);
-}
-
-/// Runs the events, and shows their log.
-fn run<const N: usize>(
-    alloc: Global,
-    client: &mut Client<N>,
-    events: &mut [ClientEvent],
-    keeps_rest: bool,
-    answer: &mut Answer,
-) {
-    let mut log = Vec::new(alloc);
-    let outcome = if keeps_rest {
-        let mut rest = events;
-        run_client_on(alloc, client, &mut rest, &mut log)
-    } else {
-        run_client(alloc, client, events, &mut log)
-    };
-    if outcome.is_err() {
-        answer.is_whole = false;
-    }
-    for entry in &log {
-        show(entry, answer);
+    fn make(&mut self, steps: &[Step<'_>], way: Way, answer: &mut Answer) -> Left {
+        Ok(Some(make(self, steps, way, answer)))
     }
 }
 
-/// Makes the steps of a client in one way.
-fn make<const N: usize>(
-    client: Option<Client<N>>,
-    steps: &[Step<'_>],
-    way: Way,
-    answer: &mut Answer,
-) {
-    let Some(client) = client else {
-        answer.is_whole = false;
-        return;
-    };
-    match way {
-        Way::ByTake => by_calls(client, steps, false, answer),
-        Way::ByHalves => by_calls(client, steps, true, answer),
-        Way::ByRun => by_a_run(client, steps, false, answer),
-        Way::ByRunOn => by_a_run(client, steps, true, answer),
+impl End for KeptClientHandle {
+    /// Begins with `begin CONTEXT LOADED LIFE`.
+    fn begin(first: &Step<'_>, answer: &mut Answer) -> Option<KeptClientHandle> {
+        let fields = &first.fields;
+        fields.count(3);
+        let context = ContextHandle::of(&first.context()?);
+        answer.word("begun ;");
+        KeptClientHandle::begin(&context, fields.sequence_number(1), fields.number(2))
+    }
+
+    fn make(&mut self, steps: &[Step<'_>], way: Way, answer: &mut Answer) -> Left {
+        make(self, steps, way, answer);
+        answer.is_whole = answer.is_whole && self.is_whole();
+        Ok(None)
     }
 }
 
-/// Makes the steps in one way, by the row's room.
-fn in_a_way(
-    fields: &Fields<'_>,
-    steps: &[Step<'_>],
-    contexts: &[NamedContext<'_>],
-    way: Way,
-    answer: &mut Answer,
-) {
-    match fields.word(1) {
-        "0" => make(new::<0>(fields, contexts), steps, way, answer),
-        "1" => make(new::<1>(fields, contexts), steps, way, answer),
-        "2" => make(new::<2>(fields, contexts), steps, way, answer),
-        "8" => make(new::<8>(fields, contexts), steps, way, answer),
-        "16" => make(new::<16>(fields, contexts), steps, way, answer),
-        _ => fields.refuse(),
-    }
-}
-
-/// Returns whether the bytes of a client, which have room for eight pending requests, answer as a client with the row's room does. They do
-/// if the row's room is eight too, or if neither room fills up.
-fn has_room_of_bytes(fields: &Fields<'_>, steps: &[Step<'_>]) -> bool {
+/// Returns whether the bytes of a client, which have room for eight pending requests, answer as a client with this room does. They do if
+/// this room is eight too, or if neither room fills up.
+fn has_room_of_bytes(room: u64, steps: &[Step<'_>]) -> bool {
     let requests = steps.iter().filter(|step| step.verb == "request").count();
-    let room = fields.number(1);
     room == 8 || requests as u64 <= room.min(8)
 }
 
-/// Makes the calls of a row's steps after the first, which is `new`: by `take` and by its halves. If all of them are events, makes them by
-/// both runs too and, if the bytes of a client answer as its room does, over those bytes in both ways.
-pub(crate) fn steps(text: &str, contexts: &[NamedContext<'_>], answer: &mut Answer) {
-    let (first, rest) = text.split_once(" ; ").unwrap_or((text, ""));
-    let (verb, fields) = first.split_once(' ').unwrap_or((first, ""));
-    let fields = Fields::read(answer.alloc, fields);
-    let steps = steps_of(rest, answer);
-    in_a_way(&fields, &steps, contexts, Way::ByTake, answer);
-    answer.again();
-    in_a_way(&fields, &steps, contexts, Way::ByHalves, answer);
-    if steps.iter().all(is_event) {
-        answer.again();
-        in_a_way(&fields, &steps, contexts, Way::ByRun, answer);
-        answer.again();
-        in_a_way(&fields, &steps, contexts, Way::ByRunOn, answer);
-        if has_room_of_bytes(&fields, &steps) {
-            answer.again();
-            by_bytes(&fields, &steps, contexts, false, answer);
-            answer.again();
-            by_bytes(&fields, &steps, contexts, true, answer);
-        }
+/// Makes a row's steps over a client with the room that the first step says. If all of them are events, and the bytes of a client answer
+/// as this room does, makes them over those bytes too.
+pub(crate) fn over_all(steps: &[Step<'_>], answer: &mut Answer) {
+    let Some(first) = steps.first() else {
+        return;
+    };
+    match first.fields.word(1) {
+        "0" => in_all_ways::<Client<0>>(steps, answer),
+        "1" => in_all_ways::<Client<1>>(steps, answer),
+        "2" => in_all_ways::<Client<2>>(steps, answer),
+        "8" => in_all_ways::<Client<8>>(steps, answer),
+        "16" => in_all_ways::<Client<16>>(steps, answer),
+        _ => first.fields.refuse(),
     }
-    if verb != "new" || fields.is_bad() || steps.iter().any(|step| step.fields.is_bad()) {
-        answer.is_whole = false;
+    let room = first.fields.number(1);
+    if steps.iter().all(|step| step.is_event()) && has_room_of_bytes(room, steps) {
+        answer.again();
+        in_both_ways::<ClientHandle>(steps, answer);
     }
 }

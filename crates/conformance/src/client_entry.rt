@@ -31,7 +31,7 @@ fn show_outcome(outcome: &ClientOutcome<'_>, answer: &mut Answer) {
     }
 }
 
-/// Shows an entry, with a semicolon after it.
+/// Shows an entry.
 pub(crate) fn show(entry: &ClientEntry<'_>, answer: &mut Answer) {
     match entry {
         ClientEntry::Sent { number, datagram } => {
@@ -52,5 +52,4 @@ pub(crate) fn show(entry: &ClientEntry<'_>, answer: &mut Answer) {
         }),
         ClientEntry::Restarted => answer.word("restarted"),
     }
-    answer.word(";");
 }

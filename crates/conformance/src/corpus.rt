@@ -2,9 +2,7 @@
 
 use crate::answer::Answer;
 use crate::fields::{Fields, NamedContext};
-use crate::keeper::Memory;
-use crate::{client, command, kept, kept_client_bytes, kept_server_bytes, server, verbs};
-use osc_kept::{KeptClient, KeptServer};
+use crate::{command, ends, verbs};
 use std::alloc::Global;
 use std::io;
 
@@ -98,7 +96,7 @@ impl<'t> Corpus<'t> {
     }
 
     /// Returns the answer of a row's call.
-    fn answer(&self, row: Row<'t>) -> Answer {
+    fn answer<'s>(&'s self, row: Row<'s>) -> Answer {
         let (mut answer, contexts) = (Answer::new(self.alloc), self.contexts.as_slice());
         match row.verb {
             "command"
@@ -111,21 +109,15 @@ impl<'t> Corpus<'t> {
             | "kept-usage" => {
                 command::run(row.verb, row.fields, &mut answer);
             }
-            "server" => server::steps(row.fields, contexts, &mut answer),
-            "server-bytes" => server::steps_over_bytes(row.fields, contexts, &mut answer),
-            "client" => client::steps(row.fields, contexts, &mut answer),
-            "kept-server" => kept::steps::<KeptServer<Memory<'_>>>(
-                row.fields,
-                contexts,
-                &mut answer,
-            ),
-            "kept-client" => kept::steps::<KeptClient<Memory<'_>, 2>>(
-                row.fields,
-                contexts,
-                &mut answer,
-            ),
-            "kept-server-bytes" => kept_server_bytes::steps(row.fields, contexts, &mut answer),
-            "kept-client-bytes" => kept_client_bytes::steps(row.fields, contexts, &mut answer),
+            "server"
+            | "server-bytes"
+            | "client"
+            | "kept-server"
+            | "kept-client"
+            | "kept-server-bytes"
+            | "kept-client-bytes" => {
+                ends::make(row.verb, row.fields, contexts, &mut answer);
+            }
             verb => {
                 let fields = Fields::read(self.alloc, row.fields);
                 verbs::make(verb, &fields, contexts, &mut answer);

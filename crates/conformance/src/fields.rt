@@ -3,6 +3,7 @@
 use crate::bytes::bytes_of;
 use osc_coap::{Message, parse};
 use osc_context::{Context, Features, Kid, NO_FEATURES, Params, Piv};
+use osc_window::WindowSize;
 use std::alloc::Global;
 use std::cell::Cell;
 
@@ -137,6 +138,25 @@ impl<'t> Fields<'t> {
         }
     }
 
+    /// Returns a small number, such as an index.
+    pub(crate) fn index(&self, place: usize) -> usize {
+        self.short(place) as usize
+    }
+
+    /// Returns a Message ID of two bytes.
+    pub(crate) fn message_id(&self, place: usize) -> u16 {
+        u16::from_be_bytes(self.array::<2>(place))
+    }
+
+    /// Returns the size of a window: 32, or else 64.
+    pub(crate) fn window_size(&self, place: usize) -> WindowSize {
+        if self.number(place) == 32 {
+            WindowSize::Places32
+        } else {
+            WindowSize::Places64
+        }
+    }
+
     /// Returns a buffer of a length, filled with a byte.
     pub(crate) fn room(&self, place: usize, filled_with: u8) -> Vec<u8> {
         let len = self.number(place);
@@ -170,6 +190,17 @@ impl<'t> Fields<'t> {
             self.refuse();
         }
         piv
+    }
+
+    /// Returns a Sender Sequence Number.
+    pub(crate) fn sequence_number(&self, place: usize) -> Piv {
+        match self.partial_iv(place) {
+            Some(number) => number,
+            None => {
+                self.refuse();
+                Piv::MAX
+            }
+        }
     }
 
     pub(crate) fn kid(&self, place: usize) -> Option<Kid> {

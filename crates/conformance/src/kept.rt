@@ -1,23 +1,22 @@
-//! Calls of osc_kept: an end over a keeper in memory, from one start to the next.
+//! Rows of ends over a keeper in memory, from one start to the next.
 
 use crate::answer::Answer;
-use crate::fields::{Fields, NamedContext};
+use crate::client_events::kept_client_event;
+use crate::ends::{End, Left};
+use crate::fields::Fields;
 use crate::keeper::Memory;
-use crate::steps::{Step, steps_of};
+use crate::refusal::{Refusal, restarted, show_word};
+use crate::server_events::kept_server_event;
+use crate::steps::{Step, Way};
+use crate::{client_calls, client_entry, server_calls, server_entry};
 use osc_context::Context;
-use osc_kept::KeptError;
-
-/// How a row's steps are made.
-#[derive(Clone, Copy, PartialEq, Eq)]
-pub(crate) enum Way {
-    ByTake,
-    ByHalves,
-    ByRun,
-    ByRunOn,
-}
+use osc_kept::{
+    KeptClient, KeptClientEntry, KeptClientEvent, KeptError, KeptServer, KeptServerEntry,
+    KeptServerEvent, run_kept_client, run_kept_client_on, run_kept_server, run_kept_server_on,
+};
 
 /// An end whose numbers are kept by a keeper in memory.
-pub(crate) trait KeptEnd<'t>: Drop + Sized {
+pub(crate) trait KeptEnd<'t>: End {
     /// Starts an end: `start CONTEXT ..`, with the context of the first field.
     fn start(
         context: Context,
@@ -26,9 +25,84 @@ pub(crate) trait KeptEnd<'t>: Drop + Sized {
     ) -> Result<Self, (KeptError, Memory<'t>)>;
 
     fn into_keeper(self) -> Memory<'t>;
+}
 
-    /// Makes the steps up to the next start.
-    fn go(&mut self, steps: &[Step<'_>], way: Way, answer: &mut Answer);
+impl<'t> End for KeptServer<Memory<'t>> {
+    fn make(&mut self, steps: &[Step<'_>], way: Way, answer: &mut Answer) -> Left {
+        if way.calls(steps) {
+            return Ok(Some(server_calls::make(self, steps, way, answer)));
+        }
+        let events = steps.iter().filter_map(|step| kept_server_event(step));
+        let mut events: Vec<KeptServerEvent> = events.collect(answer.alloc)?;
+        let (alloc, mut log) = (answer.alloc, Vec::new(answer.alloc));
+        if way == Way::ByRun {
+            run_kept_server(alloc, self, &mut events, &mut log)?;
+        } else {
+            let mut rest = events.as_mut_slice();
+            run_kept_server_on(alloc, self, &mut rest, &mut log)?;
+        }
+        for entry in &log {
+            match entry {
+                KeptServerEntry::Served(entry) => server_entry::show(entry, answer),
+                KeptServerEntry::Restarted(kept) => show_word(restarted(*kept), answer),
+            }
+            answer.word(";");
+        }
+        Ok(None)
+    }
+}
+
+impl<'t> KeptEnd<'t> for KeptServer<Memory<'t>> {
+    fn start(
+        context: Context,
+        fields: &Fields<'_>,
+        keeper: Memory<'t>,
+    ) -> Result<Self, (KeptError, Memory<'t>)> {
+        KeptServer::start(context, keeper, fields.window_size(1))
+    }
+
+    fn into_keeper(self) -> Memory<'t> {
+        KeptServer::into_keeper(self)
+    }
+}
+
+impl<'t> End for KeptClient<Memory<'t>, 2> {
+    fn make(&mut self, steps: &[Step<'_>], way: Way, answer: &mut Answer) -> Left {
+        if way.calls(steps) {
+            return Ok(Some(client_calls::make(self, steps, way, answer)));
+        }
+        let events = steps.iter().filter_map(|step| kept_client_event(step));
+        let mut events: Vec<KeptClientEvent> = events.collect(answer.alloc)?;
+        let (alloc, mut log) = (answer.alloc, Vec::new(answer.alloc));
+        if way == Way::ByRun {
+            run_kept_client(alloc, self, &mut events, &mut log)?;
+        } else {
+            let mut rest = events.as_mut_slice();
+            run_kept_client_on(alloc, self, &mut rest, &mut log)?;
+        }
+        for entry in &log {
+            match entry {
+                KeptClientEntry::Asked(entry) => client_entry::show(entry, answer),
+                KeptClientEntry::Restarted(kept) => show_word(restarted(*kept), answer),
+            }
+            answer.word(";");
+        }
+        Ok(None)
+    }
+}
+
+impl<'t> KeptEnd<'t> for KeptClient<Memory<'t>, 2> {
+    fn start(
+        context: Context,
+        fields: &Fields<'_>,
+        keeper: Memory<'t>,
+    ) -> Result<Self, (KeptError, Memory<'t>)> {
+        KeptClient::start(context, keeper, fields.number(1))
+    }
+
+    fn into_keeper(self) -> Memory<'t> {
+        KeptClient::into_keeper(self)
+    }
 }
 
 /// Makes a start and the steps up to the next start. Returns the keeper for the next start.
@@ -36,23 +110,24 @@ fn one_start<'t, E: KeptEnd<'t>>(
     keeper: Memory<'t>,
     start: &Step<'_>,
     steps: &[Step<'_>],
-    contexts: &[NamedContext<'_>],
     way: Way,
     answer: &mut Answer,
 ) -> Memory<'t> {
     start.fields.count(2);
-    let Some(context) = start.fields.context(contexts) else {
-        start.fields.refuse();
+    let Some(context) = start.context() else {
         return keeper;
     };
     match E::start(context, &start.fields, keeper) {
         Ok(mut end) => {
             answer.word("started ;");
-            end.go(steps, way, answer);
+            if end.make(steps, way, answer).is_err() {
+                answer.is_whole = false;
+            }
             end.into_keeper()
         }
         Err((refusal, keeper)) => {
-            show_refusal(refusal, answer);
+            Refusal::Kept(refusal).show(answer);
+            answer.word(";");
             if !steps.is_empty() {
                 start.fields.refuse();
             }
@@ -70,12 +145,7 @@ fn up_to_start<'s, 't>(steps: &'s [Step<'t>]) -> &'s [Step<'t>] {
 }
 
 /// Makes all steps in one way. The first step is `keeper KEPT PLAN`.
-fn in_a_way<'t, E: KeptEnd<'t>>(
-    steps: &[Step<'t>],
-    contexts: &[NamedContext<'_>],
-    way: Way,
-    answer: &mut Answer,
-) {
+fn in_a_way<'t, E: KeptEnd<'t>>(steps: &[Step<'t>], way: Way, answer: &mut Answer) {
     let Some((first, behind)) = steps.split_first() else {
         return;
     };
@@ -84,40 +154,19 @@ fn in_a_way<'t, E: KeptEnd<'t>>(
     for (place, start) in behind.iter().enumerate() {
         if start.verb == "start" {
             let after = behind.get(place + 1..).unwrap_or(&[]);
-            keeper = one_start::<E>(keeper, start, up_to_start(after), contexts, way, answer);
+            keeper = one_start::<E>(keeper, start, up_to_start(after), way, answer);
         }
     }
     keeper.show(answer);
 }
 
-/// Shows what a restart returned.
-pub(crate) fn show_restart(answered: &Result<(), KeptError>, answer: &mut Answer) {
-    match answered {
-        Ok(()) => answer.word("restarted ;"),
-        Err(refusal) => show_refusal(*refusal, answer),
-    }
-}
-
-fn show_refusal(refusal: KeptError, answer: &mut Answer) {
-    answer.refused(refusal);
-    answer.word(";");
-}
-
-/// Makes the calls of a row's steps: by `take`, by its halves, and by both runs.
-pub(crate) fn steps<'t, E: KeptEnd<'t>>(
-    text: &'t str,
-    contexts: &[NamedContext<'_>],
-    answer: &mut Answer,
-) {
-    let steps = steps_of(text, answer);
-    in_a_way::<E>(&steps, contexts, Way::ByTake, answer);
+/// Makes a row's steps: by `take`, by its halves, and by both runs.
+pub(crate) fn over_all<'t, E: KeptEnd<'t>>(steps: &[Step<'t>], answer: &mut Answer) {
+    in_a_way::<E>(steps, Way::ByTake, answer);
     answer.again();
-    in_a_way::<E>(&steps, contexts, Way::ByHalves, answer);
+    in_a_way::<E>(steps, Way::ByHalves, answer);
     answer.again();
-    in_a_way::<E>(&steps, contexts, Way::ByRun, answer);
+    in_a_way::<E>(steps, Way::ByRun, answer);
     answer.again();
-    in_a_way::<E>(&steps, contexts, Way::ByRunOn, answer);
-    if steps.iter().any(|step| step.fields.is_bad()) {
-        answer.is_whole = false;
-    }
+    in_a_way::<E>(steps, Way::ByRunOn, answer);
 }

@@ -38,7 +38,7 @@ fn show_seen(seen: &Seen<'_>, answer: &mut Answer) {
     }
 }
 
-/// Shows an entry, with a semicolon after it. A datagram's entry ends with the reply.
+/// Shows an entry. A datagram's entry ends with the reply.
 pub(crate) fn show(entry: &ServerEntry<'_>, answer: &mut Answer) {
     match entry {
         ServerEntry::Took { seen, reply } => {
@@ -60,5 +60,4 @@ pub(crate) fn show(entry: &ServerEntry<'_>, answer: &mut Answer) {
         ServerEntry::Restarted(Ok(())) => answer.word("restarted"),
         ServerEntry::Restarted(Err(refusal)) => answer.refused(*refusal),
     }
-    answer.word(";");
 }

@@ -1,40 +1,88 @@
 //! The steps of an endpoint's row.
 
 use crate::answer::Answer;
-use crate::fields::Fields;
-use osc_context::Piv;
+use crate::fields::{Fields, NamedContext};
+use crate::refusal::{Made, Refusal};
+use osc_context::Context;
 
 /// What the room for a message is filled with.
 pub(crate) const FILLED_WITH: u8 = 0xaa;
+
+/// How a row's steps are made.
+#[derive(Clone, Copy, PartialEq, Eq)]
+pub(crate) enum Way {
+    ByTake,
+    ByHalves,
+    ByRun,
+    ByRunOn,
+}
+
+impl Way {
+    /// Returns whether these steps are made this way by calls, which is so if one of them is no event.
+    pub(crate) fn calls(self, steps: &[Step<'_>]) -> bool {
+        matches!(self, Way::ByTake | Way::ByHalves) || !steps.iter().all(|step| step.is_event())
+    }
+}
 
 /// A step of a row: its verb, and its fields.
 #[derive(Drop)]
 pub(crate) struct Step<'t> {
     pub(crate) verb: &'t str,
     pub(crate) fields: Fields<'t>,
+    /// The contexts that the first field may name.
+    contexts: &'t [NamedContext<'t>],
+}
+
+impl Step<'_> {
+    /// Returns the context that the first field names.
+    pub(crate) fn context(&self) -> Option<Context> {
+        let context = self.fields.context(self.contexts);
+        if context.is_none() {
+            self.fields.refuse();
+        }
+        context
+    }
+
+    /// Returns whether the step is an event, which runs know.
+    pub(crate) fn is_event(&self) -> bool {
+        !matches!(self.verb, "add" | "advance" | "is-open")
+    }
+
+    /// Returns whether the step is `restart` without a number: the end goes on at the number that is kept.
+    pub(crate) fn restarts_at_kept(&self) -> bool {
+        self.verb == "restart" && self.fields.word(0).is_empty()
+    }
+
+    /// Makes `saved NUMBER` by a call that returns whether that was the number to save.
+    pub(crate) fn saved(&self, was_asked: Option<bool>) -> Made<&'static str> {
+        self.fields.count(1);
+        match was_asked {
+            Some(true) => Ok("saved"),
+            Some(false) => Ok("not-asked"),
+            None => Err(Refusal::Bad),
+        }
+    }
 }
 
 /// Returns the steps of a row, which are separated by semicolons.
-pub(crate) fn steps_of<'t>(text: &'t str, answer: &mut Answer) -> Vec<Step<'t>> {
+pub(crate) fn steps_of<'t>(
+    text: &'t str,
+    contexts: &'t [NamedContext<'t>],
+    answer: &mut Answer,
+) -> Vec<Step<'t>> {
     let mut steps = Vec::new(answer.alloc);
     for step in text.split(';') {
         let step = step.trim();
         let (verb, rest) = step.split_once(' ').unwrap_or((step, ""));
         let fields = Fields::read(answer.alloc, rest);
-        if steps.push(Step { verb, fields }).is_err() {
+        let step = Step {
+            verb,
+            fields,
+            contexts,
+        };
+        if steps.push(step).is_err() {
             answer.is_whole = false;
         }
     }
     steps
-}
-
-/// Returns the number of a field.
-pub(crate) fn number(fields: &Fields<'_>, place: usize) -> Piv {
-    match fields.partial_iv(place) {
-        Some(number) => number,
-        None => {
-            fields.refuse();
-            Piv::MAX
-        }
-    }
 }

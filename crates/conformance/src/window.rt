@@ -9,11 +9,7 @@ fn size(fields: &Fields<'_>) -> WindowSize {
     if fields.word(0) == "default" {
         return WindowSize::default();
     }
-    if fields.number(0) == 32 {
-        WindowSize::Places32
-    } else {
-        WindowSize::Places64
-    }
+    fields.window_size(0)
 }
 
 /// Takes numbers as they come, from the third field on: asks for each whether it is new, and marks it if it is. After a field `?` it only

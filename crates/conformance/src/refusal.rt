@@ -1,0 +1,83 @@
+//! Why an end doesn't make a step.
+
+use crate::answer::Answer;
+use osc_endpoint::{ReplyError, RequestError, RestartError};
+use osc_handle::{AddRefusal, ReplyRefusal};
+use osc_kept::KeptError;
+use osc_kept_handle::{KeptRefusal, KeptReplyRefusal, KeptRequestRefusal};
+
+/// Why an end doesn't make a step, whichever end it is.
+#[derive(Clone, Copy)]
+pub(crate) enum Refusal {
+    Add(AddRefusal),
+    Restart(RestartError),
+    Kept(KeptError),
+    Take(KeptRefusal),
+    Reply(KeptReplyRefusal),
+    Request(KeptRequestRefusal),
+    /// The end has no such step, or takes its own bytes for bad ones. No row expects that.
+    Bad,
+}
+
+/// What a step comes to, or why it isn't made.
+pub(crate) type Made<T> = Result<T, Refusal>;
+
+impl Refusal {
+    /// Returns the refusal of a reply by a server that is no bytes.
+    pub(crate) fn of_reply(refusal: ReplyError) -> Refusal {
+        Refusal::Reply(KeptReplyRefusal::Refused(refusal))
+    }
+
+    /// Returns the refusal of a request by a client, in bytes or not.
+    pub(crate) fn of_request(refusal: RequestError) -> Refusal {
+        Refusal::Request(KeptRequestRefusal::Refused(refusal))
+    }
+
+    /// Returns the refusal of a reply by the bytes of a server.
+    pub(crate) fn of_bytes(refusal: ReplyRefusal) -> Refusal {
+        Refusal::Reply(match refusal {
+            ReplyRefusal::BadHandle => KeptReplyRefusal::BadHandle,
+            ReplyRefusal::TicketSpent => KeptReplyRefusal::TicketSpent,
+            ReplyRefusal::Refused(refusal) => KeptReplyRefusal::Refused(refusal),
+        })
+    }
+
+    /// Shows the refusal. A bad step makes the row differ.
+    pub(crate) fn show(self, answer: &mut Answer) {
+        match self {
+            Refusal::Add(AddRefusal::Refused(refusal)) => answer.refused(refusal),
+            Refusal::Add(AddRefusal::SameSender) => answer.refused("SameSender"),
+            Refusal::Restart(refusal) => answer.refused(refusal),
+            Refusal::Kept(refusal) => answer.refused(refusal),
+            Refusal::Reply(KeptReplyRefusal::Refused(refusal)) => answer.refused(refusal),
+            Refusal::Reply(KeptReplyRefusal::TicketSpent) => answer.refused("TicketSpent"),
+            Refusal::Request(KeptRequestRefusal::Refused(refusal)) => answer.refused(refusal),
+            Refusal::Take(KeptRefusal::SaveFirst(number))
+            | Refusal::Reply(KeptReplyRefusal::SaveFirst(number))
+            | Refusal::Request(KeptRequestRefusal::SaveFirst(number)) => {
+                answer.word("save-first");
+                answer.print(number);
+            }
+            Refusal::Take(KeptRefusal::BadHandle)
+            | Refusal::Reply(KeptReplyRefusal::BadHandle)
+            | Refusal::Request(KeptRequestRefusal::BadHandle)
+            | Refusal::Bad => answer.is_whole = false,
+        }
+    }
+}
+
+/// Returns the word for a restart at the number that is kept.
+pub(crate) fn restarted(kept: Result<(), KeptError>) -> Made<&'static str> {
+    match kept {
+        Ok(()) => Ok("restarted"),
+        Err(refusal) => Err(Refusal::Kept(refusal)),
+    }
+}
+
+/// Shows the word for what a step came to, or why it wasn't made.
+pub(crate) fn show_word(made: Made<&str>, answer: &mut Answer) {
+    match made {
+        Ok(word) => answer.word(word),
+        Err(refusal) => refusal.show(answer),
+    }
+}
