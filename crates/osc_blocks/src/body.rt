@@ -16,7 +16,7 @@ use arrayvec::ArrayVec;
 const MOST_OPERATION: usize = 64;
 
 /// How far a body is.
-#[derive(Clone, Copy, Debug, PartialEq, Eq)]
+#[derive(Clone, Copy, PartialEq, Eq)]
 enum Stage {
     /// No block was taken.
     Empty,

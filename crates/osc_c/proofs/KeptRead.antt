@@ -7,15 +7,15 @@ use Rattle.osc_coap.specs.Laws.{DatagramHasNoFault, DatagramHasOneFault, Datagra
 use Rattle.osc_coap.specs.declared.format_error.Fault.{Fault}
 use Rattle.osc_endpoint.specs.ClientAnswer.{ClientAnswer}
 use Rattle.osc_endpoint.specs.ClientHistory as client
-use Rattle.osc_endpoint.specs.ClientLaws.{OneClientAnswer}
-use Rattle.osc_endpoint.specs.Laws.{OneServerAnswer}
+use Rattle.osc_laws.specs.ClientLaws.{OneClientAnswer}
+use Rattle.osc_laws.specs.Laws.{OneServerAnswer}
 use Rattle.osc_endpoint.specs.Life.{is_open_life}
 use Rattle.osc_endpoint.specs.ServerAnswer.{ServerAnswer, asks_own}
 use Rattle.osc_endpoint.specs.ServerHistory as server
 use Rattle.osc_handle.specs.ServerBytes.{IsSpent}
 use Rattle.osc_handle.specs.TicketBytes.{IsTicket, ticket_in}
 use Rattle.osc_handle.specs.declared.ticket_handle.TicketHandle.{TicketHandle}
-use Rattle.osc_kept.specs.Numbering.{Own, upcoming}
+use Rattle.osc_kept_ends.specs.Numbering.{Own, upcoming}
 use Rattle.osc_kept_handle.specs.KeptClientBytes.{AsksWith, IsKeptClient}
 use Rattle.osc_kept_handle.specs.KeptServerBytes.{IsKeptServer, ServesWith}
 use Rattle.osc_kept_handle.specs.Reserved.{WantsSave}

@@ -12,7 +12,7 @@ use Rattle.osc_endpoint.specs.declared.outcome.Outcome.{Outcome}
 use Rattle.osc_endpoint.specs.declared.outcome.Outcome.TheVariants as outcomes
 use Rattle.osc_endpoint.specs.declared.start.Fresh.{Fresh}
 use Rattle.osc_endpoint.specs.declared.ticket.Ticket.{Ticket}
-use Rattle.osc_kept.specs.Numbering.{Own}
+use Rattle.osc_kept_ends.specs.Numbering.{Own}
 use Rattle.osc_kept_handle.specs.KeptClientBytes.{ClientTakesWith, StepsClient}
 use Rattle.osc_kept_handle.specs.KeptServerBytes.{StepsServer, TakesWith}
 use Rattle.osc_kept_handle.specs.declared.kept_client_handle.KeptClientHandle.{KeptClientHandle}

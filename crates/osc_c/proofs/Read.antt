@@ -10,17 +10,17 @@ use Rattle.osc_window.specs.declared.window_size.WindowSize.{WindowSize}
 use Rattle.osc_window.specs.declared.window_size.WindowSize.TheVariants.{Places32, Places64}
 use Rattle.osc_endpoint.specs.ClientAnswer.{ClientAnswer}
 use Rattle.osc_endpoint.specs.ClientHistory as client
-use Rattle.osc_endpoint.specs.ClientLaws.{AllClientAnswers, OneClientAnswer}
-use Rattle.osc_endpoint.specs.Laws.{AllAnswers, OneServerAnswer}
+use Rattle.osc_laws.specs.ClientLaws.{AllClientAnswers, OneClientAnswer}
+use Rattle.osc_laws.specs.Laws.{AllAnswers, OneServerAnswer}
 use Rattle.osc_endpoint.specs.ServerAnswer.{ServerAnswer, asks_own}
 use Rattle.osc_endpoint.specs.ServerHistory as server
 use Rattle.osc_handle.specs.ClientBytes.{Asks, IsClient}
-use Rattle.osc_handle.specs.ContextBytes.{IsContext, server_in}
+use Rattle.osc_context_handle.specs.ContextBytes.{IsContext, server_in}
 use Rattle.osc_handle.specs.ServerBytes.{IsSpent, Serves}
 use Rattle.osc_handle.specs.TableBytes.{IsTable}
 use Rattle.osc_handle.specs.TicketBytes.{IsTicket, ticket_in}
 use Rattle.osc_handle.specs.declared.client_handle.ClientHandle.{ClientHandle}
-use Rattle.osc_handle.specs.declared.context_handle.ContextHandle.{ContextHandle}
+use Rattle.osc_context_handle.specs.declared.context_handle.ContextHandle.{ContextHandle}
 use Rattle.osc_handle.specs.declared.server_handle.ServerHandle.{ServerHandle}
 use Rattle.osc_handle.specs.declared.ticket_handle.TicketHandle.{TicketHandle}
 use Rattle.osc_c.specs.ClientCalls as asks

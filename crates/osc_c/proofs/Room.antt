@@ -26,11 +26,11 @@ use Rattle.osc_endpoint.specs.ServerHistory as server
 use Rattle.osc_endpoint.specs.declared.client_outcome.RequestError.TheVariants as asks
 use Rattle.osc_endpoint.specs.declared.server_error.ReplyError.TheVariants as replies
 use Rattle.osc_handle.specs.ClientBytes.{Asks}
-use Rattle.osc_handle.specs.ContextBytes.{IsContext, client_in, id_context_in}
+use Rattle.osc_context_handle.specs.ContextBytes.{IsContext, client_in, id_context_in}
 use Rattle.osc_handle.specs.ServerBytes.{Serves}
 use Rattle.osc_handle.specs.TicketBytes.{ticket_in}
 use Rattle.osc_handle.specs.declared.client_handle.ClientHandle.{ClientHandle}
-use Rattle.osc_handle.specs.declared.context_handle.ContextHandle.{ContextHandle}
+use Rattle.osc_context_handle.specs.declared.context_handle.ContextHandle.{ContextHandle}
 use Rattle.osc_handle.specs.declared.server_handle.ServerHandle.{ServerHandle}
 use Rattle.osc_handle.specs.declared.ticket_handle.TicketHandle.{TicketHandle}
 use Rattle.osc_c.specs.Calls.{HasRoomFor, RefusesSealing}

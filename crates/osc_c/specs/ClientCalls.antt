@@ -18,8 +18,7 @@ use Rattle.osc_handle.specs.ClientBytes.{Asks, IsClient}
 use Rattle.osc_handle.specs.declared.client_handle.ClientHandle.{ClientHandle}
 use Rattle.osc_c.specs.Statuses.{code, format_status}
 use Rattle.osc_c.specs.declared.status.Status.{Status}
-use Rattle.osc_c.specs.declared.status.Status.TheVariants.{BadHandle, BadNumber, NotThatKind, UnknownToken, NoOscore, Undecodable, Tag, Inner, Unsupported, TokenInUse, PendingFull, SequenceExhausted, TooLong, NoRoom, NotPending}
-use Rattle.osc_c.specs.declared.status.Status.TheVariants.{Old as OldStatus}
+use Rattle.osc_c.specs.declared.status.Status.TheVariants.{BadHandle, BadNumber, NotThatKind, UnknownToken, NoOscore, Undecodable, Tag, Inner, Unsupported, TokenInUse, PendingFull, SequenceExhausted, TooLong, NoRoom, NotPending, Old as OldStatus}
 
 -- why an end doesn't begin, or isn't restarted (own rule)
 pub data RefusesNumber (IsHandle IsNumber : Type 0) (status : Status) : Type 0 where

@@ -13,7 +13,7 @@ use Rattle.osc_endpoint.specs.declared.server_error.ReplyError.{ReplyError}
 use Rattle.osc_handle.specs.ServerBytes.{IsSpent}
 use Rattle.osc_handle.specs.TicketBytes.{IsTicket, ticket_in}
 use Rattle.osc_handle.specs.declared.ticket_handle.TicketHandle.{TicketHandle}
-use Rattle.osc_kept.specs.Numbering.{Allowed, Own, Reserve, upcoming}
+use Rattle.osc_kept_ends.specs.Numbering.{Allowed, Own, Reserve, upcoming}
 use Rattle.osc_kept_handle.specs.KeptServerBytes.{IsKeptServer, ServesWith, StepsServer}
 use Rattle.osc_kept_handle.specs.Reserved.{WantsSave}
 use Rattle.osc_kept_handle.specs.declared.kept_server_handle.KeptServerHandle.{KeptServerHandle}

@@ -12,7 +12,7 @@ ghost use Rattle.osc_endpoint.specs.ClientHistory.{Datagram, Entry, Forget, Forg
 ghost use Rattle.osc_endpoint.specs.Views.{received_of};
 ghost use Rattle.osc_endpoint.specs.declared.client_outcome.RequestError.TheVariants.{KeeperFailed};
 ghost use Rattle.osc_handle.specs.ClientBytes.{Asks, IsClient};
-ghost use Rattle.osc_handle.specs.ContextBytes.{client_in, IsContext};
+ghost use Rattle.osc_context_handle.specs.ContextBytes.{client_in, IsContext};
 ghost use Rattle.osc_c.specs.Calls.{HasRoomFor};
 ghost use Rattle.osc_c.specs.ClientCalls.{IsAskingStatus, IsOutcomeStatus, heard_as, shown_as, ReadsAsking, ReadsForgetting, ReadsTaking, RefusesAsking, RefusesForgetting, RefusesNumber, RefusesTaking};
 ghost use Rattle.osc_c.specs.Opened.{option_in, Shows};
@@ -25,8 +25,9 @@ use crate::rooms::room_laws;
 use crate::status::{DONE, Refusal, Status};
 use osc_coap::{one_datagram, parse};
 use osc_context::Piv;
-use osc_endpoint::{ClientOutcome, RequestError, one_client_answer};
+use osc_endpoint::{ClientOutcome, RequestError};
 use osc_handle::{ClientHandle, ContextHandle};
+use osc_laws::one_client_answer;
 use osc_protect::Opened;
 
 /// Begins a client with nothing pending (RFC 8613, 8.1). Its requests are pending for `life_ms` milliseconds and no longer, except a

@@ -5,7 +5,7 @@ ghost use Rattle.osc_context.specs.ContextRefusal.{IsFirstParamsRefusal};
 ghost use Rattle.osc_context.specs.Views.{as_client, client_context_of, is_constant_time};
 ghost use Rattle.osc_context.specs.declared.context_error.ContextError.{ContextError};
 ghost use Rattle.osc_c.specs.Handle.{allowing, given};
-ghost use Rattle.osc_handle.specs.ContextBytes.{client_in, is_constant_time_in, IsContext};
+ghost use Rattle.osc_context_handle.specs.ContextBytes.{client_in, is_constant_time_in, IsContext};
 ghost use Rattle.osc_c.specs.Statuses.{code, context_status};
 
 use crate::status::{DONE, Status};

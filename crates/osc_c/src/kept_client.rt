@@ -12,8 +12,8 @@ ghost use Rattle.osc_protect.specs.declared.opened.Opened.{Opened as OpenedOf};
 ghost use Rattle.osc_endpoint.specs.ClientAnswer.{ClientAnswer};
 ghost use Rattle.osc_endpoint.specs.ClientHistory.{Datagram, Entry, Forget, Forgot, History, New, Request, Sent, Took};
 ghost use Rattle.osc_endpoint.specs.Views.{received_of};
-ghost use Rattle.osc_handle.specs.ContextBytes.{client_in, IsContext};
-ghost use Rattle.osc_kept.specs.Numbering.{Allowed, Goes, Load, Own, Reserve, after, nothing_drawn, upcoming};
+ghost use Rattle.osc_context_handle.specs.ContextBytes.{client_in, IsContext};
+ghost use Rattle.osc_kept_ends.specs.Numbering.{Allowed, Goes, Load, Own, Reserve, after, nothing_drawn, upcoming};
 ghost use Rattle.osc_kept_handle.specs.KeptClientBytes.{AsksWith, IsKeptClient, StepsClient};
 ghost use Rattle.osc_kept_handle.specs.Reserved.{WantsSave};
 ghost use Rattle.osc_c.specs.ClientCalls.{heard_as, ReadsAsking, ReadsForgetting, ReadsTaking, RefusesNumber};
@@ -29,9 +29,9 @@ use crate::opened_view::{OpenedView, OptionView, show};
 use crate::status::{DONE, Refusal, Status};
 use osc_coap::{one_datagram, parse};
 use osc_context::Piv;
-use osc_endpoint::one_client_answer;
 use osc_handle::ContextHandle;
 use osc_kept_handle::{KeptClientHandle, KeptRequestRefusal};
+use osc_laws::one_client_answer;
 use osc_protect::Opened;
 
 /// Begins a client with nothing pending (RFC 8613, 8.1). `loaded` is the number that was saved last, or 0 if none ever was. Its

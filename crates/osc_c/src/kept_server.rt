@@ -15,11 +15,11 @@ ghost use Rattle.osc_endpoint.specs.ServerAnswer.{ServerAnswer, asks_own};
 ghost use Rattle.osc_endpoint.specs.ServerHistory.{Add, Added, Begin, Datagram, Deliver, Entry, History, Notify, Replied, Reply, Then, Took, life};
 ghost use Rattle.osc_endpoint.specs.Views.{received_of, values_of};
 ghost use Rattle.osc_endpoint.specs.declared.start.Start.{Start as StartOf};
-ghost use Rattle.osc_handle.specs.ContextBytes.{IsContext, server_in};
+ghost use Rattle.osc_context_handle.specs.ContextBytes.{IsContext, server_in};
 ghost use Rattle.osc_handle.specs.ServerBytes.{IsSpent};
 ghost use Rattle.osc_handle.specs.TicketBytes.{IsTicket, ticket_in};
-ghost use Rattle.osc_kept.specs.KeptServing.{IsStart};
-ghost use Rattle.osc_kept.specs.Numbering.{Allowed, Goes, Load, Own, Reserve, after, nothing_drawn, upcoming};
+ghost use Rattle.osc_kept_ends.specs.KeptServing.{IsStart};
+ghost use Rattle.osc_kept_ends.specs.Numbering.{Allowed, Goes, Load, Own, Reserve, after, nothing_drawn, upcoming};
 ghost use Rattle.osc_kept_handle.specs.KeptServerBytes.{IsKeptServer, ServesWith, StepsServer};
 ghost use Rattle.osc_kept_handle.specs.Reserved.{WantsSave};
 ghost use Rattle.osc_c.specs.ClientCalls.{RefusesNumber};
@@ -35,9 +35,10 @@ use crate::server::{delivery, replying_refusal};
 use crate::status::{DONE, Refusal, Status};
 use osc_coap::{one_datagram, parse};
 use osc_context::Piv;
-use osc_endpoint::{Fresh, Taken, Ticket, one_server_answer};
+use osc_endpoint::{Fresh, Taken, Ticket};
 use osc_handle::{ContextHandle, TicketHandle, size_with};
 use osc_kept_handle::{KeptRefusal, KeptReplyRefusal, KeptServerHandle};
+use osc_laws::one_server_answer;
 use osc_protect::Opened;
 
 /// Makes the refusal of a call before which this number has to be saved.

@@ -21,8 +21,8 @@ use crate::rooms::room_laws;
 use crate::server::replying_refusal;
 use crate::status::{DONE, Refusal, Status};
 use osc_coap::{one_datagram, parse};
-use osc_endpoint::one_server_answer;
 use osc_handle::{ServerHandle, SingleServerHandle, TicketHandle};
+use osc_laws::one_server_answer;
 
 /// Seals a plain notification, which is passed in as a datagram.
 fn notify_in(

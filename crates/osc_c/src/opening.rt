@@ -8,7 +8,7 @@ ghost use Rattle.osc_protect.specs.StageViews.{LendsRequest, LendsResponse};
 ghost use Rattle.osc_protect.specs.Views.{message_of};
 ghost use Rattle.osc_protect.specs.declared.opened.Opened.{Opened as OpenedOf};
 ghost use Rattle.osc_c.specs.Calls.{RefusesOpening};
-ghost use Rattle.osc_handle.specs.ContextBytes.{client_in, server_in, IsContext};
+ghost use Rattle.osc_context_handle.specs.ContextBytes.{client_in, server_in, IsContext};
 ghost use Rattle.osc_c.specs.Opened.{LeavesRequestIn, LeavesResponseIn, option_in, Shows};
 ghost use Rattle.osc_c.specs.Statuses.{code};
 ghost use Rattle.osc_c.specs.declared.status.Status.{Status as StatusOf};

@@ -9,7 +9,7 @@ ghost use Rattle.osc_protect.specs.SealRefusals.{FitsToSeal};
 ghost use Rattle.osc_protect.specs.Sealed.{SealsRequest, SealsResponse};
 ghost use Rattle.osc_c.specs.Calls.{AreNumbers, HasRoomFor, IsOwnNumber, RefusesSealing};
 ghost use Rattle.osc_c.specs.Opened.{number_given};
-ghost use Rattle.osc_handle.specs.ContextBytes.{client_in, server_in, IsContext};
+ghost use Rattle.osc_context_handle.specs.ContextBytes.{client_in, server_in, IsContext};
 ghost use Rattle.osc_c.specs.Statuses.{code};
 ghost use Rattle.osc_c.specs.declared.status.Status.{Status as StatusOf};
 ghost use Rattle.osc_c.specs.declared.status.Status.TheVariants.{NoRoom};

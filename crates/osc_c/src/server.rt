@@ -15,7 +15,7 @@ ghost use Rattle.osc_endpoint.specs.ServerHistory.{Add, Added, Begin, Datagram, 
 ghost use Rattle.osc_endpoint.specs.Views.{received_of, values_of};
 ghost use Rattle.osc_endpoint.specs.declared.outcome.Outcome.TheVariants.{Deliver as Delivered, KeeperFailed as KeeperFailedOutcome};
 ghost use Rattle.osc_endpoint.specs.declared.server_error.ReplyError.TheVariants.{KeeperFailed};
-ghost use Rattle.osc_handle.specs.ContextBytes.{IsContext, server_in};
+ghost use Rattle.osc_context_handle.specs.ContextBytes.{IsContext, server_in};
 ghost use Rattle.osc_handle.specs.ServerBytes.{IsSpent, RepliesIn, Serves};
 ghost use Rattle.osc_handle.specs.TableBytes.{IsTable};
 ghost use Rattle.osc_handle.specs.TicketBytes.{IsTicket, ticket_in};
@@ -30,10 +30,9 @@ use crate::rooms::room_laws;
 use crate::status::{DONE, Refusal, Status};
 use osc_coap::{one_datagram, parse};
 use osc_context::Piv;
-use osc_endpoint::{
-    AddError, Fresh, Outcome, ReplyError, RestartError, Start, Taken, Ticket, one_server_answer,
-};
+use osc_endpoint::{AddError, Fresh, Outcome, ReplyError, RestartError, Start, Taken, Ticket};
 use osc_handle::{AddRefusal, ContextHandle, ReplyRefusal, ServerHandle, TicketHandle, size_with};
+use osc_laws::one_server_answer;
 use osc_protect::Opened;
 
 /// Begins a server with no context.

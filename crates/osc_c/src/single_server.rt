@@ -12,7 +12,7 @@ ghost use Rattle.osc_protect.specs.declared.opened.Opened.{Opened as OpenedOf};
 ghost use Rattle.osc_endpoint.specs.ServerAnswer.{ServerAnswer, asks_own};
 ghost use Rattle.osc_endpoint.specs.ServerHistory.{Add, Added, Begin, Datagram, Deliver, Entry, History, Replied, Reply, Restart, Restarted, Took};
 ghost use Rattle.osc_endpoint.specs.Views.{received_of, values_of};
-ghost use Rattle.osc_handle.specs.ContextBytes.{IsContext, server_in};
+ghost use Rattle.osc_context_handle.specs.ContextBytes.{IsContext, server_in};
 ghost use Rattle.osc_handle.specs.ServerBytes.{IsSpent, RepliesIn, Serves};
 ghost use Rattle.osc_handle.specs.SingleServerBytes.{server_of_one};
 ghost use Rattle.osc_handle.specs.SlotBytes.{IsSlotBytes};
@@ -30,8 +30,9 @@ use crate::server::{delivery, replying_refusal, restarting_status, start_with};
 use crate::status::{DONE, Refusal, Status};
 use osc_coap::{one_datagram, parse};
 use osc_context::Piv;
-use osc_endpoint::{Fresh, Taken, Ticket, one_server_answer};
+use osc_endpoint::{Fresh, Taken, Ticket};
 use osc_handle::{ContextHandle, ReplyRefusal, SingleServerHandle, TicketHandle, size_with};
+use osc_laws::one_server_answer;
 use osc_protect::Opened;
 
 /// Makes the server.

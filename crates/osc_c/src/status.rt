@@ -66,7 +66,7 @@ const NAMES: [&[u8]; 48] = [
 /// SameSender is checked right after SameLookup. SaveFirst is checked right before NoSuchContext, and for a datagram right after
 /// BadHandle. OptionOrder and ValueTooLong are checked before NoRoom. NotObserving is checked right after StaleTicket,
 /// NotNotification right after Unsupported, and Old right after Undecodable. A call that is done returns 0.
-#[derive(Clone, Copy, Debug, PartialEq, Eq)]
+#[derive(Clone, Copy, PartialEq, Eq)]
 pub(crate) enum Status {
     /// The bytes of the handle can't have been written by a call.
     BadHandle = 1,
@@ -134,7 +134,7 @@ impl Status {
 
 /// Why nothing was done, with a detail: the place of a fault, the number or the index of an option, or the number to save; otherwise
 /// 0.
-#[derive(Clone, Copy, Debug, PartialEq, Eq)]
+#[derive(Clone, Copy, PartialEq, Eq)]
 pub(crate) struct Refusal {
     pub(crate) status: Status,
     pub(crate) detail: usize,

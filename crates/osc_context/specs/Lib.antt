@@ -6,6 +6,7 @@ pub mod Nonce
 pub mod AdditionalData
 pub mod Features
 pub mod SecurityContext
+pub mod Senders
 pub mod Derivation
 pub mod ContextRefusal
 pub mod OscoreValue

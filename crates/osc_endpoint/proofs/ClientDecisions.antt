@@ -26,7 +26,7 @@ use Rattle.osc_endpoint.specs.declared.pending.Pending.{Pending}
 use Rattle.osc_endpoint.specs.declared.pending.Wait.{Wait}
 use Rattle.osc_endpoint.specs.declared.pending.Wait.TheVariants.{Once, Observing}
 use Rattle.osc_endpoint.specs.Agrees.{ClientAgrees, TokensDiffer}
-use Rattle.osc_endpoint.specs.AnswerLaws.{AwaitedShowHeads, OneAwaited}
+use Rattle.osc_endpoint.specs.Awaited.{AwaitedShowHeads, OneAwaited}
 use Rattle.osc_endpoint.specs.ClientAnswer.{IsAmong, IsAnswerTo, IsAwaited, SaysAwaited, SaysOwn, awaited, continues}
 use Rattle.osc_endpoint.specs.ClientDeciding.{ClientDecidesTo, IsDecryptedFor, IsOpenedBy, OfWhatWasRead, ReadsAs, wait_after}
 use Rattle.osc_endpoint.specs.ClientHistory.{Advance, Advanced, Asked, Datagram, Deliver, History, Notified, Then, Took, after_place, alive, asked, clock, context, first_place, life_ms, observes, pending_at, without}

@@ -14,9 +14,8 @@ use Rattle.osc_protect.specs.declared.unprotect_error.UnprotectError.TheVariants
 use Rattle.osc_endpoint.specs.declared.client_outcome.ClientOutcome.{ClientOutcome}
 use Rattle.osc_endpoint.specs.declared.client_outcome.ClientOutcome.TheVariants as outcomes
 use Rattle.osc_endpoint.specs.Agrees.{TokensDiffer}
-use Rattle.osc_endpoint.specs.AnswerLaws.{AwaitedShowHeads, OneAwaited}
-use Rattle.osc_endpoint.specs.ClientAnswer.{Hears, IsAnswerTo, IsAwaited, ResponseAnswer, awaited, continues}
-use Rattle.osc_endpoint.specs.ClientHeadline.{told}
+use Rattle.osc_endpoint.specs.Awaited.{AwaitedShowHeads, OneAwaited}
+use Rattle.osc_endpoint.specs.ClientAnswer.{Hears, IsAnswerTo, IsAwaited, ResponseAnswer, awaited, continues, told}
 use Rattle.osc_endpoint.specs.ClientHistory as client
 use Rattle.osc_endpoint.specs.ClientHistory.{first_place, observes}
 use Rattle.osc_endpoint.specs.Observing.{place_of}

@@ -1,18 +1,16 @@
--- That no two contexts of a server are ones that a request could name both, and what keeps contexts from being related otherwise. R is a relation
--- of two contexts.
+-- What keeps the contexts of a server from being related that weren't before. R is a relation of two contexts.
 use Rattle.std.proofs.Common.{◌≡◌, ℕ, ◌∙◌, sym, ap, subst, refl, Bool, true, false, Option, Some, None, cond}
 use Rattle.std.specs.Prelude.{◌==◌, unwrap_or}
 use Rattle.std.specs.Option.{option_map}
 use Rattle.osc_context.specs.SecurityContext.{SecurityContext}
 use Rattle.osc_endpoint.specs.Agrees.{OneEach}
-use Rattle.osc_endpoint.specs.Laws.{AllAnswers}
 use Rattle.osc_endpoint.specs.Life.{Life, Mark, marked, renewed}
-use Rattle.osc_endpoint.specs.ServerAnswer.{HaveSameLookup, ServerAnswer}
-use Rattle.osc_endpoint.specs.ServerHistory.{Add, Added, Begin, Datagram, Entry, Event, History, Notify, Replied, Reply, Restart, Restarted, Then, Took, life, mark_at, reply_mark_at}
-use Rattle.osc_endpoint.proofs.Additions.{HasBy, OneBy, lookup_turned, one_more}
+use Rattle.osc_endpoint.specs.ServerAnswer.{HaveSameLookup}
+use Rattle.osc_endpoint.specs.ServerHistory.{History, life}
+use Rattle.osc_endpoint.proofs.Additions.{OneBy}
 
 -- a life of the one has the context of a life of the other
-abbrev HasContextOf : Option Life → Life → Type 0
+abbrev pub HasContextOf : Option Life → Life → Type 0
 HasContextOf o of = (l : Life) × (o ≡ Some l) × (l.context ≡ of.context)
 
 -- what leaves the context of each life leaves that of one that is there
@@ -26,48 +24,20 @@ marked_context : (m : Option Mark) (l : Life) → (marked m l).context ≡ l.con
 marked_context None l = refl
 marked_context (Some mark) l = refl
 
-restarted_context : (b : Bool) (next : ℕ) (o : Option Life) (of : Life) → cond b (option_map (renewed next) o) o ≡ Some of → HasContextOf o of
+pub restarted_context : (b : Bool) (next : ℕ) (o : Option Life) (of : Life) → cond b (option_map (renewed next) o) o ≡ Some of → HasContextOf o of
 restarted_context true next o of e = kept_context (renewed next) (λ l. refl) o of e
 restarted_context false next o of e = (of, e, refl)
 
 -- where each life has the context of one before, no two are so related if none were
-one_kept : (R : SecurityContext → SecurityContext → Type 0) (h g : History) → ((i : ℕ) (of : Life) → life g i ≡ Some of → HasContextOf (life h i) of) → OneBy R h → OneBy R g
+pub one_kept : (R : SecurityContext → SecurityContext → Type 0) (h g : History) → ((i : ℕ) (of : Life) → life g i ≡ Some of → HasContextOf (life h i) of) → OneBy R h → OneBy R g
 one_kept R h g keeps each i j of other e f same =
     let (l, l_is, l_same) = keeps i of e in
     let (k, k_is, k_same) = keeps j other f in
     each i j l k l_is k_is (subst (λ c. R c k.context) (sym l_same) (subst (λ c. R of.context c) (sym k_same) same))
 
 -- so where each life is marked or stays
-marked_by : (R : SecurityContext → SecurityContext → Type 0) (h g : History) (m : ℕ → Option Mark) → ((i : ℕ) → life g i ≡ option_map (marked (m i)) (life h i)) → OneBy R h → OneBy R g
+pub marked_by : (R : SecurityContext → SecurityContext → Type 0) (h g : History) (m : ℕ → Option Mark) → ((i : ℕ) → life g i ≡ option_map (marked (m i)) (life h i)) → OneBy R h → OneBy R g
 marked_by R h g m is = one_kept R h g (λ i of e. kept_context (marked (m i)) (marked_context (m i)) (life h i) of (sym (is i) ∙ e))
 
 pub one_marked : (h g : History) (m : ℕ → Option Mark) → ((i : ℕ) → life g i ≡ option_map (marked (m i)) (life h i)) → OneEach h → OneEach g
 one_marked = marked_by HaveSameLookup
-
--- the context that is added is so related to none
-abbrev pub AddsFree : (SecurityContext → SecurityContext → Type 0) → History → Event → Entry → Type 0
-AddsFree R h (Add s start size) (Added index) = HasBy R h s → ⊥
-AddsFree R h event entry = Unit {0}
-
-pub one_after : (R : SecurityContext → SecurityContext → Type 0) → ((s t : SecurityContext) → R s t → R t s) → (h : History) (event : Event) (entry : Entry) → AddsFree R h event entry → OneBy R h
-    → OneBy R (Then h event entry)
-one_after R turned h (Add s start size) (Added index) free each = one_more R turned h s start size index each free
-one_after R turned h (Datagram now echo mid d) (Took answer reply) free each = marked_by R h (Then h (Datagram now echo mid d) (Took answer reply)) (λ i. mark_at i answer) (λ i. refl) each
-one_after R turned h (Reply ticket own mid plain room) (Replied bytes) free each =
-    marked_by R h (Then h (Reply ticket own mid plain room) (Replied bytes)) (λ i. reply_mark_at i ticket own) (λ i. refl) each
-one_after R turned h (Notify ticket plain room) (Replied bytes) free each =
-    marked_by R h (Then h (Notify ticket plain room) (Replied bytes)) (λ i. reply_mark_at i ticket true) (λ i. refl) each
-one_after R turned h (Restart context next) Restarted free each =
-    one_kept R h (Then h (Restart context next) Restarted) (λ i. restarted_context (i == context) next (life h i)) each
-one_after R turned h event entry free each = each
-
-pub one_at_first : (R : SecurityContext → SecurityContext → Type 0) → OneBy R Begin
-one_at_first R i j of other e f same = absurd (let e' : None ≡ Some of = e in cc)
-
-free_lookup : (h : History) (event : Event) (entry : Entry) → ServerAnswer h event entry → AddsFree HaveSameLookup h event entry
-free_lookup h (Add s start size) (Added index) row = row.1.1
-free_lookup h event entry row = tt
-
-pub contexts_differ : (h : History) → AllAnswers h → OneEach h
-contexts_differ Begin all = one_at_first HaveSameLookup
-contexts_differ (Then h event entry) all = one_after HaveSameLookup lookup_turned h event entry (free_lookup h event entry all.1) (contexts_differ h all.0)

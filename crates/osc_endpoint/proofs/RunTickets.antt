@@ -6,7 +6,7 @@ use Rattle.osc_endpoint.specs.declared.server_event.ServerEvent.{ServerEvent}
 use Rattle.osc_endpoint.specs.declared.server_event.ServerEvent.TheVariants as events
 use Rattle.osc_endpoint.specs.declared.server_event.ServerEntry.{ServerEntry}
 use Rattle.osc_endpoint.specs.declared.server_event.ServerEntry.TheVariants as entries
-use Rattle.osc_endpoint.specs.Laws.{AreLeft, IsTakenOut, TakesTickets}
+use Rattle.osc_endpoint.specs.Tickets.{AreLeft, IsTakenOut, TakesTickets}
 use Rattle.osc_endpoint.specs.ServerAnswer.{asks_own}
 use Rattle.osc_endpoint.specs.ServerHistory.{History, Then, Answer, Datagram, Deliver, Notify, Replied, Reply, TicketValues, Took}
 use Rattle.osc_endpoint.specs.ServerRun.{DropStep, NotifyStep, ReplyStep, Run, ServerRunStep, ticket_at, ticket_of}

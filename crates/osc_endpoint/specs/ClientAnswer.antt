@@ -2,7 +2,7 @@
 -- are checked; the condition of each row includes that no earlier row's condition holds. h is a history, s its context, d a datagram, r a
 -- pending request, n the number of pending requests that there is room for, clock the clock after the event's own moment, m a message, own
 -- a response's own Partial IV or none.
-use Rattle.std.specs.Prelude.{◌≡◌, ℕ, ◌<◌, ◌≤◌, ◌^◌, ◌↔◌, ◌&&◌, List, Contains, length, max, Bool, true, false, Option}
+use Rattle.std.specs.Prelude.{◌≡◌, ℕ, ◌<◌, ◌≤◌, ◌^◌, ◌↔◌, ◌&&◌, List, Contains, length, max, Bool, true, false, Option, Some, None}
 use Rattle.osc_coap.specs.Code.{is_response}
 use Rattle.osc_coap.specs.Datagram.{Parts, IsDatagram}
 use Rattle.osc_coap.specs.Fault.{HasFault}
@@ -123,3 +123,9 @@ Delivers h now d number own m = Hears h now d false number own m
 -- the message is a notification for that request (RFC 8613, 8.4.2)
 abbrev pub Notifies : History → ℕ → List ℕ → ℕ → Option ℕ → InnerParts → Type 0
 Notifies h now d number own m = Hears h now d true number own m
+
+-- whether an answer is a notification or else a delivery, and its request's number, the response's own Partial IV or none, and the message (own rule)
+abbrev pub told : Answer → Option (Bool × ℕ × Option ℕ × InnerParts)
+told (Notified received number) = Some (true, number, received.number, received.message)
+told (Deliver received number) = Some (false, number, received.number, received.message)
+told answer = None

@@ -6,20 +6,10 @@ pub mod Life
 pub mod ServerHistory
 pub mod ServerAnswer
 pub mod ServerRun
+pub mod Tickets
 pub mod ClientHistory
 pub mod ClientAnswer
 pub mod ClientRun
-pub mod Laws
-pub mod Waiting
-pub mod Senders
-pub mod ClientLaws
-pub mod Headline
-pub mod ClientHeadline
-pub mod Plainness
-pub mod Arriving
-pub mod Exchange
-pub mod ExchangeRuns
-pub mod OneContext
 pub mod Text
 -- how the code is seen
 pub mod Views
@@ -27,7 +17,7 @@ pub mod Agrees
 pub mod Deciding
 pub mod ClientDeciding
 -- for the proofs
-pub mod AnswerLaws
+pub mod Awaited
 pub mod ErrorReplies
 pub mod Heads
 pub mod Judging

@@ -14,9 +14,7 @@ mod contexts;
 mod decision;
 mod echo;
 mod error_reply;
-mod headlines;
 mod judging;
-mod laws;
 mod notifying;
 mod observing;
 mod outcome;
@@ -41,12 +39,6 @@ pub use client_event::{ClientEntry, ClientEvent};
 pub use client_outcome::{ClientOutcome, RequestError};
 pub use client_run::{run_client, run_client_on};
 pub use decision::{ClientDecision, Decided, Decision};
-pub use headlines::{client_headline, client_rows, server_headline, server_rows};
-pub use laws::{
-    answered_once, contexts_stand_alone, delivered_once, ends_are_plain, honest_exchange,
-    keys_or_nonces_once, nonces_once, one_client_answer, one_server_answer, own_numbers_once,
-    ticket_once, what_is_sealed_arrives,
-};
 pub use outcome::{Outcome, Taken};
 pub use server::Server;
 pub use server_error::{AddError, ReplyError, RestartError};

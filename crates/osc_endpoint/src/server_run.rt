@@ -3,7 +3,7 @@
 ghost use Rattle.std.specs.Prelude.{◌≡◌, ◌<◌, [], List, Option, None, length, take, drop, vec_len, OnOk, OnErr};
 ghost use Rattle.std.specs.Option.{option_map};
 ghost use Rattle.osc_endpoint.specs.Agrees.{Agrees};
-ghost use Rattle.osc_endpoint.specs.Laws.{TakesTickets};
+ghost use Rattle.osc_endpoint.specs.Tickets.{TakesTickets};
 ghost use Rattle.osc_endpoint.specs.ServerHistory.{History, TicketValues};
 ghost use Rattle.osc_endpoint.specs.ServerRun.{DropStep, NotifyStep, ReplyStep, Run, values_in};
 ghost use Rattle.osc_endpoint.specs.Serving.{Serves};

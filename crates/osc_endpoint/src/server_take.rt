@@ -1,13 +1,12 @@
 //! What a server makes of a datagram. It decides, and says what it leaves in the datagram. The decision lends slices of what is left.
 
 ghost use Rattle.std.specs.Prelude.{◌≡◌, ◌≢◌, ◌≤◌, ℕ, List, Option, Some, take, drop};
-ghost use Rattle.osc_endpoint.specs.Deciding.{CanShow, Decides, Leaves, ShowsDecided};
+ghost use Rattle.osc_endpoint.specs.Deciding.{CanShow, Decides, Leaves, ShowsDecided, DecidesTo};
 ghost use Rattle.osc_endpoint.specs.Heads.{head_answer, HeadReply};
 ghost use Rattle.osc_endpoint.specs.Judging.{IsAskerOf};
 ghost use Rattle.osc_endpoint.specs.declared.slot.Slot.{Slot};
 ghost use Rattle.osc_endpoint.specs.declared.outcome.Outcome.TheVariants.{KeeperFailed};
 ghost use Rattle.osc_endpoint.specs.Agrees.{Agrees, server_of};
-ghost use Rattle.osc_endpoint.specs.Deciding.{DecidesTo};
 ghost use Rattle.osc_endpoint.specs.ServerHistory.{History};
 
 use crate::asker::Asker;

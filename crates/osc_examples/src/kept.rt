@@ -4,10 +4,10 @@ ghost use Rattle.std.specs.Prelude.{IfOk, IfErr};
 ghost use Rattle.osc_context.specs.Views.{as_server};
 ghost use Rattle.osc_endpoint.specs.ServerHistory.{Add, Added, Begin, Then};
 ghost use Rattle.osc_endpoint.specs.declared.start.Start.{Start};
-ghost use Rattle.osc_kept.specs.KeptServing.{IsKept};
-ghost use Rattle.osc_kept.specs.Numbering.{upcoming};
-ghost use Rattle.osc_kept.specs.Owning.{own_in};
-ghost use Rattle.osc_kept.specs.Refusals.{RefusesAt};
+ghost use Rattle.osc_kept_ends.specs.KeptServing.{IsKept};
+ghost use Rattle.osc_kept_ends.specs.Numbering.{upcoming};
+ghost use Rattle.osc_kept_ends.specs.Owning.{own_in};
+ghost use Rattle.osc_kept_ends.specs.Refusals.{RefusesAt};
 ghost use Rattle.osc_window.specs.declared.window_size.WindowSize.TheVariants.{Places64};
 
 use osc_context::{Context, Keeper};

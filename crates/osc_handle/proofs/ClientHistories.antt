@@ -14,7 +14,7 @@ use Rattle.osc_endpoint.specs.declared.decision.ClientDecision.{ClientDecision}
 use Rattle.osc_endpoint.specs.declared.decision.ClientDecision.TheVariants as decisions
 use Rattle.osc_handle.specs.ClientBytes.{Asks, IsClient, asked_at, parts_in}
 use Rattle.osc_handle.specs.ClientSteps.{Keeps, LeavesIn, parts_with}
-use Rattle.osc_handle.specs.ContextBytes.{client_in}
+use Rattle.osc_context_handle.specs.ContextBytes.{client_in}
 use Rattle.osc_handle.specs.declared.client_handle.ClientHandle.{ClientHandle}
 use Rattle.osc_handle.specs.declared.pending_handle.PendingHandle.{PendingHandle}
 use Rattle.osc_handle.proofs.ClientPlaces.{asked_more}

@@ -4,11 +4,11 @@ use Rattle.std.specs.Option.{option_map}
 use Rattle.osc_context.specs.SecurityContext.{SecurityContext}
 use Rattle.osc_endpoint.specs.Agrees.{PlaceAgrees}
 use Rattle.osc_endpoint.specs.Life.{Life}
-use Rattle.osc_endpoint.specs.Plainness.{EndsArePlain, WithoutObserve}
+use Rattle.osc_laws.specs.Plainness.{EndsArePlain, WithoutObserve}
 use Rattle.osc_endpoint.specs.ServerHistory as server
 use Rattle.osc_endpoint.specs.declared.slot.Slot.{Slot}
-use Rattle.osc_endpoint.proofs.ExchangeLives.{some_is}
-use Rattle.osc_handle.specs.ContextBytes.{server_in}
+use Rattle.osc_laws.proofs.ExchangeLives.{some_is}
+use Rattle.osc_context_handle.specs.ContextBytes.{server_in}
 use Rattle.osc_handle.specs.HandlePlainness.{AllowsNoObserve, HandlesArePlain}
 use Rattle.osc_handle.specs.ServerBytes.{Serves}
 use Rattle.osc_handle.specs.SingleServerBytes.{server_of_one}

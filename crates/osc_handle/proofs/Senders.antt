@@ -1,42 +1,25 @@
 -- The Sender Keys of a server's contexts, in its bytes and in its history. t are the bytes of the table, s is a security context.
-use Rattle.std.proofs.Common.{◌≡◌, ◌∙◌, ◌<◌, sym, ap, ap₂, arith, bit_or, bit_xor, ℕ, List, Option, Some, None, length, slice_index_or}
+use Rattle.std.proofs.Common.{◌≡◌, ◌∙◌, ◌<◌, sym, ap, ℕ, List, Option, Some, None, length, slice_index_or}
 use Rattle.std.specs.Prelude.{slice_get}
 use Rattle.std.specs.Option.{option_map}
-use Rattle.std.proofs.lemmas.Nat.{le_or_l, le_or_r}
-use lib.Bits.{xor_assoc, xor_self, xor_zero_r}
 use Rattle.osc_context.specs.SecurityContext.{SecurityContext}
 use Rattle.osc_context.specs.Views.{as_server}
 use Rattle.osc_protect.specs.Views.{context_of}
 use Rattle.osc_endpoint.proofs.Places.{slot_at}
 use Rattle.osc_endpoint.specs.Agrees.{HoldsLife, TableAgrees}
 use Rattle.osc_endpoint.specs.Life.{Life}
-use Rattle.osc_endpoint.specs.Senders.{HasSameSender, HaveSameSender}
+use Rattle.osc_laws.specs.Senders.{HasSameSender}
+use Rattle.osc_context.specs.Senders.{HaveSameSender}
 use Rattle.osc_endpoint.specs.ServerHistory.{History, life}
 use Rattle.osc_endpoint.specs.Table.{context_of_place}
 use Rattle.osc_endpoint.specs.declared.slot.Slot.{Slot}
 use Rattle.osc_handle.proofs.Tables.{bytes_of, life_there, read_at}
-use Rattle.osc_handle.specs.ContextBytes.{server_in}
+use Rattle.osc_context_handle.specs.ContextBytes.{server_in}
 use Rattle.osc_handle.specs.Held.{held}
 use Rattle.osc_handle.specs.TableBytes.{IsTableIn}
 use Rattle.osc_handle.specs.TableSteps.{HasSenderIn}
 use Rattle.osc_handle.specs.declared.contexts_handle.ContextsHandle.{ContextsHandle}
 use Rattle.osc_handle.specs.declared.slot_handle.SlotHandle.{SlotHandle}
-
--- ---- differences gathered by `or`: zero exactly where there is none
-
-no_difference : (x y : ℕ) → bit_xor x y ≡ 0 → x ≡ y
-no_difference x y e = sym (xor_assoc x y y ∙ ap (bit_xor x) (xor_self y) ∙ xor_zero_r x) ∙ ap (λ (z : ℕ). bit_xor z y) e
-
-pub gathered_before : (d x y : ℕ) → bit_or d (bit_xor x y) ≡ 0 → d ≡ 0
-gathered_before d x y e = omega (arith, le_or_l d (bit_xor x y))
-
-pub gathered_last : (d x y : ℕ) → bit_or d (bit_xor x y) ≡ 0 → x ≡ y
-gathered_last d x y e = no_difference x y (omega (arith, le_or_r d (bit_xor x y)))
-
-pub gathered_nothing : (d x y : ℕ) → d ≡ 0 → x ≡ y → bit_or d (bit_xor x y) ≡ 0
-gathered_nothing d x y ed e = ap₂ bit_or ed (ap (λ (z : ℕ). bit_xor z y) e ∙ xor_self y)
-
--- ---- a Sender Key that is there
 
 -- at a place in use
 pub sender_at : (t : ContextsHandle) (i : ℕ) (other : SlotHandle) (s : SecurityContext) → i < t.count → i < length t.slots → HaveSameSender (server_in (slice_index_or t.slots i other).context) s

@@ -12,21 +12,21 @@ use Rattle.osc_protect.specs.Views.{context_of}
 use Rattle.osc_window.specs.declared.window_size.WindowSize.{WindowSize}
 use Rattle.osc_endpoint.proofs.Additions.{agrees_added}
 use Rattle.osc_endpoint.proofs.Decisions.{agrees_notified, agrees_replied}
-use Rattle.osc_endpoint.proofs.KeptContexts.{contexts_differ}
+use Rattle.osc_laws.proofs.ContextsApart.{contexts_differ}
 use Rattle.osc_endpoint.proofs.Places.{same_life, slot_at}
 use Rattle.osc_endpoint.specs.Agrees.{Agrees, HoldsLife, PlaceAgrees, SlotAgrees, TableAgrees, server_of}
 use Rattle.osc_endpoint.specs.Deciding.{DecidesTo}
-use Rattle.osc_endpoint.specs.Laws.{AllAnswers}
+use Rattle.osc_laws.specs.Laws.{AllAnswers}
 use Rattle.osc_endpoint.specs.Life.{Answered, Life, born, marked, renewed}
 use Rattle.osc_endpoint.specs.Replies.{as_reply}
 use Rattle.osc_endpoint.specs.Replying.{reply_mark}
 use Rattle.osc_endpoint.specs.Restarting.{lives_after}
-use Rattle.osc_endpoint.specs.Senders.{SendersDiffer}
+use Rattle.osc_laws.specs.Senders.{SendersDiffer}
 use Rattle.osc_endpoint.specs.ServerAnswer.{HaveSameLookup, IsContext, IsPresent, IsTaken, LifeNotify, LifeReply, LifeRestart, ReplyAnswer, ServerAnswer, as_notification}
 use Rattle.osc_endpoint.specs.ServerHistory as server
 use Rattle.osc_endpoint.specs.Table.{FindsAt, context_of_place}
 use Rattle.osc_endpoint.specs.Views.{reply_entry}
-use Rattle.osc_endpoint.specs.Waiting.{AnswersWaiting, WaitingHasLife, waits}
+use Rattle.osc_laws.specs.Waiting.{AnswersWaiting, WaitingHasLife, waits}
 use Rattle.osc_endpoint.specs.declared.decision.Decided.{Decided}
 use Rattle.osc_endpoint.specs.declared.server_error.AddError.TheVariants.{Full, SameLookup}
 use Rattle.osc_endpoint.specs.declared.server_error.ReplyError.{ReplyError}
@@ -39,7 +39,7 @@ use Rattle.osc_endpoint.specs.declared.start.Start.TheVariants as starts
 use Rattle.osc_handle.proofs.Senders.{sender_in_bytes, sender_there}
 use Rattle.osc_handle.proofs.Tables.{bytes_of, in_front, life_past, life_there}
 use Rattle.osc_handle.proofs.Waits.{none_waits_new, none_waits_next, remembers_begun, remembers_notified, remembers_replied, remembers_took}
-use Rattle.osc_handle.specs.ContextBytes.{IsContext as IsContextBytes, server_in}
+use Rattle.osc_context_handle.specs.ContextBytes.{IsContext as IsContextBytes, server_in}
 use Rattle.osc_handle.specs.Held.{held}
 use Rattle.osc_handle.specs.Noting.{Notes}
 use Rattle.osc_handle.specs.ServerBytes.{AddsIn, DecidesIn, IsSameSender, Remembers, RemembersAt, RemembersLife, NotifiesIn, RepliesIn, Serves, entry_of_add}
@@ -49,7 +49,7 @@ use Rattle.osc_handle.specs.TableSteps.{ChangesAt, GrowsBy, HasSenderIn, Refuses
 use Rattle.osc_handle.specs.UnansweredBytes.{holds}
 use Rattle.osc_handle.specs.declared.add_refusal.AddRefusal.{AddRefusal}
 use Rattle.osc_handle.specs.declared.add_refusal.AddRefusal.TheVariants.{Refused as NotAddedBy, SameSender}
-use Rattle.osc_handle.specs.declared.context_handle.ContextHandle.{ContextHandle}
+use Rattle.osc_context_handle.specs.declared.context_handle.ContextHandle.{ContextHandle}
 use Rattle.osc_handle.specs.declared.contexts_handle.ContextsHandle.{ContextsHandle}
 use Rattle.osc_handle.specs.declared.server_handle.ServerHandle.{ServerHandle}
 use Rattle.osc_handle.specs.declared.slot_handle.SlotHandle.{SlotHandle}

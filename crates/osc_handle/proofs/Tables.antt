@@ -25,7 +25,7 @@ use Rattle.osc_endpoint.specs.declared.decision.Decision.{Decision}
 use Rattle.osc_endpoint.specs.declared.decision.Decision.TheVariants as decisions
 use Rattle.osc_endpoint.specs.declared.judging.Named.{Named}
 use Rattle.osc_endpoint.specs.declared.slot.Slot.{Slot}
-use Rattle.osc_handle.specs.ContextBytes.{server_in}
+use Rattle.osc_context_handle.specs.ContextBytes.{server_in}
 use Rattle.osc_handle.specs.SlotBytes.{HoldsIn, IsGateIn, IsHighestIn, IsSlotBytes, IsSlotIn}
 use Rattle.osc_handle.specs.TableBytes.{IsPlaceIn, IsTable, IsTableIn, bytes_at, places_in}
 use Rattle.osc_handle.specs.TableSteps.{ChangesAt}

@@ -11,7 +11,7 @@ use Rattle.osc_endpoint.specs.declared.client_outcome.ClientOutcome.{ClientOutco
 use Rattle.osc_endpoint.specs.declared.decision.ClientDecision.{ClientDecision}
 use Rattle.osc_endpoint.specs.declared.decision.ClientDecision.TheVariants as decisions
 use Rattle.osc_handle.specs.ClientBytes.{Asks, asked_at, asked_in}
-use Rattle.osc_handle.specs.ContextBytes.{client_in}
+use Rattle.osc_context_handle.specs.ContextBytes.{client_in}
 use Rattle.osc_handle.specs.declared.client_handle.ClientHandle.{ClientHandle}
 
 -- what the client is made of, without the requests from a place on (how the code is seen)

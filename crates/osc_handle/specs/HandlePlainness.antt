@@ -3,10 +3,10 @@
 use Rattle.std.specs.Prelude.{◌≡◌, ℕ, false, Some}
 use Rattle.osc_context.specs.SecurityContext.{SecurityContext}
 use Rattle.osc_endpoint.specs.ClientHistory as client
-use Rattle.osc_endpoint.specs.Plainness.{ClientIsPlain, ServerIsPlain}
+use Rattle.osc_laws.specs.Plainness.{ClientIsPlain, ServerIsPlain}
 use Rattle.osc_endpoint.specs.ServerHistory as server
 use Rattle.osc_handle.specs.ClientBytes.{Asks}
-use Rattle.osc_handle.specs.ContextBytes.{client_in, server_in}
+use Rattle.osc_context_handle.specs.ContextBytes.{client_in, server_in}
 use Rattle.osc_handle.specs.ServerBytes.{Serves}
 use Rattle.osc_handle.specs.SingleServerBytes.{server_of_one}
 use Rattle.osc_handle.specs.TableBytes.{bytes_at}

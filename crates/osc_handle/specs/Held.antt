@@ -4,7 +4,7 @@ use Rattle.std.specs.Option.{option_map}
 use Rattle.std.proofs.Common.{refl, ap, sym}
 use Rattle.osc_endpoint.specs.Table.{context_in, context_of_place}
 use Rattle.osc_endpoint.specs.declared.slot.Slot.{Slot}
-use Rattle.osc_handle.specs.ContextBytes.{server_in}
+use Rattle.osc_context_handle.specs.ContextBytes.{server_in}
 use Rattle.osc_handle.specs.TableBytes.{IsPlaceIn, IsTableIn, bytes_at, places_in}
 use Rattle.osc_handle.specs.declared.contexts_handle.ContextsHandle.{ContextsHandle}
 use Rattle.osc_handle.specs.declared.slot_handle.SlotHandle.{SlotHandle}

@@ -1,5 +1,4 @@
 -- to be believed, in reading order
-pub mod ContextBytes
 pub mod SlotBytes
 pub mod TableBytes
 pub mod UnansweredBytes

@@ -6,13 +6,13 @@ use Rattle.osc_context.specs.SecurityContext.{SecurityContext}
 use Rattle.osc_window.specs.declared.window_size.WindowSize.{WindowSize}
 use Rattle.osc_endpoint.specs.Agrees.{Agrees, server_of}
 use Rattle.osc_endpoint.specs.Deciding.{Decides}
-use Rattle.osc_endpoint.specs.Laws.{AllAnswers}
+use Rattle.osc_laws.specs.Laws.{AllAnswers}
 use Rattle.osc_endpoint.specs.Life.{Life, spent}
-use Rattle.osc_endpoint.specs.Senders.{HasSameSender, SendersDiffer}
+use Rattle.osc_laws.specs.Senders.{HasSameSender, SendersDiffer}
 use Rattle.osc_endpoint.specs.ServerAnswer.{IsPresent, IsTaken, ServerAnswer}
 use Rattle.osc_endpoint.specs.ServerHistory.{Add, Added, Answer, Datagram, Entry, History, NotAdded, NotReplied, Notify, Replied, Reply, Then, TicketValues, Took, added, life}
 use Rattle.osc_endpoint.specs.Views.{Shows}
-use Rattle.osc_endpoint.specs.Waiting.{AnswersWaiting, waits}
+use Rattle.osc_laws.specs.Waiting.{AnswersWaiting, waits}
 use Rattle.osc_endpoint.specs.declared.decision.Decision.{Decision}
 use Rattle.osc_endpoint.specs.declared.outcome.Outcome.{Outcome}
 use Rattle.osc_endpoint.specs.declared.slot.Slot.{Slot}

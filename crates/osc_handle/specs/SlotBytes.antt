@@ -10,7 +10,7 @@ use Rattle.osc_protect.specs.Views.{context_of}
 use Rattle.osc_endpoint.specs.Agrees.{SlotAgrees}
 use Rattle.osc_endpoint.specs.Life.{Life}
 use Rattle.osc_endpoint.specs.declared.slot.Slot.{Slot}
-use Rattle.osc_handle.specs.ContextBytes.{IsContext, server_in}
+use Rattle.osc_context_handle.specs.ContextBytes.{IsContext, server_in}
 use Rattle.osc_handle.specs.declared.slot_handle.SlotHandle.{SlotHandle}
 
 -- the highest number of an open window, if there is one (own rule)

@@ -3,7 +3,7 @@ use Rattle.std.specs.Prelude.{◌≡◌, ℕ, ◌≤◌, List, Option, Some, Non
 use Rattle.std.specs.Option.{option_map}
 use Rattle.osc_context.specs.SecurityContext.{SecurityContext}
 use Rattle.osc_endpoint.specs.declared.slot.Slot.{Slot}
-use Rattle.osc_handle.specs.ContextBytes.{server_in}
+use Rattle.osc_context_handle.specs.ContextBytes.{server_in}
 use Rattle.osc_handle.specs.SlotBytes.{IsSlotBytes, IsSlotIn}
 use Rattle.osc_handle.specs.declared.contexts_handle.ContextsHandle.{ContextsHandle}
 use Rattle.osc_handle.specs.declared.slot_handle.SlotHandle.{SlotHandle}

@@ -3,7 +3,7 @@ use Rattle.std.specs.Prelude.{◌≡◌, ◌≢◌, ℕ, ◌==◌, List, [], ◌
 use Rattle.osc_context.specs.SecurityContext.{SecurityContext}
 use Rattle.osc_endpoint.specs.Agrees.{SlotAgrees, TableAgrees}
 use Rattle.osc_endpoint.specs.Life.{Life}
-use Rattle.osc_endpoint.specs.Senders.{HaveSameSender}
+use Rattle.osc_context.specs.Senders.{HaveSameSender}
 use Rattle.osc_endpoint.specs.Table.{FindsAt}
 use Rattle.osc_endpoint.specs.declared.server_error.AddError.TheVariants.{Full, SameLookup}
 use Rattle.osc_endpoint.specs.declared.slot.Slot.{Slot}

@@ -13,13 +13,13 @@ ghost use Rattle.osc_endpoint.specs.declared.client_outcome.ClientOutcome.{Clien
 ghost use Rattle.osc_endpoint.specs.declared.client_outcome.RequestError.TheVariants.{KeeperFailed};
 ghost use Rattle.osc_handle.specs.ClientBytes.{ArePending, Asks, IsClient, IsPending, asked_at, asked_in, parts_in};
 ghost use Rattle.osc_handle.specs.ClientSteps.{ClientDecidesIn, ClientTakesIn, Keeps, LeavesIn, parts_with};
-ghost use Rattle.osc_handle.specs.ContextBytes.{IsContext, client_in, is_constant_time_in};
+ghost use Rattle.osc_context_handle.specs.ContextBytes.{IsContext, client_in, is_constant_time_in};
 ghost use Rattle.osc_handle.specs.declared.pending_handle.PendingHandle.{PendingHandle as PendingOf};
 
-use crate::context_handle::ContextHandle;
 use crate::pending_handle::PendingHandle;
 use osc_coap::Message;
 use osc_context::{Context, Piv};
+use osc_context_handle::ContextHandle;
 use osc_endpoint::siblings::Pending;
 use osc_endpoint::{Client, ClientDecision, ClientOutcome, RequestError};
 

@@ -3,7 +3,7 @@
 
 ghost use Rattle.osc_handle.specs.ClientBytes.{NoncesOnceIn, NumbersOnceIn};
 
-use osc_endpoint::{nonces_once, own_numbers_once};
+use osc_laws::{nonces_once, own_numbers_once};
 
 /// States that no two requests that a client seals between two restarts share a nonce (RFC 8613, 5.2).
 pub fn client_nonces_once()

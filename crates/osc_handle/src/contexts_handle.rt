@@ -15,16 +15,16 @@ ghost use Rattle.osc_endpoint.specs.Table.{FindsAt};
 ghost use Rattle.osc_endpoint.specs.Views.{reply_entry, restarted_entry};
 ghost use Rattle.osc_endpoint.specs.declared.server_error.ReplyError.TheVariants.{KeeperFailed};
 ghost use Rattle.osc_endpoint.specs.declared.slot.Slot.{Slot as SlotOf};
-ghost use Rattle.osc_handle.specs.ContextBytes.{IsContext, server_in};
+ghost use Rattle.osc_context_handle.specs.ContextBytes.{IsContext, server_in};
 ghost use Rattle.osc_handle.specs.Held as lemmas;
 ghost use Rattle.osc_handle.specs.TableBytes.{IsTable, IsTableIn, bytes_at};
 ghost use Rattle.osc_handle.specs.TableSteps.{ChangesAt, GrowsBy, HasSenderIn, RefusesToAdd, is_present_in};
 
 use crate::add_refusal::AddRefusal;
-use crate::context_handle::ContextHandle;
 use crate::slot_handle::SlotHandle;
 use osc_coap::{Message, Token};
 use osc_context::Piv;
+use osc_context_handle::ContextHandle;
 use osc_endpoint::siblings::{Asker, Contexts, Named, Slot, is_replay, refuse_replay};
 use osc_endpoint::{AddError, Decided, ReplyError, RestartError, Start};
 use osc_window::WindowSize;

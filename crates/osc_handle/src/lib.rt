@@ -4,7 +4,6 @@
 mod add_refusal;
 mod client_handle;
 mod client_laws;
-mod context_handle;
 mod contexts_handle;
 mod pending_handle;
 mod plain_laws;
@@ -20,8 +19,8 @@ mod unanswered_handle;
 pub use add_refusal::AddRefusal;
 pub use client_handle::ClientHandle;
 pub use client_laws::{client_nonces_once, client_numbers_once};
-pub use context_handle::ContextHandle;
 pub use contexts_handle::ContextsHandle;
+pub use osc_context_handle::ContextHandle;
 pub use pending_handle::PendingHandle;
 pub use plain_laws::handles_are_plain;
 pub use reply_refusal::ReplyRefusal;

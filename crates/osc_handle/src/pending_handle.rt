@@ -4,9 +4,9 @@ ghost use Rattle.std.specs.Prelude.{◌≡◌, ◌≤◌, IfSome, IsSome, take, 
 ghost use Rattle.osc_endpoint.specs.Views.{asked_of};
 ghost use Rattle.osc_handle.specs.ClientBytes.{IsPending, IsWait, asked_at, wait_in};
 
-use crate::context_handle::padded;
 use osc_coap::Token;
 use osc_context::Piv;
+use osc_context_handle::siblings::padded;
 use osc_endpoint::siblings::{Pending, Wait};
 
 /// A request that is waiting for its response: its number, the clock in milliseconds when it was sealed, its token, and whether it

@@ -2,7 +2,7 @@
 
 ghost use Rattle.osc_handle.specs.HandlePlainness.{HandlesArePlain};
 
-use osc_endpoint::ends_are_plain;
+use osc_laws::ends_are_plain;
 
 /// States what a server and a client in bytes do whose contexts take no part in Observe, whatever their history is: no ticket observes,
 /// nothing is notified, a reply has a Partial IV of its own exactly if one is asked for, each request waits for one response, and no

@@ -10,7 +10,7 @@ ghost use Rattle.osc_endpoint.specs.Views.{reply_entry, restarted_entry, values_
 ghost use Rattle.osc_endpoint.specs.declared.outcome.Outcome.TheVariants.{KeeperFailed as KeeperFailedOutcome};
 ghost use Rattle.osc_endpoint.specs.declared.server_error.ReplyError.TheVariants.{KeeperFailed};
 ghost use Rattle.osc_endpoint.specs.declared.slot.Slot.{Slot as SlotOf};
-ghost use Rattle.osc_handle.specs.ContextBytes.{IsContext, server_in};
+ghost use Rattle.osc_context_handle.specs.ContextBytes.{IsContext, server_in};
 ghost use Rattle.osc_handle.specs.Noting.{Notes, NotesTicket};
 ghost use Rattle.osc_handle.specs.ServerBytes.{AddsIn, DecidesIn, IsSameSender, IsSpent, NotifiesIn, RepliesIn, Serves, TakesIn, entry_of_add, entry_of_reply};
 ghost use Rattle.osc_handle.specs.TableBytes.{IsTable, IsTableIn};
@@ -19,17 +19,16 @@ ghost use Rattle.osc_handle.specs.declared.add_refusal.AddRefusal.TheVariants.{S
 ghost use Rattle.osc_handle.specs.declared.reply_refusal.ReplyRefusal.TheVariants.{BadHandle, TicketSpent, Refused};
 
 use crate::add_refusal::AddRefusal;
-use crate::context_handle::ContextHandle;
 use crate::contexts_handle::ContextsHandle;
 use crate::reply_refusal::ReplyRefusal;
 use crate::ticket_handle::TicketHandle;
 use crate::unanswered_handle::UnansweredHandle;
 use osc_coap::Message;
 use osc_context::Piv;
+use osc_context_handle::ContextHandle;
 use osc_endpoint::siblings::decide_over;
-use osc_endpoint::{
-    Decided, Decision, Fresh, ReplyError, RestartError, Start, Taken, Ticket, answered_once,
-};
+use osc_endpoint::{Decided, Decision, Fresh, ReplyError, RestartError, Start, Taken, Ticket};
+use osc_laws::answered_once;
 use osc_window::WindowSize;
 
 /// A server of up to eight contexts: its clock, its contexts, and which requests of each context are waiting for their answers.

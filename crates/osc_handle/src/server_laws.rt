@@ -3,7 +3,7 @@
 
 ghost use Rattle.osc_handle.specs.ServerLaws.{HandleAnswersOnce, HandleKeysOrNoncesOnce, HandleNoncesOnce};
 
-use osc_endpoint::{answered_once, keys_or_nonces_once};
+use osc_laws::{answered_once, keys_or_nonces_once};
 
 /// States that each request is answered at most once, and that no two texts that a server seals in one life under one context share a
 /// nonce, even if its tickets are copied or altered (RFC 8613, 5.2 and 8.3).

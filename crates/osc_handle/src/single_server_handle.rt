@@ -10,7 +10,7 @@ ghost use Rattle.osc_endpoint.specs.Views.{reply_entry, restarted_entry, values_
 ghost use Rattle.osc_endpoint.specs.declared.outcome.Outcome.TheVariants.{KeeperFailed as KeeperFailedOutcome};
 ghost use Rattle.osc_endpoint.specs.declared.server_error.ReplyError.TheVariants.{KeeperFailed};
 ghost use Rattle.osc_endpoint.specs.declared.slot.Slot.{Slot as SlotOf};
-ghost use Rattle.osc_handle.specs.ContextBytes.{IsContext, server_in};
+ghost use Rattle.osc_context_handle.specs.ContextBytes.{IsContext, server_in};
 ghost use Rattle.osc_handle.specs.Noting.{Notes, NotesTicket};
 ghost use Rattle.osc_handle.specs.ServerBytes.{AddsIn, DecidesIn, IsSpent, NotifiesIn, RepliesIn, Serves, TakesIn, entry_of_reply};
 ghost use Rattle.osc_handle.specs.SingleServerBytes.{server_of_one, table_of};
@@ -20,17 +20,16 @@ ghost use Rattle.osc_handle.specs.TableSteps.{is_present_in};
 ghost use Rattle.osc_handle.specs.TicketBytes.{IsTicket, ticket_in};
 ghost use Rattle.osc_handle.specs.declared.reply_refusal.ReplyRefusal.TheVariants.{BadHandle, TicketSpent, Refused};
 
-use crate::context_handle::ContextHandle;
 use crate::reply_refusal::ReplyRefusal;
 use crate::slot_handle::SlotHandle;
 use crate::ticket_handle::TicketHandle;
 use crate::unanswered_handle::UnansweredHandle;
 use osc_coap::Message;
 use osc_context::Piv;
+use osc_context_handle::ContextHandle;
 use osc_endpoint::siblings::{Slot, decide_over};
-use osc_endpoint::{
-    Decided, Decision, Fresh, ReplyError, RestartError, Start, Taken, Ticket, answered_once,
-};
+use osc_endpoint::{Decided, Decision, Fresh, ReplyError, RestartError, Start, Taken, Ticket};
+use osc_laws::answered_once;
 use osc_window::WindowSize;
 
 /// A server of one context, which has index 0: its clock, the context, and which of its requests are waiting for their answers.

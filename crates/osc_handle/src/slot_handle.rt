@@ -13,13 +13,13 @@ ghost use Rattle.osc_endpoint.specs.Replying.{reply_mark};
 ghost use Rattle.osc_endpoint.specs.ServerAnswer.{LifeNotify, LifeReply, as_notification};
 ghost use Rattle.osc_endpoint.specs.Views.{reply_entry};
 ghost use Rattle.osc_endpoint.specs.declared.server_error.ReplyError.TheVariants.{KeeperFailed};
-ghost use Rattle.osc_handle.specs.ContextBytes.{IsContext, is_constant_time_in, server_in};
+ghost use Rattle.osc_context_handle.specs.ContextBytes.{IsContext, is_constant_time_in, server_in};
 ghost use Rattle.osc_handle.specs.SlotBytes.{HoldsIn, IsGateBytes, IsGateIn, IsHighestIn, IsSlotBytes, IsSlotIn, SameBut};
 ghost use Rattle.osc_endpoint.specs.declared.slot.Slot.{Slot as SlotOf};
 
-use crate::context_handle::ContextHandle;
 use osc_coap::{Message, Token};
 use osc_context::Piv;
+use osc_context_handle::ContextHandle;
 use osc_endpoint::ReplyError;
 use osc_endpoint::siblings::{Asker, Slot};
 use osc_protect::KeyedContext;

@@ -9,7 +9,7 @@ use Rattle.osc_endpoint.specs.ClientHistory as client
 use Rattle.osc_endpoint.specs.Life.{Life, next_own}
 use Rattle.osc_endpoint.specs.ServerAnswer.{ServerAnswer}
 use Rattle.osc_endpoint.specs.ServerHistory as server
-use Rattle.osc_kept.specs.Numbering.{Use}
+use Rattle.osc_kept_ends.specs.Numbering.{Use}
 use Rattle.osc_kept.specs.Premises.{AtEach, Answers, BeginsAbove, IsAboveOwn}
 use Rattle.osc_kept.specs.World.{World, Begin, Then, ClientStarts, ServerStarts, AtClient, AtServer, Has, Request, Response, client_history, server_life}
 use Rattle.osc_kept.proofs.Deeds.{AllBelow, Deed, Challenges, Notifies, Replies, answers, life_in, owns, sends}

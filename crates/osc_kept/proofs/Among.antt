@@ -6,8 +6,9 @@ use Rattle.osc_context.specs.SecurityContext.{SecurityContext}
 use Rattle.osc_window.specs.declared.window_size.WindowSize.{WindowSize}
 use Rattle.osc_endpoint.specs.declared.server_error.ReplyError.TheVariants.{NotObserving, StaleTicket}
 use Rattle.osc_endpoint.specs.declared.start.Start.{Start}
-use Rattle.osc_endpoint.specs.Laws.{AllAnswers, AreLeft, TakesTickets}
-use Rattle.osc_endpoint.specs.OneContext.{ContextsStandAlone, share}
+use Rattle.osc_laws.specs.Laws.{AllAnswers}
+use Rattle.osc_endpoint.specs.Tickets.{AreLeft, TakesTickets}
+use Rattle.osc_laws.specs.OneContext.{ContextsStandAlone, share}
 use Rattle.osc_endpoint.specs.Replies.{as_reply}
 use Rattle.osc_endpoint.specs.ServerAnswer.{Arrival, LifeRestart, MeetsNamedRow, MeetsRow, NamesNone, NotifyAnswer, ReplyAnswer, SaysReply, ServerAnswer, TakeAnswer, arrival, as_notification}
 use Rattle.osc_endpoint.specs.ServerHistory as server

@@ -3,7 +3,7 @@ use Rattle.std.proofs.Common.{ℕ, ◌<◌, ◌≤◌, ap, subst, arith}
 use Rattle.osc_context.specs.SecurityContext.{SecurityContext, IsUsable}
 use Rattle.osc_endpoint.specs.ClientHistory as client
 use Rattle.osc_endpoint.specs.ServerHistory as server
-use Rattle.osc_kept.specs.Numbering.{Allowed, Load}
+use Rattle.osc_kept_ends.specs.Numbering.{Allowed, Load}
 use Rattle.osc_kept.specs.Premises.{Answers, AtEach, BeginsAbove, EchoIsNew, FreshWhileNothingDelivered, IsAboveOwn, IsAboveSent, IsKept, KeptBeginAbove, NobodyForges, NumbersAreKept}
 use Rattle.osc_kept.specs.World.{World, Begin, Then, Event, Client, Server, ClientStarts, ServerStarts, AtClient, AtServer, Has, client_effect, numbers, server_effect}
 use Rattle.osc_kept.proofs.Deeds.{owned}

@@ -3,16 +3,16 @@ use Rattle.std.proofs.Common.{◌≡◌, ℕ, ◌≤◌, ap, sym, subst, arith, 
 use Rattle.std.specs.Prelude.{IfErr, OnErr}
 use Rattle.osc_context.specs.SecurityContext.{SecurityContext}
 use Rattle.osc_context.specs.declared.keeper.Keeper as keeper
-use Rattle.osc_kept.specs.declared.kept_client.KeptClient.{KeptClient}
-use Rattle.osc_kept.specs.declared.kept_server.KeptServer.{KeptServer}
+use Rattle.osc_kept_ends.specs.declared.kept_client.KeptClient.{KeptClient}
+use Rattle.osc_kept_ends.specs.declared.kept_server.KeptServer.{KeptServer}
 use Rattle.osc_endpoint.specs.ClientHistory as client
 use Rattle.osc_kept.specs.CallsInWorld.{ClientAfter, ClientRunsIn, RunsIn}
 use Rattle.osc_kept.specs.GoingOn.{ClientRuns, GoesOn, ServerRuns}
 use Rattle.osc_kept.specs.InWorld.{IsAsClaimed, ServerStays}
-use Rattle.osc_kept.specs.KeptAsking as asking
-use Rattle.osc_kept.specs.KeptServing as serving
-use Rattle.osc_kept.specs.Numbering.{upcoming}
-use Rattle.osc_kept.specs.Owning.{own_in}
+use Rattle.osc_kept_ends.specs.KeptAsking as asking
+use Rattle.osc_kept_ends.specs.KeptServing as serving
+use Rattle.osc_kept_ends.specs.Numbering.{upcoming}
+use Rattle.osc_kept_ends.specs.Owning.{own_in}
 use Rattle.osc_kept.specs.World.{World, AtClient, Client}
 
 pub no_less : (a b c : ℕ) → a ≤ b → b ≤ c → a ≤ c

@@ -17,7 +17,7 @@ use Rattle.osc_endpoint.specs.Received.{Received, Receives}
 use Rattle.osc_endpoint.specs.Replies.{challenge_message}
 use Rattle.osc_endpoint.specs.ServerAnswer.{own_number}
 use Rattle.osc_endpoint.specs.ServerHistory as server
-use Rattle.osc_kept.specs.Numbering.{Use}
+use Rattle.osc_kept_ends.specs.Numbering.{Use}
 use Rattle.osc_kept.specs.Claims.{DeliversOnce, HaveOwnNonces, IsForThatRequest, SealsUnderNewNonces}
 use Rattle.osc_kept.specs.Premises.{AtEach, IsLawful, SealedByServer}
 use Rattle.osc_kept.specs.World.{World, Event, Begin, Then, AtClient, AtServer, Has, Request, Response, answered, client_history, heard_in, response_in, sent, server_life}

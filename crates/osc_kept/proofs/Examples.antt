@@ -22,7 +22,7 @@ use Rattle.osc_endpoint.specs.ServerHistory as server
 use Rattle.osc_kept.specs.Examples.{Asked, CarriesValue, Ends, ForgeryBreaks, NumberOutOfOrderBreaks, PremisesCanBeMet, RepeatedValueBreaks, asks, challenges, delivers, exchange, restarts, start_client, start_server, ticket_of}
 use Rattle.osc_kept.specs.Premises.{Answers, NobodyForgesRequests, NobodyForgesResponses, SealedByServer}
 use Rattle.osc_kept.specs.World.{World, Begin, Then, Client, Server, Draws, Reserves, AtClient, AtServer, Has, Request, answered, client_history, sent, server_history}
-use Rattle.osc_endpoint.proofs.Inside.{as_notification}
+use Rattle.osc_laws.proofs.Inside.{as_notification}
 use Rattle.osc_kept.proofs.Beginning.{is_kept}
 use Rattle.osc_kept.proofs.Lives.{some_is}
 

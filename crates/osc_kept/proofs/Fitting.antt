@@ -19,7 +19,8 @@ use Rattle.osc_endpoint.specs.declared.start.Start.{Start}
 use Rattle.osc_endpoint.specs.declared.start.Start.TheVariants as starts
 use Rattle.osc_endpoint.specs.Received.{Received}
 use Rattle.osc_endpoint.specs.ClientHistory as client
-use Rattle.osc_endpoint.specs.Laws.{AreApart, AreLeft, TakesTickets, TicketOnce, answered, delivered}
+use Rattle.osc_laws.specs.Laws.{AreApart, TicketOnce, answered, delivered}
+use Rattle.osc_endpoint.specs.Tickets.{AreLeft, TakesTickets}
 use Rattle.osc_endpoint.specs.Life.{Life, Admits, born, Carries, challenge, in_force, is_open}
 use Rattle.osc_endpoint.specs.ServerAnswer.{ServerAnswer, challenge_given}
 use Rattle.osc_endpoint.specs.ServerHistory as server
@@ -28,7 +29,7 @@ use Rattle.osc_kept.specs.World.{World, Event, Begin, Then, ServerStarts, AtClie
 use Rattle.osc_kept.proofs.Above.{owns_below, sends_below}
 use Rattle.osc_kept.proofs.Deeds.{AllFit, Begins, CarriesLast, Challenges, Deed, Delivers, Fits, Holds, Renews, Replies, Spoils, carried, given, life_in, replied, sends}
 use Rattle.osc_kept.proofs.Digest.{client_deed, delivered_is, digest, sent_is, server_deed}
-use Rattle.osc_endpoint.proofs.Inside.{unnotified}
+use Rattle.osc_laws.proofs.Inside.{unnotified}
 use Rattle.osc_endpoint.proofs.SealedReplies.{replied_features}
 use Rattle.osc_kept.proofs.Lives.{Stands, life_known, some_is, stands}
 

@@ -9,11 +9,11 @@ use Rattle.osc_window.specs.declared.window_size.WindowSize.{WindowSize}
 use Rattle.osc_endpoint.specs.declared.start.Start.TheVariants as starts
 use Rattle.osc_endpoint.specs.ClientHistory as client
 use Rattle.osc_endpoint.specs.ServerHistory as server
-use Rattle.osc_kept.specs.KeptAsking as asking
-use Rattle.osc_kept.specs.KeptServing as serving
-use Rattle.osc_kept.specs.KeptServing.{IsStart, started}
-use Rattle.osc_kept.specs.Numbering as kept
-use Rattle.osc_kept.specs.Numbering.{Own, AreAlike, Effect, Stay, Draw, Reserve, Load, Use, after, Allowed, Goes, nothing_drawn, use_of}
+use Rattle.osc_kept_ends.specs.KeptAsking as asking
+use Rattle.osc_kept_ends.specs.KeptServing as serving
+use Rattle.osc_kept_ends.specs.KeptServing.{IsStart, started}
+use Rattle.osc_kept_ends.specs.Numbering as kept
+use Rattle.osc_kept_ends.specs.Numbering.{Own, AreAlike, Effect, Stay, Draw, Reserve, Load, Use, after, Allowed, Goes, nothing_drawn, use_of}
 use Rattle.osc_kept.specs.GoingOn.{ClientBegins, ClientGoesOn, ClientRuns, GoesOn, IsDrawn, KeepsFloor, KnowsFloor, ServerBegins, ServerGoesOn, ServerRuns, StartsOn, server_started}
 use Rattle.osc_kept.specs.Premises.{AtEach, LoadsNoneBelow, NumbersAreKept}
 use Rattle.osc_kept.specs.World.{World, Event, Then, End, Client, Server, Draws, Reserves, AtClient, AtServer, client_effect, client_history, effect, numbers, server_effect, server_history}

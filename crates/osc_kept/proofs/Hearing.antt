@@ -18,11 +18,11 @@ use Rattle.osc_endpoint.specs.declared.pending.Wait.TheVariants.{Once, Observing
 use Rattle.osc_endpoint.specs.Agrees.{TokensDiffer}
 use Rattle.osc_endpoint.specs.ClientAnswer.{ClientAnswer, IsAnswerTo, IsAwaited, awaited, continues}
 use Rattle.osc_endpoint.specs.ClientHistory as client
-use Rattle.osc_endpoint.specs.ClientLaws.{AllClientAnswers}
+use Rattle.osc_laws.specs.ClientLaws.{AllClientAnswers}
 use Rattle.osc_endpoint.specs.Observing.{is_notification, place_of, registers}
 use Rattle.osc_endpoint.specs.Received.{Received, Receives}
 use Rattle.osc_endpoint.proofs.Asking.{contains_filter, differ_later, differ_mapped, one_of, one_of_token}
-use Rattle.osc_endpoint.proofs.OneClientAnswers.{tokens_differ}
+use Rattle.osc_laws.proofs.OneClientAnswers.{tokens_differ}
 use Rattle.osc_kept.specs.Claims.{BothEnds, DeliversOnce, ended, IsAfter, IsForThatRequest, IsNext, IsUnended, IsUnheard, NotifiesRegistrations}
 use Rattle.osc_kept.specs.Freshness.{OpensFresh}
 use Rattle.osc_kept.specs.Premises.{AtEach, Answers, IsLawful}
@@ -32,7 +32,7 @@ use Rattle.osc_kept.proofs.Deeds.{AllFit, Challenges, Deed, IsSent, Nothing, Not
 use Rattle.osc_kept.proofs.Digest.{answered_is, client_deed, deed, digest, sends_server, sent_is}
 use Rattle.osc_kept.proofs.Fitting.{LawsBelow, all_fit, before, fits_client}
 use Rattle.osc_kept.proofs.Freshness.{opens_fresh}
-use Rattle.osc_endpoint.proofs.Inside.{registers_inside}
+use Rattle.osc_laws.proofs.Inside.{registers_inside}
 use Rattle.osc_kept.proofs.Lives.{some_is}
 use Rattle.osc_kept.proofs.Owned.{runs, same_number, still_sent}
 

@@ -13,17 +13,17 @@ use Rattle.osc_endpoint.specs.declared.start.Start.{Start}
 use Rattle.osc_endpoint.specs.declared.start.Start.TheVariants as starts
 use Rattle.osc_endpoint.specs.ClientAnswer.{ClientAnswer}
 use Rattle.osc_endpoint.specs.ClientHistory as client
-use Rattle.osc_endpoint.specs.Laws.{TakesTickets}
+use Rattle.osc_endpoint.specs.Tickets.{TakesTickets}
 use Rattle.osc_endpoint.specs.Life.{Life, Mark, in_force, marked, renewed}
 use Rattle.osc_endpoint.specs.ServerAnswer.{ServerAnswer, IsTaken}
 use Rattle.osc_endpoint.specs.ServerHistory as server
 use Rattle.osc_kept.specs.GoingOn.{ClientRuns, GoesOn, HasSavedFirst, IsDrawn, SavesFirst, ServerRuns, server_started}
 use Rattle.osc_kept.specs.InWorld.{ClientInWorld, ClientStartsInWorld, ClientStays, ClientTrusts, IsAsClaimed, IsHeld, IsUnseen, ServerInWorld, ServerStartsInWorld, ServerStays, ServerTrusts}
-use Rattle.osc_kept.specs.KeptAsking as asking
-use Rattle.osc_kept.specs.KeptServing as serving
-use Rattle.osc_kept.specs.KeptServing.{IsStart}
+use Rattle.osc_kept_ends.specs.KeptAsking as asking
+use Rattle.osc_kept_ends.specs.KeptServing as serving
+use Rattle.osc_kept_ends.specs.KeptServing.{IsStart}
 use Rattle.osc_kept.specs.Claims.{TwoEnds}
-use Rattle.osc_kept.specs.Numbering.{Own, AreAlike}
+use Rattle.osc_kept_ends.specs.Numbering.{Own, AreAlike}
 use Rattle.osc_kept.specs.Premises.{Answers, AtEach, EchoIsNew, IsKept, IsNoAdd, LoadsNoneBelow, NobodyForges, NobodyForgesRequests, NobodyForgesResponses, NumbersAreKept, SealedByClient, SealedByServer}
 use Rattle.osc_kept.specs.World.{World, Begin, Then, End, Client, Server, ClientStarts, ServerStarts, Draws, Reserves, AtClient, AtServer, Has, answered, client_history, numbers, sent, server_history}
 use Rattle.osc_kept.proofs.Beginning.{more_kept}

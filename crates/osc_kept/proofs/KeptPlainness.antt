@@ -5,10 +5,10 @@ use Rattle.std.specs.Prelude.{max}
 use Rattle.std.specs.Option.{option_map}
 use Rattle.osc_context.specs.SecurityContext.{SecurityContext}
 use Rattle.osc_endpoint.specs.ClientHistory as client
-use Rattle.osc_endpoint.specs.ClientLaws.{AllClientAnswers}
-use Rattle.osc_endpoint.specs.Laws.{delivered}
+use Rattle.osc_laws.specs.ClientLaws.{AllClientAnswers}
+use Rattle.osc_laws.specs.Laws.{delivered}
 use Rattle.osc_endpoint.specs.Life.{Life}
-use Rattle.osc_endpoint.specs.Plainness.{ClientIsPlain, EndsArePlain, ServerIsPlain, WithoutObserve}
+use Rattle.osc_laws.specs.Plainness.{ClientIsPlain, EndsArePlain, ServerIsPlain, WithoutObserve}
 use Rattle.osc_endpoint.specs.ServerAnswer.{ServerAnswer, arrival}
 use Rattle.osc_endpoint.specs.ServerHistory as server
 use Rattle.osc_kept.specs.KeptPlainness.{IsPlain, KeptEndsArePlain}

@@ -1,7 +1,3 @@
-pub mod Drawing
-pub mod ServerSteps
-pub mod ClientSteps
-pub mod KeptRunLemmas
 pub mod Deeds
 pub mod Digest
 pub mod Rising

@@ -20,7 +20,7 @@ use Rattle.osc_endpoint.specs.ServerHistory as server
 use Rattle.osc_kept.specs.Examples.{Answered, ObservationCanBeMet, asks, delivers_registration, hears, hears_old, notifies, notifies_thrice, observing, start_client, start_server}
 use Rattle.osc_kept.specs.Premises.{Answers, NobodyForgesResponses, SealedByServer}
 use Rattle.osc_kept.specs.World.{World, Begin, Then, Server, Draws, AtServer, Has, answered, client_history, server_history}
-use Rattle.osc_endpoint.proofs.Inside.{as_notification}
+use Rattle.osc_laws.proofs.Inside.{as_notification}
 use Rattle.osc_kept.proofs.Examples.{OpeningLaws, answered_opens, asked_seals, sent_opens, zero_small}
 use Rattle.osc_kept.proofs.Beginning.{is_kept}
 use Rattle.osc_kept.proofs.Lives.{some_is}

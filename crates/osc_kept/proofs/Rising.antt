@@ -2,7 +2,7 @@
 use Rattle.std.proofs.Common.{◌≡◌, ℕ, ◌<◌, ◌≤◌, ◌^◌, sym, subst, arith, Some, None, List, [], ◌∷◌, inl, inr}
 use Rattle.osc_context.specs.Reserving.{next_limit}
 use Rattle.osc_context.specs.SecurityContext.{SecurityContext}
-use Rattle.osc_kept.specs.Numbering.{Own, Effect, Stay, Draw, Reserve, Load, Use, after, Allowed}
+use Rattle.osc_kept_ends.specs.Numbering.{Own, Effect, Stay, Draw, Reserve, Load, Use, after, Allowed}
 use Rattle.osc_kept.specs.Premises.{AtEach, NumbersAreKept}
 use Rattle.osc_kept.specs.World.{World, Begin, Then, Event, End, Client, Server, Has, effect, numbers}
 

@@ -16,21 +16,21 @@ use Rattle.osc_endpoint.specs.ClientRun as client_run
 use Rattle.osc_endpoint.specs.ServerAnswer.{asks_own}
 use Rattle.osc_endpoint.specs.ServerHistory as server
 use Rattle.osc_endpoint.specs.ServerRun as server_run
-use Rattle.osc_kept.specs.declared.kept_event.KeptClientEvent.{KeptClientEvent}
-use Rattle.osc_kept.specs.declared.kept_event.KeptClientEvent.TheVariants as client_events
-use Rattle.osc_kept.specs.declared.kept_event.KeptClientEntry.{KeptClientEntry}
-use Rattle.osc_kept.specs.declared.kept_event.KeptClientEntry.TheVariants as client_entries
-use Rattle.osc_kept.specs.declared.kept_event.KeptServerEvent.{KeptServerEvent}
-use Rattle.osc_kept.specs.declared.kept_event.KeptServerEvent.TheVariants as server_events
-use Rattle.osc_kept.specs.declared.kept_event.KeptServerEntry.{KeptServerEntry}
-use Rattle.osc_kept.specs.declared.kept_event.KeptServerEntry.TheVariants as server_entries
+use Rattle.osc_kept_ends.specs.declared.kept_event.KeptClientEvent.{KeptClientEvent}
+use Rattle.osc_kept_ends.specs.declared.kept_event.KeptClientEvent.TheVariants as client_events
+use Rattle.osc_kept_ends.specs.declared.kept_event.KeptClientEntry.{KeptClientEntry}
+use Rattle.osc_kept_ends.specs.declared.kept_event.KeptClientEntry.TheVariants as client_entries
+use Rattle.osc_kept_ends.specs.declared.kept_event.KeptServerEvent.{KeptServerEvent}
+use Rattle.osc_kept_ends.specs.declared.kept_event.KeptServerEvent.TheVariants as server_events
+use Rattle.osc_kept_ends.specs.declared.kept_event.KeptServerEntry.{KeptServerEntry}
+use Rattle.osc_kept_ends.specs.declared.kept_event.KeptServerEntry.TheVariants as server_entries
 use Rattle.osc_kept.specs.Claims.{BothEnds, TwoEnds}
 use Rattle.osc_kept.specs.GoingOn.{ClientMoves, ClientRuns, GoesOn, IsDrawn, KeepsFloor, KnowsFloor, ServerMoves, ServerRuns}
 use Rattle.osc_kept.specs.InWorld.{ClientStays, ClientTrusts, IsAsClaimed, IsUnseen, ServerStays, ServerTrusts}
-use Rattle.osc_kept.specs.KeptAsking as asking
-use Rattle.osc_kept.specs.KeptRuns.{ArrivalStep, ClientNumbers, ClientRun, ClientState, ClientStep, NotifyStep, ReplyStep, RequestStep, ServerRun, ServerState, ServerStep, client_state, server_state}
-use Rattle.osc_kept.specs.Numbering.{Own, Steps}
-use Rattle.osc_kept.specs.Owning.{own_in}
+use Rattle.osc_kept_ends.specs.KeptAsking as asking
+use Rattle.osc_kept_ends.specs.KeptRuns.{ArrivalStep, ClientNumbers, ClientRun, ClientState, ClientStep, NotifyStep, ReplyStep, RequestStep, ServerRun, ServerState, ServerStep, client_state, server_state}
+use Rattle.osc_kept_ends.specs.Numbering.{Own, Steps}
+use Rattle.osc_kept_ends.specs.Owning.{own_in}
 use Rattle.osc_kept.specs.Premises.{IsKept, IsNoAdd, NobodyForgesRequests}
 use Rattle.osc_kept.specs.RunsInWorld.{ClientRunInWorld, ClientRunTrusts, ClientStepTrusts, IsBehind, IsOf, LoadsAbove, RunsOn, ServerRunInWorld, ServerRunTrusts, ServerStepTrusts}
 use Rattle.osc_kept.specs.World.{World, Begin, Then, Event, End, Client, Server, AtClient, AtServer, answered, numbers, sent}

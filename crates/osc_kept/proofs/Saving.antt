@@ -11,7 +11,7 @@ use Rattle.osc_endpoint.specs.declared.start.Start.TheVariants as starts
 use Rattle.osc_endpoint.specs.Life.{Life, Mark, Admits, Delivered, Spoiled, Challenged, Answered, born, challenge, is_open, opened}
 use Rattle.osc_endpoint.specs.Received.{Received}
 use Rattle.osc_endpoint.specs.ServerHistory as server
-use Rattle.osc_kept.specs.Numbering.{Own, Effect, Reserve, after, Allowed}
+use Rattle.osc_kept_ends.specs.Numbering.{Own, Effect, Reserve, after, Allowed}
 use Rattle.osc_kept.specs.GoingOn.{FreshBySaving, SavesFirst}
 use Rattle.osc_kept.specs.Premises.{Answers, AtEach, FreshWhileNothingDelivered, NumbersAreKept}
 use Rattle.osc_kept.specs.World.{World, Begin, Then, Event, Server, ServerStarts, AtServer, Has, delivered, effect, numbers}

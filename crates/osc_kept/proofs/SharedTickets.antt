@@ -1,9 +1,10 @@
 -- The tickets of one context of a server of many: if the server's replies take tickets that its deliveries gave, so do those of the context's share. h is the
 -- history of that server, i the index of the context, ts are tickets.
 use Rattle.std.proofs.Common.{◌≡◌, ℕ, ◌∙◌, sym, ap, subst, refl, Bool, true, false, List, [], ◌∷◌, ◌++◌, if◌then◌else◌, ◌==◌}
-use Rattle.osc_endpoint.proofs.Shares.{of_chosen}
-use Rattle.osc_endpoint.specs.Laws.{AllAnswers, AreLeft, TakesTickets}
-use Rattle.osc_endpoint.specs.OneContext.{share, ticket_alone}
+use Rattle.osc_laws.proofs.Shares.{of_chosen}
+use Rattle.osc_laws.specs.Laws.{AllAnswers}
+use Rattle.osc_endpoint.specs.Tickets.{AreLeft, TakesTickets}
+use Rattle.osc_laws.specs.OneContext.{share, ticket_alone}
 use Rattle.osc_endpoint.specs.ServerHistory.{Add, Added, Advance, Advanced, BadInner, Begin, Challenge, Datagram, Deliver, History, Notify, Replied, Reply, Restart, Restarted, Then, TicketValues, Took, life}
 use Rattle.osc_kept.proofs.Lives.{no_took}
 

@@ -15,19 +15,19 @@ use Rattle.osc_endpoint.specs.ClientHistory as client
 use Rattle.osc_endpoint.specs.Deciding as deciding
 use Rattle.osc_endpoint.specs.ServerHistory as server
 use Rattle.osc_endpoint.specs.Views.{ClientShows, Shows}
-use Rattle.osc_kept.specs.declared.kept_client.KeptClient.{KeptClient}
-use Rattle.osc_kept.specs.declared.kept_event.KeptClientEntry.{KeptClientEntry}
-use Rattle.osc_kept.specs.declared.kept_event.KeptClientEvent.{KeptClientEvent}
-use Rattle.osc_kept.specs.declared.kept_event.KeptServerEntry.{KeptServerEntry}
-use Rattle.osc_kept.specs.declared.kept_event.KeptServerEvent.{KeptServerEvent}
-use Rattle.osc_kept.specs.declared.kept_server.KeptServer.{KeptServer}
+use Rattle.osc_kept_ends.specs.declared.kept_client.KeptClient.{KeptClient}
+use Rattle.osc_kept_ends.specs.declared.kept_event.KeptClientEntry.{KeptClientEntry}
+use Rattle.osc_kept_ends.specs.declared.kept_event.KeptClientEvent.{KeptClientEvent}
+use Rattle.osc_kept_ends.specs.declared.kept_event.KeptServerEntry.{KeptServerEntry}
+use Rattle.osc_kept_ends.specs.declared.kept_event.KeptServerEvent.{KeptServerEvent}
+use Rattle.osc_kept_ends.specs.declared.kept_server.KeptServer.{KeptServer}
 use Rattle.osc_kept.specs.GoingOn.{ClientRuns, GoesOn, KnowsFloor, ServerRuns, server_started}
 use Rattle.osc_kept.specs.InWorld.{ClientStays, IsAsClaimed, IsHeld, ServerStays}
-use Rattle.osc_kept.specs.KeptAsking as asking
-use Rattle.osc_kept.specs.KeptRuns.{ClientRun, ServerRun, client_state, server_state}
-use Rattle.osc_kept.specs.KeptServing as serving
-use Rattle.osc_kept.specs.Numbering.{upcoming}
-use Rattle.osc_kept.specs.Owning.{own_in}
+use Rattle.osc_kept_ends.specs.KeptAsking as asking
+use Rattle.osc_kept_ends.specs.KeptRuns.{ClientRun, ServerRun, client_state, server_state}
+use Rattle.osc_kept_ends.specs.KeptServing as serving
+use Rattle.osc_kept_ends.specs.Numbering.{upcoming}
+use Rattle.osc_kept_ends.specs.Owning.{own_in}
 use Rattle.osc_kept.specs.Premises.{NobodyForgesResponses}
 use Rattle.osc_kept.specs.RunsInWorld.{ClientRunAdds, ClientRunTrusts, ServerRunAdds, ServerRunTrusts}
 use Rattle.osc_kept.specs.World.{World, Then, Client, Server, ClientStarts, AtClient, AtServer, client_history, numbers, server_history}

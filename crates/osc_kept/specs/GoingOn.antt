@@ -9,10 +9,10 @@ use Rattle.osc_endpoint.specs.declared.start.Start.TheVariants as starts
 use Rattle.osc_endpoint.specs.ClientHistory as client
 use Rattle.osc_endpoint.specs.Life.{Life}
 use Rattle.osc_endpoint.specs.ServerHistory as server
-use Rattle.osc_kept.specs.KeptAsking as asking
-use Rattle.osc_kept.specs.KeptServing as serving
-use Rattle.osc_kept.specs.KeptServing.{IsStart, started}
-use Rattle.osc_kept.specs.Numbering.{Own, AreAlike, Allowed, Goes, Load, Steps, nothing_drawn}
+use Rattle.osc_kept_ends.specs.KeptAsking as asking
+use Rattle.osc_kept_ends.specs.KeptServing as serving
+use Rattle.osc_kept_ends.specs.KeptServing.{IsStart, started}
+use Rattle.osc_kept_ends.specs.Numbering.{Own, AreAlike, Allowed, Goes, Load, Steps, nothing_drawn}
 use Rattle.osc_kept.specs.Premises.{Answers, AtEach, FreshWhileNothingDelivered, LoadsNoneBelow, NumbersAreKept}
 use Rattle.osc_kept.specs.World.{World, Event, Then, End, Client, Server, ClientStarts, ServerStarts, Draws, Reserves, AtClient, AtServer, client_history, server_history, server_life, numbers}
 

@@ -9,13 +9,13 @@ use Rattle.osc_window.specs.declared.window_size.WindowSize.{WindowSize}
 use Rattle.osc_endpoint.specs.declared.start.Start.{Start}
 use Rattle.osc_endpoint.specs.ClientAnswer.{ClientAnswer}
 use Rattle.osc_endpoint.specs.ClientHistory as client
-use Rattle.osc_endpoint.specs.Laws.{AreLeft, IsTakenOut}
+use Rattle.osc_endpoint.specs.Tickets.{AreLeft, IsTakenOut}
 use Rattle.osc_endpoint.specs.ServerAnswer.{ServerAnswer}
 use Rattle.osc_endpoint.specs.ServerHistory as server
 use Rattle.osc_kept.specs.Claims.{BothEnds}
 use Rattle.osc_kept.specs.GoingOn.{ClientMoves, ClientRuns, GoesOn, HasSavedFirst, ServerMoves, ServerRuns, server_started}
-use Rattle.osc_kept.specs.KeptServing.{IsStart, started}
-use Rattle.osc_kept.specs.Numbering.{Own, Allowed, Goes, Load, nothing_drawn}
+use Rattle.osc_kept_ends.specs.KeptServing.{IsStart, started}
+use Rattle.osc_kept_ends.specs.Numbering.{Own, Allowed, Goes, Load, nothing_drawn}
 use Rattle.osc_kept.specs.Premises.{IsKept, IsNoAdd, NobodyForgesRequests, NobodyForgesResponses}
 use Rattle.osc_kept.specs.World.{World, Then, Client, Server, ClientStarts, AtClient, AtServer, Has, Request, numbers, sent}
 

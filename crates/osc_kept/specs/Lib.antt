@@ -1,9 +1,4 @@
 -- to be believed, in reading order
-pub mod Numbering
-pub mod Refusals
-pub mod KeptServing
-pub mod KeptAsking
-pub mod KeptRuns
 pub mod World
 pub mod Premises
 pub mod Freshness
@@ -15,6 +10,3 @@ pub mod InWorld
 pub mod RunsInWorld
 pub mod CallsInWorld
 pub mod Examples
--- how the code is seen
-pub mod Views
-pub mod Owning

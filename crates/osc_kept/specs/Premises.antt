@@ -11,11 +11,11 @@ use Rattle.osc_protect.specs.Protection.{Protects, ProtectsRequest, responses_to
 use Rattle.osc_endpoint.specs.declared.start.Start.TheVariants as starts
 use Rattle.osc_endpoint.specs.ClientAnswer.{ClientAnswer, awaited}
 use Rattle.osc_endpoint.specs.ClientHistory as client
-use Rattle.osc_endpoint.specs.Laws.{TakesTickets}
+use Rattle.osc_endpoint.specs.Tickets.{TakesTickets}
 use Rattle.osc_endpoint.specs.Life.{Life, born, in_force}
 use Rattle.osc_endpoint.specs.ServerAnswer.{ServerAnswer}
 use Rattle.osc_endpoint.specs.ServerHistory as server
-use Rattle.osc_kept.specs.Numbering.{Allowed, Load}
+use Rattle.osc_kept_ends.specs.Numbering.{Allowed, Load}
 use Rattle.osc_kept.specs.World.{World, Event, Begin, Then, End, Client, Server, ClientStarts, ServerStarts, AtClient, AtServer, Has, Request, Response, client_history, server_history, effect, numbers, sent, answered, delivered}
 
 -- a fact about each event, over the world before it (own rule)

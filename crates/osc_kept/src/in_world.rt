@@ -17,23 +17,21 @@ ghost use Rattle.osc_endpoint.specs.declared.start.Start.{Start as StartOf};
 ghost use Rattle.osc_kept.specs.CallsInWorld.{AsksInWorld, ClientAfter, ClientDecidesInWorld, ClientRestartsInWorld, ClientRunsIn, ClientStartsInWorld, ClientTakesInWorld, DecidesInWorld, HoldsTicket, NobodyForgesTo, RestartsInWorld, RunsIn, ServerAfter, ServesInWorld, StartsInWorld, TakesInWorld};
 ghost use Rattle.osc_kept.specs.GoingOn.{HasSavedFirst};
 ghost use Rattle.osc_kept.specs.InWorld.{IsUnseen};
-ghost use Rattle.osc_kept.specs.KeptServing.{IsStart};
+ghost use Rattle.osc_kept_ends.specs.KeptServing.{IsStart};
 ghost use Rattle.osc_kept.specs.Premises.{IsKept, NobodyForgesRequests};
-ghost use Rattle.osc_kept.specs.Refusals.{Loaded, RefusesAt};
-ghost use Rattle.osc_kept.specs.declared.kept_error.KeptError.TheVariants.{LivesExhausted};
+ghost use Rattle.osc_kept_ends.specs.Refusals.{Loaded, RefusesAt};
+ghost use Rattle.osc_kept_ends.specs.declared.kept_error.KeptError.TheVariants.{LivesExhausted};
 ghost use Rattle.osc_kept.specs.World.{World, Client as ClientEnd, Server as ServerEnd, numbers};
 
-use crate::client_run::run_kept_client_on;
-use crate::kept_client::KeptClient;
-use crate::kept_error::KeptError;
-use crate::kept_event::{KeptClientEntry, KeptClientEvent, KeptServerEntry, KeptServerEvent};
-use crate::kept_server::KeptServer;
 use crate::laws::{kept_ends_in_world, kept_runs_in_world};
-use crate::server_run::run_kept_server_on;
 use osc_coap::Message;
 use osc_context::{Context, Keeper, KeeperError};
 use osc_endpoint::{
     ClientDecision, ClientOutcome, Decided, Fresh, ReplyError, RequestError, Taken, Ticket,
+};
+use osc_kept_ends::{
+    KeptClient, KeptClientEntry, KeptClientEvent, KeptError, KeptServer, KeptServerEntry,
+    KeptServerEvent, run_kept_client_on, run_kept_server_on,
 };
 use osc_window::WindowSize;
 use std::alloc::{AllocError, Global};

@@ -12,7 +12,7 @@ ghost use Rattle.osc_kept.specs.RunsInWorld.{ClientRunInWorld, ServerRunInWorld}
 
 use osc_coap::one_datagram;
 use osc_context::{Keeper, one_nonce, one_option_value};
-use osc_endpoint::{contexts_stand_alone, ends_are_plain, ticket_once};
+use osc_laws::{contexts_stand_alone, ends_are_plain, ticket_once};
 use osc_protect::{one_cipher_input, one_notification, sealed_opens};
 
 /// States what holds for each list of what happens at both ends and between them, including restarts and lost memory of either end. A

@@ -1,31 +1,21 @@
 //! Both ends of OSCORE with Sender Sequence Numbers that outlive them (RFC 8613, 7.2.1 and B.1.1).
 #![tactic(auto)]
 
-mod client_run;
-mod drawn;
 mod in_world;
-mod kept_client;
-mod kept_error;
-mod kept_event;
-mod kept_server;
 mod laws;
-mod server_run;
-mod source;
 
-pub use client_run::{run_kept_client, run_kept_client_on};
 pub use in_world::{
     advance_in_world, decide_in_world, decide_response_in_world, forget_in_world, notify_in_world,
     reply_in_world, request_in_world, restart_client_in_world, restart_server_in_world,
     run_client_in_world, run_server_in_world, start_client_in_world, start_server_in_world,
     take_in_world, take_response_in_world,
 };
-pub use kept_client::KeptClient;
-pub use kept_error::KeptError;
-pub use kept_event::{KeptClientEntry, KeptClientEvent, KeptServerEntry, KeptServerEvent};
-pub use kept_server::KeptServer;
 pub use laws::{
     both_ends, each_context, fresh_by_saving, kept_ends_are_plain, kept_ends_begin,
     kept_ends_go_on, kept_ends_in_world, kept_runs_in_world, premises_are_needed,
     premises_can_be_met, shares_stay_like,
 };
-pub use server_run::{run_kept_server, run_kept_server_on};
+pub use osc_kept_ends::{
+    KeptClient, KeptClientEntry, KeptClientEvent, KeptError, KeptServer, KeptServerEntry,
+    KeptServerEvent, run_kept_client, run_kept_client_on, run_kept_server, run_kept_server_on,
+};

@@ -12,8 +12,8 @@ use Rattle.osc_kept.proofs.Saving.{saved_still}
 use Rattle.osc_kept.specs.Claims.{TwoEnds}
 use Rattle.osc_kept.specs.GoingOn.{ClientMoves, ClientRuns, HasSavedFirst, ServerMoves, ServerRuns}
 use Rattle.osc_kept.specs.InWorld.{ClientInWorld, ClientTrusts, IsAsClaimed, ServerInWorld, ServerStartsInWorld, ServerTrusts}
-use Rattle.osc_kept.specs.KeptServing.{IsStart}
-use Rattle.osc_kept.specs.Numbering.{Own, AreAlike, Allowed, Goes, Load, Reserve, after, nothing_drawn}
+use Rattle.osc_kept_ends.specs.KeptServing.{IsStart}
+use Rattle.osc_kept_ends.specs.Numbering.{Own, AreAlike, Allowed, Goes, Load, Reserve, after, nothing_drawn}
 use Rattle.osc_kept.specs.Premises.{AtEach, IsKept, IsNoAdd, NumbersAreKept}
 use Rattle.osc_kept.specs.World.{World, Then, End, Client, Server, Reserves, numbers}
 use Rattle.osc_kept_handle.specs.BytesInWorld.{ClientAfter, ClientSavesInWorld, SavesInWorld, ServerAfter, StartsInWorld}

@@ -5,8 +5,8 @@ use Rattle.osc_endpoint.specs.ClientAnswer.{ClientAnswer}
 use Rattle.osc_endpoint.specs.ClientHistory.{History, Then, Request, Sent, NotSent, next}
 use Rattle.osc_endpoint.specs.declared.client_outcome.RequestError.{RequestError}
 use Rattle.osc_handle.specs.ClientBytes.{Asks}
-use Rattle.osc_kept.proofs.Drawing.{in_hand, upcoming_stays}
-use Rattle.osc_kept.specs.Numbering.{Own, Use, after, upcoming}
+use Rattle.osc_kept_ends.proofs.Drawing.{in_hand, upcoming_stays}
+use Rattle.osc_kept_ends.specs.Numbering.{Own, Use, after, upcoming}
 use Rattle.osc_kept_handle.proofs.NumberSteps.{drawn_by, upcoming_within, used}
 use Rattle.osc_kept_handle.specs.KeptClientBytes.{AsksWith, StepsClient}
 use Rattle.osc_kept_handle.specs.Reserved.{AreReserved, WantsSave}

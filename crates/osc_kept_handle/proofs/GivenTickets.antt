@@ -3,12 +3,13 @@ use Rattle.std.proofs.Common.{◌≡◌, ℕ, sym, ap, subst, refl, Bool, Some, 
 use Rattle.std.specs.List.{AllByRecursion}
 use Rattle.osc_coap.specs.Datagram.{Parts}
 use Rattle.osc_context.specs.SecurityContext.{SecurityContext}
-use Rattle.osc_endpoint.specs.Laws.{AreApart, AreLeft, answered, delivered}
+use Rattle.osc_laws.specs.Laws.{AreApart, answered, delivered}
+use Rattle.osc_endpoint.specs.Tickets.{AreLeft}
 use Rattle.osc_endpoint.specs.ServerHistory as server
-use Rattle.osc_endpoint.specs.Waiting.{AnsweredOnce}
+use Rattle.osc_laws.specs.Waiting.{AnsweredOnce}
 use Rattle.osc_kept.proofs.InWorld.{had_tickets}
 use Rattle.osc_kept.specs.InWorld.{IsHeld, ServerTrusts}
-use Rattle.osc_kept.specs.Numbering.{Own}
+use Rattle.osc_kept_ends.specs.Numbering.{Own}
 use Rattle.osc_kept.specs.Premises.{Answers, AtEach}
 use Rattle.osc_kept.specs.World.{World, Has, server_history}
 use Rattle.osc_kept_handle.specs.KeptServerBytes.{StepsServer}

@@ -3,7 +3,7 @@ use Rattle.std.proofs.Common.{◌≡◌, ℕ, ◌+◌, ◌<◌, ◌≤◌, ◌^�
 use Rattle.std.specs.Prelude.{unwrap_or}
 use Rattle.std.proofs.Math.Nat.{eq-or-lt_of_le}
 use Rattle.osc_context.specs.Reserving.{Covers, next_limit}
-use Rattle.osc_kept.specs.Numbering.{Own, Draw, Reserve, Load, Use, Allowed, Draws, DrawsFrom, after, nothing_drawn, upcoming}
+use Rattle.osc_kept_ends.specs.Numbering.{Own, Draw, Reserve, Load, Use, Allowed, Draws, DrawsFrom, after, nothing_drawn, upcoming}
 use Rattle.osc_kept_handle.specs.Reserved.{AreReserved, WantsSave}
 use Rattle.osc_kept_handle.specs.declared.kept_refusal.KeptRefusal.{KeptRefusal}
 use Rattle.osc_kept_handle.specs.declared.kept_refusal.KeptRefusal.TheVariants.{BadHandle, SaveFirst}

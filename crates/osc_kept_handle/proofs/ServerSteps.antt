@@ -16,11 +16,11 @@ use Rattle.osc_handle.specs.ServerBytes.{NotifiesIn, AddsIn, RepliesIn, Serves}
 use Rattle.osc_handle.specs.SingleServerBytes.{server_of_one, table_of}
 use Rattle.osc_handle.specs.SlotBytes.{IsSlotBytes}
 use Rattle.osc_handle.specs.declared.single_server_handle.SingleServerHandle.{SingleServerHandle}
-use Rattle.osc_kept.proofs.ServerSteps.{IsChallenge, IsNoChallenge, notify_own, notify_refused, reply_own, reply_refused, reply_shared, took_sealed, took_unsealed}
-use Rattle.osc_kept.specs.KeptServing.{IsKept, IsStart}
+use Rattle.osc_kept_ends.proofs.ServerSteps.{IsChallenge, IsNoChallenge, notify_own, notify_refused, reply_own, reply_refused, reply_shared, took_sealed, took_unsealed}
+use Rattle.osc_kept_ends.specs.KeptServing.{IsKept, IsStart}
 use Rattle.osc_context.specs.Reserving.{next_limit}
 use Rattle.osc_context.specs.SecurityContext.{SecurityContext}
-use Rattle.osc_kept.specs.Numbering.{Own, Goes, Load, Reserve, Use, after, nothing_drawn, upcoming}
+use Rattle.osc_kept_ends.specs.Numbering.{Own, Goes, Load, Reserve, Use, after, nothing_drawn, upcoming}
 use Rattle.osc_kept_handle.proofs.NumberSteps.{can_reserve, comes_next, drawn_by, loaded, reserved_more, upcoming_within, used}
 use Rattle.osc_kept_handle.specs.KeptServerBytes.{ServesWith, StepsServer}
 use Rattle.osc_kept_handle.specs.Reserved.{AreReserved, WantsSave}

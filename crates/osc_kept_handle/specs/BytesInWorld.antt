@@ -12,13 +12,13 @@ use Rattle.osc_endpoint.specs.declared.start.Start.{Start}
 use Rattle.osc_endpoint.specs.ClientDeciding as client_deciding
 use Rattle.osc_endpoint.specs.ClientHistory as client
 use Rattle.osc_endpoint.specs.Deciding as deciding
-use Rattle.osc_endpoint.specs.Laws.{delivered}
+use Rattle.osc_laws.specs.Laws.{delivered}
 use Rattle.osc_endpoint.specs.ServerHistory as server
 use Rattle.osc_endpoint.specs.Views.{ClientShows, Shows}
 use Rattle.osc_kept.specs.GoingOn.{ClientRuns, GoesOn, ServerRuns, server_started}
 use Rattle.osc_kept.specs.InWorld.{ClientStays, IsAsClaimed, ServerStays}
-use Rattle.osc_kept.specs.KeptServing.{IsStart}
-use Rattle.osc_kept.specs.Numbering.{Own, Load, after, nothing_drawn}
+use Rattle.osc_kept_ends.specs.KeptServing.{IsStart}
+use Rattle.osc_kept_ends.specs.Numbering.{Own, Load, after, nothing_drawn}
 use Rattle.osc_kept.specs.World.{World, Then, Client, Server, ClientStarts, Reserves, AtClient, AtServer, Has, numbers, server_history}
 use Rattle.osc_kept_handle.specs.KeptClientBytes.{AsksWith}
 use Rattle.osc_kept_handle.specs.KeptServerBytes.{ServesWith}

@@ -8,8 +8,8 @@ use Rattle.osc_endpoint.specs.Views.{ClientShows}
 use Rattle.osc_endpoint.specs.declared.client_outcome.ClientOutcome.{ClientOutcome}
 use Rattle.osc_endpoint.specs.declared.decision.ClientDecision.{ClientDecision}
 use Rattle.osc_handle.specs.ClientBytes.{Asks, IsClient}
-use Rattle.osc_kept.specs.KeptAsking.{draws, uses}
-use Rattle.osc_kept.specs.Numbering.{Own, Steps, upcoming}
+use Rattle.osc_kept_ends.specs.KeptAsking.{draws, uses}
+use Rattle.osc_kept_ends.specs.Numbering.{Own, Steps, upcoming}
 use Rattle.osc_kept_handle.specs.Reserved.{AreReserved}
 use Rattle.osc_kept_handle.specs.declared.kept_client_handle.KeptClientHandle.{KeptClientHandle}
 use Rattle.osc_kept_handle.specs.declared.kept_refusal.KeptRequestRefusal.{KeptRequestRefusal}

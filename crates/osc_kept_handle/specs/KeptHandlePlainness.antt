@@ -2,10 +2,10 @@
 -- the numbers of the end, h is a history.
 use Rattle.std.specs.Prelude.{◌≡◌, false}
 use Rattle.osc_endpoint.specs.ClientHistory as client
-use Rattle.osc_endpoint.specs.Plainness.{ClientIsPlain, ServerIsPlain}
+use Rattle.osc_laws.specs.Plainness.{ClientIsPlain, ServerIsPlain}
 use Rattle.osc_endpoint.specs.ServerHistory as server
-use Rattle.osc_handle.specs.ContextBytes.{client_in, server_in}
-use Rattle.osc_kept.specs.Numbering.{Own}
+use Rattle.osc_context_handle.specs.ContextBytes.{client_in, server_in}
+use Rattle.osc_kept_ends.specs.Numbering.{Own}
 use Rattle.osc_kept_handle.specs.KeptClientBytes.{AsksWith}
 use Rattle.osc_kept_handle.specs.KeptServerBytes.{ServesWith}
 use Rattle.osc_kept_handle.specs.declared.kept_client_handle.KeptClientHandle.{KeptClientHandle}

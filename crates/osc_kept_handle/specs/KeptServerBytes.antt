@@ -13,8 +13,8 @@ use Rattle.osc_endpoint.specs.declared.start.Fresh.{Fresh}
 use Rattle.osc_handle.specs.ServerBytes.{Serves}
 use Rattle.osc_handle.specs.SingleServerBytes.{server_of_one}
 use Rattle.osc_handle.specs.SlotBytes.{IsSlotBytes}
-use Rattle.osc_kept.specs.KeptServing.{draws, uses}
-use Rattle.osc_kept.specs.Numbering.{Own, Steps, upcoming}
+use Rattle.osc_kept_ends.specs.KeptServing.{draws, uses}
+use Rattle.osc_kept_ends.specs.Numbering.{Own, Steps, upcoming}
 use Rattle.osc_kept_handle.specs.Reserved.{AreReserved}
 use Rattle.osc_kept_handle.specs.declared.kept_refusal.KeptReplyRefusal.{KeptReplyRefusal}
 use Rattle.osc_kept_handle.specs.declared.kept_refusal.KeptReplyRefusal.TheVariants.{BadHandle, SaveFirst, TicketSpent, Refused}

@@ -2,7 +2,7 @@
 -- reserved the first number that isn't reserved.
 use Rattle.std.specs.Prelude.{◌≡◌, ◌⊎◌, ℕ, ◌+◌, ◌<◌, ◌≤◌, ◌^◌, Bool, true, Some}
 use Rattle.osc_context.specs.Reserving.{Covers}
-use Rattle.osc_kept.specs.Numbering.{Own, upcoming}
+use Rattle.osc_kept_ends.specs.Numbering.{Own, upcoming}
 
 -- the numbers below this one are reserved; the number in hand, if there is one, was drawn last; and each number that is still to be used is below what was
 -- saved (RFC 8613, B.1.1)

@@ -9,8 +9,8 @@ ghost use Rattle.osc_endpoint.specs.ClientHistory.{Forget, Forgot, History, New,
 ghost use Rattle.osc_endpoint.specs.declared.client_outcome.RequestError.TheVariants.{KeeperFailed};
 ghost use Rattle.osc_handle.specs.ClientBytes.{parts_in};
 ghost use Rattle.osc_handle.specs.ClientSteps.{LeavesIn};
-ghost use Rattle.osc_handle.specs.ContextBytes.{IsContext, client_in};
-ghost use Rattle.osc_kept.specs.Numbering.{Allowed, Goes, Load, Own, Reserve, after, nothing_drawn, upcoming};
+ghost use Rattle.osc_context_handle.specs.ContextBytes.{IsContext, client_in};
+ghost use Rattle.osc_kept_ends.specs.Numbering.{Allowed, Goes, Load, Own, Reserve, after, nothing_drawn, upcoming};
 ghost use Rattle.osc_kept_handle.specs.KeptClientBytes.{AsksWith, ClientDecidesWith, ClientTakesWith, IsKeptClient, StepsClient, entry_of_kept_request};
 ghost use Rattle.osc_kept_handle.specs.Reserved.{WantsSave};
 ghost use Rattle.osc_kept_handle.specs.declared.kept_refusal.KeptRequestRefusal.TheVariants as refusals;

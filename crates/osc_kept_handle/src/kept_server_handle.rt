@@ -12,13 +12,13 @@ ghost use Rattle.osc_endpoint.specs.declared.outcome.Outcome.TheVariants.{Keeper
 ghost use Rattle.osc_endpoint.specs.declared.server_error.ReplyError.TheVariants.{KeeperFailed};
 ghost use Rattle.osc_endpoint.specs.declared.slot.Slot.{Slot as SlotOf};
 ghost use Rattle.osc_endpoint.specs.declared.start.Start.{Start as StartOf};
-ghost use Rattle.osc_handle.specs.ContextBytes.{IsContext, server_in};
+ghost use Rattle.osc_context_handle.specs.ContextBytes.{IsContext, server_in};
 ghost use Rattle.osc_handle.specs.ServerBytes.{IsSpent};
 ghost use Rattle.osc_handle.specs.SingleServerBytes.{table_of};
 ghost use Rattle.osc_handle.specs.TableBytes.{IsTableIn};
 ghost use Rattle.osc_handle.specs.TicketBytes.{IsTicket, ticket_in};
-ghost use Rattle.osc_kept.specs.KeptServing.{IsStart};
-ghost use Rattle.osc_kept.specs.Numbering.{Allowed, Goes, Load, Own, Reserve, after, nothing_drawn, upcoming};
+ghost use Rattle.osc_kept_ends.specs.KeptServing.{IsStart};
+ghost use Rattle.osc_kept_ends.specs.Numbering.{Allowed, Goes, Load, Own, Reserve, after, nothing_drawn, upcoming};
 ghost use Rattle.osc_kept_handle.specs.KeptServerBytes.{DecidesWith, IsKeptServer, ServesWith, StepsServer, TakesWith, entry_of_kept_reply};
 ghost use Rattle.osc_kept_handle.specs.Reserved.{WantsSave};
 ghost use Rattle.osc_kept_handle.specs.declared.kept_refusal.KeptRefusal.TheVariants as refusals;

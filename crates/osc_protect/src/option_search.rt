@@ -14,7 +14,7 @@ use osc_coap::option_numbers::{OSCORE, URI_HOST, URI_PORT};
 use osc_context::Features;
 
 /// How many options of one number there are, and the value if there is exactly one.
-#[derive(Clone, Copy, Debug)]
+#[derive(Clone, Copy)]
 pub(crate) enum Found<'a> {
     Nothing,
     One(&'a [u8]),
@@ -36,7 +36,7 @@ impl<'a> Found<'a> {
 }
 
 /// What the outer options say about the protection.
-#[derive(Clone, Copy, Debug)]
+#[derive(Clone, Copy)]
 pub(crate) struct OuterOptions<'a> {
     pub(crate) oscore: Found<'a>,
     pub(crate) has_proxy: bool,
@@ -66,7 +66,7 @@ impl<'a> OuterOptions<'a> {
 }
 
 /// The first Uri-Host and the first Uri-Port.
-#[derive(Clone, Copy, Debug)]
+#[derive(Clone, Copy)]
 pub(crate) struct OuterUri<'a> {
     pub(crate) host: Option<&'a [u8]>,
     pub(crate) port: Option<&'a [u8]>,

@@ -19,7 +19,7 @@ const OBSERVING_REQUEST_CODE: u8 = 0x05;
 const OBSERVING_RESPONSE_CODE: u8 = 0x45;
 
 /// What a message is in an exchange: a request or a response.
-#[derive(Clone, Copy, Debug)]
+#[derive(Clone, Copy)]
 pub(crate) enum Usage {
     Request,
     Response,

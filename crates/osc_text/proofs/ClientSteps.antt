@@ -14,7 +14,7 @@ use Rattle.osc_endpoint.specs.declared.client_event.ClientEvent.{ClientEvent}
 use Rattle.osc_endpoint.specs.declared.client_event.ClientEvent.TheVariants as events
 use Rattle.osc_endpoint.specs.declared.client_outcome.ClientOutcome.{ClientOutcome}
 use Rattle.osc_endpoint.specs.declared.client_outcome.ClientOutcome.TheVariants as outcomes
-use Rattle.osc_endpoint.specs.ClientLaws.{AllClientAnswers, OneClientAnswer}
+use Rattle.osc_laws.specs.ClientLaws.{AllClientAnswers, OneClientAnswer}
 use Rattle.osc_text.specs.AskedEvents as asked
 use Rattle.osc_text.specs.AskedReading.{HasRoom, asked_seen}
 use Rattle.osc_text.specs.Asking.{ClientLine, RequestLine, places, request_room}

@@ -2,7 +2,7 @@
 use Rattle.std.proofs.Common.{◌≡◌, ℕ, List, [], ◌∷◌, ◌++◌, Option, Some, None, sym, ap, ap₂, subst, ◌∙◌, slice_set}
 use Rattle.osc_coap.specs.Datagram.{Parts, IsDatagram}
 use Rattle.osc_coap.specs.Laws.{DatagramHasNoFault, DatagramHasOneFault, DatagramIsOneMessage}
-use Rattle.osc_endpoint.specs.Laws.{AllAnswers, OneServerAnswer}
+use Rattle.osc_laws.specs.Laws.{AllAnswers, OneServerAnswer}
 use Rattle.osc_endpoint.specs.ServerAnswer.{asks_own}
 use Rattle.osc_endpoint.specs.ServerHistory.{Datagram, Entry, Event, History, NotReplied, NotRestarted, Notify, Replied, Reply, Restarted, Then, TicketValues, Took}
 use Rattle.osc_endpoint.specs.ServerRun.{GoesOn, ticket_at, ticket_of}

@@ -2,7 +2,7 @@
 use Rattle.std.proofs.Common.{◌≡◌, ℕ, List, [], ◌∷◌, Option, Result, IfOk, ap, subst, ◌∙◌}
 use Rattle.osc_context.specs.SecurityContext.{SecurityContext}
 use Rattle.osc_window.specs.declared.window_size.WindowSize.{WindowSize}
-use Rattle.osc_endpoint.specs.Laws.{OneServerAnswer}
+use Rattle.osc_laws.specs.Laws.{OneServerAnswer}
 use Rattle.osc_endpoint.specs.ServerAnswer.{ServerAnswer}
 use Rattle.osc_endpoint.specs.ServerHistory.{Add, Added, Begin, Entry, NotAdded, Then}
 use Rattle.osc_endpoint.specs.Text.{add_error_text}

@@ -7,13 +7,13 @@ use Rattle.osc_context.specs.declared.context_error.ContextError.{ContextError}
 use Rattle.osc_context.specs.declared.keeper.Keeper as keeper
 use Rattle.osc_text.specs.declared.agreed.Agreed.{Agreed}
 use Rattle.osc_endpoint.specs.ClientHistory.{New}
-use Rattle.osc_kept.specs.KeptRuns.{ClientState, ClientStep}
-use Rattle.osc_kept.specs.Numbering.{Goes, Load, nothing_drawn}
-use Rattle.osc_kept.specs.Owning.{own_in}
-use Rattle.osc_kept.specs.Refusals.{Loaded, RefusesAt}
-use Rattle.osc_kept.specs.Views.{kept_error_text}
-use Rattle.osc_kept.specs.declared.kept_error.KeptError.{KeptError}
-use Rattle.osc_kept.specs.declared.kept_error.KeptError.TheVariants.{LivesExhausted}
+use Rattle.osc_kept_ends.specs.KeptRuns.{ClientState, ClientStep}
+use Rattle.osc_kept_ends.specs.Numbering.{Goes, Load, nothing_drawn}
+use Rattle.osc_kept_ends.specs.Owning.{own_in}
+use Rattle.osc_kept_ends.specs.Refusals.{Loaded, RefusesAt}
+use Rattle.osc_kept_ends.specs.Views.{kept_error_text}
+use Rattle.osc_kept_ends.specs.declared.kept_error.KeptError.{KeptError}
+use Rattle.osc_kept_ends.specs.declared.kept_error.KeptError.TheVariants.{LivesExhausted}
 use Rattle.osc_text.specs.Asking.{places}
 use Rattle.osc_text.specs.Contexts.{agreed_client, InContext, Told}
 use Rattle.osc_text.specs.InputText.{InputText}

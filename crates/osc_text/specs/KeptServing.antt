@@ -8,14 +8,14 @@ use Rattle.osc_context.specs.declared.keeper.Keeper as keeper
 use Rattle.osc_text.specs.declared.agreed.Agreed.{Agreed}
 use Rattle.osc_endpoint.specs.ServerHistory.{Begin, Then, Add, Added}
 use Rattle.osc_endpoint.specs.declared.start.Start.{Start}
-use Rattle.osc_kept.specs.KeptRuns.{ServerState, ServerStep}
-use Rattle.osc_kept.specs.KeptServing.{IsStart, started}
-use Rattle.osc_kept.specs.Numbering.{nothing_drawn}
-use Rattle.osc_kept.specs.Owning.{own_in}
-use Rattle.osc_kept.specs.Refusals.{Loaded, RefusesAt}
-use Rattle.osc_kept.specs.Views.{kept_error_text}
-use Rattle.osc_kept.specs.declared.kept_error.KeptError.{KeptError}
-use Rattle.osc_kept.specs.declared.kept_error.KeptError.TheVariants.{LivesExhausted}
+use Rattle.osc_kept_ends.specs.KeptRuns.{ServerState, ServerStep}
+use Rattle.osc_kept_ends.specs.KeptServing.{IsStart, started}
+use Rattle.osc_kept_ends.specs.Numbering.{nothing_drawn}
+use Rattle.osc_kept_ends.specs.Owning.{own_in}
+use Rattle.osc_kept_ends.specs.Refusals.{Loaded, RefusesAt}
+use Rattle.osc_kept_ends.specs.Views.{kept_error_text}
+use Rattle.osc_kept_ends.specs.declared.kept_error.KeptError.{KeptError}
+use Rattle.osc_kept_ends.specs.declared.kept_error.KeptError.TheVariants.{LivesExhausted}
 use Rattle.osc_window.specs.declared.window_size.WindowSize.{WindowSize}
 use Rattle.osc_text.specs.Contexts.{agreed_server, InContext, Told}
 use Rattle.osc_text.specs.InputText.{InputText}

@@ -11,7 +11,8 @@ use crate::entry_lines::write_log;
 use crate::fault::Fault;
 use osc_coap::one_datagram;
 use osc_context::{Context, Piv};
-use osc_endpoint::{Client, ClientEvent, one_client_answer, run_client};
+use osc_endpoint::{Client, ClientEvent, run_client};
+use osc_laws::one_client_answer;
 use std::alloc::Global;
 use std::io::Write;
 
@@ -70,6 +71,7 @@ impl Beginning for Asking {
         input: &[u8],
         out: &mut W,
     ) -> Result<u8, Fault> {
+        // For the proof alone.
         one_client_answer();
         one_datagram();
         let mut client = Client::<16>::new(context, self.next, self.life_ms);

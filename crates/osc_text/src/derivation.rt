@@ -23,6 +23,7 @@ pub fn derive_text<W: Write>(alloc: Global, agreed: Agreed<'_>, out: &mut W) -> 
         → IfOk result (λ s. s ≡ status) }
     ensures two { IfOk result (λ s. (s ≡ 0) ⊎ (s ≡ 2)) }
 {
+    // For the proof alone.
     one_context_refusal();
     write_derivation(alloc, agreed, out)
 }

@@ -60,6 +60,7 @@ pub(crate) fn write_run<B: Beginning, W: Write>(
     ensures { RunsContext agreed.entry.params (W.contents out.old) (W.contents out.new) result
         (B.promised beginning (agreed_client agreed.entry) (agreed_server agreed.entry) input.now W W.contents out.old out.new result) }
 {
+    // For the proof alone.
     one_context_refusal();
     match agreed.derive() {
         Ok(context) => beginning.write_under(alloc, context, input, out),

@@ -25,6 +25,7 @@ pub fn explain_text<W: Write>(alloc: Global, datagram: &[u8], out: &mut W) -> Re
         → IfOk result (λ s. s ≡ status) }
     ensures two { IfOk result (λ s. (s ≡ 0) ⊎ (s ≡ 2)) }
 {
+    // For the proof alone.
     one_datagram();
     value_or_refusal();
     write_explanation(alloc, datagram, out)

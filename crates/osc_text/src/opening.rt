@@ -47,6 +47,7 @@ pub fn open_text<W: Write>(
         → IfOk result (λ s. s ≡ status) }
     ensures two { IfOk result (λ s. (s ≡ 0) ⊎ (s ≡ 2)) }
 {
+    // For the proof alone.
     one_context_refusal();
     one_request();
     one_response();

@@ -11,7 +11,8 @@ use crate::fault::Fault;
 use crate::lines::put_refused;
 use osc_coap::one_datagram;
 use osc_context::{Context, Piv};
-use osc_endpoint::{Server, ServerEvent, Start, one_server_answer, run_server};
+use osc_endpoint::{Server, ServerEvent, Start, run_server};
+use osc_laws::one_server_answer;
 use osc_window::WindowSize;
 use std::alloc::Global;
 use std::io::Write;
@@ -85,6 +86,7 @@ impl Beginning for Serving {
         input: &[u8],
         out: &mut W,
     ) -> Result<u8, Fault> {
+        // For the proof alone.
         one_server_answer();
         one_datagram();
         let mut server = Server::new();

@@ -1,7 +1,7 @@
 use Rattle.std.proofs.Common.{ℕ, ◌≤◌, arith, refl, rules, subst}
 use Rattle.osc_endpoint.specs.ClientHistory.{New}
-use Rattle.osc_handle.specs.ContextBytes.{client_in}
-use Rattle.osc_kept.specs.Numbering.{Load, after, nothing_drawn}
+use Rattle.osc_context_handle.specs.ContextBytes.{client_in}
+use Rattle.osc_kept_ends.specs.Numbering.{Load, after, nothing_drawn}
 use Rattle.osc_kept_handle.specs.KeptClientBytes.{AsksWith}
 use Rattle.osc_c.specs.ClientCalls.RefusesNumber.{bad_handle, bad_number}
 use Rattle.osc_c.specs.declared.status.Status.TheVariants.{BadHandle, BadNumber}

@@ -1,8 +1,8 @@
 use Rattle.std.proofs.Common.{◌≡◌, ℕ, ◌≤◌, arith, false, refl, rules, subst, true}
 use Rattle.osc_endpoint.specs.ServerHistory.{Add, Added, Begin, Then}
-use Rattle.osc_handle.specs.ContextBytes.{server_in}
-use Rattle.osc_kept.specs.KeptServing.{IsStart}
-use Rattle.osc_kept.specs.Numbering.{Load, after, nothing_drawn}
+use Rattle.osc_context_handle.specs.ContextBytes.{server_in}
+use Rattle.osc_kept_ends.specs.KeptServing.{IsStart}
+use Rattle.osc_kept_ends.specs.Numbering.{Load, after, nothing_drawn}
 use Rattle.osc_kept_handle.specs.KeptServerBytes.{ServesWith}
 use Rattle.osc_c.specs.ClientCalls.RefusesNumber.{bad_handle, bad_number}
 use Rattle.osc_c.specs.declared.status.Status.TheVariants.{BadHandle, BadNumber}

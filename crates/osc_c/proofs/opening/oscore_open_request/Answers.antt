@@ -3,7 +3,7 @@ use Rattle.osc_protect.proofs.Splits.{not_err}
 use Rattle.osc_protect.specs.Protection.{requests}
 use Rattle.osc_protect.specs.StageViews.{LendsRequest}
 use Rattle.osc_protect.specs.declared.stages.ReadRequest.{ReadRequest}
-use Rattle.osc_handle.specs.ContextBytes.{server_in}
+use Rattle.osc_context_handle.specs.ContextBytes.{server_in}
 use Rattle.osc_c.specs.Statuses.{code}
 use Rattle.osc_c.specs.declared.status.Refusal.{Refusal}
 use Rattle.osc_c.proofs.opening.oscore_open_request.Goals as goal

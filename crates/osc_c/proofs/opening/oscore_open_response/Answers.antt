@@ -3,7 +3,7 @@ use Rattle.osc_protect.proofs.Splits.{not_err}
 use Rattle.osc_protect.specs.Protection.{responses}
 use Rattle.osc_protect.specs.StageViews.{LendsResponse}
 use Rattle.osc_protect.specs.declared.stages.ReadResponse.{ReadResponse}
-use Rattle.osc_handle.specs.ContextBytes.{client_in}
+use Rattle.osc_context_handle.specs.ContextBytes.{client_in}
 use Rattle.osc_c.specs.Statuses.{code}
 use Rattle.osc_c.specs.declared.status.Refusal.{Refusal}
 use Rattle.osc_c.proofs.opening.oscore_open_response.Goals as goal

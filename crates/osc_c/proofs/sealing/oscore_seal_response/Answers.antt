@@ -1,6 +1,6 @@
 use Rattle.std.proofs.Common.{◌∙◌, ap, length, sym}
 use Rattle.osc_c.specs.Statuses.{code}
-use Rattle.osc_handle.specs.ContextBytes.{IsContext, server_in}
+use Rattle.osc_context_handle.specs.ContextBytes.{IsContext, server_in}
 use Rattle.osc_c.specs.Calls.{AreNumbers}
 use Rattle.osc_c.specs.Opened.{number_given}
 use Rattle.osc_c.proofs.Room.{response_has_room}

@@ -5,7 +5,7 @@ use Rattle.osc_context.specs.SecurityContext.{SecurityContext}
 use Rattle.osc_protect.proofs.Splits.{not_err}
 use Rattle.osc_protect.specs.Protection.{Protection, requests}
 use Rattle.osc_protect.specs.SealRefusals.{FitsToSeal, RefusesToSeal}
-use Rattle.osc_handle.specs.ContextBytes.{client_in}
+use Rattle.osc_context_handle.specs.ContextBytes.{client_in}
 use Rattle.osc_c.specs.Calls.RefusesSealing.{bad_handle, bad_number, malformed, refused}
 use Rattle.osc_c.specs.Statuses.{format_status, seal_detail, seal_status}
 use Rattle.osc_c.specs.declared.status.Refusal.{Refusal}

@@ -2,9 +2,9 @@ use Rattle.std.proofs.Common.{ℕ, ◌≤◌, subst, sym, arith}
 use Rattle.std.proofs.lemmas.Option.{IfSome_then}
 use Rattle.osc_context.specs.Views.{number_of}
 use Rattle.osc_endpoint.specs.ServerHistory.{Add, Added, Begin, Then}
-use Rattle.osc_handle.specs.ContextBytes.{server_in}
-use Rattle.osc_kept.specs.KeptServing.{IsStart}
-use Rattle.osc_kept.specs.Numbering.{Load, after, nothing_drawn}
+use Rattle.osc_context_handle.specs.ContextBytes.{server_in}
+use Rattle.osc_kept_ends.specs.KeptServing.{IsStart}
+use Rattle.osc_kept_ends.specs.Numbering.{Load, after, nothing_drawn}
 use Rattle.osc_kept_handle.specs.KeptServerBytes.{ServesWith}
 use Rattle.osc_kept_handle.proofs.BytesInWorld.{starts_later}
 use Rattle.osc_kept_handle.proofs.in_world.begin_server_in_world.Goals as goal

@@ -3,8 +3,8 @@ use Rattle.std.specs.Prelude.{slice_get}
 use Rattle.std.proofs.lemmas.Bool.{cases_eq}
 use Rattle.std.proofs.lemmas.Option.{get_or_from_slice_get}
 use Rattle.osc_context.specs.SecurityContext.{SecurityContext}
-use Rattle.osc_endpoint.specs.Senders.{HaveSameSender}
-use Rattle.osc_handle.specs.ContextBytes.{server_in}
+use Rattle.osc_context.specs.Senders.{HaveSameSender}
+use Rattle.osc_context_handle.specs.ContextBytes.{server_in}
 use Rattle.osc_handle.specs.declared.slot_handle.SlotHandle.{SlotHandle}
 use Rattle.osc_handle.proofs.Senders.{sender_at}
 use Rattle.osc_handle.proofs.Tables.{bytes_of, in_front}

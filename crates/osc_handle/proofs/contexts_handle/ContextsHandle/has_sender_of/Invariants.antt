@@ -1,7 +1,7 @@
 use Rattle.std.proofs.Common.{◌≡◌, ◌<◌, ℕ, Some}
 use Rattle.std.specs.Prelude.{slice_get}
-use Rattle.osc_endpoint.specs.Senders.{HaveSameSender}
-use Rattle.osc_handle.specs.ContextBytes.{server_in}
+use Rattle.osc_context.specs.Senders.{HaveSameSender}
+use Rattle.osc_context_handle.specs.ContextBytes.{server_in}
 use Rattle.osc_handle.specs.declared.slot_handle.SlotHandle.{SlotHandle}
 use Rattle.osc_handle.proofs.contexts_handle.ContextsHandle.has_sender_of.Given as goal
 

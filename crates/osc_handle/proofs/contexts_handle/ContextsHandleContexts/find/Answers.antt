@@ -4,7 +4,7 @@ use Rattle.std.proofs.lemmas.Bool.{cases_eq}
 use Rattle.std.proofs.lemmas.Option.{get_or_from_slice_get}
 use Rattle.osc_context.specs.SecurityContext.{AnswersTo, SecurityContext}
 use Rattle.osc_protect.specs.Views.{shown}
-use Rattle.osc_handle.specs.ContextBytes.{server_in}
+use Rattle.osc_context_handle.specs.ContextBytes.{server_in}
 use Rattle.osc_handle.specs.declared.slot_handle.SlotHandle.{SlotHandle}
 use Rattle.osc_handle.proofs.Tables.{bytes_of, found_bytes, in_front, read_at}
 use Rattle.osc_handle.proofs.contexts_handle.ContextsHandleContexts.find.Goals as goal

@@ -1,7 +1,7 @@
 use Rattle.std.proofs.Common.{rules, ◌≤◌, refl, ap, Err, Some, length}
 use Rattle.osc_handle.proofs.Senders.{sender_in_bytes}
 use Rattle.osc_handle.proofs.Servers.{same_sender, sender_refused, serves_added, serves_not_added}
-use Rattle.osc_handle.specs.ContextBytes.{server_in}
+use Rattle.osc_context_handle.specs.ContextBytes.{server_in}
 use Rattle.osc_handle.proofs.server_handle.ServerHandle.add.Goals as goal
 
 pub returns-in-Ok-clause-answered : goal.returns-in-Ok-clause-answered

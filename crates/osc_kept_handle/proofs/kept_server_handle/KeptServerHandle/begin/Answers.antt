@@ -1,5 +1,5 @@
 use Rattle.osc_context.specs.Views.{number_of}
-use Rattle.osc_handle.specs.ContextBytes.{server_in}
+use Rattle.osc_context_handle.specs.ContextBytes.{server_in}
 use Rattle.osc_kept_handle.proofs.ServerSteps.{begun}
 use Rattle.osc_kept_handle.proofs.kept_server_handle.KeptServerHandle.begin.Goals as goal
 

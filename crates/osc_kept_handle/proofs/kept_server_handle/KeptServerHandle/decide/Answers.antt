@@ -1,5 +1,5 @@
 use Rattle.std.proofs.Common.{◌∙◌, refl, subst, sym}
-use Rattle.osc_kept.specs.Numbering.{upcoming}
+use Rattle.osc_kept_ends.specs.Numbering.{upcoming}
 use Rattle.osc_kept_handle.specs.Reserved.{WantsSave}
 use Rattle.osc_kept_handle.proofs.NumberSteps.{same_save}
 use Rattle.osc_kept_handle.proofs.ServerSteps.{took}

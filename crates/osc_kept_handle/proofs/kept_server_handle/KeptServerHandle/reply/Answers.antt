@@ -8,7 +8,7 @@ use Rattle.osc_handle.specs.declared.reply_refusal.ReplyRefusal.{ReplyRefusal}
 use Rattle.osc_handle.specs.declared.reply_refusal.ReplyRefusal.TheVariants.{Refused, TicketSpent}
 use Rattle.osc_kept_handle.proofs.NumberSteps.{no_error, same_refusal}
 use Rattle.osc_kept_handle.proofs.ServerSteps.{not_replied, replied}
-use Rattle.osc_kept.specs.Numbering.{upcoming}
+use Rattle.osc_kept_ends.specs.Numbering.{upcoming}
 use Rattle.osc_kept_handle.specs.Reserved.{WantsSave}
 use Rattle.osc_kept_handle.proofs.kept_server_handle.KeptServerHandle.reply.Goals as goal
 

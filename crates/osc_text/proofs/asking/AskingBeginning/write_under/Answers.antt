@@ -1,6 +1,6 @@
 use Rattle.osc_context.specs.Views.{as_client, number_of}
 use Rattle.osc_endpoint.specs.ClientHistory.{New}
-use Rattle.osc_endpoint.specs.ClientLaws.{AllClientAnswers}
+use Rattle.osc_laws.specs.ClientLaws.{AllClientAnswers}
 use Rattle.osc_text.specs.AskedEvents.{SpellsAsked}
 use Rattle.osc_text.specs.AskedReading.{HasRoom, asked_read, asked_seen}
 use Rattle.osc_text.specs.Asking.{ClientLine, places}

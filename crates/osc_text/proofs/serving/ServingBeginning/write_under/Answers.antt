@@ -1,7 +1,7 @@
 use Rattle.std.proofs.Common.{[], subst}
 use Rattle.osc_context.specs.Views.{as_server}
 use Rattle.osc_endpoint.specs.Agrees.{Agrees}
-use Rattle.osc_endpoint.specs.Laws.{AllAnswers}
+use Rattle.osc_laws.specs.Laws.{AllAnswers}
 use Rattle.osc_endpoint.specs.ServerAnswer.{ServerAnswer}
 use Rattle.osc_endpoint.specs.ServerHistory.{Add, Added, Begin, NotAdded, Then}
 use Rattle.osc_endpoint.specs.declared.start.Start.{Start}

@@ -1,5 +1,0 @@
-use Rattle.osc_endpoint.proofs.ClientEntriesStand.{client_entries_stand}
-use Rattle.osc_endpoint.proofs.headlines.client_headline.Goals as goal
-
-pub returns : goal.returns
-returns c = client_entries_stand c.client_rows.ensures

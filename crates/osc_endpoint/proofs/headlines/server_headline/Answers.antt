@@ -1,5 +1,0 @@
-use Rattle.osc_endpoint.proofs.EntriesStand.{entries_stand}
-use Rattle.osc_endpoint.proofs.headlines.server_headline.Goals as goal
-
-pub returns : goal.returns
-returns c = entries_stand c.server_rows.ensures

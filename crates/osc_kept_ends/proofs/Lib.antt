@@ -1,0 +1,4 @@
+pub mod Drawing
+pub mod ServerSteps
+pub mod ClientSteps
+pub mod KeptRunLemmas

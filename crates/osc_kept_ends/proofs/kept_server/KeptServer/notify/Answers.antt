@@ -1,0 +1,20 @@
+use Rattle.std.proofs.Common.{◌∙◌, sym, ap, refl, Some}
+use Rattle.std.proofs.Math.Logic.{∥∥₁_map}
+use Rattle.osc_kept_ends.specs.Numbering.{upcoming}
+use Rattle.osc_kept_ends.specs.Owning.{own_in}
+use Rattle.osc_kept_ends.proofs.kept_server.KeptServer.notify.Goals as goal
+
+pub invariant_of-self : goal.invariant_of-self
+invariant_of-self g c = record {
+  kept = ∥∥₁_map c.args.self.now.kept (λ x.
+      (x.0, record { agrees = x.1.agrees; one = x.1.one; next_is = x.1.next_is ∙ ap Some (sym (ap upcoming (c.in_default.ensures.left refl))) }));
+}
+
+pub invariant_of-self-2 : goal.invariant_of-self-2
+invariant_of-self-2 g c = record {
+  kept = ∥∥₁_map c.args.self.now.kept (λ x.
+      (_, (c.notify_drawn.ensures.answered x.0 (own_in c.args.self.now.source) x.1 (c.in-Ok.ensures.drawn refl)).kept));
+}
+
+pub returns-clause-answered : goal.returns-clause-answered
+returns-clause-answered g c = λ worked h k. c.notify_drawn.ensures.answered h (own_in c.args.self.now.source) k (c.in-Ok.ensures.drawn refl)

@@ -1,0 +1,9 @@
+-- to be believed, in reading order
+pub mod Numbering
+pub mod Refusals
+pub mod KeptServing
+pub mod KeptAsking
+pub mod KeptRuns
+-- how the code is seen
+pub mod Views
+pub mod Owning
