@@ -1,10 +1,9 @@
 -- That no two contexts of a server are ones that a request could name both, after each history of answers. R is a relation of two contexts.
-use Rattle.std.proofs.Common.{◌≡◌, ℕ, refl, true, Option, Some, None}
+use Rattle.std.proofs.Common.{◌≡◌, refl, true, Some, None}
 use Rattle.std.specs.Prelude.{◌==◌}
 use Rattle.osc_context.specs.SecurityContext.{SecurityContext}
 use Rattle.osc_endpoint.specs.Agrees.{OneEach}
 use Rattle.osc_laws.specs.Laws.{AllAnswers}
-use Rattle.osc_endpoint.specs.Life.{Life}
 use Rattle.osc_endpoint.specs.ServerAnswer.{HaveSameLookup, ServerAnswer}
 use Rattle.osc_endpoint.specs.ServerHistory.{Add, Added, Begin, Datagram, Entry, Event, History, Notify, Replied, Reply, Restart, Restarted, Then, Took, life, mark_at, reply_mark_at}
 use Rattle.osc_endpoint.proofs.Additions.{HasBy, OneBy, lookup_turned, one_more}

@@ -1,10 +1,10 @@
 -- To be believed: what each entry of a client's run is, in one statement: contracts of headlines.rt. c is the number of pending requests
 -- that there is room for, h a history of answers, k a place of a log, n the number of a request, own a response's own Partial IV or none, m a
 -- message, d a datagram.
-use Rattle.std.specs.Prelude.{◌≡◌, ◌↔◌, ℕ, Bool, true, false, List, Option, Some, None, max, slice_get, take}
+use Rattle.std.specs.Prelude.{◌≡◌, ◌↔◌, ℕ, Bool, List, Option, Some, max, slice_get, take}
 use Rattle.osc_coap.specs.Inner.{InnerParts}
 use Rattle.osc_endpoint.specs.ClientAnswer.{ClientAnswer, Hears, ResponseAnswer, told}
-use Rattle.osc_endpoint.specs.ClientHistory.{History, Then, Event, Entry, Answer, Notified, Deliver, clock}
+use Rattle.osc_endpoint.specs.ClientHistory.{History, Then, Event, Entry, Answer, clock}
 use Rattle.osc_laws.specs.ClientLaws.{AllClientAnswers}
 use Rattle.osc_endpoint.specs.ClientRun.{ClientRunStep, Run}
 use Rattle.osc_endpoint.specs.Views.{ClientShows, client_hearing_of}

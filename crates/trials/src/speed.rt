@@ -19,34 +19,44 @@ fn sizes(rt: &impl Print) -> io::Result<()> {
     println!(rt; "size-of-client-16 {}", mem::size_of::<Client<16>>())
 }
 
-/// Measures what the word names, and returns the status.
+/// What can be measured, in the order of `all`.
+const ALL: [&str; 9] = [
+    "schedule", "block", "ccm", "message", "parse", "server", "client", "large", "sizes",
+];
+
+/// Measures what the word names. Returns whether it names anything.
+fn measure<R: Clock + Print + Alloc<A = Global>>(
+    rt: &R,
+    watch: &mut Stopwatch<'_, R>,
+    word: &str,
+) -> io::Result<bool> {
+    match word {
+        "schedule" => ciphers::schedule(watch)?,
+        "block" => ciphers::block(watch)?,
+        "ccm" => ciphers::ccm(watch)?,
+        "message" => messages::message(watch)?,
+        "parse" => messages::parsing(watch)?,
+        "server" => serving::serving(watch, rt.alloc())?,
+        "client" => asking::asking(watch, rt.alloc())?,
+        "large" => large::large(watch, rt.alloc())?,
+        "sizes" => sizes(rt)?,
+        _ => return Ok(false),
+    }
+    Ok(true)
+}
+
+/// Measures what the word names, or all, and returns the status.
 pub(crate) fn run<R: Clock + Print + Eprint + Alloc<A = Global>>(
     rt: &R,
     word: &str,
 ) -> io::Result<u8> {
     let mut watch = Stopwatch::new(rt);
-    match word {
-        "all" => {
-            ciphers::schedule(&mut watch)?;
-            ciphers::block(&mut watch)?;
-            ciphers::ccm(&mut watch)?;
-            messages::message(&mut watch)?;
-            messages::parsing(&mut watch)?;
-            serving::serving(&mut watch, rt.alloc())?;
-            asking::asking(&mut watch, rt.alloc())?;
-            large::large(&mut watch, rt.alloc())?;
-            sizes(rt)?;
+    if word == "all" {
+        for word in ALL {
+            let _named = measure(rt, &mut watch, word)?;
         }
-        "schedule" => ciphers::schedule(&mut watch)?,
-        "block" => ciphers::block(&mut watch)?,
-        "ccm" => ciphers::ccm(&mut watch)?,
-        "message" => messages::message(&mut watch)?,
-        "parse" => messages::parsing(&mut watch)?,
-        "server" => serving::serving(&mut watch, rt.alloc())?,
-        "client" => asking::asking(&mut watch, rt.alloc())?,
-        "large" => large::large(&mut watch, rt.alloc())?,
-        "sizes" => sizes(rt)?,
-        _ => return crate::usage(rt),
+    } else if !measure(rt, &mut watch, word)? {
+        return crate::usage(rt);
     }
     watch.end()?;
     Ok(0)

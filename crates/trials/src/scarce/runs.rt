@@ -137,23 +137,44 @@ fn server_of() -> Option<Server> {
     Some(server)
 }
 
-/// Returns what happens to the server: three requests, one of them twice, replies to the three, a restart, and two more datagrams.
-fn server_events(alloc: Global) -> Result<[ServerEvent; 10], Fault> {
-    Ok([
-        arrival(alloc, C4)?,
-        answering(alloc, 0)?,
-        arrival(alloc, C4)?,
-        arrival(alloc, C5)?,
-        answering(alloc, 3)?,
-        arrival(alloc, C6)?,
-        answering(alloc, 5)?,
-        ServerEvent::Restart {
-            context: 0,
-            next: Piv::MAX,
-        },
-        arrival(alloc, C4)?,
-        arrival(alloc, TOKEN)?,
-    ])
+/// Something that happens to the server.
+#[derive(Clone, Copy)]
+enum Served {
+    /// This datagram arrives.
+    Take(&'static str),
+    /// The request of this event is answered.
+    Reply(usize),
+    Restart,
+}
+
+/// Three requests, one of them twice, replies to the three, a restart, and two more datagrams.
+const SERVED: [Served; 10] = [
+    Served::Take(C4),
+    Served::Reply(0),
+    Served::Take(C4),
+    Served::Take(C5),
+    Served::Reply(3),
+    Served::Take(C6),
+    Served::Reply(5),
+    Served::Restart,
+    Served::Take(C4),
+    Served::Take(TOKEN),
+];
+
+/// Returns what happens to the server.
+fn server_events(alloc: Global) -> Result<Vec<ServerEvent>, Fault> {
+    let mut events = Vec::with_capacity(alloc, SERVED.len())?;
+    for served in SERVED {
+        events.push(match served {
+            Served::Take(text) => arrival(alloc, text)?,
+            Served::Reply(of) => answering(alloc, of)?,
+            Served::Restart => ServerEvent::Restart {
+                context: 0,
+                next: Piv::MAX,
+            },
+        })?;
+    }
+    Ok(events)
 }
 
 /// Runs the server, and returns whether each reply had a ticket of its own log.
@@ -175,20 +196,41 @@ pub(crate) fn serve<R: Print + Alloc<A = Global>>(rt: &R) -> Result<bool, Fault>
     Ok(all_left)
 }
 
-/// Returns what happens to the client: requests, the response to the first, a token that is forgotten, and a restart.
-fn client_events(alloc: Global, next: Piv) -> Result<[ClientEvent; 10], Fault> {
-    Ok([
-        asking(alloc)?,
-        response(alloc)?,
-        response(alloc)?,
-        asking(alloc)?,
-        asking(alloc)?,
-        response(alloc)?,
-        forgetting(alloc)?,
-        ClientEvent::Restart { next },
-        asking(alloc)?,
-        response(alloc)?,
-    ])
+/// Something that happens to the client.
+#[derive(Clone, Copy)]
+enum Asked {
+    Request,
+    Response,
+    Forget,
+    Restart,
+}
+
+/// Requests, the response to the first, a token that is forgotten, and a restart.
+const ASKED: [Asked; 10] = [
+    Asked::Request,
+    Asked::Response,
+    Asked::Response,
+    Asked::Request,
+    Asked::Request,
+    Asked::Response,
+    Asked::Forget,
+    Asked::Restart,
+    Asked::Request,
+    Asked::Response,
+];
+
+/// Returns what happens to the client.
+fn client_events(alloc: Global, next: Piv) -> Result<Vec<ClientEvent>, Fault> {
+    let mut events = Vec::with_capacity(alloc, ASKED.len())?;
+    for asked in ASKED {
+        events.push(match asked {
+            Asked::Request => asking(alloc)?,
+            Asked::Response => response(alloc)?,
+            Asked::Forget => forgetting(alloc)?,
+            Asked::Restart => ClientEvent::Restart { next },
+        })?;
+    }
+    Ok(events)
 }
 
 /// Runs the client of C.1.

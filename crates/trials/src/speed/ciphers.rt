@@ -93,25 +93,56 @@ pub(crate) fn ccm<R: Clock + Print>(watch: &mut Stopwatch<'_, R>) -> io::Result<
     open_kept_key(watch, "open-1024-planes", 1_024, &planes)
 }
 
+/// Figures of one length: sealing and opening, each with a schedule of its own and with a kept one.
+struct Length {
+    len: usize,
+    seal_new: &'static str,
+    seal_kept: &'static str,
+    open_new: &'static str,
+    open_kept: &'static str,
+}
+
+const LENGTHS: [Length; 4] = [
+    Length {
+        len: 5,
+        seal_new: "seal-5-new-key",
+        seal_kept: "seal-5-kept-key",
+        open_new: "open-5-new-key",
+        open_kept: "open-5-kept-key",
+    },
+    Length {
+        len: 13,
+        seal_new: "seal-13-new-key",
+        seal_kept: "seal-13-kept-key",
+        open_new: "open-13-new-key",
+        open_kept: "open-13-kept-key",
+    },
+    Length {
+        len: 64,
+        seal_new: "seal-64-new-key",
+        seal_kept: "seal-64-kept-key",
+        open_new: "open-64-new-key",
+        open_kept: "open-64-kept-key",
+    },
+    Length {
+        len: LONGEST,
+        seal_new: "seal-1024-new-key",
+        seal_kept: "seal-1024-kept-key",
+        open_new: "open-1024-new-key",
+        open_kept: "open-1024-kept-key",
+    },
+];
+
 /// Measures sealing and opening for four lengths, with 20 bytes of additional data.
 fn ccm_tables<R: Clock + Print>(watch: &mut Stopwatch<'_, R>) -> io::Result<()> {
     let cipher = TableAes::new(&KEY);
-    seal_new_key(watch, "seal-5-new-key", 5)?;
-    seal_kept_key(watch, "seal-5-kept-key", 5, &cipher)?;
-    open_new_key(watch, "open-5-new-key", 5)?;
-    open_kept_key(watch, "open-5-kept-key", 5, &cipher)?;
-    seal_new_key(watch, "seal-13-new-key", 13)?;
-    seal_kept_key(watch, "seal-13-kept-key", 13, &cipher)?;
-    open_new_key(watch, "open-13-new-key", 13)?;
-    open_kept_key(watch, "open-13-kept-key", 13, &cipher)?;
-    seal_new_key(watch, "seal-64-new-key", 64)?;
-    seal_kept_key(watch, "seal-64-kept-key", 64, &cipher)?;
-    open_new_key(watch, "open-64-new-key", 64)?;
-    open_kept_key(watch, "open-64-kept-key", 64, &cipher)?;
-    seal_new_key(watch, "seal-1024-new-key", 1_024)?;
-    seal_kept_key(watch, "seal-1024-kept-key", 1_024, &cipher)?;
-    open_new_key(watch, "open-1024-new-key", 1_024)?;
-    open_kept_key(watch, "open-1024-kept-key", 1_024, &cipher)
+    for length in &LENGTHS {
+        seal_new_key(watch, length.seal_new, length.len)?;
+        seal_kept_key(watch, length.seal_kept, length.len, &cipher)?;
+        open_new_key(watch, length.open_new, length.len)?;
+        open_kept_key(watch, length.open_kept, length.len, &cipher)?;
+    }
+    Ok(())
 }
 
 /// What is sealed or opened, and with what, apart from the cipher.

@@ -74,18 +74,43 @@ fn request<R: Clock + Print>(
     })
 }
 
+/// The figures of a request: their names, its token, how many empty options it has, and its kid.
+struct Row {
+    names: [&'static str; 2],
+    token: &'static [u8],
+    options: usize,
+    kid: &'static [u8],
+}
+
+const ROWS: [Row; 3] = [
+    Row {
+        names: ["seal_request-65535", "open_request-65535"],
+        token: &[],
+        options: MOST_OPTIONS,
+        kid: &[],
+    },
+    Row {
+        names: ["seal_request-32767", "open_request-32767"],
+        token: &[],
+        options: HALF_OPTIONS,
+        kid: &[],
+    },
+    Row {
+        names: ["seal_request-token-8-kid-7", "open_request-token-8-kid-7"],
+        token: &TOKEN,
+        options: 1,
+        kid: &KID,
+    },
+];
+
 /// Measures requests with the most options, with half as many, and with the longest token and kid.
 pub(crate) fn large<R: Clock + Print>(
     watch: &mut Stopwatch<'_, R>,
     alloc: Global,
 ) -> io::Result<()> {
-    let most = plain_of(alloc, &[], MOST_OPTIONS)?;
-    let names = ["seal_request-65535", "open_request-65535"];
-    request(watch, alloc, names, &[], &most)?;
-    let half = plain_of(alloc, &[], HALF_OPTIONS)?;
-    let names = ["seal_request-32767", "open_request-32767"];
-    request(watch, alloc, names, &[], &half)?;
-    let named = plain_of(alloc, &TOKEN, 1)?;
-    let names = ["seal_request-token-8-kid-7", "open_request-token-8-kid-7"];
-    request(watch, alloc, names, &KID, &named)
+    for row in &ROWS {
+        let plain = plain_of(alloc, row.token, row.options)?;
+        request(watch, alloc, row.names, row.kid, &plain)?;
+    }
+    Ok(())
 }

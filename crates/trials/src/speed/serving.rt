@@ -66,6 +66,21 @@ enum End {
     Answered,
 }
 
+/// The figures of deliveries: how many other contexts the server has, and what becomes of the request.
+const DELIVERIES: [(&str, u8, End); 4] = [
+    ("take-delivery", 0, End::Kept),
+    ("take-delivery-of-8", 7, End::Kept),
+    ("take-and-reply", 0, End::Answered),
+    ("take-and-reply-of-8", 7, End::Answered),
+];
+
+/// The figures of runs, and how many events each has.
+const RUNS: [(&str, usize); 3] = [
+    ("run_server-100", 100),
+    ("run_server-1000", 1_000),
+    ("run_server-10000", 10_000),
+];
+
 /// Measures requests that are delivered, and answered or not, at a server with `others` other contexts.
 fn delivery<R: Clock + Print>(
     watch: &mut Stopwatch<'_, R>,
@@ -185,12 +200,12 @@ pub(crate) fn serving<R: Clock + Print>(
 ) -> io::Result<()> {
     let requests = requests_of(alloc)?;
     opening(watch, &requests)?;
-    delivery(watch, "take-delivery", &requests, 0, End::Kept)?;
-    delivery(watch, "take-delivery-of-8", &requests, 7, End::Kept)?;
-    delivery(watch, "take-and-reply", &requests, 0, End::Answered)?;
-    delivery(watch, "take-and-reply-of-8", &requests, 7, End::Answered)?;
+    for (name, others, end) in DELIVERIES {
+        delivery(watch, name, &requests, others, end)?;
+    }
     refusals(watch)?;
-    run(watch, alloc, "run_server-100", 100)?;
-    run(watch, alloc, "run_server-1000", 1_000)?;
-    run(watch, alloc, "run_server-10000", 10_000)
+    for (name, count) in RUNS {
+        run(watch, alloc, name, count)?;
+    }
+    Ok(())
 }
