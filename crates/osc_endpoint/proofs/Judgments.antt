@@ -135,7 +135,7 @@ pub delivered : (l : Life) (r : Named) (d new : List ℕ) (x : DecryptedRequest)
     → (is_open l ≡ false → OfWhatWasRead new y (λ m. Carries (in_force l r.clock) m)) → life ≡ old.life
     → OfWhatWasRead new y (λ m. observes ≡ registers (as_server (context_of old.context)).features m.code m.options)
     → SlotAgrees slot (marked (Some (Delivered (number_of r.number))) l)
-    → JudgesTo l r d (record { decision = decisions.Deliver y (record { context = r.index; life = life; number = r.number; asker = r.asker; observes = observes }); reply = 0 }) new [] (Some slot)
+    → JudgesTo l r d (record { decision = decisions.Deliver y (record { context = r.index; life = life; number = r.number; asker = record r.asker { observes = observes } }); reply = 0 }) new [] (Some slot)
 delivered l r d new x y life observes old slot one one_message laws a passes named asker decrypts can accepts carries same observed agrees =
     let s = as_server (context_of old.context) in
     let n = number_of r.number in

@@ -22,7 +22,7 @@ use Rattle.osc_endpoint.specs.ClientHistory as client
 
 -- what a ticket holds (how the code is seen)
 abbrev pub values_of : Ticket → server.TicketValues
-values_of t = record { context = t.context; life = t.life; number = number_of t.number; kind = t.asker.kind; message_id = t.asker.message_id; token = t.asker.token.items; observes = t.observes }
+values_of t = record { context = t.context; life = t.life; number = number_of t.number; kind = t.asker.kind; message_id = t.asker.message_id; token = t.asker.token.items; observes = t.asker.observes }
 
 -- what an opened message says (how the code is seen)
 abbrev pub received_of : Opened → Received

@@ -13,10 +13,12 @@ pub(crate) fn copy_of(token: &Token) -> Token
     copy
 }
 
-/// What a reply takes from the head of its request (RFC 7252, 5.2 and 5.3.2).
+/// What a reply takes from its request: from the head (RFC 7252, 5.2 and 5.3.2), and whether the request registers an observation, which
+/// only an opened request tells (RFC 8613, 4.1.3.5.1). That stands beside the Type, where it takes no room.
 #[derive(Debug, Drop)]
 pub struct Asker {
     pub kind: Kind,
+    pub observes: bool,
     pub message_id: u16,
     pub token: Token,
 }
@@ -25,7 +27,7 @@ impl Asker {
     ghost use Rattle.osc_coap.specs.Views.{parts_of};
     ghost use Rattle.osc_endpoint.specs.Replies.{reply_kind, reply_id};
 
-    /// Returns the requester that a reply to this message goes to.
+    /// Returns the requester that a reply to this message goes to. It registers nothing yet.
     pub(crate) fn of(message: Message<'_>) -> Asker
         ensures kind { result.kind ≡ (parts_of message.entry).kind }
         ensures message_id { result.message_id ≡ (parts_of message.entry).message_id }
@@ -33,6 +35,7 @@ impl Asker {
     {
         Asker {
             kind: message.kind,
+            observes: false,
             message_id: message.message_id,
             token: message.token,
         }

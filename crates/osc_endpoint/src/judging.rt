@@ -178,12 +178,13 @@ impl Slot {
         }
         let observes = registers_read(self.context.context().features(), datagram, read);
         self.deliver(request.number);
+        let mut asker = request.asker;
+        asker.observes = observes;
         let ticket = Ticket {
             context: request.index,
             life: self.life,
             number: request.number,
-            asker: request.asker,
-            observes,
+            asker,
         };
         Decided {
             decision: Decision::Deliver(read, ticket),

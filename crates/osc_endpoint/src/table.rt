@@ -186,7 +186,7 @@ fn notify_place(
             if is_stale(slot, ticket) {
                 return Err(ReplyError::StaleTicket);
             }
-            if !ticket.observes {
+            if !ticket.asker.observes {
                 return Err(ReplyError::NotObserving);
             }
             slot.notify_to(ticket.number, &ticket.asker.token, plain, out)

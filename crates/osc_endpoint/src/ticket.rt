@@ -12,8 +12,6 @@ pub struct Ticket {
     pub(crate) life: u64,
     pub(crate) number: Piv,
     pub(crate) asker: Asker,
-    // Whether the request registers an observation.
-    pub(crate) observes: bool,
 }
 
 impl Ticket {
@@ -61,13 +59,13 @@ impl Ticket {
     pub fn observes(&self) -> bool
         ensures { result ≡ (values_of self.now).observes }
     {
-        self.observes
+        self.asker.observes
     }
 
     /// Returns whether a reply has a Partial IV of its own: one is asked for, or the request registers an observation (RFC 8613, 4.1.3.5).
     pub(crate) fn asks_own(&self, own: bool) -> bool
         ensures { result ≡ asks_own (values_of self.now) own }
     {
-        self.observes || own
+        self.asker.observes || own
     }
 }

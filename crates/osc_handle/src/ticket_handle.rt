@@ -94,6 +94,7 @@ impl TicketHandle {
         token.try_extend_from_slice(bytes).unwrap();
         Some(Asker {
             kind,
+            observes: self.is_observing(),
             message_id: self.message_id,
             token,
         })

@@ -1,4 +1,5 @@
-//! Both ends of OSCORE with Sender Sequence Numbers that outlive them (RFC 8613, 7.2.1 and B.1.1).
+//! What holds of both ends of OSCORE over all their lives, if their Sender Sequence Numbers outlive them (RFC 8613, 7.2.1, 7.4 and B.1). The
+//! ends are those of osc_kept_ends, under the same names.
 #![tactic(auto)]
 
 mod in_world;

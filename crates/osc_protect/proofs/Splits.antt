@@ -108,10 +108,6 @@ part_fits d done entry rest = sums _ _ _ _ _ (spelled_append d done (entry ∷ [
 pub some_more : (side : Side) (entry : Entry) (entries : List Entry) → stands_on side entry ≡ true → options_on side (entry ∷ entries) ≡ entry_on side entry ∷ options_on (side_behind side entry) entries
 some_more side entry entries h = rw h refl
 
--- without it where it doesn't stand there
-pub none_more : (side : Side) (entry : Entry) (entries : List Entry) → stands_on side entry ≡ false → options_on side (entry ∷ entries) ≡ options_on (side_behind side entry) entries
-none_more side entry entries h = rw h refl
-
 -- the last number of a draft with options more
 last_with : (draft : Draft) (done : List Entry) → last_number 0 (options_of (with_options draft done)) ≡ last_number (last_number 0 (options_of draft)) done
 last_with (Datagram p) done = last_append 0 p.options done

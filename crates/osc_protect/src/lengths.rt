@@ -47,11 +47,10 @@ impl Tally {
         ensures too_long { IfNone result ((rest : List Entry)
             → 65535 < self.len + spelling_length self.number (options_on self.side ((number, value.now) ∷ rest))) }
     {
-        let side = self.side.behind(number);
-        if !self.side.takes(number, value) {
+        let (side, placed) = self.side.place(number, value);
+        let Some(value) = placed else {
             return Some(Tally { side, ..self });
-        }
-        let value = self.side.value(number, value);
+        };
         if value.len() > MOST_DATAGRAM {
             return None;
         }

@@ -1,6 +1,6 @@
 //! The options of a message, split by where its protection puts them (RFC 8613, 4.1).
 
-ghost use Rattle.std.specs.Prelude.{◌≡◌, ℕ, List, length};
+ghost use Rattle.std.specs.Prelude.{◌≡◌, ℕ, List, length, IfSome, is_some};
 ghost use Rattle.osc_coap.specs.Views.{options_left};
 ghost use Rattle.osc_coap.specs.Writer.{Holds, buffer_of};
 ghost use Rattle.osc_coap.specs.Writing.{Draft, with_options};
@@ -22,34 +22,25 @@ pub(crate) enum Side {
 ghost use Rattle.osc_protect.specs.Split.{TakesAll, entry_on, options_on, side_behind, stands_on};
 
 impl Side {
-    /// Returns whether an option stands on this side.
-    pub(crate) fn takes(self, number: u16, value: &[u8]) -> bool
-        ensures { result ≡ stands_on self (number, value.now) }
+    /// Returns the side behind an option, and the value that the option has on this side, or `None` if it doesn't stand there.
+    pub(crate) fn place<'a>(self, number: u16, value: &'a [u8]) -> (Side, Option<&'a [u8]>)
+        ensures behind { (other : List ℕ) → result.0 ≡ side_behind self (number, other) }
+        ensures stands { is_some result.1 ≡ stands_on self (number, value.now) }
+        ensures entry { IfSome result.1 (λ placed. (number, placed.now) ≡ entry_on self (number, value.now)) }
     {
         let is_outer = matches!(class_of(number), Class::U);
         match self {
-            Side::Outside(sought) => counts_as_observe(sought, number, value) || is_outer,
-            Side::Inside(_) => !is_outer,
-        }
-    }
-
-    /// Returns the value that an option has on this side.
-    pub(crate) fn value<'a>(self, number: u16, value: &'a [u8]) -> &'a [u8]
-        ensures { (number, result.now) ≡ entry_on self (number, value.now) }
-    {
-        match self {
-            Side::Inside(sought) if counts_as_observe(sought, number, value) => &value[..0],
-            _ => value,
-        }
-    }
-
-    /// Returns the side behind an option of this number.
-    pub(crate) fn behind(self, number: u16) -> Side
-        ensures { (value : List ℕ) → result ≡ side_behind self (number, value) }
-    {
-        match self {
-            Side::Outside(sought) => Side::Outside(sought_behind(sought, number)),
-            Side::Inside(sought) => Side::Inside(sought_behind(sought, number)),
+            Side::Outside(sought) => {
+                let stands = counts_as_observe(sought, number, value) || is_outer;
+                let placed = if stands { Some(value) } else { None };
+                (Side::Outside(sought_behind(sought, number)), placed)
+            }
+            Side::Inside(sought) => {
+                let is_emptied = counts_as_observe(sought, number, value);
+                let whole = if is_emptied { &value[..0] } else { value };
+                let placed = if is_outer { None } else { Some(whole) };
+                (Side::Inside(sought_behind(sought, number)), placed)
+            }
         }
     }
 }
@@ -63,11 +54,12 @@ pub(crate) fn write_side(writer: &mut Writer<'_>, options: Options<'_>, mut side
         → Holds writer.new (with_options draft (options_on side (options_left options.entry))) old }
 {
     for (number, value) in options {
-        if side.takes(number, value) {
-            let Ok(()) = writer.option(number, side.value(number, value)) else {
+        let (behind, placed) = side.place(number, value);
+        if let Some(value) = placed {
+            let Ok(()) = writer.option(number, value) else {
                 unreachable!()
             };
         }
-        side = side.behind(number);
+        side = behind;
     }
 }

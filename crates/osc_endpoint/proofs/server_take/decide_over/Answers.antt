@@ -29,7 +29,7 @@ returns-in_default-clause-answered g c = λ h slots there a.
     let p = parts_of c.in-Ok.message in (
       slots,
       there,
-      unnamed (server_of c.args.clock.now slots) (server_of c.max.result slots) h c.args.now c.args.fresh c.args.datagram.now _ _ c.in-Ok-read.head _ slots a c.max.ensures refl refl
+      unnamed (server_of c.args.clock.now slots) (server_of c.max.result slots) h c.args.now c.args.fresh c.args.datagram.now _ _ c.in-Ok-read.head c.of-asker.result slots a c.max.ensures refl refl
           (p, c.in-Ok.ensures.accepted, c.in-Ok-read.ensures.head) (λ i s at looks. c.in_default.ensures.none i (place_found _ slots i _ _ s at looks (g.met.T.Contexts.held c.args.contexts.now slots i there)))
           (p, c.in-Ok.ensures.accepted, c.of-asker.ensures.kind, c.of-asker.ensures.message_id, c.of-asker.ensures.token)
           c.write_error-reply.ensures.written,
