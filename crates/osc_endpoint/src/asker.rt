@@ -1,6 +1,6 @@
 //! The requester that a reply goes to.
 
-ghost use Rattle.std.specs.Prelude.{◌≡◌};
+ghost use Rattle.std.specs.Prelude.{◌≡◌, false};
 
 use osc_coap::{Kind, Message, Token};
 
@@ -30,6 +30,7 @@ impl Asker {
     /// Returns the requester that a reply to this message goes to. It registers nothing yet.
     pub(crate) fn of(message: Message<'_>) -> Asker
         ensures kind { result.kind ≡ (parts_of message.entry).kind }
+        ensures observes { result.observes ≡ false }
         ensures message_id { result.message_id ≡ (parts_of message.entry).message_id }
         ensures token { result.token.items ≡ (parts_of message.entry).token }
     {

@@ -48,6 +48,7 @@ impl Ticket {
     #[must_use]
     pub fn asker(&self) -> &Asker
         ensures kind { result.now.kind ≡ (values_of self.now).kind }
+        ensures observes { result.now.observes ≡ (values_of self.now).observes }
         ensures message_id { result.now.message_id ≡ (values_of self.now).message_id }
         ensures token { result.now.token.items ≡ (values_of self.now).token }
     {

@@ -83,6 +83,7 @@ impl TicketHandle {
     /// Returns the requester that the reply goes to. Returns `None` if the bytes can't have been written by a call.
     fn asker(&self) -> Option<Asker>
         ensures kind { IfSome result (λ asker. asker.kind ≡ kind_in self.now.kind) }
+        ensures observes { IfSome result (λ asker. asker.observes ≡ (ticket_in self.now).observes) }
         ensures message_id { IfSome result (λ asker. asker.message_id ≡ self.now.message_id) }
         ensures token { IfSome result (λ asker. asker.token.items ≡ take self.now.token_len self.now.token) }
         ensures accepts { self.now.kind ≤ 3 → self.now.token_len ≤ 8 → IsSome result }
@@ -106,6 +107,7 @@ impl TicketHandle {
     pub fn parts(&self) -> Option<(Piv, Asker)>
         ensures number { IfSome result (λ parts. number_of parts.0 ≡ self.now.number) }
         ensures kind { IfSome result (λ parts. parts.1.kind ≡ (ticket_in self.now).kind) }
+        ensures observes { IfSome result (λ parts. parts.1.observes ≡ (ticket_in self.now).observes) }
         ensures message_id { IfSome result (λ parts. parts.1.message_id ≡ (ticket_in self.now).message_id) }
         ensures token { IfSome result (λ parts. parts.1.token.items ≡ (ticket_in self.now).token) }
         ensures accepts { IsTicket self.now → IsSome result }
