@@ -1,17 +1,15 @@
-//! Trials of the layers that no row can make: runs whose memory is refused, the calls that docs/WALK.md follows, and what calls cost.
+//! Trials of the layers that no row can make: runs whose memory is refused, and the calls that docs/WALK.md follows.
 //! README.md says what each does, and how to run it.
 #![tactic(auto)]
 
 mod example;
 mod scarce;
-mod speed;
 mod walk;
 
 use std::process::ExitCode;
 use std::{env, io};
 
-const USAGE: &str = "usage: trials [scarce | walk | speed WHAT]
-WHAT is all, schedule, block, ccm, message, parse, server, client, large or sizes.";
+const USAGE: &str = "usage: trials [scarce | walk]";
 
 /// Prints how the program is called, and returns its status.
 fn usage(rt: &impl Eprint) -> io::Result<u8> {
@@ -29,7 +27,6 @@ fn run(rt: &HostRuntime) -> io::Result<u8> {
     match (trial.as_str(), words.next()) {
         ("scarce", None) => scarce::run(rt),
         ("walk", None) => Ok(walk::run()),
-        ("speed", Some(word)) => speed::run(rt, word.as_str()),
         _ => usage(rt),
     }
 }
