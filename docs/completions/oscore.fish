@@ -43,11 +43,11 @@ complete -c oscore -n '__oscore_call derive open protect run' -l allow -x -a 'bl
 
 complete -c oscore -n '__oscore_call open protect; and __oscore_without --request' -l request -x -d 'Of a response: the number of its request'
 complete -c oscore -n '__oscore_call open protect; and __oscore_without --registers' -l registers -d 'Its request registers an observation'
-complete -c oscore -n '__oscore_call protect; and __oscore_without --sequence' -l sequence -x -d 'The own number of the message'
+complete -c oscore -n '__oscore_call protect; and __oscore_without --sequence' -l sequence -x -d 'The Sender Sequence Number to use'
 
 complete -c oscore -n '__oscore_call run; and __oscore_without --role' -l role -x -a 'server client' -d 'What this end is'
-complete -c oscore -n '__oscore_call run; and __oscore_without --sequence --numbers' -l sequence -x -d 'The next own number'
-complete -c oscore -n '__oscore_call run; and __oscore_without --numbers --sequence --restarted' -l numbers -r -F -d 'The file that keeps the next own number'
+complete -c oscore -n '__oscore_call run; and __oscore_without --sequence --numbers' -l sequence -x -d 'The next Sender Sequence Number'
+complete -c oscore -n '__oscore_call run; and __oscore_without --numbers --sequence --restarted' -l numbers -r -F -d 'The file that keeps the Sender Sequence Numbers'
 complete -c oscore -n '__oscore_call run; and __oscore_without --restarted --numbers --life; and __oscore_no client' -l restarted -d 'Requests may have come to it in an earlier life'
 complete -c oscore -n '__oscore_call run; and __oscore_without --window --life; and __oscore_no client' -l window -x -a '32 64' -d 'The places of the replay window'
 complete -c oscore -n '__oscore_call run; and __oscore_without --life --restarted --window; and __oscore_no server' -l life -x -d 'For how many ms a request is pending'

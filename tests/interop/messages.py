@@ -150,7 +150,7 @@ class Comparison:
         self.refusals += 1
 
     def compare_trial(self, pair: Pair, trial: Trial) -> None:
-        kind = "request" if trial.is_request else f"response (own number {shown_number(trial.own)}) to request"
+        kind = "request" if trial.is_request else f"response (Partial IV {shown_number(trial.own)}) to request"
         where = f"context {self.contexts}, message {self.requests + self.responses}, {kind} {trial.number}"
         self.compare_message(where, trial)
         if self.peer.refuses_options and self.spoiling.random() < 0.05:

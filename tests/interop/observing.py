@@ -35,8 +35,8 @@ def heard(*ats: int) -> List[str]:
 
 def without_numbers(lines: Sequence[str]) -> List[str]:
     """What an end of ours said, but for Sender Sequence Numbers, and for those that it saved."""
-    kept = [line for line in lines if not re.match(r"saved |next own number ", line)]
-    return [re.sub(r"^(\d+|no number of its own): | under number \d+$", "", line) for line in kept]
+    kept = [line for line in lines if not re.match(r"saved |next Sender Sequence Number ", line)]
+    return [re.sub(r"^(\d+|no Partial IV of its own): | under number \d+$", "", line) for line in kept]
 
 
 class AtSensor(NamedTuple):
@@ -105,11 +105,11 @@ class Observing(Rows):
         self.check(f"{what}: what the sensor says", wanted, without_numbers(self.bench.told(ends.sensor)))
 
     def reader_says(self, what: str, ends: AtServer, wanted: List[str]) -> List[Optional[int]]:
-        """Until it has ended. Answers the numbers of the notifications that it heard, None where one has none of its own."""
+        """Until it has ended. Answers the Partial IVs of the notifications that it heard, None where one has none."""
         ends.relay.pass_all(ends.reader)
         told = self.bench.told(ends.reader)
         self.check(f"{what}: what the reader says", ["registers"] + [CHALLENGED, "registers"] * self.asks() + wanted, without_numbers(told))
-        numbers = [re.match(r"(?:(\d+)|no number of its own): ", line) for line in told]
+        numbers = [re.match(r"(?:(\d+)|no Partial IV of its own): ", line) for line in told]
         return [int(number[1]) if number[1] else None for number in numbers if number]
 
     def tokens(self, relay: Relay) -> List[bytes]:

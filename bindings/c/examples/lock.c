@@ -203,7 +203,7 @@ int main(int count, char **words) {
     printf("port %u\n", ntohs(own.sin_port));
     fflush(stdout);
     for (int left = atoi(words[2]); left > 0; left--) serve_one(&server, udp);
-    printf("next own number %llu\n", (unsigned long long)server.server.context.next);
+    printf("next Sender Sequence Number %llu\n", (unsigned long long)server.server.context.next);
     oscore_wipe(&server, sizeof server);
     oscore_wipe_stack();
     return 0;

@@ -202,7 +202,7 @@ int main(int count, char **words) {
     oscore_opened response = ask(false);
     for (int left = atoi(words[3]); response.is_notification; response = left > 0 ? hear() : ask(true)) {
         if (response.has_number) printf("%llu: ", (unsigned long long)response.number);
-        else fputs("no number of its own: ", stdout);
+        else fputs("no Partial IV of its own: ", stdout);
         printf("%.*s\n", (int)response.payload_len, (const char *)response.payload);
         /* The same token cancels, so the client may wait for nothing under it. */
         if (--left == 0 && oscore_kept_client_forget(&client, token, sizeof token)) stop("nothing to forget");

@@ -301,7 +301,7 @@ int main(int count, char **words) {
         if (observation.on && !observation.waits && left > 1) notify_next();
     }
     if (observation.on) end_observation();
-    printf("next own number %llu\n", (unsigned long long)server.server.context.next);
+    printf("next Sender Sequence Number %llu\n", (unsigned long long)server.server.context.next);
     oscore_wipe(&server, sizeof server);
     oscore_wipe_stack();
     return 0;

@@ -25,7 +25,8 @@ Events of a server, one a line; bytes are hex, and - for none:
   notify EVENT PLAIN                a notification to the request of an event,
                                     with --allow observe
   drop EVENT                        the request of an event is answered no more
-  restart NEXT                      a new life, with the next own number NEXT
+  restart NEXT                      a new life, with NEXT as its next Sender
+                                    Sequence Number
 
 Events of a client:
   request NOW PLAIN                 a request is sent
@@ -51,11 +52,11 @@ Examples:
 
 const ROLES: &[&str] = &["server", "client"];
 
-const HELP_SEQUENCE: &str = "The next own number, below 2^40";
+const HELP_SEQUENCE: &str = "The next Sender Sequence Number, below 2^40";
 
 const HELP_RESTARTED: &str = "Requests may have come to it in an earlier life";
 
-const HELP_NUMBERS: &str = "The file that keeps the next own number [optional]";
+const HELP_NUMBERS: &str = "The file that keeps the Sender Sequence Numbers [optional]";
 
 const HELP_WINDOW: &str = "Window size [default: 32]";
 

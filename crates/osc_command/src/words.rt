@@ -32,7 +32,7 @@ const ABOUT_PROTECT: &str = "Protects a plain request or response, and prints it
 
 const EXAMPLE_PROTECT: &str =
     "A request needs --sequence, a number that was never used. A response needs
---request, and --sequence only where it is to have a number of its own.
+--request, and --sequence only where it is to have a Partial IV of its own.
 
 Example:
   oscore protect --secret 0102030405060708090a0b0c0d0e0f10 \\
@@ -49,7 +49,7 @@ const HELP_RECIPIENT: &str = "The other end's, 0 to 7 bytes [default: empty]";
 
 const HELP_ID_CONTEXT: &str = "The ID Context, 1 to 32 bytes [optional]";
 
-const HELP_SEQUENCE: &str = "The message's own number, below 2^40 [optional]";
+const HELP_SEQUENCE: &str = "The Sender Sequence Number to use, below 2^40 [optional]";
 
 const HELP_REQUEST: &str = "Of a response: the number of its request [optional]";
 
