@@ -16,6 +16,7 @@ ghost use Rattle.osc_handle.specs.ClientSteps.{ClientDecidesIn, ClientTakesIn, K
 ghost use Rattle.osc_context_handle.specs.ContextBytes.{IsContext, client_in, is_constant_time_in};
 ghost use Rattle.osc_handle.specs.declared.pending_handle.PendingHandle.{PendingHandle as PendingOf};
 
+use crate::left::Left;
 use crate::pending_handle::PendingHandle;
 use osc_coap::Message;
 use osc_context::{Context, Piv};
@@ -247,6 +248,29 @@ impl ClientHandle {
         Some(decision)
     }
 
+    /// Decides, and lends the datagram for reading alone: `left` says what it holds, and from there on `take` can't write to it any more.
+    fn decide_and_lend<'b>(
+        &mut self,
+        now: u64,
+        datagram: &'b mut [u8],
+    ) -> Left<'b, Option<ClientDecision>>
+        ensures answered { IfSome result.decided (λ decision. (h : History) → Asks self.old h
+            → ClientDecidesIn h now datagram.old decision result.datagram.now self.new) }
+        ensures whole { IsSome result.decided → IsClient self.new }
+        ensures accepted { IsSome result.decided → IsClient self.old }
+        ensures accepts { IsClient self.old → IsSome result.decided }
+        ensures shown { IfSome result.decided (λ decision. CanShow decision result.datagram.now) }
+        ensures left { IfSome result.decided (λ decision. LeavesIn (parts_in self.old) decision datagram.old result.datagram.now) }
+        ensures heard { IfSome result.decided (λ decision. (h : History) (c : Bool) (n : ℕ) (own : Option ℕ) (m : InnerParts) (outcome : OutcomeOf) → Asks self.old h
+            → ClientShowsDecided decision result.datagram.now outcome → client_hearing_of outcome ≡ Some (c, n, own, m) → Hears h now datagram.old c n own m) }
+        ensures hears { IfSome result.decided (λ decision. (h : History) (c : Bool) (n : ℕ) (own : Option ℕ) (m : InnerParts) (outcome : OutcomeOf) → Asks self.old h
+            → ClientShowsDecided decision result.datagram.now outcome → Hears h now datagram.old c n own m → client_hearing_of outcome ≡ Some (c, n, own, m)) }
+        ensures unchanged { IsNone result.decided → (self.new ≡ self.old) × (result.datagram.now ≡ datagram.old) }
+    {
+        let decided = self.decide(now, datagram);
+        Left { decided, datagram }
+    }
+
     /// Takes a datagram in place (RFC 8613, 8.4): calls `decide`, and returns the decision as an outcome. Returns `None` if the bytes
     /// can't have been written by a call. `decide` says what the datagram holds afterwards.
     pub fn take<'b>(&mut self, now: u64, datagram: &'b mut [u8]) -> Option<ClientOutcome<'b>>
@@ -261,7 +285,8 @@ impl ClientHandle {
         ensures accepts { IsClient self.old → IsSome result }
         ensures unchanged { IsNone result → self.new ≡ self.old }
     {
-        let Some(decision) = self.decide(now, datagram) else {
+        let Left { decided, datagram } = self.decide_and_lend(now, datagram);
+        let Some(decision) = decided else {
             return None;
         };
         Some(decision.outcome(datagram))

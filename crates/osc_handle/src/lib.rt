@@ -5,6 +5,7 @@ mod add_refusal;
 mod client_handle;
 mod client_laws;
 mod contexts_handle;
+mod left;
 mod pending_handle;
 mod plain_laws;
 mod reply_refusal;

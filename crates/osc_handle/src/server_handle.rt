@@ -20,6 +20,7 @@ ghost use Rattle.osc_handle.specs.declared.reply_refusal.ReplyRefusal.TheVariant
 
 use crate::add_refusal::AddRefusal;
 use crate::contexts_handle::ContextsHandle;
+use crate::left::Left;
 use crate::reply_refusal::ReplyRefusal;
 use crate::ticket_handle::TicketHandle;
 use crate::unanswered_handle::UnansweredHandle;
@@ -173,8 +174,32 @@ impl ServerHandle {
         Some(decided)
     }
 
+    /// Decides, and lends the datagram for reading alone: `left` says what it holds, and from there on `take` can't write to it any more.
+    fn decide_and_lend<'b>(
+        &mut self,
+        now: u64,
+        fresh: Fresh,
+        datagram: &'b mut [u8],
+        out: &mut [u8; 64],
+    ) -> Left<'b, Option<Decided>>
+        ensures accepts { IsTable self.old.contexts → IsSome result.decided }
+        ensures accepted { IsSome result.decided → IsTable self.old.contexts }
+        ensures answered { IfSome result.decided (λ decided. (h : History) → Serves self.old h
+            → DecidesIn h now fresh datagram.old decided.decision result.datagram.now (take decided.reply out.new) self.new) }
+        ensures bytes { IfSome result.decided (λ decided. IsTable self.new.contexts) }
+        ensures shown { IfSome result.decided (λ decided. CanShow decided.decision result.datagram.now) }
+        ensures left { IfSome result.decided (λ decided. (slots : List (Option SlotOf)) → IsTableIn self.old.contexts slots
+            → Leaves slots decided.decision datagram.old result.datagram.now) }
+        ensures within { IfSome result.decided (λ decided. decided.reply ≤ 64) }
+        ensures behind { IfSome result.decided (λ decided. drop decided.reply out.new ≡ drop decided.reply out.old) }
+        ensures unchanged { result.decided ≡ None → (self.new ≡ self.old) × (result.datagram.now ≡ datagram.old) × (out.new ≡ out.old) }
+    {
+        let decided = self.decide(now, fresh, datagram, out);
+        Left { decided, datagram }
+    }
+
     /// Takes a datagram in place (RFC 8613, 8.2): calls `decide`, and returns the decision as an outcome. The first `reply` bytes of
-    /// `out` are the reply. Returns `None` if the bytes can't have been written by a call.
+    /// `out` are the reply. Returns `None` if the bytes can't have been written by a call. `decide` says what the datagram holds afterwards.
     pub fn take<'b>(
         &mut self,
         now: u64,
@@ -192,7 +217,8 @@ impl ServerHandle {
         ensures no_keeper_failed { IfSome result (λ taken. taken.outcome ≢ KeeperFailedOutcome) }
         ensures unchanged { result ≡ None → (self.new ≡ self.old) × (out.new ≡ out.old) }
     {
-        let Some(Decided { decision, reply }) = self.decide(now, fresh, datagram, out) else {
+        let Left { decided, datagram } = self.decide_and_lend(now, fresh, datagram, out);
+        let Some(Decided { decision, reply }) = decided else {
             return None;
         };
         let outcome = decision.outcome(datagram);

@@ -16,6 +16,7 @@ ghost use Rattle.osc_kept_handle.specs.Reserved.{WantsSave};
 ghost use Rattle.osc_kept_handle.specs.declared.kept_refusal.KeptRequestRefusal.TheVariants as refusals;
 
 use crate::kept_refusal::KeptRequestRefusal;
+use crate::left::Left;
 use crate::reserving::save_first;
 use osc_coap::Message;
 use osc_context::Piv;
@@ -148,8 +149,27 @@ impl KeptClientHandle {
         self.client.decide(now, datagram)
     }
 
+    /// Decides, and lends the datagram for reading alone: `left` says what it holds, and from there on `take` can't write to it any more.
+    fn decide_and_lend<'b>(
+        &mut self,
+        now: u64,
+        datagram: &'b mut [u8],
+    ) -> Left<'b, Option<ClientDecision>>
+        ensures answered { IfSome result.decided (λ decision. (h : History) (old : Own) → AsksWith self.old old h
+            → ClientDecidesWith h now datagram.old decision result.datagram.now old self.new) }
+        ensures accepts { IsKeptClient self.old → IsSome result.decided }
+        ensures accepted { IsSome result.decided → IsKeptClient self.old }
+        ensures limit_stays { self.new.reserved ≡ self.old.reserved }
+        ensures shown { IfSome result.decided (λ decision. CanShow decision result.datagram.now) }
+        ensures left { IfSome result.decided (λ decision. LeavesIn (parts_in self.old.client) decision datagram.old result.datagram.now) }
+        ensures unchanged { IsNone result.decided → (self.new ≡ self.old) × (result.datagram.now ≡ datagram.old) }
+    {
+        let decided = self.decide(now, datagram);
+        Left { decided, datagram }
+    }
+
     /// Takes a datagram in place (RFC 8613, 8.4): calls `decide`, and returns the decision as an outcome. Returns `None` if the bytes
-    /// can't have been written by a call.
+    /// can't have been written by a call. `decide` says what the datagram holds afterwards.
     pub fn take<'b>(&mut self, now: u64, datagram: &'b mut [u8]) -> Option<ClientOutcome<'b>>
         ensures answered { IfSome result (λ outcome. (h : History) (old : Own) → AsksWith self.old old h
             → ClientTakesWith h now datagram.old outcome old self.new) }
@@ -158,7 +178,8 @@ impl KeptClientHandle {
         ensures limit_stays { self.new.reserved ≡ self.old.reserved }
         ensures unchanged { IsNone result → self.new ≡ self.old }
     {
-        let Some(decision) = self.decide(now, datagram) else {
+        let Left { decided, datagram } = self.decide_and_lend(now, datagram);
+        let Some(decision) = decided else {
             return None;
         };
         Some(decision.outcome(datagram))

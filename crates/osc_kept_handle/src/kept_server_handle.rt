@@ -25,6 +25,7 @@ ghost use Rattle.osc_kept_handle.specs.declared.kept_refusal.KeptRefusal.TheVari
 ghost use Rattle.osc_kept_handle.specs.declared.kept_refusal.KeptReplyRefusal.TheVariants as replies;
 
 use crate::kept_refusal::{KeptRefusal, KeptReplyRefusal};
+use crate::left::Left;
 use crate::reserving::save_first;
 use osc_coap::Message;
 use osc_context::Piv;
@@ -161,6 +162,34 @@ impl KeptServerHandle {
         }
     }
 
+    /// Decides, and lends the datagram for reading alone: `left` says what it holds, and from there on `take` can't write to it any more.
+    fn decide_and_lend<'b>(
+        &mut self,
+        now: u64,
+        fresh: Fresh,
+        datagram: &'b mut [u8],
+        out: &mut [u8; 64],
+    ) -> Left<'b, Result<Decided, KeptRefusal>>
+        ensures answered { IfOk result.decided (λ decided. (h : History) (old : Own) → ServesWith self.old old h
+            → DecidesWith h now fresh datagram.old decided.decision result.datagram.now (take decided.reply out.new) old self.new) }
+        ensures refused { (number : ℕ) → result.decided ≡ Err (refusals.SaveFirst number) → (number ≡ next_limit self.old.reserved)
+            × ((h : History) (o : Own) → ServesWith self.old o h → WantsSave (not (is_open_life (life h 0))) (upcoming o) self.old.reserved) }
+        ensures refuses { (h : History) (o : Own) → ServesWith self.old o h → WantsSave (not (is_open_life (life h 0))) (upcoming o) self.old.reserved
+            → result.decided ≡ Err (refusals.SaveFirst (next_limit self.old.reserved)) }
+        ensures bad { result.decided ≡ Err refusals.BadHandle → IsKeptServer self.old → ⊥ }
+        ensures accepted { result.decided ≢ Err refusals.BadHandle → IsKeptServer self.old }
+        ensures limit_stays { self.new.reserved ≡ self.old.reserved }
+        ensures shown { IfOk result.decided (λ decided. CanShow decided.decision result.datagram.now) }
+        ensures left { IfOk result.decided (λ decided. (slots : List (Option SlotOf)) → IsTableIn (table_of self.old.server.slot) slots
+            → Leaves slots decided.decision datagram.old result.datagram.now) }
+        ensures within { IfOk result.decided (λ decided. decided.reply ≤ 64) }
+        ensures behind { IfOk result.decided (λ decided. drop decided.reply out.new ≡ drop decided.reply out.old) }
+        ensures unchanged { OnErr result.decided ((self.new ≡ self.old) × (result.datagram.now ≡ datagram.old) × (out.new ≡ out.old)) }
+    {
+        let decided = self.decide(now, fresh, datagram, out);
+        Left { decided, datagram }
+    }
+
     /// Takes a datagram in place (RFC 8613, 8.2): calls `decide`, and returns the decision as an outcome. The first `reply` bytes of
     /// `out` are the reply. A refusal changes nothing; otherwise `decide` says what is left in the datagram.
     pub fn take<'b>(
@@ -184,7 +213,8 @@ impl KeptServerHandle {
         ensures no_keeper_failed { IfOk result (λ taken. taken.outcome ≢ KeeperFailedOutcome) }
         ensures unchanged { OnErr result ((self.new ≡ self.old) × (out.new ≡ out.old)) }
     {
-        match self.decide(now, fresh, datagram, out) {
+        let Left { decided, datagram } = self.decide_and_lend(now, fresh, datagram, out);
+        match decided {
             Ok(Decided { decision, reply }) => {
                 let outcome = decision.outcome(datagram);
                 Ok(Taken { outcome, reply })

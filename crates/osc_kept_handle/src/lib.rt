@@ -5,6 +5,7 @@ mod in_world;
 mod kept_client_handle;
 mod kept_refusal;
 mod kept_server_handle;
+mod left;
 mod plain_laws;
 mod reserving;
 
