@@ -1,6 +1,6 @@
 //! A server, whichever it is.
 
-ghost use Rattle.osc_endpoint.specs.Deciding.{CanShow};
+ghost use Rattle.osc_life.specs.Deciding.{CanShow};
 
 use crate::refusal::{Made, Refusal};
 use crate::steps::Step;

@@ -3,15 +3,17 @@ use Rattle.std.proofs.Common.{◌≡◌, ◌∙◌, ap, sym, subst, ℕ, Bool, t
 use Rattle.osc_context.specs.Views.{number_of}
 use Rattle.osc_context.specs.declared.partial_iv.Piv.{Piv}
 use Rattle.osc_protect.specs.declared.opened.Opened.{Opened}
-use Rattle.osc_endpoint.specs.ClientHistory as client
-use Rattle.osc_endpoint.specs.ServerHistory as server
-use Rattle.osc_endpoint.specs.Views.{ClientShows, Shows, received_of, values_of}
-use Rattle.osc_endpoint.specs.declared.client_outcome.ClientOutcome.{ClientOutcome}
-use Rattle.osc_endpoint.specs.declared.client_outcome.ClientOutcome.TheVariants as client_outcomes
-use Rattle.osc_endpoint.specs.declared.outcome.Outcome.{Outcome}
-use Rattle.osc_endpoint.specs.declared.outcome.Outcome.TheVariants as outcomes
-use Rattle.osc_endpoint.specs.declared.start.Fresh.{Fresh}
-use Rattle.osc_endpoint.specs.declared.ticket.Ticket.{Ticket}
+use Rattle.osc_client.specs.ClientHistory as client
+use Rattle.osc_life.specs.ServerHistory as server
+use Rattle.osc_client.specs.Views.{ClientShows}
+use Rattle.osc_life.specs.Views.{Shows, values_of}
+use Rattle.osc_observe.specs.Views.{received_of}
+use Rattle.osc_client.specs.declared.client_outcome.ClientOutcome.{ClientOutcome}
+use Rattle.osc_client.specs.declared.client_outcome.ClientOutcome.TheVariants as client_outcomes
+use Rattle.osc_life.specs.declared.outcome.Outcome.{Outcome}
+use Rattle.osc_life.specs.declared.outcome.Outcome.TheVariants as outcomes
+use Rattle.osc_life.specs.declared.start.Fresh.{Fresh}
+use Rattle.osc_life.specs.declared.ticket.Ticket.{Ticket}
 use Rattle.osc_kept_ends.specs.Numbering.{Own}
 use Rattle.osc_kept_handle.specs.KeptClientBytes.{ClientTakesWith, StepsClient}
 use Rattle.osc_kept_handle.specs.KeptServerBytes.{StepsServer, TakesWith}

@@ -18,13 +18,13 @@ use Rattle.osc_protect.specs.SealRefusals.{RefusesToSeal}
 use Rattle.osc_protect.specs.Usage.{value_of_request, value_of_response}
 use Rattle.osc_protect.specs.declared.protect_error.ProtectError.TheVariants as seals
 use Rattle.osc_protect.proofs.Supported.{sealing_supported}
-use Rattle.osc_endpoint.proofs.SealedReplies.{replied_features}
-use Rattle.osc_endpoint.specs.ClientHistory as client
-use Rattle.osc_endpoint.specs.Replies.{reply_id, reply_kind}
-use Rattle.osc_endpoint.specs.ServerAnswer.{as_notification}
-use Rattle.osc_endpoint.specs.ServerHistory as server
-use Rattle.osc_endpoint.specs.declared.client_outcome.RequestError.TheVariants as asks
-use Rattle.osc_endpoint.specs.declared.server_error.ReplyError.TheVariants as replies
+use Rattle.osc_life.proofs.SealedReplies.{replied_features}
+use Rattle.osc_client.specs.ClientHistory as client
+use Rattle.osc_life.specs.Replies.{reply_id, reply_kind}
+use Rattle.osc_life.specs.LifeAnswer.{as_notification}
+use Rattle.osc_life.specs.ServerHistory as server
+use Rattle.osc_client.specs.declared.client_outcome.RequestError.TheVariants as asks
+use Rattle.osc_life.specs.declared.server_error.ReplyError.TheVariants as replies
 use Rattle.osc_handle.specs.ClientBytes.{Asks}
 use Rattle.osc_context_handle.specs.ContextBytes.{IsContext, client_in, id_context_in}
 use Rattle.osc_handle.specs.ServerBytes.{Serves}

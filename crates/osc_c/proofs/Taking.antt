@@ -3,10 +3,11 @@ use Rattle.std.proofs.Common.{◌≡◌, refl, sym, subst, ℕ, Bool, true, fals
 use Rattle.osc_context.specs.Views.{number_of}
 use Rattle.osc_context.specs.declared.partial_iv.Piv.{Piv}
 use Rattle.osc_protect.specs.declared.opened.Opened.{Opened}
-use Rattle.osc_endpoint.specs.ClientAnswer.{ClientAnswer}
-use Rattle.osc_endpoint.specs.ClientHistory.{Answer, Datagram, Deliver, History, Notified, Then, Took}
-use Rattle.osc_endpoint.specs.Views.{ClientShows, received_of}
-use Rattle.osc_endpoint.specs.declared.client_outcome.ClientOutcome.{ClientOutcome}
+use Rattle.osc_client.specs.ClientAnswer.{ClientAnswer}
+use Rattle.osc_client.specs.ClientHistory.{Answer, Datagram, Deliver, History, Notified, Then, Took}
+use Rattle.osc_client.specs.Views.{ClientShows}
+use Rattle.osc_observe.specs.Views.{received_of}
+use Rattle.osc_client.specs.declared.client_outcome.ClientOutcome.{ClientOutcome}
 use Rattle.osc_handle.specs.ClientBytes.{Asks}
 use Rattle.osc_handle.specs.ClientSteps.{ClientTakesIn}
 use Rattle.osc_handle.specs.declared.client_handle.ClientHandle.{ClientHandle}

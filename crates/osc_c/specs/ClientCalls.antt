@@ -7,13 +7,13 @@ use Rattle.osc_coap.specs.Fault.{HasFault}
 use Rattle.osc_coap.specs.declared.format_error.Fault.{Fault}
 use Rattle.osc_context.specs.declared.partial_iv.Piv.{Piv}
 use Rattle.osc_protect.specs.declared.opened.Opened.{Opened}
-use Rattle.osc_endpoint.specs.ClientAnswer.{ClientAnswer}
-use Rattle.osc_endpoint.specs.ClientHistory.{Advance, Advanced, Answer, BadInner, BadTag, Datagram, Deliver, Entry, Forget, Forgot, History, Malformed, NotResponse, NotSent, Notified, Old, Request, Sent, Then, Took, Undecodable as NoAnswer, UnknownToken as Unknown, Unprotected}
-use Rattle.osc_endpoint.specs.Received.{Received}
-use Rattle.osc_endpoint.specs.declared.client_outcome.ClientOutcome.{ClientOutcome}
-use Rattle.osc_endpoint.specs.declared.client_outcome.ClientOutcome.TheVariants as outcomes
-use Rattle.osc_endpoint.specs.declared.client_outcome.RequestError.{RequestError}
-use Rattle.osc_endpoint.specs.declared.client_outcome.RequestError.TheVariants as requests
+use Rattle.osc_client.specs.ClientAnswer.{ClientAnswer}
+use Rattle.osc_client.specs.ClientHistory.{Advance, Advanced, Answer, BadInner, BadTag, Datagram, Deliver, Entry, Forget, Forgot, History, Malformed, NotResponse, NotSent, Notified, Old, Request, Sent, Then, Took, Undecodable as NoAnswer, UnknownToken as Unknown, Unprotected}
+use Rattle.osc_observe.specs.Received.{Received}
+use Rattle.osc_client.specs.declared.client_outcome.ClientOutcome.{ClientOutcome}
+use Rattle.osc_client.specs.declared.client_outcome.ClientOutcome.TheVariants as outcomes
+use Rattle.osc_client.specs.declared.client_outcome.RequestError.{RequestError}
+use Rattle.osc_client.specs.declared.client_outcome.RequestError.TheVariants as requests
 use Rattle.osc_handle.specs.ClientBytes.{Asks, IsClient}
 use Rattle.osc_handle.specs.declared.client_handle.ClientHandle.{ClientHandle}
 use Rattle.osc_c.specs.Statuses.{code, format_status}

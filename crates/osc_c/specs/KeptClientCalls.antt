@@ -5,8 +5,8 @@ use Rattle.osc_coap.specs.Datagram.{Parts, IsDatagram}
 use Rattle.osc_coap.specs.Fault.{HasFault}
 use Rattle.osc_coap.specs.declared.format_error.Fault.{Fault}
 use Rattle.osc_context.specs.Reserving.{next_limit}
-use Rattle.osc_endpoint.specs.ClientHistory.{Answer, Datagram, Forget, Forgot, History, NotSent, Request, Took}
-use Rattle.osc_endpoint.specs.declared.client_outcome.RequestError.{RequestError}
+use Rattle.osc_client.specs.ClientHistory.{Answer, Datagram, Forget, Forgot, History, NotSent, Request, Took}
+use Rattle.osc_client.specs.declared.client_outcome.RequestError.{RequestError}
 use Rattle.osc_kept_ends.specs.Numbering.{Allowed, Own, Reserve, upcoming}
 use Rattle.osc_kept_handle.specs.KeptClientBytes.{AsksWith, IsKeptClient, StepsClient}
 use Rattle.osc_kept_handle.specs.Reserved.{WantsSave}

@@ -6,10 +6,10 @@ use Rattle.osc_coap.specs.Datagram.{Parts, IsDatagram}
 use Rattle.osc_coap.specs.Fault.{HasFault}
 use Rattle.osc_coap.specs.declared.format_error.Fault.{Fault}
 use Rattle.osc_context.specs.Reserving.{next_limit}
-use Rattle.osc_endpoint.specs.Life.{is_open_life}
-use Rattle.osc_endpoint.specs.ServerAnswer.{asks_own}
-use Rattle.osc_endpoint.specs.ServerHistory.{Answer, Datagram, History, NotReplied, Notify, Reply, Took, life}
-use Rattle.osc_endpoint.specs.declared.server_error.ReplyError.{ReplyError}
+use Rattle.osc_life.specs.Life.{is_open_life}
+use Rattle.osc_life.specs.LifeAnswer.{asks_own}
+use Rattle.osc_life.specs.ServerHistory.{Answer, Datagram, History, NotReplied, Notify, Reply, Took, life}
+use Rattle.osc_life.specs.declared.server_error.ReplyError.{ReplyError}
 use Rattle.osc_handle.specs.ServerBytes.{IsSpent}
 use Rattle.osc_handle.specs.TicketBytes.{IsTicket, ticket_in}
 use Rattle.osc_handle.specs.declared.ticket_handle.TicketHandle.{TicketHandle}

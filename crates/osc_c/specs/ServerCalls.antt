@@ -10,18 +10,19 @@ use Rattle.osc_context.specs.declared.partial_iv.Piv.{Piv}
 use Rattle.osc_window.specs.Views.{places_of}
 use Rattle.osc_window.specs.declared.window_size.WindowSize.{WindowSize}
 use Rattle.osc_laws.specs.Senders.{HasSameSender}
-use Rattle.osc_endpoint.specs.ServerAnswer.{ServerAnswer, asks_own}
-use Rattle.osc_endpoint.specs.ServerHistory.{Add, Added, Answer, BadInner, BadTag, Challenge as Challenged, Datagram, Deliver, Entry, Event, History, Malformed, NoContext as NoSuchKid, NotAdded, NotReplied, NotRequest, NotRestarted, Plain, Replay as Replayed, Replied, Restart, Restarted as LivesAnew, SequenceExhausted as NoOwnLeft, Then, TicketValues, Took, Undecodable as NotDecoded}
-use Rattle.osc_endpoint.specs.declared.outcome.Outcome.{Outcome}
-use Rattle.osc_endpoint.specs.declared.outcome.Outcome.TheVariants as outcomes
-use Rattle.osc_endpoint.specs.declared.server_error.AddError.{AddError}
-use Rattle.osc_endpoint.specs.declared.server_error.AddError.TheVariants as adds
-use Rattle.osc_endpoint.specs.declared.server_error.ReplyError.{ReplyError}
-use Rattle.osc_endpoint.specs.declared.server_error.ReplyError.TheVariants as replies
-use Rattle.osc_endpoint.specs.declared.server_error.RestartError.{RestartError}
-use Rattle.osc_endpoint.specs.declared.server_error.RestartError.TheVariants as restarts
-use Rattle.osc_endpoint.specs.declared.start.Start.{Start}
-use Rattle.osc_endpoint.specs.declared.start.Start.TheVariants.{Fresh, Restarted}
+use Rattle.osc_endpoint.specs.ServerAnswer.{ServerAnswer}
+use Rattle.osc_life.specs.LifeAnswer.{asks_own}
+use Rattle.osc_life.specs.ServerHistory.{Add, Added, Answer, BadInner, BadTag, Challenge as Challenged, Datagram, Deliver, Entry, Event, History, Malformed, NoContext as NoSuchKid, NotAdded, NotReplied, NotRequest, NotRestarted, Plain, Replay as Replayed, Replied, Restart, Restarted as LivesAnew, SequenceExhausted as NoOwnLeft, Then, TicketValues, Took, Undecodable as NotDecoded}
+use Rattle.osc_life.specs.declared.outcome.Outcome.{Outcome}
+use Rattle.osc_life.specs.declared.outcome.Outcome.TheVariants as outcomes
+use Rattle.osc_life.specs.declared.server_error.AddError.{AddError}
+use Rattle.osc_life.specs.declared.server_error.AddError.TheVariants as adds
+use Rattle.osc_life.specs.declared.server_error.ReplyError.{ReplyError}
+use Rattle.osc_life.specs.declared.server_error.ReplyError.TheVariants as replies
+use Rattle.osc_life.specs.declared.server_error.RestartError.{RestartError}
+use Rattle.osc_life.specs.declared.server_error.RestartError.TheVariants as restarts
+use Rattle.osc_life.specs.declared.start.Start.{Start}
+use Rattle.osc_life.specs.declared.start.Start.TheVariants.{Fresh, Restarted}
 use Rattle.osc_context_handle.specs.ContextBytes.{IsContext, server_in}
 use Rattle.osc_handle.specs.ServerBytes.{IsSameSender, IsSpent, NotifiesIn, RepliesIn, Serves}
 use Rattle.osc_handle.specs.TableBytes.{IsTable}

@@ -5,7 +5,7 @@ ghost use Rattle.osc_coap.specs.Datagram.{Parts, IsDatagram};
 ghost use Rattle.osc_coap.specs.Fault.{HasFault};
 ghost use Rattle.osc_coap.specs.declared.format_error.Fault.{Fault as FaultOf};
 ghost use Rattle.osc_endpoint.specs.ServerAnswer.{ServerAnswer};
-ghost use Rattle.osc_endpoint.specs.ServerHistory.{Entry, History, Notify, Replied};
+ghost use Rattle.osc_life.specs.ServerHistory.{Entry, History, Notify, Replied};
 ghost use Rattle.osc_handle.specs.ServerBytes.{NotifiesIn, Serves};
 ghost use Rattle.osc_handle.specs.SingleServerBytes.{server_of_one};
 ghost use Rattle.osc_handle.specs.SlotBytes.{IsSlotBytes};

@@ -10,26 +10,25 @@ use Rattle.osc_coap.specs.Interpreted.{interpreted, is_valid_length}
 use Rattle.osc_coap.specs.OptionNumbers as options
 use Rattle.osc_coap.specs.OptionSpelling.{Entry}
 use Rattle.osc_coap.specs.Search.{first_of, values_at}
-use Rattle.osc_context.specs.SecurityContext.{SecurityContext, IsUsable}
-use Rattle.osc_context.specs.Views.{number_of}
-use Rattle.osc_context.specs.declared.partial_iv.Piv.{Piv}
+use Rattle.osc_context.specs.SecurityContext.{SecurityContext}
 use Rattle.osc_protect.specs.Laws.{SealedOpens}
 use Rattle.osc_protect.specs.Protection.{ProtectsRequest}
 use Rattle.osc_protect.specs.Sealed.{SealsRequest, inside}
 use Rattle.osc_window.specs.declared.window_size.WindowSize.TheVariants.{Places32}
-use Rattle.osc_endpoint.specs.declared.client.Client.{Client}
-use Rattle.osc_endpoint.specs.declared.outcome.Outcome.TheVariants as outcomes
+use Rattle.osc_client.specs.declared.client.Client.{Client}
+use Rattle.osc_life.specs.declared.outcome.Outcome.TheVariants as outcomes
 use Rattle.osc_endpoint.specs.declared.server.Server.{Server}
-use Rattle.osc_endpoint.specs.declared.start.Start.TheVariants as starts
-use Rattle.osc_endpoint.specs.declared.ticket.Ticket.{Ticket}
-use Rattle.osc_endpoint.specs.Agrees.{Agrees, ClientAgrees}
-use Rattle.osc_endpoint.specs.ClientHistory as asking
-use Rattle.osc_endpoint.specs.Life.{Life, Challenged, Delivered, born, marked, renewed}
+use Rattle.osc_life.specs.declared.start.Start.TheVariants as starts
+use Rattle.osc_endpoint.specs.Agrees.{Agrees}
+use Rattle.osc_client.specs.Agrees.{ClientAgrees}
+use Rattle.osc_client.specs.ClientHistory as asking
+use Rattle.osc_life.specs.Life.{Life, Challenged, Delivered, born, marked, renewed}
 use Rattle.osc_endpoint.specs.ServerAnswer.{ServerAnswer, MeetsNamedRow, arrival}
-use Rattle.osc_endpoint.specs.ServerHistory as server
-use Rattle.osc_endpoint.specs.Views.{Shows}
-use Rattle.osc_kept.specs.Examples.{Asked, Ends, PremisesCanBeMet}
-use Rattle.osc_callers.specs.Calls.{Asks, Challenges, ClientGoes, Delivers, HasNoEcho, HasOneLife, Hears, Replies, ServerGoes}
+use Rattle.osc_life.specs.ServerHistory as server
+use Rattle.osc_life.specs.Views.{Shows}
+use Rattle.osc_kept.specs.Examples.{Ends, PremisesCanBeMet}
+use Rattle.osc_callers.specs.Calls.{ClientGoes, HasNoEcho, HasOneLife, ServerGoes}
+use Rattle.osc_callers.specs.Courses.{Exchange, GoesOn, Start}
 use Rattle.osc_callers.specs.PremisesMet.{PremisesAreMet}
 
 -- ---- messages without an Echo option
@@ -97,86 +96,45 @@ challenged laws h of number p d echo reply v answer given issued one seals same 
 
 -- ---- the list
 
--- how both ends went through the list: what each call leaves of its end, and its contract
-pub record Course : Type 0 where
-  pub context : SecurityContext
-  pub usable : IsUsable context
-  pub echo : List ℕ
-  pub first : Asked
-  pub second : Asked
-  pub again : Asked
-  pub first_plain : HasNoEcho first.plain
-  pub second_plain : HasNoEcho second.plain
-  pub reply : Parts
-  pub room : ℕ
-  pub response : List ℕ
-  pub challenge : List ℕ
-  pub ticket : Ticket
-  pub last : Ticket
-  pub asker : Client 8
-  pub client_asked : Client 8
-  pub client_heard : Client 8
-  pub client_anew : Client 8
-  pub client_asked_anew : Client 8
-  pub client_told : Client 8
-  pub client_again : Client 8
-  pub served : Server
-  pub server_delivered : Server
-  pub server_replied : Server
-  pub server_anew : Server
-  pub server_challenged : Server
-  pub server_admitted : Server
-  pub zero_number : Piv
-  pub is_zero : number_of zero_number ≡ 0
-  pub client_starts : ClientAgrees asker (asking.New context 0 60000)
-  pub asks : Asks asker first.plain first.room first.bytes client_asked
-  pub server_starts : ServerGoes server.Begin (server.Add context (starts.Fresh zero_number) Places32) (server.Added 0) served
-  pub delivers : Delivers served 0 echo first.bytes ticket server_delivered
-  pub replies : Replies server_delivered ticket reply room response server_replied
-  pub hears : Hears client_asked 0 response client_heard
-  pub restarts_server : (h : server.History) → Agrees server_replied h → ServerGoes h (server.Restart 0 64) server.Restarted server_anew
-  pub restarts_client : (h : asking.History) → ClientAgrees client_heard h → ClientGoes h (asking.Restart 64) asking.Restarted client_anew
-  pub asks_anew : Asks client_anew second.plain second.room second.bytes client_asked_anew
-  pub challenges : Challenges server_anew echo second.bytes challenge server_challenged
-  pub is_told : Hears client_asked_anew 64 challenge client_told
-  pub asks_again : Asks client_told again.plain again.room again.bytes client_again
-  pub admits : Delivers server_challenged 65 echo again.bytes last server_admitted
-
-pub goes_through : PremisesCanBeMet → Course → PremisesAreMet 8
-goes_through can k =
-    let s : SecurityContext = k.context in
-    let asked = k.asks _ k.client_starts in
-    let life : Life = born s (starts.Fresh k.zero_number) Places32 in
-    let delivered = k.delivers _ life k.server_starts.1 (one_life k.server_starts.1 life refl (λ i. rw (eqb-suc-zero i) refl)) in
-    let answered = k.replies _ _ delivered.2.1 delivered.1 refl in
-    let heard = k.hears _ asked.1 in
-    let server_anew = k.restarts_server _ answered.1 in
-    let client_anew = k.restarts_client _ heard.1.1 in
+pub goes_through : PremisesCanBeMet → (asker heard anew again : Client 8) (served replied server_anew admitting : Server) (echo : List ℕ)
+    → Start asker served → Exchange asker heard served replied echo
+    → ((h : server.History) → Agrees replied h → ServerGoes h (server.Restart 0 64) server.Restarted server_anew)
+    → ((h : asking.History) → ClientAgrees heard h → ClientGoes h (asking.Restart 64) asking.Restarted anew)
+    → GoesOn anew again server_anew admitting echo → PremisesAreMet 8
+goes_through can asker heard_client client_renewed again served replied server_renewed admitting echo start one restarts_server restarts_client two =
+    let s : SecurityContext = start.context in
+    let asked = one.asks _ start.client_starts in
+    let life : Life = born s (starts.Fresh start.zero_number) Places32 in
+    let delivered = one.delivers _ life start.server_starts.1 (one_life start.server_starts.1 life refl (λ i. rw (eqb-suc-zero i) refl)) in
+    let answered = one.replies _ _ delivered.2.1 delivered.1 refl in
+    let heard = one.hears _ asked.1 in
+    let server_anew = restarts_server _ answered.1 in
+    let client_anew = restarts_client _ heard.1.1 in
     let life_anew : Life = renewed 64 (marked (Some (Delivered 0)) life) in
-    let asked_anew = k.asks_anew _ client_anew.1 in
-    let challenged = k.challenges _ life_anew 64 _ server_anew.1 (one_life server_anew.1 life_anew refl (λ i. rw (eqb-suc-zero i) refl)) asked_anew.0.1 in
-    let told = k.is_told _ asked_anew.1 in
-    let asked_again = k.asks_again _ told.1.1 in
-    let life_told : Life = marked (Some (Challenged k.echo 0)) life_anew in
-    let admitted = k.admits _ life_told challenged.1 (one_life challenged.1 life_told refl (λ i. rw (eqb-suc-zero i) refl)) in
-    let ends : Ends = record { zero_number = k.zero_number; is_zero = k.is_zero; size = Places32; life_ms = 60000 } in
+    let asked_anew = two.asks _ client_anew.1 in
+    let challenged = two.challenges _ life_anew 64 _ server_anew.1 (one_life server_anew.1 life_anew refl (λ i. rw (eqb-suc-zero i) refl)) asked_anew.0.1 in
+    let told = two.is_told _ asked_anew.1 in
+    let asked_again = two.asks_again _ told.1.1 in
+    let life_told : Life = marked (Some (Challenged echo 0)) life_anew in
+    let admitted = two.admits _ life_told challenged.1 (one_life challenged.1 life_told refl (λ i. rw (eqb-suc-zero i) refl)) in
+    let ends : Ends = record { zero_number = start.zero_number; is_zero = start.is_zero; size = Places32; life_ms = 60000 } in
     record {
       context = s;
       ends = ends;
-      first = k.first;
-      second = k.second;
-      again = k.again;
+      first = one.first;
+      second = two.second;
+      again = two.again;
       received = delivered.0;
       challenged = told.0;
       admitted = admitted.0;
       answered = heard.0;
-      echo = k.echo;
-      response = k.response;
-      challenge = k.challenge;
-      reply = k.reply;
-      room = k.room;
-      is_kept = can 8 s ends k.first k.second k.again delivered.0 admitted.0 heard.0 told.0 k.echo k.response k.challenge k.reply k.room
-          k.usable (carries_none k.first.plain k.echo k.first_plain) (carries_none k.second.plain k.echo k.second_plain) (
+      echo = echo;
+      response = one.response;
+      challenge = two.challenge;
+      reply = one.reply;
+      room = one.room;
+      is_kept = can 8 s ends one.first two.second two.again delivered.0 admitted.0 heard.0 told.0 echo one.response two.challenge one.reply one.room
+          start.usable (carries_none one.first.plain echo one.first_plain) (carries_none two.second.plain echo two.second_plain) (
             (
               (
                 (
@@ -188,7 +146,7 @@ goes_through can k =
                             (
                               (
                                 (
-                                  ((((((tt, tt), tt), (_, refl, asked.0)), k.server_starts.0), tt), (_, refl, delivered.2.0, tt, (_ ∷ [], ([], refl, refl)))),
+                                  ((((((tt, tt), tt), (_, refl, asked.0)), start.server_starts.0), tt), (_, refl, delivered.2.0, tt, (_ ∷ [], ([], refl, refl)))),
                                   (_, refl, answered.0, tt, ([], (_ ∷ [], ([], refl, refl), ([], [], refl, refl)))),
                                 ),
                                 (_, refl, heard.1.0),

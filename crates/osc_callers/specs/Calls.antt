@@ -5,17 +5,18 @@ use Rattle.osc_coap.specs.Datagram.{Parts}
 use Rattle.osc_coap.specs.OptionNumbers as options
 use Rattle.osc_coap.specs.Search.{first_of, values_at}
 use Rattle.osc_protect.specs.Sealed.{SealsRequest, inside}
-use Rattle.osc_endpoint.specs.declared.client.Client.{Client}
+use Rattle.osc_client.specs.declared.client.Client.{Client}
 use Rattle.osc_endpoint.specs.declared.server.Server.{Server}
-use Rattle.osc_endpoint.specs.declared.ticket.Ticket.{Ticket}
-use Rattle.osc_endpoint.specs.Agrees.{Agrees, ClientAgrees}
-use Rattle.osc_endpoint.specs.ClientAnswer.{ClientAnswer}
-use Rattle.osc_endpoint.specs.ClientHistory as asking
-use Rattle.osc_endpoint.specs.Life.{Life}
-use Rattle.osc_endpoint.specs.Received.{Received}
+use Rattle.osc_life.specs.declared.ticket.Ticket.{Ticket}
+use Rattle.osc_endpoint.specs.Agrees.{Agrees}
+use Rattle.osc_client.specs.Agrees.{ClientAgrees}
+use Rattle.osc_client.specs.ClientAnswer.{ClientAnswer}
+use Rattle.osc_client.specs.ClientHistory as asking
+use Rattle.osc_life.specs.Life.{Life}
+use Rattle.osc_observe.specs.Received.{Received}
 use Rattle.osc_endpoint.specs.ServerAnswer.{ServerAnswer}
-use Rattle.osc_endpoint.specs.ServerHistory as serving
-use Rattle.osc_endpoint.specs.Views.{values_of}
+use Rattle.osc_life.specs.ServerHistory as serving
+use Rattle.osc_life.specs.Views.{values_of}
 use Rattle.osc_kept.specs.Examples.{ticket_of}
 
 -- after the history, the client answers the event with this entry, and then agrees with the history continued by both (RFC 8613, 8.1 and 8.4)

@@ -1,3 +1,4 @@
 pub mod Callers
 pub mod PremisesMet
 pub mod Calls
+pub mod Courses

@@ -4,7 +4,7 @@
 use Rattle.std.specs.Prelude.{ℕ, List}
 use Rattle.osc_coap.specs.Datagram.{Parts}
 use Rattle.osc_context.specs.SecurityContext.{SecurityContext}
-use Rattle.osc_endpoint.specs.Received.{Received}
+use Rattle.osc_observe.specs.Received.{Received}
 use Rattle.osc_kept.specs.Examples.{Ends, Asked, exchange, restarts, through_a_challenge}
 use Rattle.osc_kept.specs.Premises.{IsKept}
 

@@ -10,7 +10,7 @@ use Rattle.osc_coap.specs.OptionText.{placed, option_text}
 use Rattle.osc_coap.specs.Datagram.{head}
 use Rattle.osc_coap.specs.Writing.{Draft, Datagram, bare, options_of, payload_of, length_of, with_option, with_payload, IsEmptyMessage}
 use Rattle.osc_coap.specs.Drafts.{IsDraft}
-use Rattle.osc_coap.specs.Held.{IsHeld, IsAt, TakesNow}
+use Rattle.osc_coap.specs.Held.{IsHeld, IsAt, TakesNow, limit_of}
 use Rattle.osc_coap.proofs.Bytes.{bytes_take}
 use Rattle.osc_coap.proofs.Placed.{front_placed, behind_placed, length-placed}
 use Rattle.osc_coap.proofs.OptionTexts.{length-option_text, last_number-push}
@@ -41,14 +41,14 @@ grown draft longer text old buf new len end within is same behind end-is room si
     }
 
 -- an option that was written
-pub option_stands : (w : Writer) (draft : Draft) (old : List ℕ) (number delta : ℕ) (value new : List ℕ) (end : ℕ) → IsHeld w draft old → TakesNow w number (length value) delta → number ≤ 65535 → AreBytes value
+pub option_stands : (w : Writer) (draft : Draft) (old : List ℕ) (number delta : ℕ) (value new : List ℕ) (end : ℕ) → IsHeld w draft old → TakesNow w number (length value) → delta ≡ number - w.number → number ≤ 65535 → AreBytes value
     → new ≡ placed w.len (option_text delta value) w.buf.now → end ≡ w.len + option_length delta (length value) → Stands (with_option draft number value) old new end
-option_stands w draft old number delta value new end h t small are new-is end-is =
+option_stands w draft old number delta value new end h t delta_is small are new-is end-is =
     let stage : IsAt Open draft = subst (λ (z : Stage). IsAt z draft) t.stage h.stage in
     let last : ℕ = last_number 0 (options_of draft) in
-    let delta-is : delta ≡ number - last = t.delta_is ∙ ap (λ (k : ℕ). number - k) h.number in
+    let delta-is : delta ≡ number - last = delta_is ∙ ap (λ (k : ℕ). number - k) h.number in
     let short = t.short in
-    let room = t.room in
+    let room : w.len + option_length delta (length value) ≤ limit_of w = subst (λ (k : ℕ). w.len + option_length k (length value) ≤ limit_of w) (sym delta_is) t.room in
     let order : last ≤ number = subst (λ (k : ℕ). k ≤ number) h.number t.order in
     let text : List ℕ = option_text delta value in
     let long : length text ≡ option_length delta (length value) = length-option_text delta value (omega arith) (omega arith) in

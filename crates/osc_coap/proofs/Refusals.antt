@@ -7,7 +7,7 @@ use Rattle.osc_coap.specs.declared.writer.Writer.{Writer}
 use Rattle.osc_coap.specs.declared.writer.Stage.{Stage}
 use Rattle.osc_coap.specs.declared.writer.Stage.TheVariants.{Alone, Open, Closed}
 use Rattle.osc_coap.specs.OptionSpelling.{last_number, option_length}
-use Rattle.osc_coap.specs.Writing.{Draft, options_of, payload_of, length_of, with_option, ComesLate, LacksRoom, HasRoom, IsFirstReason, Reason, write_rank, RefusesOption, TakesOption, RefusesPayload, TakesPayload, with_payload}
+use Rattle.osc_coap.specs.Writing.{Draft, IsEmptyMessage, options_of, payload_of, length_of, with_option, ComesLate, LacksRoom, HasRoom, IsFirstReason, Reason, write_rank, RefusesOption, TakesOption, RefusesPayload, TakesPayload, with_payload}
 use Rattle.osc_coap.specs.Held.{IsHeld, IsAt, TakesNow, RefusesOptionNow, RefusesPayloadNow, limit_of}
 use Rattle.osc_coap.proofs.Drafts.{length_more, length_marked}
 
@@ -135,15 +135,38 @@ option_ends w draft old number value h =
     length_more draft number value ∙ ap (λ (k : ℕ). k + option_length (number - last_number 0 (options_of draft)) (length value)) (sym h.size) ∙ ap (λ (k : ℕ). w.len + option_length (number - k) (length value)) (sym h.number)
 
 -- what the writer takes can be added
-pub option_taken : (w : Writer) (draft : Draft) (old : List ℕ) (number delta : ℕ) (value : List ℕ) → IsHeld w draft old → TakesNow w number (length value) delta → TakesOption (length old) draft number value
-option_taken w draft old number delta value h t =
+pub option_taken : (w : Writer) (draft : Draft) (old : List ℕ) (number : ℕ) (value : List ℕ) → IsHeld w draft old → TakesNow w number (length value) → TakesOption (length old) draft number value
+option_taken w draft old number value h t =
     let stage = at_stage w draft old Open h t.stage in
     let order = t.order in
     let last = h.number in
     let ends = option_ends w draft old number value h in
-    let room : w.len + option_length (number - w.number) (length value) ≤ limit_of w = subst (λ (k : ℕ). w.len + option_length k (length value) ≤ limit_of w) t.delta_is t.room in
+    let room = t.room in
     let same = h.same_room in
     (stage.0, stage.1, omega arith, (omega arith, omega arith))
+
+-- an open stage is one at which more can be written
+open_stage : (s : Stage) (draft : Draft) → IsAt s draft → ¬ IsEmptyMessage draft → payload_of draft ≡ [] → s ≡ Open
+open_stage Alone draft at filled none = absurd (filled at.0)
+open_stage Open draft at filled none = refl
+open_stage Closed draft at filled none = absurd (at.1 none)
+
+-- what can be added the writer takes
+pub option_takes : (w : Writer) (draft : Draft) (old : List ℕ) (number : ℕ) (value : List ℕ) → IsHeld w draft old → TakesOption (length old) draft number value → TakesNow w number (length value)
+option_takes w draft old number value h t =
+    let after = t.2 in
+    let fits = t.3.1 in
+    let room = t.3.0 in
+    let last = h.number in
+    let same = h.same_room in
+    let ends = option_ends w draft old number value h in
+    let short = value_short draft number value fits in
+    record {
+      stage = open_stage w.stage draft h.stage t.0 t.1;
+      order = omega arith;
+      short = omega arith;
+      room = omega arith;
+    }
 
 -- what the writer refuses can't be added, for the same first reason
 pub option_refused : (w : Writer) (draft : Draft) (old : List ℕ) (number : ℕ) (value : List ℕ) (e : WriteError) → IsHeld w draft old → RefusesOptionNow w number (length value) e → IsFirstReason (RefusesOption (length old) draft number value) e
@@ -165,8 +188,8 @@ option_refused w draft old number value NoRoom h r =
     first_full _ _ _ _ stage.0 (in_order draft number stage.1 (subst (λ (k : ℕ). k ≤ number) h.number r.1)) (λ (long : 65804 < length value). absurd (omega arith)) (limit_passed (length old) _ (subst (λ (k : ℕ). min k 65535 < length_of (with_option draft number value)) h.same_room past))
 
 -- the answer to an option that is written
-pub option_ok : (w : Writer) (draft : Draft) (old : List ℕ) (number delta : ℕ) (value : List ℕ) → IsHeld w draft old → TakesNow w number (length value) delta → IsExact {X = Unit {0}} (Ok tt) (TakesOption (length old) draft number value) (IsFirstReason (RefusesOption (length old) draft number value))
-option_ok w draft old number delta value h t = ok_exact tt (option_taken w draft old number delta value h t) (option_apart (length old) draft number value)
+pub option_ok : (w : Writer) (draft : Draft) (old : List ℕ) (number : ℕ) (value : List ℕ) → IsHeld w draft old → TakesNow w number (length value) → IsExact {X = Unit {0}} (Ok tt) (TakesOption (length old) draft number value) (IsFirstReason (RefusesOption (length old) draft number value))
+option_ok w draft old number value h t = ok_exact tt (option_taken w draft old number value h t) (option_apart (length old) draft number value)
 
 -- the answer to an option that is refused
 pub option_err : (w : Writer) (draft : Draft) (old : List ℕ) (number : ℕ) (value : List ℕ) (e : WriteError) (r : Result (Unit {0}) WriteError) → IsHeld w draft old → RefusesOptionNow w number (length value) e → IsErrAnd r (λ f. f ≡ e) → IsExact r (TakesOption (length old) draft number value) (IsFirstReason (RefusesOption (length old) draft number value))

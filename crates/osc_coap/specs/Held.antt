@@ -28,13 +28,12 @@ pub record IsHeld (w : Writer) (draft : Draft) (old : List ℕ) : Type 0 where
 abbrev pub limit_of : Writer → ℕ
 limit_of w = min (length w.buf.now) 65535
 
--- a writer takes an option with this number, length and delta (how the code is seen)
-pub record TakesNow (w : Writer) (number value_length delta : ℕ) : Type 0 where
+-- a writer takes an option with this number and length (how the code is seen)
+pub record TakesNow (w : Writer) (number value_length : ℕ) : Type 0 where
   pub stage : w.stage ≡ Open
   pub order : w.number ≤ number
-  pub delta_is : delta ≡ number - w.number
   pub short : value_length ≤ 65804
-  pub room : w.len + option_length delta value_length ≤ limit_of w
+  pub room : w.len + option_length (number - w.number) value_length ≤ limit_of w
 
 -- why a writer doesn't take an option with this number and length (how the code is seen)
 abbrev pub RefusesOptionNow : Writer → ℕ → ℕ → WriteError → Type 0

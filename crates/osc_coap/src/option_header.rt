@@ -102,20 +102,14 @@ fn extended_len(n: u32) -> usize
     }
 }
 
-/// Returns how many bytes an option takes, including its value.
-pub(crate) fn option_size(delta: u32, value_len: u32) -> usize
-    ensures { result ≡ option_length delta value_len }
-{
-    1 + extended_len(delta) + extended_len(value_len) + value_len as usize
-}
-
 /// Returns how many bytes an option takes, including its value. The delta is its number minus the number of the option
 /// before (or 0), and the length is that of its value in bytes (RFC 7252, 3.1).
 #[must_use]
 pub fn option_len(delta: u16, length: u16) -> usize
     ensures { result ≡ option_length delta length }
 {
-    option_size(u32::from(delta), u32::from(length))
+    let headers = 1 + extended_len(u32::from(delta)) + extended_len(u32::from(length));
+    headers + usize::from(length)
 }
 
 /// Writes the extended bytes of a number, and returns where they end.

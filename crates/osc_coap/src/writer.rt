@@ -10,7 +10,7 @@ use crate::body::PAYLOAD_MARKER;
 use crate::format_error::MOST_DATAGRAM;
 use crate::head::{head_len, put_head};
 use crate::message::{Kind, Token};
-use crate::option_header::{MOST_VALUE, option_size, put_option};
+use crate::option_header::{MOST_VALUE, option_len, put_option};
 use crate::placing::put;
 use crate::write_error::WriteError;
 
@@ -126,9 +126,9 @@ impl<'a> Writer<'a> {
         }
     }
 
-    /// Returns the delta of an option if it can follow, given its number and the length of its value.
-    fn judge_option(&self, number: u16, value_len: usize) -> Result<u16, WriteError>
-        ensures { MatchResult result (TakesNow self.now number value_len)
+    /// Judges whether an option can follow, given its number and the length of its value.
+    fn judge_option(&self, number: u16, value_len: usize) -> Result<(), WriteError>
+        ensures { MatchResult result (λ _. TakesNow self.now number value_len)
             (RefusesOptionNow self.now number value_len) }
     {
         match self.stage {
@@ -142,12 +142,29 @@ impl<'a> Writer<'a> {
         if value_len > MOST_VALUE {
             return Err(WriteError::ValueTooLong);
         }
-        let delta = number - self.number;
         let limit = self.buf.len().min(MOST_DATAGRAM);
-        if limit - self.len < option_size(u32::from(delta), value_len as u32) {
+        // What is shorter than a datagram has a length of two bytes.
+        if limit - self.len < value_len {
             return Err(WriteError::NoRoom);
         }
-        Ok(delta)
+        if limit - self.len < option_len(number - self.number, value_len as u16) {
+            return Err(WriteError::NoRoom);
+        }
+        Ok(())
+    }
+
+    /// Adds an option after the others, where it can follow and there is room for it (`option_len`): `option` would take it (RFC 7252,
+    /// 3.1).
+    pub fn add_option(&mut self, number: u16, value: &[u8])
+        requires { (draft : Draft) × (old : List ℕ) × Holds self.old draft old
+            × TakesOption (length old) draft number value.now }
+        ensures same_reference { buffer_of self.new ≡ buffer_of self.old }
+        ensures written { (draft : Draft) (old : List ℕ) → Holds self.old draft old
+            → Holds self.new (with_option draft number value.now) old }
+    {
+        let buf = &mut *self.buf;
+        self.len = put_option(buf, self.len, number - self.number, value);
+        self.number = number;
     }
 
     /// Adds an option after the others (RFC 7252, 3.1). Refuses with EmptyWithRest, Order, ValueTooLong or NoRoom,
@@ -166,7 +183,8 @@ impl<'a> Writer<'a> {
         ensures refuses { (draft : Draft) (old : List ℕ) → Holds self.old draft old → (e : WriteError)
             → IsFirstReason (RefusesOption (length old) draft number value.now) e → IsErrOf result e }
     {
-        let delta = self.judge_option(number, value.len())?;
+        self.judge_option(number, value.len())?;
+        let delta = number - self.number;
         let buf = &mut *self.buf;
         self.len = put_option(buf, self.len, delta, value);
         self.number = number;

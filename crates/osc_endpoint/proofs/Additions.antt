@@ -6,13 +6,14 @@ use Rattle.std.proofs.lemmas.Option.{slice_get_past}
 use Rattle.osc_context.specs.SecurityContext.{SecurityContext}
 use Rattle.osc_window.specs.declared.window_size.WindowSize.{WindowSize}
 use Rattle.osc_endpoint.specs.declared.server.Server.{Server}
-use Rattle.osc_endpoint.specs.declared.slot.Slot.{Slot}
-use Rattle.osc_endpoint.specs.declared.start.Start.{Start}
-use Rattle.osc_endpoint.specs.declared.start.Start.TheVariants.{Fresh, Restarted}
-use Rattle.osc_endpoint.specs.Agrees.{Agrees, HoldsLife, SlotAgrees, PlaceAgrees, TableAgrees}
-use Rattle.osc_endpoint.specs.Life.{Life, born}
+use Rattle.osc_life.specs.declared.slot.Slot.{Slot}
+use Rattle.osc_life.specs.declared.start.Start.{Start}
+use Rattle.osc_life.specs.declared.start.Start.TheVariants.{Fresh, Restarted}
+use Rattle.osc_endpoint.specs.Agrees.{Agrees, PlaceAgrees, TableAgrees}
+use Rattle.osc_life.specs.Agrees.{HoldsLife, SlotAgrees}
+use Rattle.osc_life.specs.Life.{Life, born}
 use Rattle.osc_endpoint.specs.ServerAnswer.{HaveSameLookup, IsTaken}
-use Rattle.osc_endpoint.specs.ServerHistory.{History, Then, Add, Added, life}
+use Rattle.osc_life.specs.ServerHistory.{History, Then, Add, Added, life}
 
 slice_get-pushed : (xs : List (Option Slot)) (y : Option Slot) → slice_get (xs ++ y ∷ []) (length xs) ≡ Some y
 slice_get-pushed [] y = refl

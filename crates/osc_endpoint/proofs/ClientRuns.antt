@@ -2,7 +2,7 @@
 use Rattle.std.proofs.Common.{◌≡◌, ◌∙◌, ℕ, ap, sym, subst, refl, List, [], ◌∷◌, ◌++◌, take}
 use Rattle.osc_endpoint.specs.declared.client_event.ClientEvent.{ClientEvent}
 use Rattle.osc_endpoint.specs.declared.client_event.ClientEntry.{ClientEntry}
-use Rattle.osc_endpoint.specs.ClientHistory.{History}
+use Rattle.osc_client.specs.ClientHistory.{History}
 use Rattle.osc_endpoint.specs.ClientRun.{Run, ClientRunStep}
 
 -- a run goes on by one event

@@ -19,26 +19,29 @@ use Rattle.osc_protect.specs.declared.head_error.NoHead.TheVariants as none
 use Rattle.osc_coap.specs.declared.format_error.FormatError.{FormatError}
 use Rattle.osc_coap.specs.Fault.{HasFault}
 use Rattle.osc_protect.specs.declared.request_head.RequestHead.{RequestHead}
-use Rattle.osc_endpoint.specs.declared.asker.Asker.{Asker}
-use Rattle.osc_endpoint.specs.declared.decision.Decided.{Decided}
-use Rattle.osc_endpoint.specs.declared.decision.Decision.TheVariants as decisions
-use Rattle.osc_endpoint.specs.declared.judging.Named.{Named}
+use Rattle.osc_life.specs.declared.asker.Asker.{Asker}
+use Rattle.osc_life.specs.declared.decision.Decided.{Decided}
+use Rattle.osc_life.specs.declared.decision.Decision.TheVariants as decisions
+use Rattle.osc_life.specs.declared.judging.Named.{Named}
 use Rattle.osc_endpoint.specs.declared.server.Server.{Server}
-use Rattle.osc_endpoint.specs.declared.slot.Slot.{Slot}
-use Rattle.osc_endpoint.specs.declared.start.Fresh.{Fresh}
-use Rattle.osc_endpoint.specs.Agrees.{Agrees, HoldsLife, PlaceAgrees, TableAgrees}
-use Rattle.osc_endpoint.specs.Deciding.{Decides, DecidesTo}
+use Rattle.osc_life.specs.declared.slot.Slot.{Slot}
+use Rattle.osc_life.specs.declared.start.Fresh.{Fresh}
+use Rattle.osc_endpoint.specs.Agrees.{Agrees, PlaceAgrees, TableAgrees}
+use Rattle.osc_life.specs.Agrees.{HoldsLife}
+use Rattle.osc_life.specs.Deciding.{Decides}
+use Rattle.osc_endpoint.specs.Deciding.{DecidesTo}
 use Rattle.osc_endpoint.specs.Heads.{head_answer, HeadReply}
-use Rattle.osc_endpoint.specs.Judging.{IsAskerOf, IsNamed, IsNamedAt, NamedAnswer}
-use Rattle.osc_endpoint.specs.Life.{Life, Mark, marked}
-use Rattle.osc_endpoint.specs.declared.server_error.ReplyError.{ReplyError}
-use Rattle.osc_endpoint.specs.Replies.{as_reply, error_message, no_context}
+use Rattle.osc_life.specs.Judging.{IsAskerOf, IsNamed, IsNamedAt, LooksUp}
+use Rattle.osc_endpoint.specs.Table.{NamedAnswer, TableJudges}
+use Rattle.osc_life.specs.Life.{Life, Mark, marked}
+use Rattle.osc_life.specs.declared.server_error.ReplyError.{ReplyError}
+use Rattle.osc_life.specs.Replies.{as_reply, error_message, no_context}
 use Rattle.osc_endpoint.specs.Replying.{marks_at}
-use Rattle.osc_endpoint.specs.ServerAnswer.{Arrival, TakeAnswer, arrival}
-use Rattle.osc_endpoint.specs.ServerHistory as server
-use Rattle.osc_endpoint.specs.Table.{LooksUp, TableJudges}
-use Rattle.osc_endpoint.specs.Views.{reply_entry}
-use Rattle.osc_endpoint.proofs.Judgments.{says_error}
+use Rattle.osc_life.specs.LifeAnswer.{Arrival}
+use Rattle.osc_endpoint.specs.ServerAnswer.{TakeAnswer, arrival}
+use Rattle.osc_life.specs.ServerHistory as server
+use Rattle.osc_life.specs.Views.{reply_entry}
+use Rattle.osc_life.proofs.Judgments.{says_error}
 use Rattle.osc_endpoint.proofs.KeptContexts.{one_marked}
 use Rattle.osc_endpoint.proofs.Places.{same_life, slot_at}
 

@@ -6,16 +6,17 @@ use Rattle.osc_protect.specs.Laws.{OneRequest, OneRequestReading}
 use Rattle.osc_protect.specs.Protection.{ProtectsRequest, requests}
 use Rattle.osc_protect.specs.Refusals.{RefusesPlaintext, RefusesTag}
 use Rattle.osc_protect.specs.declared.unprotect_error.UnprotectError.TheVariants.{Format, NotThatKind, NoOscore, Undecodable as BadHead, WrongContext, Tag, Inner}
-use Rattle.osc_endpoint.specs.declared.outcome.Outcome.{Outcome}
-use Rattle.osc_endpoint.specs.declared.outcome.Outcome.TheVariants as outcomes
+use Rattle.osc_life.specs.declared.outcome.Outcome.{Outcome}
+use Rattle.osc_life.specs.declared.outcome.Outcome.TheVariants as outcomes
 use Rattle.osc_endpoint.specs.Agrees.{OneEach}
-use Rattle.osc_endpoint.specs.Life.{Life, Admits, Carries, IsNewIn, is_open, in_force}
-use Rattle.osc_endpoint.specs.ServerAnswer.{IsRequestOf, MeetsRow, WantsEcho, Delivers, arrival}
-use Rattle.osc_endpoint.specs.ServerHistory as server
+use Rattle.osc_life.specs.Life.{Life, Admits, Carries, IsNewIn, is_open, in_force}
+use Rattle.osc_endpoint.specs.ServerAnswer.{IsRequestOf, MeetsRow, Delivers, arrival}
+use Rattle.osc_life.specs.LifeAnswer.{WantsEcho}
+use Rattle.osc_life.specs.ServerHistory as server
 use Rattle.osc_protect.specs.Views.{message_of}
-use Rattle.osc_endpoint.specs.Received.{Received}
-use Rattle.osc_endpoint.specs.Views.{Shows, delivery_of}
-use Rattle.osc_endpoint.proofs.Judgments.{same_parts}
+use Rattle.osc_observe.specs.Received.{Received}
+use Rattle.osc_life.specs.Views.{Shows, delivery_of}
+use Rattle.osc_life.proofs.Judgments.{same_parts}
 
 -- context, number and message of a delivery
 abbrev pub delivered : server.Answer → Option (ℕ × ℕ × InnerParts)

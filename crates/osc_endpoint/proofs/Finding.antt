@@ -5,8 +5,9 @@ use Rattle.std.proofs.lemmas.Option.{none-some}
 use Rattle.osc_context.specs.SecurityContext.{SecurityContext}
 use Rattle.osc_context.specs.Views.{as_server}
 use Rattle.osc_protect.specs.Views.{context_of}
-use Rattle.osc_endpoint.specs.declared.slot.Slot.{Slot}
-use Rattle.osc_endpoint.specs.Table.{FindsAt, LooksUp, context_in, context_of_place}
+use Rattle.osc_life.specs.declared.slot.Slot.{Slot}
+use Rattle.osc_endpoint.specs.Table.{FindsAt, context_in, context_of_place}
+use Rattle.osc_life.specs.Judging.{LooksUp}
 
 -- the context of a place is that of the slot there
 pub place_of : (o : Option (Option Slot)) (c : SecurityContext) → context_of_place o ≡ Some c → (s : Slot) × (o ≡ Some (Some s)) × (as_server (context_of s.context) ≡ c)

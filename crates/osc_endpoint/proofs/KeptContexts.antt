@@ -4,9 +4,9 @@ use Rattle.std.specs.Prelude.{unwrap_or}
 use Rattle.std.specs.Option.{option_map}
 use Rattle.osc_context.specs.SecurityContext.{SecurityContext}
 use Rattle.osc_endpoint.specs.Agrees.{OneEach}
-use Rattle.osc_endpoint.specs.Life.{Life, Mark, marked, renewed}
+use Rattle.osc_life.specs.Life.{Life, Mark, marked, renewed}
 use Rattle.osc_endpoint.specs.ServerAnswer.{HaveSameLookup}
-use Rattle.osc_endpoint.specs.ServerHistory.{History, life}
+use Rattle.osc_life.specs.ServerHistory.{History, life}
 use Rattle.osc_endpoint.proofs.Additions.{OneBy}
 
 -- a life of the one has the context of a life of the other

@@ -5,14 +5,15 @@ use Rattle.std.specs.Option.{option_map}
 use Rattle.std.proofs.lemmas.Bool.{ne_eqb, cases_eq}
 use Rattle.std.proofs.lemmas.Option.{slice_get_within}
 use Rattle.osc_context.specs.Views.{number_of}
-use Rattle.osc_endpoint.specs.declared.decision.Decided.{Decided}
-use Rattle.osc_endpoint.specs.declared.judging.Named.{Named}
-use Rattle.osc_endpoint.specs.declared.slot.Slot.{Slot}
-use Rattle.osc_endpoint.specs.Agrees.{HoldsLife, PlaceAgrees, TableAgrees}
-use Rattle.osc_endpoint.specs.Judging.{JudgesTo, arrival_of}
-use Rattle.osc_endpoint.specs.Life.{Life, Mark, marked}
-use Rattle.osc_endpoint.specs.ServerAnswer.{Arrival, MeetsLifeRow}
-use Rattle.osc_endpoint.specs.ServerHistory.{Answer, Malformed, NotRequest, Plain, Undecodable, NoContext, Replay, BadTag, BadInner, Challenge, SequenceExhausted, Deliver, mark_at, TicketValues}
+use Rattle.osc_life.specs.declared.decision.Decided.{Decided}
+use Rattle.osc_life.specs.declared.judging.Named.{Named}
+use Rattle.osc_life.specs.declared.slot.Slot.{Slot}
+use Rattle.osc_life.specs.Agrees.{HoldsLife}
+use Rattle.osc_endpoint.specs.Agrees.{PlaceAgrees, TableAgrees}
+use Rattle.osc_life.specs.Judging.{JudgesTo, arrival_of}
+use Rattle.osc_life.specs.Life.{Life, Mark, marked}
+use Rattle.osc_life.specs.LifeAnswer.{Arrival, MeetsLifeRow}
+use Rattle.osc_life.specs.ServerHistory.{Answer, Malformed, NotRequest, Plain, Undecodable, NoContext, Replay, BadTag, BadInner, Challenge, SequenceExhausted, Deliver, mark_at, TicketValues}
 use Rattle.osc_endpoint.specs.Table.{TableJudges}
 
 pub slice_get-set_same : {A : Type 0} → (xs : List A) (i : ℕ) (y : A) → i < length xs → slice_get (slice_set xs i y) i ≡ Some y

@@ -7,9 +7,10 @@ use Rattle.osc_endpoint.specs.declared.server_event.ServerEvent.TheVariants as e
 use Rattle.osc_endpoint.specs.declared.server_event.ServerEntry.{ServerEntry}
 use Rattle.osc_endpoint.specs.declared.server_event.ServerEntry.TheVariants as entries
 use Rattle.osc_endpoint.specs.Tickets.{AreLeft, IsTakenOut, TakesTickets}
-use Rattle.osc_endpoint.specs.ServerAnswer.{asks_own}
-use Rattle.osc_endpoint.specs.ServerHistory.{History, Then, Answer, Datagram, Deliver, Notify, Replied, Reply, TicketValues, Took}
-use Rattle.osc_endpoint.specs.ServerRun.{DropStep, NotifyStep, ReplyStep, Run, ServerRunStep, ticket_at, ticket_of}
+use Rattle.osc_life.specs.LifeAnswer.{asks_own}
+use Rattle.osc_life.specs.ServerHistory.{History, Then, Answer, Datagram, Deliver, Notify, Replied, Reply, TicketValues, Took}
+use Rattle.osc_endpoint.specs.ServerRun.{DropStep, NotifyStep, ReplyStep, Run, ServerRunStep, ticket_at}
+use Rattle.osc_life.specs.Logged.{ticket_of}
 use Rattle.osc_endpoint.proofs.Runs.{none_taken}
 
 -- the ticket at a place, if there is one

@@ -2,17 +2,17 @@
 use Rattle.std.proofs.Common.{◌≡◌, ℕ, zero, suc, ◌∙◌, sym, ap, subst, refl, Option, Some, None, Ok, Err, List, [], ◌∷◌, ◌++◌, take, slice_set}
 use Rattle.std.specs.Prelude.{is_some, slice_get}
 use Rattle.std.specs.Option.{option_and_then, option_map}
-use Rattle.osc_endpoint.specs.declared.ticket.Ticket.{Ticket}
+use Rattle.osc_life.specs.declared.ticket.Ticket.{Ticket}
 use Rattle.osc_endpoint.specs.declared.server.Server.{Server}
 use Rattle.osc_endpoint.specs.declared.server_event.ServerEvent.{ServerEvent}
 use Rattle.osc_endpoint.specs.declared.server_event.ServerEvent.TheVariants as events
 use Rattle.osc_endpoint.specs.declared.server_event.ServerEntry.{ServerEntry}
 use Rattle.osc_endpoint.specs.declared.server_event.ServerEntry.TheVariants as entries
 use Rattle.osc_endpoint.specs.Agrees.{Agrees}
-use Rattle.osc_endpoint.specs.ServerHistory.{History, TicketValues}
+use Rattle.osc_life.specs.ServerHistory.{History, TicketValues}
 use Rattle.osc_endpoint.specs.ServerRun.{Run, ServerRunStep, ticket_at, values_in}
 use Rattle.osc_endpoint.specs.Serving.{Serves}
-use Rattle.osc_endpoint.specs.Views.{values_of}
+use Rattle.osc_life.specs.Views.{values_of}
 
 -- what stands at a place, and its values
 pub ticket_seen : (ts : List (Option Ticket)) (i : ℕ) → ticket_at (values_in ts) i ≡ option_map values_of (option_and_then (λ t. t) (slice_get ts i))

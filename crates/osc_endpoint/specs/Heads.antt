@@ -2,8 +2,8 @@
 use Rattle.std.specs.Prelude.{◌≡◌, ℕ, List, []}
 use Rattle.osc_protect.specs.declared.head_error.NoHead.{NoHead}
 use Rattle.osc_protect.specs.declared.head_error.NoHead.TheVariants.{NotThatKind, NoOscore, Undecodable}
-use Rattle.osc_endpoint.specs.Replies.{SaysError, undecodable}
-use Rattle.osc_endpoint.specs.ServerHistory as server
+use Rattle.osc_life.specs.Replies.{SaysError, undecodable}
+use Rattle.osc_life.specs.ServerHistory as server
 
 -- the answer to such a message (RFC 8613, 8.2)
 abbrev pub head_answer : NoHead → server.Answer

@@ -5,36 +5,16 @@ use Rattle.std.specs.Option.{option_and_then, option_map}
 use Rattle.osc_coap.specs.Datagram.{Parts, IsDatagram}
 use Rattle.osc_coap.specs.Fault.{HasFault}
 use Rattle.osc_context.specs.Views.{number_of}
-use Rattle.osc_endpoint.specs.declared.server_event.Seen.{Seen}
-use Rattle.osc_endpoint.specs.declared.server_event.Seen.TheVariants as seen
 use Rattle.osc_endpoint.specs.declared.server_event.ServerEvent.{ServerEvent}
 use Rattle.osc_endpoint.specs.declared.server_event.ServerEvent.TheVariants as events
 use Rattle.osc_endpoint.specs.declared.server_event.ServerEntry.{ServerEntry}
 use Rattle.osc_endpoint.specs.declared.server_event.ServerEntry.TheVariants as entries
-use Rattle.osc_endpoint.specs.ServerHistory.{History, Then, Event, Entry, Answer, TicketValues, Datagram, Reply, Notify, Restart, Malformed, NotRequest, Plain, Undecodable, NoContext, Replay, BadTag, BadInner, Challenge, SequenceExhausted, Deliver, Took, Replied, NotReplied, Restarted, NotRestarted}
-use Rattle.osc_endpoint.specs.ServerAnswer.{ServerAnswer, asks_own}
-use Rattle.osc_endpoint.specs.Views.{received_of, values_of}
-use Rattle.osc_endpoint.specs.declared.ticket.Ticket.{Ticket}
-
--- what the log shows of an answer: a delivery without its ticket (how the code is seen)
-abbrev pub Logs : Seen → Answer → Type 0
-Logs (seen.Malformed e) (Malformed fault place) = (e.fault ≡ fault) × (e.place ≡ place)
-Logs seen.NotRequest NotRequest = Unit {0}
-Logs seen.Plain Plain = Unit {0}
-Logs seen.Undecodable Undecodable = Unit {0}
-Logs seen.NoContext NoContext = Unit {0}
-Logs seen.Replay Replay = Unit {0}
-Logs seen.BadTag BadTag = Unit {0}
-Logs seen.BadInner (BadInner i n) = Unit {0}
-Logs (seen.Challenge echo issued) (Challenge i n given moment) = (echo ≡ given) × (issued ≡ moment)
-Logs seen.SequenceExhausted SequenceExhausted = Unit {0}
-Logs (seen.Deliver opened context number) (Deliver received ticket) = (received_of opened ≡ received) × (context ≡ ticket.context) × (number_of number ≡ ticket.number)
-Logs x answer = ⊥
-
--- the ticket that an answer gives, if it gives one (own rule)
-abbrev pub ticket_of : Answer → Option TicketValues
-ticket_of (Deliver received ticket) = Some ticket
-ticket_of answer = None
+use Rattle.osc_life.specs.ServerHistory.{History, Then, Event, Entry, Answer, TicketValues, Datagram, Reply, Notify, Restart, Took, Replied, NotReplied, Restarted, NotRestarted}
+use Rattle.osc_endpoint.specs.ServerAnswer.{ServerAnswer}
+use Rattle.osc_life.specs.LifeAnswer.{asks_own}
+use Rattle.osc_life.specs.Views.{values_of}
+use Rattle.osc_life.specs.declared.ticket.Ticket.{Ticket}
+use Rattle.osc_life.specs.Logged.{Logs, ticket_of}
 
 -- the ticket that is left at this place (own rule)
 abbrev pub ticket_at : List (Option TicketValues) → ℕ → Option TicketValues

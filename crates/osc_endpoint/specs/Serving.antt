@@ -6,8 +6,9 @@ use Rattle.osc_endpoint.specs.declared.server_event.ServerEvent.{ServerEvent}
 use Rattle.osc_endpoint.specs.declared.server_event.ServerEvent.TheVariants as events
 use Rattle.osc_endpoint.specs.declared.server_event.ServerEntry.{ServerEntry}
 use Rattle.osc_endpoint.specs.declared.server_event.ServerEntry.TheVariants as entries
-use Rattle.osc_endpoint.specs.ServerHistory.{History, Answer, TicketValues, Datagram, Restart, Took, Restarted, NotRestarted}
-use Rattle.osc_endpoint.specs.ServerRun.{DropStep, GoesOn, Logs, NotifyStep, ReplyStep, ticket_of}
+use Rattle.osc_life.specs.ServerHistory.{History, Answer, TicketValues, Datagram, Restart, Took, Restarted, NotRestarted}
+use Rattle.osc_endpoint.specs.ServerRun.{DropStep, GoesOn, NotifyStep, ReplyStep}
+use Rattle.osc_life.specs.Logged.{Logs, ticket_of}
 
 -- a step of a run without the place that each event adds to the tickets; o is the ticket in that place (how the code is seen)
 abbrev pub Serves : History → List (Option TicketValues) → ServerEvent → ServerEntry → Option TicketValues → History → List (Option TicketValues) → Type 0

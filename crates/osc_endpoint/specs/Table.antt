@@ -6,19 +6,16 @@ use Rattle.osc_protect.specs.Protection.{requests}
 use Rattle.osc_protect.specs.StageViews.{IsSealedRequest}
 use Rattle.osc_context.specs.Views.{as_server, number_of}
 use Rattle.osc_protect.specs.Views.{context_of}
-use Rattle.osc_endpoint.specs.declared.decision.Decided.{Decided}
-use Rattle.osc_endpoint.specs.declared.judging.Named.{Named}
-use Rattle.osc_endpoint.specs.declared.slot.Slot.{Slot}
+use Rattle.osc_life.specs.declared.decision.Decided.{Decided}
+use Rattle.osc_life.specs.declared.judging.Named.{Named}
+use Rattle.osc_life.specs.declared.slot.Slot.{Slot}
 use Rattle.osc_endpoint.specs.Agrees.{TableAgrees}
-use Rattle.osc_endpoint.specs.Deciding.{Decides}
-use Rattle.osc_endpoint.specs.Judging.{arrival_of, IsNamed, LifeAnswer}
-use Rattle.osc_endpoint.specs.Life.{Life, marked}
-use Rattle.osc_endpoint.specs.ServerHistory as server
-
--- a place that has a context with this kid, and with this kid context or none (RFC 8613, 8.2)
-abbrev pub LooksUp : Option Slot → List ℕ → Option (List ℕ) → Type 0
-LooksUp None kid kid_context = ⊥
-LooksUp (Some s) kid kid_context = AnswersTo (as_server (context_of s.context)) kid kid_context
+use Rattle.osc_life.specs.Deciding.{Decides}
+use Rattle.osc_life.specs.Judging.{arrival_of, IsNamed, LifeAnswer}
+use Rattle.osc_life.specs.Life.{Life, marked}
+use Rattle.osc_life.specs.ServerHistory as server
+use Rattle.osc_life.specs.LifeAnswer.{Arrival}
+use Rattle.osc_endpoint.specs.ServerAnswer.{IsRequestOf}
 
 -- the context of a place (how the code is seen)
 abbrev pub context_of_place : Option (Option Slot) → Option SecurityContext
@@ -51,3 +48,7 @@ pub record TableJudges (lives : ℕ → Option Life) (r : Named) (d : List ℕ) 
   pub row : LifeAnswer of r.index (number_of r.number) (arrival_of r d) answer reply
   pub decides : Decides result.decision new answer
   pub agrees : TableAgrees slots (λ i. option_map (marked (server.mark_at i answer)) (lives i))
+
+-- a row of the life that the head names, and its reply (RFC 8613, 7.4, 8.2 and B.1.2)
+abbrev pub NamedAnswer : server.History → Arrival → server.Answer → List ℕ → Type 0
+NamedAnswer h a answer reply = (i : ℕ) × (n : ℕ) × (of : Life) × IsRequestOf h a.bytes i n of × LifeAnswer of i n a answer reply

@@ -1,6 +1,6 @@
 -- To be believed: which tickets a server has given and has left. h is a history of a server, ts are tickets, newest first.
 use Rattle.std.specs.Prelude.{◌≡◌, List, [], ◌∷◌, ◌++◌}
-use Rattle.osc_endpoint.specs.ServerHistory.{History, Begin, Then, TicketValues, Reply, Notify, Deliver, Took, Replied}
+use Rattle.osc_life.specs.ServerHistory.{History, Begin, Then, TicketValues, Reply, Notify, Deliver, Took, Replied}
 
 -- one of these tickets was taken out (own rule)
 abbrev pub IsTakenOut : TicketValues → List TicketValues → List TicketValues → Type 0

@@ -1,6 +1,6 @@
 //! The events of a client's run, and their results.
 
-use crate::client_outcome::{ClientOutcome, RequestError};
+use osc_client::{ClientOutcome, RequestError};
 use osc_coap::FormatError;
 use osc_context::Piv;
 

@@ -1,12 +1,12 @@
 //! Runs a client over a list of events.
 
 ghost use Rattle.std.specs.Prelude.{◌≡◌, ◌<◌, [], length, take, drop, vec_len, OnOk, OnErr};
-ghost use Rattle.osc_endpoint.specs.Agrees.{ClientAgrees};
-ghost use Rattle.osc_endpoint.specs.ClientHistory.{History};
+ghost use Rattle.osc_client.specs.Agrees.{ClientAgrees};
+ghost use Rattle.osc_client.specs.ClientHistory.{History};
 ghost use Rattle.osc_endpoint.specs.ClientRun.{RequestStep, Run, ClientRunStep};
 
-use crate::client::Client;
 use crate::client_event::{ClientEntry, ClientEvent};
+use osc_client::Client;
 use osc_coap::parse;
 use std::alloc::{AllocError, Global};
 use std::mem;

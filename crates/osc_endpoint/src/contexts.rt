@@ -4,18 +4,17 @@ ghost use Rattle.std.specs.Prelude.{◌≡◌, ◌≤◌, ℕ, List, Option, IfS
 ghost use Rattle.std.proofs.Common.{ap};
 ghost use Rattle.osc_protect.specs.Views.{shown};
 ghost use Rattle.osc_endpoint.specs.Agrees.{TableAgrees};
-ghost use Rattle.osc_endpoint.specs.Deciding.{CanShow, Leaves};
+ghost use Rattle.osc_life.specs.Deciding.{CanShow, Leaves};
 ghost use Rattle.osc_context.specs.SecurityContext.{SecurityContext};
-ghost use Rattle.osc_endpoint.specs.Judging.{IsAskerOf};
-ghost use Rattle.osc_endpoint.specs.Life.{Life};
+ghost use Rattle.osc_life.specs.Judging.{IsAskerOf};
+ghost use Rattle.osc_life.specs.Life.{Life};
 ghost use Rattle.osc_endpoint.specs.Table.{FindsAt, NamesAt, TableJudges, context_in};
-ghost use Rattle.osc_endpoint.specs.declared.slot.Slot.{Slot};
+ghost use Rattle.osc_life.specs.declared.slot.Slot.{Slot};
 
-use crate::decision::Decided;
-use crate::judging::Named;
-use crate::slot::Slot;
 use crate::table;
 use arrayvec::ArrayVec;
+use osc_life::Decided;
+use osc_life::siblings::{Named, Slot};
 
 /// A table of contexts, wherever it lies. Only clauses read its places and the context at each place, and whether its bytes are such a
 /// table at all.

@@ -2,16 +2,13 @@
 
 ghost use Rattle.std.specs.Prelude.{◌≡◌, OnErr};
 ghost use Rattle.osc_context.specs.Views.{as_server};
-ghost use Rattle.osc_protect.specs.Views.{context_of};
 
-use crate::server_error::AddError;
-use crate::slot::Slot;
-use crate::start::Start;
 use crate::table::{find, is_open_at};
 use arrayvec::ArrayVec;
 use osc_context::Context;
-use osc_protect::KeyedContext;
-use osc_window::{Gate, Window, WindowSize};
+use osc_life::siblings::Slot;
+use osc_life::{AddError, Start};
+use osc_window::WindowSize;
 
 /// A server of up to eight contexts. It has no socket, no clock and no random source: you pass in datagrams, timestamps in milliseconds and
 /// fresh values.
@@ -21,35 +18,11 @@ pub struct Server {
     pub(crate) slots: ArrayVec<Option<Slot>, 8>,
 }
 
-impl Slot {
-    ghost use Rattle.osc_endpoint.specs.Agrees.{SlotAgrees};
-    ghost use Rattle.osc_endpoint.specs.Life.{born};
-
-    /// Begins a context.
-    #[must_use]
-    pub fn begin(context: Context, start: Start, size: WindowSize) -> Slot
-        ensures context { context_of result.context ≡ context }
-        ensures agrees { SlotAgrees result (born (as_server context) start size) }
-    {
-        let (gate, next) = match start {
-            Start::Fresh(next) => (Gate::Open(Window::fresh(size)), next),
-            Start::Restarted(next) => (Gate::Restarted { challenge: None }, next),
-        };
-        Slot {
-            context: KeyedContext::new(context),
-            size,
-            gate,
-            next: next.number(),
-            life: 0,
-        }
-    }
-}
-
 impl Server {
     ghost use Rattle.osc_endpoint.specs.Agrees.{Agrees};
     ghost use Rattle.osc_endpoint.specs.ServerAnswer.{ServerAnswer};
-    ghost use Rattle.osc_endpoint.specs.ServerHistory.{History, Begin, Then, Add, Advance, Advanced, life};
-    ghost use Rattle.osc_endpoint.specs.Life.{is_open_life};
+    ghost use Rattle.osc_life.specs.ServerHistory.{History, Begin, Then, Add, Advance, Advanced, life};
+    ghost use Rattle.osc_life.specs.Life.{is_open_life};
     ghost use Rattle.osc_endpoint.specs.Views.{added_entry};
 
     /// Makes a server with no context.

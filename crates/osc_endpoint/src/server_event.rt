@@ -1,10 +1,8 @@
 //! The events of a server's run, and their results.
 
-use crate::server_error::{ReplyError, RestartError};
-use crate::start::Fresh;
 use osc_coap::FormatError;
 use osc_context::Piv;
-use osc_protect::Opened;
+use osc_life::{Fresh, ReplyError, RestartError, Seen};
 
 /// A datagram that arrives at a time in milliseconds, with the values drawn afresh for it and room for the reply.
 #[derive(Drop)]
@@ -47,30 +45,6 @@ pub enum ServerEvent {
     Drop { of: usize },
     /// A context begins a new life.
     Restart { context: usize, next: Piv },
-}
-
-/// What a server made of a datagram in a run: an `Outcome`, except that a delivery has no ticket.
-#[derive(Debug, Drop)]
-pub enum Seen<'a> {
-    Malformed(FormatError),
-    NotRequest,
-    Plain,
-    Undecodable,
-    NoContext,
-    Replay,
-    BadTag,
-    BadInner,
-    Challenge {
-        echo: [u8; 8],
-        issued: u64,
-    },
-    SequenceExhausted,
-    KeeperFailed,
-    Deliver {
-        opened: Opened<'a>,
-        context: usize,
-        number: Piv,
-    },
 }
 
 /// The result of one event of a server's run.

@@ -4,17 +4,16 @@ ghost use Rattle.std.specs.Prelude.{◌≡◌, ◌≢◌, ◌≤◌, IfOk, IfErr
 ghost use Rattle.osc_coap.specs.Views.{parts_of};
 
 use crate::server::Server;
-use crate::server_error::ReplyError;
 use crate::table::notify_at;
-use crate::ticket::Ticket;
 use osc_coap::Message;
+use osc_life::{ReplyError, Ticket};
 
 impl Server {
     ghost use Rattle.osc_endpoint.specs.Agrees.{Agrees};
     ghost use Rattle.osc_endpoint.specs.ServerAnswer.{ServerAnswer};
-    ghost use Rattle.osc_endpoint.specs.ServerHistory.{History, Then, Notify};
-    ghost use Rattle.osc_endpoint.specs.Views.{reply_entry, values_of};
-    ghost use Rattle.osc_endpoint.specs.declared.server_error.ReplyError.TheVariants.{KeeperFailed};
+    ghost use Rattle.osc_life.specs.ServerHistory.{History, Then, Notify};
+    ghost use Rattle.osc_life.specs.Views.{reply_entry, values_of};
+    ghost use Rattle.osc_life.specs.declared.server_error.ReplyError.TheVariants.{KeeperFailed};
 
     /// Seals a notification to the request of a ticket into `out`, and returns how many bytes it takes at the front of `out` (RFC 8613,
     /// 8.3.1). It uses the plain message, except the token, which is the ticket's: Type and Message ID are yours. The ticket stays. The

@@ -4,17 +4,18 @@ ghost use Rattle.std.specs.Prelude.{◌≡◌, ◌≢◌, ◌≤◌, IfOk, IfErr
 ghost use Rattle.osc_coap.specs.Views.{parts_of};
 
 use crate::server::Server;
-use crate::server_error::ReplyError;
 use crate::table::reply_at;
-use crate::ticket::Ticket;
 use osc_coap::Message;
+use osc_life::{ReplyError, Ticket};
 
 impl Server {
     ghost use Rattle.osc_endpoint.specs.Agrees.{Agrees};
-    ghost use Rattle.osc_endpoint.specs.ServerAnswer.{ServerAnswer, asks_own};
-    ghost use Rattle.osc_endpoint.specs.ServerHistory.{History, Then, Reply};
-    ghost use Rattle.osc_endpoint.specs.Views.{server_entry, values_of};
-    ghost use Rattle.osc_endpoint.specs.declared.server_error.ReplyError.TheVariants.{KeeperFailed};
+    ghost use Rattle.osc_endpoint.specs.ServerAnswer.{ServerAnswer};
+    ghost use Rattle.osc_life.specs.LifeAnswer.{asks_own};
+    ghost use Rattle.osc_life.specs.ServerHistory.{History, Then, Reply};
+    ghost use Rattle.osc_endpoint.specs.Views.{server_entry};
+    ghost use Rattle.osc_life.specs.Views.{values_of};
+    ghost use Rattle.osc_life.specs.declared.server_error.ReplyError.TheVariants.{KeeperFailed};
 
     /// Seals a reply to the request of a ticket into `out`, and returns how many bytes it takes at the front of `out` (RFC 8613, 8.3). It
     /// uses the code, options and payload of the plain message. If the ticket's request registers an observation, the reply has a Partial

@@ -1,54 +1,18 @@
 //! New lives of a server's contexts (RFC 8613, B.1).
 
-ghost use Rattle.std.specs.Prelude.{◌≡◌, ◌<◌, ◌≤◌, ◌+◌, ◌^◌, ℕ, List, Option, Some, Result, Ok, Err, OnErr, IfNone, length};
+ghost use Rattle.std.specs.Prelude.{◌≡◌, ◌<◌, ℕ, Option, Result, Err, OnErr};
 ghost use Rattle.osc_context.specs.Views.{number_of};
-ghost use Rattle.osc_endpoint.specs.Agrees.{HoldsLife, TableAgrees};
-ghost use Rattle.osc_endpoint.specs.Life.{Life};
-ghost use Rattle.osc_endpoint.specs.Restarting.{life_after, lives_after};
-ghost use Rattle.osc_endpoint.specs.ServerAnswer.{LifeRestart};
-ghost use Rattle.osc_endpoint.specs.Views.{restarted_entry};
-ghost use Rattle.osc_endpoint.specs.declared.server_error.RestartError.TheVariants.{NoSuchContext};
+ghost use Rattle.osc_endpoint.specs.Agrees.{TableAgrees};
+ghost use Rattle.osc_life.specs.Life.{Life};
+ghost use Rattle.osc_endpoint.specs.Restarting.{lives_after};
+ghost use Rattle.osc_life.specs.LifeAnswer.{LifeRestart};
+ghost use Rattle.osc_life.specs.Views.{restarted_entry};
+ghost use Rattle.osc_life.specs.declared.server_error.RestartError.TheVariants.{NoSuchContext};
 
 use crate::server::Server;
-use crate::server_error::RestartError;
-use crate::slot::Slot;
 use osc_context::Piv;
-use osc_window::Gate;
-
-impl Slot {
-    ghost use Rattle.osc_endpoint.specs.Agrees.{SlotAgrees};
-    ghost use Rattle.osc_endpoint.specs.Life.{renewed};
-
-    /// Begins a new life.
-    pub fn renew(&mut self, next: Piv)
-        requires { self.old.life + 1 < 2 ^ 64 }
-        ensures context { self.new.context ≡ self.old.context }
-        ensures kept { (l : Life) → SlotAgrees self.old l → SlotAgrees self.new (renewed (number_of next) l) }
-    {
-        self.gate = Gate::Restarted { challenge: None };
-        self.next = next.number();
-        self.life += 1;
-    }
-}
-
-/// Begins a new life of the context in a place.
-fn restart_place(place: &mut Option<Slot>, next: Piv) -> Result<(), RestartError>
-    ensures answer { (l : Life) → HoldsLife place.old l → LifeRestart (Some l) (restarted_entry result) }
-    ensures kept { (l : Life) → HoldsLife place.old l → HoldsLife place.new (life_after result (number_of next) l) }
-    ensures same { OnErr result (place.new ≡ place.old) }
-    ensures none { IfNone place.old (result ≡ Err NoSuchContext) }
-{
-    match place {
-        Some(slot) => {
-            if slot.life == u64::MAX {
-                return Err(RestartError::LivesExhausted);
-            }
-            slot.renew(next);
-            Ok(())
-        }
-        None => Err(RestartError::NoSuchContext),
-    }
-}
+use osc_life::RestartError;
+use osc_life::siblings::{Slot, restart_place};
 
 /// Begins a new life of the context at an index.
 fn restart_at(slots: &mut [Option<Slot>], context: usize, next: Piv) -> Result<(), RestartError>
@@ -67,7 +31,7 @@ fn restart_at(slots: &mut [Option<Slot>], context: usize, next: Piv) -> Result<(
 impl Server {
     ghost use Rattle.osc_endpoint.specs.Agrees.{Agrees};
     ghost use Rattle.osc_endpoint.specs.ServerAnswer.{ServerAnswer};
-    ghost use Rattle.osc_endpoint.specs.ServerHistory.{History, Then, Restart};
+    ghost use Rattle.osc_life.specs.ServerHistory.{History, Then, Restart};
 
     /// Begins a new life of a context: its gate is closed with no challenge, its next Sender Sequence Number is `next`, and older
     /// tickets are stale. Returns the first refusal in the order of `RestartError`. A refusal changes nothing.

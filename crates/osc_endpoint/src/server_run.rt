@@ -4,18 +4,17 @@ ghost use Rattle.std.specs.Prelude.{◌≡◌, ◌<◌, [], List, Option, None, 
 ghost use Rattle.std.specs.Option.{option_map};
 ghost use Rattle.osc_endpoint.specs.Agrees.{Agrees};
 ghost use Rattle.osc_endpoint.specs.Tickets.{TakesTickets};
-ghost use Rattle.osc_endpoint.specs.ServerHistory.{History, TicketValues};
+ghost use Rattle.osc_life.specs.ServerHistory.{History, TicketValues};
 ghost use Rattle.osc_endpoint.specs.ServerRun.{DropStep, NotifyStep, ReplyStep, Run, values_in};
 ghost use Rattle.osc_endpoint.specs.Serving.{Serves};
-ghost use Rattle.osc_endpoint.specs.Views.{values_of};
+ghost use Rattle.osc_life.specs.Views.{values_of};
 
-use crate::outcome::Taken;
 use crate::server::Server;
 use crate::server_event::{Answering, Arrival, Notifying, ServerEntry, ServerEvent};
-use crate::ticket::Ticket;
-use crate::ticket_places::{make_places, put_back, take_out, ticket_at};
 use osc_coap::parse;
 use osc_context::Piv;
+use osc_life::siblings::{make_places, put_back, take_out, ticket_at};
+use osc_life::{Taken, Ticket};
 use std::alloc::{AllocError, Global};
 use std::mem;
 

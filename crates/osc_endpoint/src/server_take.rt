@@ -1,23 +1,20 @@
 //! What a server makes of a datagram. It decides, and says what it leaves in the datagram. The decision lends slices of what is left.
 
 ghost use Rattle.std.specs.Prelude.{◌≡◌, ◌≢◌, ◌≤◌, ℕ, List, Option, Some, take, drop};
-ghost use Rattle.osc_endpoint.specs.Deciding.{CanShow, Decides, Leaves, ShowsDecided, DecidesTo};
+ghost use Rattle.osc_life.specs.Deciding.{CanShow, Decides, Leaves, ShowsDecided};
+ghost use Rattle.osc_endpoint.specs.Deciding.{DecidesTo};
 ghost use Rattle.osc_endpoint.specs.Heads.{head_answer, HeadReply};
-ghost use Rattle.osc_endpoint.specs.Judging.{IsAskerOf};
-ghost use Rattle.osc_endpoint.specs.declared.slot.Slot.{Slot};
-ghost use Rattle.osc_endpoint.specs.declared.outcome.Outcome.TheVariants.{KeeperFailed};
+ghost use Rattle.osc_life.specs.Judging.{IsAskerOf};
+ghost use Rattle.osc_life.specs.declared.slot.Slot.{Slot};
+ghost use Rattle.osc_life.specs.declared.outcome.Outcome.TheVariants.{KeeperFailed};
 ghost use Rattle.osc_endpoint.specs.Agrees.{Agrees, server_of};
-ghost use Rattle.osc_endpoint.specs.ServerHistory.{History};
+ghost use Rattle.osc_life.specs.ServerHistory.{History};
 
-use crate::asker::Asker;
 use crate::contexts::Contexts;
-use crate::decision::{Decided, Decision};
-use crate::error_reply::{ErrorReply, write_error};
-use crate::judging::Named;
-use crate::outcome::{Outcome, Taken};
 use crate::server::Server;
-use crate::start::Fresh;
 use osc_coap::parse;
+use osc_life::siblings::{Asker, ErrorReply, Named, write_error};
+use osc_life::{Decided, Decision, Fresh, Taken};
 use osc_protect::{NoHead, RequestHead, one_reading, one_request};
 
 /// Refuses a message that has no request head.
@@ -41,31 +38,6 @@ fn refuse_head(none: NoHead, asker: &Asker, mid: u16, out: &mut [u8; 64]) -> Dec
         }
     };
     Decided { decision, reply: 0 }
-}
-
-impl Decision {
-    /// Returns the decision as an outcome that lends slices of the datagram, as `take` returns it. Call this on the decision that
-    /// `Server::decide` returned, and pass in the datagram as that call left it. Nothing is read again.
-    #[must_use]
-    pub fn outcome(self, datagram: &[u8]) -> Outcome<'_>
-        requires { CanShow self datagram.now }
-        ensures shows { ShowsDecided self datagram.now result }
-        ensures no_keeper_failed { result ≢ KeeperFailed }
-    {
-        match self {
-            Decision::Malformed(error) => Outcome::Malformed(error),
-            Decision::NotRequest => Outcome::NotRequest,
-            Decision::Plain => Outcome::Plain,
-            Decision::Undecodable => Outcome::Undecodable,
-            Decision::NoContext => Outcome::NoContext,
-            Decision::Replay => Outcome::Replay,
-            Decision::BadTag => Outcome::BadTag,
-            Decision::BadInner => Outcome::BadInner,
-            Decision::Challenge { echo, issued } => Outcome::Challenge { echo, issued },
-            Decision::SequenceExhausted => Outcome::SequenceExhausted,
-            Decision::Deliver(read, ticket) => Outcome::Deliver(read.opened(datagram), ticket),
-        }
-    }
 }
 
 /// Decides the answer to a datagram for a server with this clock and these contexts, wherever they lie. It does what `Server::decide` does.
@@ -124,11 +96,11 @@ pub fn decide_over<T: Contexts>(
 
 impl Server {
     ghost use Rattle.osc_endpoint.specs.Agrees.{Agrees};
-    ghost use Rattle.osc_endpoint.specs.ServerHistory.{History};
+    ghost use Rattle.osc_life.specs.ServerHistory.{History};
     ghost use Rattle.osc_endpoint.specs.Deciding.{DecidesTo, LeavesBy, Takes};
     ghost use Rattle.osc_endpoint.specs.ServerAnswer.{Delivers};
-    ghost use Rattle.osc_endpoint.specs.Views.{delivery_of};
-    ghost use Rattle.osc_endpoint.specs.declared.outcome.Outcome.{Outcome as OutcomeOf};
+    ghost use Rattle.osc_life.specs.Views.{delivery_of};
+    ghost use Rattle.osc_life.specs.declared.outcome.Outcome.{Outcome as OutcomeOf};
     ghost use Rattle.osc_coap.specs.Inner.{InnerParts};
 
     /// Decides the answer to a datagram in place (RFC 8613, 8.2), and says what it leaves in the datagram. The first `reply` bytes of `out`

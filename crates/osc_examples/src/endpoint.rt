@@ -4,7 +4,7 @@ ghost use Rattle.std.specs.Prelude.{◌≡◌, ℕ, IsTrue};
 ghost use Rattle.osc_coap.specs.Inner.{InnerParts};
 ghost use Rattle.osc_endpoint.specs.Agrees.{Agrees};
 ghost use Rattle.osc_endpoint.specs.ServerAnswer.{Delivers};
-ghost use Rattle.osc_endpoint.specs.ServerHistory.{History};
+ghost use Rattle.osc_life.specs.ServerHistory.{History};
 
 use osc_endpoint::{Decided, Fresh, Outcome, Server};
 

@@ -2,8 +2,8 @@
 
 ghost use Rattle.std.specs.Prelude.{IfOk, IfErr};
 ghost use Rattle.osc_context.specs.Views.{as_server};
-ghost use Rattle.osc_endpoint.specs.ServerHistory.{Add, Added, Begin, Then};
-ghost use Rattle.osc_endpoint.specs.declared.start.Start.{Start};
+ghost use Rattle.osc_life.specs.ServerHistory.{Add, Added, Begin, Then};
+ghost use Rattle.osc_life.specs.declared.start.Start.{Start};
 ghost use Rattle.osc_kept_ends.specs.KeptServing.{IsKept};
 ghost use Rattle.osc_kept_ends.specs.Numbering.{upcoming};
 ghost use Rattle.osc_kept_ends.specs.Owning.{own_in};

@@ -2,7 +2,7 @@
 
 ghost use Rattle.std.specs.Prelude.{IfOk, IfSome, length, take};
 ghost use Rattle.osc_coap.specs.Views.{parts_of};
-ghost use Rattle.osc_endpoint.specs.ClientHistory.{History, Request, Sent};
+ghost use Rattle.osc_client.specs.ClientHistory.{History, Request, Sent};
 ghost use Rattle.osc_kept_ends.specs.Numbering.{Goes, Own, Reserve, after};
 ghost use Rattle.osc_kept_handle.specs.KeptClientBytes.{AsksWith, StepsClient};
 

@@ -5,13 +5,13 @@ use Rattle.std.proofs.lemmas.List.{length-map, length-take-le}
 use Rattle.osc_context.specs.SecurityContext.{SecurityContext}
 use Rattle.osc_context.specs.Views.{number_of}
 use Rattle.osc_context.specs.declared.partial_iv.Piv.{Piv}
-use Rattle.osc_endpoint.specs.Agrees.{ClientAgrees, ClientParts, HasTokensApart, TokensDiffer, client_parts, next_of}
-use Rattle.osc_endpoint.specs.ClientAnswer.{ClientAnswer}
-use Rattle.osc_endpoint.specs.ClientDeciding.{LeavesBy}
-use Rattle.osc_endpoint.specs.ClientHistory.{Asked, Entry, Event, History, Then}
-use Rattle.osc_endpoint.specs.declared.client.Client.{Client}
-use Rattle.osc_endpoint.specs.declared.decision.ClientDecision.{ClientDecision}
-use Rattle.osc_endpoint.specs.declared.decision.ClientDecision.TheVariants as decisions
+use Rattle.osc_client.specs.Agrees.{ClientAgrees, ClientParts, HasTokensApart, TokensDiffer, client_parts, next_of}
+use Rattle.osc_client.specs.ClientAnswer.{ClientAnswer}
+use Rattle.osc_client.specs.ClientDeciding.{LeavesBy}
+use Rattle.osc_client.specs.ClientHistory.{Asked, Entry, Event, History, Then}
+use Rattle.osc_client.specs.declared.client.Client.{Client}
+use Rattle.osc_client.specs.declared.decision.ClientDecision.{ClientDecision}
+use Rattle.osc_client.specs.declared.decision.ClientDecision.TheVariants as decisions
 use Rattle.osc_handle.specs.ClientBytes.{Asks, IsClient, asked_at, parts_in}
 use Rattle.osc_handle.specs.ClientSteps.{Keeps, LeavesIn, parts_with}
 use Rattle.osc_context_handle.specs.ContextBytes.{client_in}

@@ -5,14 +5,14 @@ use Rattle.std.specs.Option.{option_map}
 use Rattle.std.proofs.lemmas.Bool.{cases_eq}
 use Rattle.std.proofs.lemmas.List.{length-map, map-append}
 use Rattle.std.proofs.lemmas.Option.{get_or_from_slice_get, none-some, slice_get-get_or, slice_get-map, slice_get_within}
-use Rattle.osc_endpoint.proofs.Asking.{contains_at}
-use Rattle.osc_endpoint.proofs.ClientRequests.{differ_more}
+use Rattle.osc_client.proofs.Asking.{contains_at}
+use Rattle.osc_client.proofs.ClientRequests.{differ_more}
 use Rattle.osc_endpoint.proofs.Places.{slice_get-set_other, slice_get-set_same}
-use Rattle.osc_endpoint.specs.Agrees.{TokensDiffer}
-use Rattle.osc_endpoint.specs.ClientAnswer.{IsAmong}
-use Rattle.osc_endpoint.specs.ClientHistory.{Asked}
-use Rattle.osc_endpoint.specs.Views.{asked_of}
-use Rattle.osc_endpoint.specs.declared.pending.Pending.{Pending}
+use Rattle.osc_client.specs.Agrees.{TokensDiffer}
+use Rattle.osc_client.specs.ClientAnswer.{IsAmong}
+use Rattle.osc_client.specs.ClientHistory.{Asked}
+use Rattle.osc_client.specs.Views.{asked_of}
+use Rattle.osc_client.specs.declared.pending.Pending.{Pending}
 use Rattle.osc_handle.specs.ClientBytes.{IsPending, asked_at, pending_in}
 use Rattle.osc_handle.specs.declared.client_handle.ClientHandle.{ClientHandle}
 use Rattle.osc_handle.specs.declared.pending_handle.PendingHandle.{PendingHandle}

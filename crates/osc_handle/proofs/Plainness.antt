@@ -3,10 +3,10 @@ use Rattle.std.proofs.Common.{◌≡◌, ◌∙◌, ap, sym, suc, zero, refl, su
 use Rattle.std.specs.Option.{option_map}
 use Rattle.osc_context.specs.SecurityContext.{SecurityContext}
 use Rattle.osc_endpoint.specs.Agrees.{PlaceAgrees}
-use Rattle.osc_endpoint.specs.Life.{Life}
+use Rattle.osc_life.specs.Life.{Life}
 use Rattle.osc_laws.specs.Plainness.{EndsArePlain, WithoutObserve}
-use Rattle.osc_endpoint.specs.ServerHistory as server
-use Rattle.osc_endpoint.specs.declared.slot.Slot.{Slot}
+use Rattle.osc_life.specs.ServerHistory as server
+use Rattle.osc_life.specs.declared.slot.Slot.{Slot}
 use Rattle.osc_laws.proofs.ExchangeLives.{some_is}
 use Rattle.osc_context_handle.specs.ContextBytes.{server_in}
 use Rattle.osc_handle.specs.HandlePlainness.{AllowsNoObserve, HandlesArePlain}

@@ -6,13 +6,14 @@ use Rattle.osc_context.specs.SecurityContext.{SecurityContext}
 use Rattle.osc_context.specs.Views.{as_server}
 use Rattle.osc_protect.specs.Views.{context_of}
 use Rattle.osc_endpoint.proofs.Places.{slot_at}
-use Rattle.osc_endpoint.specs.Agrees.{HoldsLife, TableAgrees}
-use Rattle.osc_endpoint.specs.Life.{Life}
+use Rattle.osc_life.specs.Agrees.{HoldsLife}
+use Rattle.osc_endpoint.specs.Agrees.{TableAgrees}
+use Rattle.osc_life.specs.Life.{Life}
 use Rattle.osc_laws.specs.Senders.{HasSameSender}
 use Rattle.osc_context.specs.Senders.{HaveSameSender}
-use Rattle.osc_endpoint.specs.ServerHistory.{History, life}
+use Rattle.osc_life.specs.ServerHistory.{History, life}
 use Rattle.osc_endpoint.specs.Table.{context_of_place}
-use Rattle.osc_endpoint.specs.declared.slot.Slot.{Slot}
+use Rattle.osc_life.specs.declared.slot.Slot.{Slot}
 use Rattle.osc_handle.proofs.Tables.{bytes_of, life_there, read_at}
 use Rattle.osc_context_handle.specs.ContextBytes.{server_in}
 use Rattle.osc_handle.specs.Held.{held}

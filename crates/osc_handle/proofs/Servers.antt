@@ -14,28 +14,30 @@ use Rattle.osc_endpoint.proofs.Additions.{agrees_added}
 use Rattle.osc_endpoint.proofs.Decisions.{agrees_notified, agrees_replied}
 use Rattle.osc_laws.proofs.ContextsApart.{contexts_differ}
 use Rattle.osc_endpoint.proofs.Places.{same_life, slot_at}
-use Rattle.osc_endpoint.specs.Agrees.{Agrees, HoldsLife, PlaceAgrees, SlotAgrees, TableAgrees, server_of}
+use Rattle.osc_endpoint.specs.Agrees.{Agrees, PlaceAgrees, TableAgrees, server_of}
+use Rattle.osc_life.specs.Agrees.{HoldsLife, SlotAgrees}
 use Rattle.osc_endpoint.specs.Deciding.{DecidesTo}
 use Rattle.osc_laws.specs.Laws.{AllAnswers}
-use Rattle.osc_endpoint.specs.Life.{Answered, Life, born, marked, renewed}
-use Rattle.osc_endpoint.specs.Replies.{as_reply}
-use Rattle.osc_endpoint.specs.Replying.{reply_mark}
+use Rattle.osc_life.specs.Life.{Answered, Life, born, marked, renewed}
+use Rattle.osc_life.specs.Replies.{as_reply}
+use Rattle.osc_life.specs.Replying.{reply_mark}
 use Rattle.osc_endpoint.specs.Restarting.{lives_after}
 use Rattle.osc_laws.specs.Senders.{SendersDiffer}
-use Rattle.osc_endpoint.specs.ServerAnswer.{HaveSameLookup, IsContext, IsPresent, IsTaken, LifeNotify, LifeReply, LifeRestart, ReplyAnswer, ServerAnswer, as_notification}
-use Rattle.osc_endpoint.specs.ServerHistory as server
+use Rattle.osc_endpoint.specs.ServerAnswer.{HaveSameLookup, IsContext, IsPresent, IsTaken, ReplyAnswer, ServerAnswer}
+use Rattle.osc_life.specs.LifeAnswer.{LifeNotify, LifeReply, LifeRestart, as_notification}
+use Rattle.osc_life.specs.ServerHistory as server
 use Rattle.osc_endpoint.specs.Table.{FindsAt, context_of_place}
-use Rattle.osc_endpoint.specs.Views.{reply_entry}
+use Rattle.osc_life.specs.Views.{reply_entry}
 use Rattle.osc_laws.specs.Waiting.{AnswersWaiting, WaitingHasLife, waits}
-use Rattle.osc_endpoint.specs.declared.decision.Decided.{Decided}
-use Rattle.osc_endpoint.specs.declared.server_error.AddError.TheVariants.{Full, SameLookup}
-use Rattle.osc_endpoint.specs.declared.server_error.ReplyError.{ReplyError}
-use Rattle.osc_endpoint.specs.declared.server_error.RestartError.{RestartError}
-use Rattle.osc_endpoint.specs.declared.server_error.ReplyError.TheVariants as replies
-use Rattle.osc_endpoint.specs.declared.slot.Slot.{Slot}
-use Rattle.osc_endpoint.specs.declared.start.Fresh.{Fresh}
-use Rattle.osc_endpoint.specs.declared.start.Start.{Start}
-use Rattle.osc_endpoint.specs.declared.start.Start.TheVariants as starts
+use Rattle.osc_life.specs.declared.decision.Decided.{Decided}
+use Rattle.osc_life.specs.declared.server_error.AddError.TheVariants.{Full, SameLookup}
+use Rattle.osc_life.specs.declared.server_error.ReplyError.{ReplyError}
+use Rattle.osc_life.specs.declared.server_error.RestartError.{RestartError}
+use Rattle.osc_life.specs.declared.server_error.ReplyError.TheVariants as replies
+use Rattle.osc_life.specs.declared.slot.Slot.{Slot}
+use Rattle.osc_life.specs.declared.start.Fresh.{Fresh}
+use Rattle.osc_life.specs.declared.start.Start.{Start}
+use Rattle.osc_life.specs.declared.start.Start.TheVariants as starts
 use Rattle.osc_handle.proofs.Senders.{sender_in_bytes, sender_there}
 use Rattle.osc_handle.proofs.Tables.{bytes_of, in_front, life_past, life_there}
 use Rattle.osc_handle.proofs.Waits.{none_waits_new, none_waits_next, remembers_begun, remembers_notified, remembers_replied, remembers_took}

@@ -15,16 +15,17 @@ use Rattle.osc_protect.specs.Protection.{requests}
 use Rattle.osc_protect.specs.Stages.{Decrypts}
 use Rattle.osc_protect.specs.StageViews.{IsSealedRequest}
 use Rattle.osc_endpoint.proofs.Places.{life_at, slice_get-set_other, slice_get-set_same, table_judges}
-use Rattle.osc_endpoint.specs.Agrees.{GateAgrees, HoldsLife, PlaceAgrees, SlotAgrees, TableAgrees}
-use Rattle.osc_endpoint.specs.Deciding.{IsOpenedIn, Leaves}
-use Rattle.osc_endpoint.specs.Judging.{IsNamed, JudgesTo}
-use Rattle.osc_endpoint.specs.Life.{Life, Mark, floor, marked, spent}
+use Rattle.osc_life.specs.Agrees.{GateAgrees, HoldsLife, SlotAgrees}
+use Rattle.osc_endpoint.specs.Agrees.{PlaceAgrees, TableAgrees}
+use Rattle.osc_life.specs.Deciding.{IsOpenedIn, Leaves}
+use Rattle.osc_life.specs.Judging.{IsNamed, JudgesTo}
+use Rattle.osc_life.specs.Life.{Life, Mark, floor, marked, spent}
 use Rattle.osc_endpoint.specs.Table.{FindsAt, NamesAt, TableJudges}
-use Rattle.osc_endpoint.specs.declared.decision.Decided.{Decided}
-use Rattle.osc_endpoint.specs.declared.decision.Decision.{Decision}
-use Rattle.osc_endpoint.specs.declared.decision.Decision.TheVariants as decisions
-use Rattle.osc_endpoint.specs.declared.judging.Named.{Named}
-use Rattle.osc_endpoint.specs.declared.slot.Slot.{Slot}
+use Rattle.osc_life.specs.declared.decision.Decided.{Decided}
+use Rattle.osc_life.specs.declared.decision.Decision.{Decision}
+use Rattle.osc_life.specs.declared.decision.Decision.TheVariants as decisions
+use Rattle.osc_life.specs.declared.judging.Named.{Named}
+use Rattle.osc_life.specs.declared.slot.Slot.{Slot}
 use Rattle.osc_context_handle.specs.ContextBytes.{server_in}
 use Rattle.osc_handle.specs.SlotBytes.{HoldsIn, IsGateIn, IsHighestIn, IsSlotBytes, IsSlotIn}
 use Rattle.osc_handle.specs.TableBytes.{IsPlaceIn, IsTable, IsTableIn, bytes_at, places_in}

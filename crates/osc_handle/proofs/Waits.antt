@@ -11,17 +11,17 @@ use Rattle.osc_coap.specs.Datagram.{Parts}
 use Rattle.osc_coap.specs.Inner.{InnerParts}
 use Rattle.osc_window.proofs.Agreements.{places_most}
 use Rattle.osc_window.specs.Views.{places_of}
-use Rattle.osc_endpoint.proofs.Lives.{closed_bare}
+use Rattle.osc_life.proofs.Lives.{closed_bare}
 use Rattle.osc_endpoint.proofs.Places.{same_life, slice_get-set_other}
-use Rattle.osc_endpoint.specs.Deciding.{Decides}
+use Rattle.osc_life.specs.Deciding.{Decides}
 use Rattle.osc_laws.specs.Laws.{AllAnswers}
-use Rattle.osc_endpoint.specs.Life.{Admits, Answered, Challenged, Delivered, Life, Mark, Spoiled, is_open, marked, opened, spent}
-use Rattle.osc_endpoint.specs.Received.{Received}
+use Rattle.osc_life.specs.Life.{Admits, Answered, Challenged, Delivered, Life, Mark, Spoiled, is_open, marked, opened, spent}
+use Rattle.osc_observe.specs.Received.{Received}
 use Rattle.osc_endpoint.specs.ServerAnswer.{ServerAnswer}
-use Rattle.osc_endpoint.specs.ServerHistory as server
+use Rattle.osc_life.specs.ServerHistory as server
 use Rattle.osc_laws.specs.Waiting.{WaitingHasLife, is_far_above, is_to, waits}
-use Rattle.osc_endpoint.specs.declared.decision.Decision.{Decision}
-use Rattle.osc_endpoint.specs.declared.decision.Decision.TheVariants as decisions
+use Rattle.osc_life.specs.declared.decision.Decision.{Decision}
+use Rattle.osc_life.specs.declared.decision.Decision.TheVariants as decisions
 use Rattle.osc_handle.specs.Noting.{AddsNumber, Notes, NotesTicket}
 use Rattle.osc_handle.specs.ServerBytes.{Remembers, RemembersAt, RemembersLife}
 use Rattle.osc_handle.specs.UnansweredBytes.{holds}

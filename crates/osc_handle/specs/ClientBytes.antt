@@ -1,11 +1,11 @@
 -- To be believed: what the bytes of a client say. c are the bytes, b the bytes of one pending request, h is a history.
 use Rattle.std.specs.Prelude.{◌≡◌, ℕ, ◌≤◌, ◌<◌, ◌==◌, ◌^◌, List, Some, map, slice_get, take, if◌then◌else◌}
-use Rattle.osc_endpoint.specs.Agrees.{ClientParts, TokensDiffer}
-use Rattle.osc_endpoint.specs.ClientHistory.{Asked, History, clock, context, life_ms, next, pending}
+use Rattle.osc_client.specs.Agrees.{ClientParts, TokensDiffer}
+use Rattle.osc_client.specs.ClientHistory.{Asked, History, clock, context, life_ms, next, pending}
 use Rattle.osc_laws.specs.ClientLaws.{AllClientAnswers, RequestsCountUp, RequestsHaveTwoNonces, first_number, restarts, sealed, sealed_after}
 use Rattle.osc_laws.specs.Laws.{Pairwise}
-use Rattle.osc_endpoint.specs.declared.pending.Wait.{Wait}
-use Rattle.osc_endpoint.specs.declared.pending.Wait.TheVariants.{Once, Observing}
+use Rattle.osc_client.specs.declared.pending.Wait.{Wait}
+use Rattle.osc_client.specs.declared.pending.Wait.TheVariants.{Once, Observing}
 use Rattle.osc_context_handle.specs.ContextBytes.{IsContext, client_in}
 use Rattle.osc_handle.specs.declared.client_handle.ClientHandle.{ClientHandle}
 use Rattle.osc_handle.specs.declared.pending_handle.PendingHandle.{PendingHandle}

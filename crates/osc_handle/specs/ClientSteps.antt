@@ -2,14 +2,14 @@
 -- made of, d the datagram as it arrived, new what was left of it.
 use Rattle.std.specs.Prelude.{◌≡◌, ℕ, List, Contains, Option, map, take}
 use Rattle.osc_protect.specs.Stages.{Decrypts}
-use Rattle.osc_endpoint.specs.Agrees.{ClientParts}
-use Rattle.osc_endpoint.specs.ClientAnswer.{ClientAnswer, awaited}
-use Rattle.osc_endpoint.specs.ClientDeciding.{Decides}
-use Rattle.osc_endpoint.specs.ClientHistory.{Answer, Asked, Datagram, History, Then, Took}
-use Rattle.osc_endpoint.specs.Views.{ClientShows}
-use Rattle.osc_endpoint.specs.declared.client_outcome.ClientOutcome.{ClientOutcome}
-use Rattle.osc_endpoint.specs.declared.decision.ClientDecision.{ClientDecision}
-use Rattle.osc_endpoint.specs.declared.decision.ClientDecision.TheVariants as decisions
+use Rattle.osc_client.specs.Agrees.{ClientParts}
+use Rattle.osc_client.specs.ClientAnswer.{ClientAnswer, awaited}
+use Rattle.osc_client.specs.ClientDeciding.{Decides}
+use Rattle.osc_client.specs.ClientHistory.{Answer, Asked, Datagram, History, Then, Took}
+use Rattle.osc_client.specs.Views.{ClientShows}
+use Rattle.osc_client.specs.declared.client_outcome.ClientOutcome.{ClientOutcome}
+use Rattle.osc_client.specs.declared.decision.ClientDecision.{ClientDecision}
+use Rattle.osc_client.specs.declared.decision.ClientDecision.TheVariants as decisions
 use Rattle.osc_handle.specs.ClientBytes.{Asks, asked_at, asked_in}
 use Rattle.osc_context_handle.specs.ContextBytes.{client_in}
 use Rattle.osc_handle.specs.declared.client_handle.ClientHandle.{ClientHandle}

@@ -2,9 +2,9 @@
 -- a server and of a client, h is a history.
 use Rattle.std.specs.Prelude.{◌≡◌, ℕ, false, Some}
 use Rattle.osc_context.specs.SecurityContext.{SecurityContext}
-use Rattle.osc_endpoint.specs.ClientHistory as client
+use Rattle.osc_client.specs.ClientHistory as client
 use Rattle.osc_laws.specs.Plainness.{ClientIsPlain, ServerIsPlain}
-use Rattle.osc_endpoint.specs.ServerHistory as server
+use Rattle.osc_life.specs.ServerHistory as server
 use Rattle.osc_handle.specs.ClientBytes.{Asks}
 use Rattle.osc_context_handle.specs.ContextBytes.{client_in, server_in}
 use Rattle.osc_handle.specs.ServerBytes.{Serves}

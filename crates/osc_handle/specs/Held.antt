@@ -3,7 +3,7 @@ use Rattle.std.specs.Prelude.{◌≡◌, ℕ, List, Option, Some, None, slice_ge
 use Rattle.std.specs.Option.{option_map}
 use Rattle.std.proofs.Common.{refl, ap, sym}
 use Rattle.osc_endpoint.specs.Table.{context_in, context_of_place}
-use Rattle.osc_endpoint.specs.declared.slot.Slot.{Slot}
+use Rattle.osc_life.specs.declared.slot.Slot.{Slot}
 use Rattle.osc_context_handle.specs.ContextBytes.{server_in}
 use Rattle.osc_handle.specs.TableBytes.{IsPlaceIn, IsTableIn, bytes_at, places_in}
 use Rattle.osc_handle.specs.declared.contexts_handle.ContextsHandle.{ContextsHandle}

@@ -1,9 +1,9 @@
 -- For the proofs: what a server in bytes notes about a decision. us and vs are the numbers of its contexts before and after.
 use Rattle.std.specs.Prelude.{◌≡◌, ◌≢◌, ℕ, ◌+◌, ◌<◌, ◌==◌, ◌&&◌, ◌||◌, List, Some, max, nat_le, not, slice_get}
-use Rattle.osc_endpoint.specs.ServerHistory.{TicketValues}
-use Rattle.osc_endpoint.specs.Views.{values_of}
-use Rattle.osc_endpoint.specs.declared.decision.Decision.{Decision}
-use Rattle.osc_endpoint.specs.declared.decision.Decision.TheVariants as decisions
+use Rattle.osc_life.specs.ServerHistory.{TicketValues}
+use Rattle.osc_life.specs.Views.{values_of}
+use Rattle.osc_life.specs.declared.decision.Decision.{Decision}
+use Rattle.osc_life.specs.declared.decision.Decision.TheVariants as decisions
 use Rattle.osc_handle.specs.UnansweredBytes.{holds}
 use Rattle.osc_handle.specs.declared.unanswered_handle.UnansweredHandle.{UnansweredHandle}
 

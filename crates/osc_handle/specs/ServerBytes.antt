@@ -5,19 +5,19 @@ use Rattle.osc_coap.specs.Datagram.{Parts}
 use Rattle.osc_context.specs.SecurityContext.{SecurityContext}
 use Rattle.osc_window.specs.declared.window_size.WindowSize.{WindowSize}
 use Rattle.osc_endpoint.specs.Agrees.{Agrees, server_of}
-use Rattle.osc_endpoint.specs.Deciding.{Decides}
+use Rattle.osc_life.specs.Deciding.{Decides}
 use Rattle.osc_laws.specs.Laws.{AllAnswers}
-use Rattle.osc_endpoint.specs.Life.{Life, spent}
+use Rattle.osc_life.specs.Life.{Life, spent}
 use Rattle.osc_laws.specs.Senders.{HasSameSender, SendersDiffer}
 use Rattle.osc_endpoint.specs.ServerAnswer.{IsPresent, IsTaken, ServerAnswer}
-use Rattle.osc_endpoint.specs.ServerHistory.{Add, Added, Answer, Datagram, Entry, History, NotAdded, NotReplied, Notify, Replied, Reply, Then, TicketValues, Took, added, life}
-use Rattle.osc_endpoint.specs.Views.{Shows}
+use Rattle.osc_life.specs.ServerHistory.{Add, Added, Answer, Datagram, Entry, History, NotAdded, NotReplied, Notify, Replied, Reply, Then, TicketValues, Took, added, life}
+use Rattle.osc_life.specs.Views.{Shows}
 use Rattle.osc_laws.specs.Waiting.{AnswersWaiting, waits}
-use Rattle.osc_endpoint.specs.declared.decision.Decision.{Decision}
-use Rattle.osc_endpoint.specs.declared.outcome.Outcome.{Outcome}
-use Rattle.osc_endpoint.specs.declared.slot.Slot.{Slot}
-use Rattle.osc_endpoint.specs.declared.start.Fresh.{Fresh}
-use Rattle.osc_endpoint.specs.declared.start.Start.{Start}
+use Rattle.osc_life.specs.declared.decision.Decision.{Decision}
+use Rattle.osc_life.specs.declared.outcome.Outcome.{Outcome}
+use Rattle.osc_life.specs.declared.slot.Slot.{Slot}
+use Rattle.osc_life.specs.declared.start.Fresh.{Fresh}
+use Rattle.osc_life.specs.declared.start.Start.{Start}
 use Rattle.osc_handle.specs.TableBytes.{IsTableIn}
 use Rattle.osc_handle.specs.UnansweredBytes.{holds}
 use Rattle.osc_handle.specs.declared.add_refusal.AddRefusal.{AddRefusal}

@@ -1,7 +1,7 @@
 -- To be believed: what holds of a server in bytes, however its tickets are copied or altered: the contract of server_laws.rt. s are the bytes, h is a history.
 use Rattle.osc_laws.specs.Laws.{AreApart, HaveTwoNonces, Pairwise, answered, texts}
 use Rattle.osc_laws.specs.Senders.{HaveTwoKeysOrNonces}
-use Rattle.osc_endpoint.specs.ServerHistory.{History}
+use Rattle.osc_life.specs.ServerHistory.{History}
 use Rattle.osc_handle.specs.ServerBytes.{Serves}
 use Rattle.osc_handle.specs.declared.server_handle.ServerHandle.{ServerHandle}
 

@@ -7,9 +7,9 @@ use Rattle.osc_window.specs.declared.gate.Gate.{Gate}
 use Rattle.osc_window.specs.declared.gate.Gate.TheVariants as gates
 use Rattle.osc_window.specs.declared.window.WindowParts.{WindowParts}
 use Rattle.osc_protect.specs.Views.{context_of}
-use Rattle.osc_endpoint.specs.Agrees.{SlotAgrees}
-use Rattle.osc_endpoint.specs.Life.{Life}
-use Rattle.osc_endpoint.specs.declared.slot.Slot.{Slot}
+use Rattle.osc_life.specs.Agrees.{SlotAgrees}
+use Rattle.osc_life.specs.Life.{Life}
+use Rattle.osc_life.specs.declared.slot.Slot.{Slot}
 use Rattle.osc_context_handle.specs.ContextBytes.{IsContext, server_in}
 use Rattle.osc_handle.specs.declared.slot_handle.SlotHandle.{SlotHandle}
 

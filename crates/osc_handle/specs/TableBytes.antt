@@ -2,7 +2,7 @@
 use Rattle.std.specs.Prelude.{◌≡◌, ℕ, ◌≤◌, List, Option, Some, None, slice_get, take}
 use Rattle.std.specs.Option.{option_map}
 use Rattle.osc_context.specs.SecurityContext.{SecurityContext}
-use Rattle.osc_endpoint.specs.declared.slot.Slot.{Slot}
+use Rattle.osc_life.specs.declared.slot.Slot.{Slot}
 use Rattle.osc_context_handle.specs.ContextBytes.{server_in}
 use Rattle.osc_handle.specs.SlotBytes.{IsSlotBytes, IsSlotIn}
 use Rattle.osc_handle.specs.declared.contexts_handle.ContextsHandle.{ContextsHandle}

@@ -1,12 +1,13 @@
 -- For the proofs: what a call does to the bytes of a server's contexts. t are the bytes.
 use Rattle.std.specs.Prelude.{◌≡◌, ◌≢◌, ℕ, ◌==◌, List, [], ◌∷◌, ◌++◌, Bool, false, Option, Some, None, length, slice_get}
 use Rattle.osc_context.specs.SecurityContext.{SecurityContext}
-use Rattle.osc_endpoint.specs.Agrees.{SlotAgrees, TableAgrees}
-use Rattle.osc_endpoint.specs.Life.{Life}
+use Rattle.osc_life.specs.Agrees.{SlotAgrees}
+use Rattle.osc_endpoint.specs.Agrees.{TableAgrees}
+use Rattle.osc_life.specs.Life.{Life}
 use Rattle.osc_context.specs.Senders.{HaveSameSender}
 use Rattle.osc_endpoint.specs.Table.{FindsAt}
-use Rattle.osc_endpoint.specs.declared.server_error.AddError.TheVariants.{Full, SameLookup}
-use Rattle.osc_endpoint.specs.declared.slot.Slot.{Slot}
+use Rattle.osc_life.specs.declared.server_error.AddError.TheVariants.{Full, SameLookup}
+use Rattle.osc_life.specs.declared.slot.Slot.{Slot}
 use Rattle.osc_handle.specs.TableBytes.{IsTableIn, bytes_at, places_in}
 use Rattle.osc_handle.specs.declared.add_refusal.AddRefusal.{AddRefusal}
 use Rattle.osc_handle.specs.declared.add_refusal.AddRefusal.TheVariants.{Refused, SameSender}

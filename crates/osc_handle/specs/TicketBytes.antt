@@ -2,7 +2,7 @@
 use Rattle.std.specs.Prelude.{ℕ, ◌≤◌, ◌<◌, ◌^◌, ◌==◌, zero, suc, not, take}
 use Rattle.osc_coap.specs.declared.message.Kind.{Kind}
 use Rattle.osc_coap.specs.declared.message.Kind.TheVariants.{Con, Non, Ack, Rst}
-use Rattle.osc_endpoint.specs.ServerHistory.{TicketValues}
+use Rattle.osc_life.specs.ServerHistory.{TicketValues}
 use Rattle.osc_handle.specs.declared.ticket_handle.TicketHandle.{TicketHandle}
 
 -- the kind that has this number (RFC 7252, 3)

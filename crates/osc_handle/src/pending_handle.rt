@@ -1,7 +1,7 @@
 //! A request that is waiting for its response, as bytes.
 
 ghost use Rattle.std.specs.Prelude.{◌≡◌, ◌≤◌, IfSome, IsSome, take, true, false};
-ghost use Rattle.osc_endpoint.specs.Views.{asked_of};
+ghost use Rattle.osc_client.specs.Views.{asked_of};
 ghost use Rattle.osc_handle.specs.ClientBytes.{IsPending, IsWait, asked_at, wait_in};
 
 use osc_coap::Token;

@@ -6,16 +6,16 @@ ghost use Rattle.osc_context.specs.Views.{as_server, is_constant_time, number_of
 ghost use Rattle.osc_window.specs.Views.{places_of};
 ghost use Rattle.osc_coap.specs.Views.{parts_of};
 ghost use Rattle.osc_protect.specs.Views.{context_of};
-ghost use Rattle.osc_endpoint.specs.Agrees.{SlotAgrees};
-ghost use Rattle.osc_endpoint.specs.Life.{Life, marked, renewed};
-ghost use Rattle.osc_endpoint.specs.Replies.{as_reply};
-ghost use Rattle.osc_endpoint.specs.Replying.{reply_mark};
-ghost use Rattle.osc_endpoint.specs.ServerAnswer.{LifeNotify, LifeReply, as_notification};
-ghost use Rattle.osc_endpoint.specs.Views.{reply_entry};
-ghost use Rattle.osc_endpoint.specs.declared.server_error.ReplyError.TheVariants.{KeeperFailed};
+ghost use Rattle.osc_life.specs.Agrees.{SlotAgrees};
+ghost use Rattle.osc_life.specs.Life.{Life, marked, renewed};
+ghost use Rattle.osc_life.specs.Replies.{as_reply};
+ghost use Rattle.osc_life.specs.Replying.{reply_mark};
+ghost use Rattle.osc_life.specs.LifeAnswer.{LifeNotify, LifeReply, as_notification};
+ghost use Rattle.osc_life.specs.Views.{reply_entry};
+ghost use Rattle.osc_life.specs.declared.server_error.ReplyError.TheVariants.{KeeperFailed};
 ghost use Rattle.osc_context_handle.specs.ContextBytes.{IsContext, is_constant_time_in, server_in};
 ghost use Rattle.osc_handle.specs.SlotBytes.{HoldsIn, IsGateBytes, IsGateIn, IsHighestIn, IsSlotBytes, IsSlotIn, SameBut};
-ghost use Rattle.osc_endpoint.specs.declared.slot.Slot.{Slot as SlotOf};
+ghost use Rattle.osc_life.specs.declared.slot.Slot.{Slot as SlotOf};
 
 use osc_coap::{Message, Token};
 use osc_context::Piv;

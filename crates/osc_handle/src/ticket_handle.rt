@@ -3,8 +3,8 @@
 
 ghost use Rattle.std.specs.Prelude.{◌≡◌, ◌≤◌, IfSome, IsSome, take, true, false};
 ghost use Rattle.osc_context.specs.Views.{number_of};
-ghost use Rattle.osc_endpoint.specs.ServerAnswer.{asks_own};
-ghost use Rattle.osc_endpoint.specs.Views.{values_of};
+ghost use Rattle.osc_life.specs.LifeAnswer.{asks_own};
+ghost use Rattle.osc_life.specs.Views.{values_of};
 ghost use Rattle.osc_handle.specs.TicketBytes.{IsTicket, kind_in, ticket_in};
 
 use osc_coap::{Kind, Token};

@@ -3,12 +3,12 @@
 use Rattle.std.proofs.Common.{◌≡◌, ℕ, ◌+◌, ◌<◌, ◌^◌, ◌∙◌, sym, ap, subst, refl, arith, true, false, Option, Some, None, List, [], ◌∷◌, inl, inr}
 use Rattle.std.specs.Option.{option_map}
 use Rattle.osc_context.specs.SecurityContext.{SecurityContext}
-use Rattle.osc_endpoint.specs.declared.start.Start.TheVariants as starts
-use Rattle.osc_endpoint.specs.ClientAnswer.{ClientAnswer}
-use Rattle.osc_endpoint.specs.ClientHistory as client
-use Rattle.osc_endpoint.specs.Life.{Life, next_own}
+use Rattle.osc_life.specs.declared.start.Start.TheVariants as starts
+use Rattle.osc_client.specs.ClientAnswer.{ClientAnswer}
+use Rattle.osc_client.specs.ClientHistory as client
+use Rattle.osc_life.specs.Life.{Life, next_own}
 use Rattle.osc_endpoint.specs.ServerAnswer.{ServerAnswer}
-use Rattle.osc_endpoint.specs.ServerHistory as server
+use Rattle.osc_life.specs.ServerHistory as server
 use Rattle.osc_kept_ends.specs.Numbering.{Use}
 use Rattle.osc_kept.specs.Premises.{AtEach, Answers, BeginsAbove, IsAboveOwn}
 use Rattle.osc_kept.specs.World.{World, Begin, Then, ClientStarts, ServerStarts, AtClient, AtServer, Has, Request, Response, client_history, server_life}

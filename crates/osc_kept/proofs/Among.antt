@@ -4,14 +4,15 @@ use Rattle.std.specs.Prelude.{max}
 use Rattle.osc_coap.specs.Datagram.{Parts}
 use Rattle.osc_context.specs.SecurityContext.{SecurityContext}
 use Rattle.osc_window.specs.declared.window_size.WindowSize.{WindowSize}
-use Rattle.osc_endpoint.specs.declared.server_error.ReplyError.TheVariants.{NotObserving, StaleTicket}
-use Rattle.osc_endpoint.specs.declared.start.Start.{Start}
+use Rattle.osc_life.specs.declared.server_error.ReplyError.TheVariants.{NotObserving, StaleTicket}
+use Rattle.osc_life.specs.declared.start.Start.{Start}
 use Rattle.osc_laws.specs.Laws.{AllAnswers}
 use Rattle.osc_endpoint.specs.Tickets.{AreLeft, TakesTickets}
 use Rattle.osc_laws.specs.OneContext.{ContextsStandAlone, share}
-use Rattle.osc_endpoint.specs.Replies.{as_reply}
-use Rattle.osc_endpoint.specs.ServerAnswer.{Arrival, LifeRestart, MeetsNamedRow, MeetsRow, NamesNone, NotifyAnswer, ReplyAnswer, SaysReply, ServerAnswer, TakeAnswer, arrival, as_notification}
-use Rattle.osc_endpoint.specs.ServerHistory as server
+use Rattle.osc_life.specs.Replies.{as_reply}
+use Rattle.osc_life.specs.LifeAnswer.{Arrival, LifeRestart, as_notification}
+use Rattle.osc_endpoint.specs.ServerAnswer.{MeetsNamedRow, MeetsRow, NamesNone, NotifyAnswer, ReplyAnswer, SaysReply, ServerAnswer, TakeAnswer, arrival}
+use Rattle.osc_life.specs.ServerHistory as server
 use Rattle.osc_kept.specs.Among.{AnswersAmong, EachContext, IsAdded, IsShare, SetsClock}
 use Rattle.osc_kept.specs.Claims.{TwoEnds}
 use Rattle.osc_kept.specs.Premises.{Answers, AtEach, IsNoAdd}

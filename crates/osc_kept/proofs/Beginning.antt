@@ -1,8 +1,8 @@
 -- If the numbers of both ends are kept, each of their lives begins above all numbers that were used before. w is the world so far.
 use Rattle.std.proofs.Common.{ℕ, ◌<◌, ◌≤◌, ap, subst, arith}
 use Rattle.osc_context.specs.SecurityContext.{SecurityContext, IsUsable}
-use Rattle.osc_endpoint.specs.ClientHistory as client
-use Rattle.osc_endpoint.specs.ServerHistory as server
+use Rattle.osc_client.specs.ClientHistory as client
+use Rattle.osc_life.specs.ServerHistory as server
 use Rattle.osc_kept_ends.specs.Numbering.{Allowed, Load}
 use Rattle.osc_kept.specs.Premises.{Answers, AtEach, BeginsAbove, EchoIsNew, FreshWhileNothingDelivered, IsAboveOwn, IsAboveSent, IsKept, KeptBeginAbove, NobodyForges, NumbersAreKept}
 use Rattle.osc_kept.specs.World.{World, Begin, Then, Event, Client, Server, ClientStarts, ServerStarts, AtClient, AtServer, Has, client_effect, numbers, server_effect}

@@ -5,7 +5,7 @@ use Rattle.osc_context.specs.SecurityContext.{SecurityContext}
 use Rattle.osc_context.specs.declared.keeper.Keeper as keeper
 use Rattle.osc_kept_ends.specs.declared.kept_client.KeptClient.{KeptClient}
 use Rattle.osc_kept_ends.specs.declared.kept_server.KeptServer.{KeptServer}
-use Rattle.osc_endpoint.specs.ClientHistory as client
+use Rattle.osc_client.specs.ClientHistory as client
 use Rattle.osc_kept.specs.CallsInWorld.{ClientAfter, ClientRunsIn, RunsIn}
 use Rattle.osc_kept.specs.GoingOn.{ClientRuns, GoesOn, ServerRuns}
 use Rattle.osc_kept.specs.InWorld.{IsAsClaimed, ServerStays}

@@ -10,13 +10,13 @@ use Rattle.osc_context.specs.SecurityContext.{SecurityContext}
 use Rattle.osc_protect.specs.CipherLaws.{response_seal}
 use Rattle.osc_protect.specs.Protection.{Protects, as_notified, response_nonce, responses_to}
 use Rattle.osc_protect.specs.Sealed.{inside}
-use Rattle.osc_endpoint.specs.ClientAnswer.{awaited}
-use Rattle.osc_endpoint.specs.ClientHistory as client
-use Rattle.osc_endpoint.specs.Life.{Life, next_own}
-use Rattle.osc_endpoint.specs.Received.{Received, Receives}
-use Rattle.osc_endpoint.specs.Replies.{challenge_message}
-use Rattle.osc_endpoint.specs.ServerAnswer.{own_number}
-use Rattle.osc_endpoint.specs.ServerHistory as server
+use Rattle.osc_client.specs.ClientAnswer.{awaited}
+use Rattle.osc_client.specs.ClientHistory as client
+use Rattle.osc_life.specs.Life.{Life, next_own}
+use Rattle.osc_observe.specs.Received.{Received, Receives}
+use Rattle.osc_life.specs.Replies.{challenge_message}
+use Rattle.osc_life.specs.LifeAnswer.{own_number}
+use Rattle.osc_life.specs.ServerHistory as server
 use Rattle.osc_kept_ends.specs.Numbering.{Use}
 use Rattle.osc_kept.specs.Claims.{DeliversOnce, HaveOwnNonces, IsForThatRequest, SealsUnderNewNonces}
 use Rattle.osc_kept.specs.Premises.{AtEach, IsLawful, SealedByServer}

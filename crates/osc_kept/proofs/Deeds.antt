@@ -8,11 +8,11 @@ use Rattle.osc_coap.specs.Inner.{InnerParts}
 use Rattle.osc_coap.specs.Interpreted.{interpreted}
 use Rattle.osc_coap.specs.OptionNumbers as options
 use Rattle.osc_context.specs.SecurityContext.{SecurityContext}
-use Rattle.osc_endpoint.specs.declared.start.Start.{Start}
-use Rattle.osc_endpoint.specs.declared.start.Start.TheVariants as starts
-use Rattle.osc_endpoint.specs.Life.{Life, Mark, Delivered, Spoiled, Challenged, Answered, Passes, born, challenge, first_delivered, floor, is_open, opened, renewed, spent}
-use Rattle.osc_endpoint.specs.Observing.{is_notification}
-use Rattle.osc_endpoint.specs.ServerHistory.{TicketValues}
+use Rattle.osc_life.specs.declared.start.Start.{Start}
+use Rattle.osc_life.specs.declared.start.Start.TheVariants as starts
+use Rattle.osc_life.specs.Life.{Life, Mark, Delivered, Spoiled, Challenged, Answered, Passes, born, challenge, first_delivered, floor, is_open, opened, renewed, spent}
+use Rattle.osc_observe.specs.Observing.{is_notification}
+use Rattle.osc_life.specs.ServerHistory.{TicketValues}
 use Rattle.osc_window.specs.declared.window_size.WindowSize.{WindowSize}
 use Rattle.osc_window.specs.declared.window_size.WindowSize.TheVariants.{Places32}
 use Rattle.osc_kept.specs.World.{Has, Request, Response}

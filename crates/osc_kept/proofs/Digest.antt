@@ -6,11 +6,11 @@ use Rattle.osc_protect.specs.Protection.{as_notified}
 use Rattle.std.specs.List.{cons_option}
 use Rattle.std.specs.Option.{option_map}
 use Rattle.osc_protect.specs.Sealed.{inside}
-use Rattle.osc_endpoint.specs.ClientHistory as client
-use Rattle.osc_endpoint.specs.Life.{Life, next_own}
-use Rattle.osc_endpoint.specs.Replies.{challenge_message}
-use Rattle.osc_endpoint.specs.ServerAnswer.{own_number}
-use Rattle.osc_endpoint.specs.ServerHistory as server
+use Rattle.osc_client.specs.ClientHistory as client
+use Rattle.osc_life.specs.Life.{Life, next_own}
+use Rattle.osc_life.specs.Replies.{challenge_message}
+use Rattle.osc_life.specs.LifeAnswer.{own_number}
+use Rattle.osc_life.specs.ServerHistory as server
 use Rattle.osc_kept.specs.World.{World, Event, Begin, Then, ServerStarts, AtClient, AtServer, Request, client_history, server_life, response_in, sent, answered, delivered}
 use Rattle.osc_kept.proofs.Deeds.{Deed, Sends, Begins, Renews, Spoils, Challenges, Delivers, Replies, Notifies, Nothing, sends, delivers, answers}
 

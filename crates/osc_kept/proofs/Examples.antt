@@ -14,11 +14,11 @@ use Rattle.osc_protect.specs.CipherLaws.{request_seal, response_seal}
 use Rattle.osc_protect.specs.Laws.{OneNotification, SealedOpens}
 use Rattle.osc_protect.specs.Protection.{Protects, responses_to}
 use Rattle.osc_protect.specs.Sealed.{SealsRequest, SealsResponse, inside}
-use Rattle.osc_endpoint.specs.declared.start.Start.TheVariants as starts
-use Rattle.osc_endpoint.specs.ClientHistory as client
-use Rattle.osc_endpoint.specs.Life.{Life, Delivered, born, marked, next_own, renewed}
-use Rattle.osc_endpoint.specs.Replies.{as_reply, challenge_message}
-use Rattle.osc_endpoint.specs.ServerHistory as server
+use Rattle.osc_life.specs.declared.start.Start.TheVariants as starts
+use Rattle.osc_client.specs.ClientHistory as client
+use Rattle.osc_life.specs.Life.{Life, Delivered, born, marked, next_own, renewed}
+use Rattle.osc_life.specs.Replies.{as_reply, challenge_message}
+use Rattle.osc_life.specs.ServerHistory as server
 use Rattle.osc_kept.specs.Examples.{Asked, CarriesValue, Ends, ForgeryBreaks, NumberOutOfOrderBreaks, PremisesCanBeMet, RepeatedValueBreaks, asks, challenges, delivers, exchange, restarts, start_client, start_server, ticket_of}
 use Rattle.osc_kept.specs.Premises.{Answers, NobodyForgesRequests, NobodyForgesResponses, SealedByServer}
 use Rattle.osc_kept.specs.World.{World, Begin, Then, Client, Server, Draws, Reserves, AtClient, AtServer, Has, Request, answered, client_history, sent, server_history}

@@ -15,22 +15,23 @@ use Rattle.osc_protect.specs.OptionSets.{is_unsupported}
 use Rattle.osc_protect.specs.Protection.{ProtectsRequest}
 use Rattle.osc_window.specs.Gate.{challenge_in_force}
 use Rattle.osc_window.specs.declared.window_size.WindowSize.{WindowSize}
-use Rattle.osc_endpoint.specs.declared.start.Start.{Start}
-use Rattle.osc_endpoint.specs.declared.start.Start.TheVariants as starts
-use Rattle.osc_endpoint.specs.Received.{Received}
-use Rattle.osc_endpoint.specs.ClientHistory as client
+use Rattle.osc_life.specs.declared.start.Start.{Start}
+use Rattle.osc_life.specs.declared.start.Start.TheVariants as starts
+use Rattle.osc_observe.specs.Received.{Received}
+use Rattle.osc_client.specs.ClientHistory as client
 use Rattle.osc_laws.specs.Laws.{AreApart, TicketOnce, answered, delivered}
 use Rattle.osc_endpoint.specs.Tickets.{AreLeft, TakesTickets}
-use Rattle.osc_endpoint.specs.Life.{Life, Admits, born, Carries, challenge, in_force, is_open}
-use Rattle.osc_endpoint.specs.ServerAnswer.{ServerAnswer, challenge_given}
-use Rattle.osc_endpoint.specs.ServerHistory as server
+use Rattle.osc_life.specs.Life.{Life, Admits, born, Carries, challenge, in_force, is_open}
+use Rattle.osc_endpoint.specs.ServerAnswer.{ServerAnswer}
+use Rattle.osc_life.specs.LifeAnswer.{challenge_given}
+use Rattle.osc_life.specs.ServerHistory as server
 use Rattle.osc_kept.specs.Premises.{AtEach, Answers, BeginsAbove, EchoIsNew, FreshWhileNothingDelivered, IsLawful, NobodyForges, NobodyForgesRequests, SealedByClient}
 use Rattle.osc_kept.specs.World.{World, Event, Begin, Then, ServerStarts, AtClient, AtServer, Has, client_history, sent, server_life}
 use Rattle.osc_kept.proofs.Above.{owns_below, sends_below}
 use Rattle.osc_kept.proofs.Deeds.{AllFit, Begins, CarriesLast, Challenges, Deed, Delivers, Fits, Holds, Renews, Replies, Spoils, carried, given, life_in, replied, sends}
 use Rattle.osc_kept.proofs.Digest.{client_deed, delivered_is, digest, sent_is, server_deed}
 use Rattle.osc_laws.proofs.Inside.{unnotified}
-use Rattle.osc_endpoint.proofs.SealedReplies.{replied_features}
+use Rattle.osc_life.proofs.SealedReplies.{replied_features}
 use Rattle.osc_kept.proofs.Lives.{Stands, life_known, some_is, stands}
 
 -- what the layers below hold of all contexts, datagrams and histories

@@ -7,10 +7,10 @@ use Rattle.osc_coap.specs.Inner.{InnerParts}
 use Rattle.osc_coap.specs.Interpreted.{interpreted}
 use Rattle.osc_coap.specs.OptionNumbers as options
 use Rattle.osc_context.specs.SecurityContext.{SecurityContext}
-use Rattle.osc_endpoint.specs.Life.{Admits, Carries, Life, challenge, in_force, is_open}
-use Rattle.osc_endpoint.specs.ServerAnswer.{challenge_given}
-use Rattle.osc_endpoint.specs.ServerHistory as server
-use Rattle.osc_endpoint.specs.ClientHistory as client
+use Rattle.osc_life.specs.Life.{Admits, Carries, Life, challenge, in_force, is_open}
+use Rattle.osc_life.specs.LifeAnswer.{challenge_given}
+use Rattle.osc_life.specs.ServerHistory as server
+use Rattle.osc_client.specs.ClientHistory as client
 use Rattle.osc_window.specs.Gate.{challenge_in_force}
 use Rattle.osc_kept.specs.Freshness.{AtClock, OpensFresh, WasGivenAfter}
 use Rattle.osc_kept.specs.Premises.{AtEach, IsLawful}

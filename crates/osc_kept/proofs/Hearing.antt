@@ -13,15 +13,15 @@ use Rattle.osc_coap.specs.Inner.{InnerParts}
 use Rattle.osc_coap.specs.Laws.{DatagramIsOneMessage}
 use Rattle.osc_context.specs.SecurityContext.{SecurityContext}
 use Rattle.osc_protect.specs.Sealed.{inside}
-use Rattle.osc_endpoint.specs.declared.pending.Wait.{Wait}
-use Rattle.osc_endpoint.specs.declared.pending.Wait.TheVariants.{Once, Observing}
-use Rattle.osc_endpoint.specs.Agrees.{TokensDiffer}
-use Rattle.osc_endpoint.specs.ClientAnswer.{ClientAnswer, IsAnswerTo, IsAwaited, awaited, continues}
-use Rattle.osc_endpoint.specs.ClientHistory as client
+use Rattle.osc_client.specs.declared.pending.Wait.{Wait}
+use Rattle.osc_client.specs.declared.pending.Wait.TheVariants.{Once, Observing}
+use Rattle.osc_client.specs.Agrees.{TokensDiffer}
+use Rattle.osc_client.specs.ClientAnswer.{ClientAnswer, IsAnswerTo, IsAwaited, awaited, continues}
+use Rattle.osc_client.specs.ClientHistory as client
 use Rattle.osc_laws.specs.ClientLaws.{AllClientAnswers}
-use Rattle.osc_endpoint.specs.Observing.{is_notification, place_of, registers}
-use Rattle.osc_endpoint.specs.Received.{Received, Receives}
-use Rattle.osc_endpoint.proofs.Asking.{contains_filter, differ_later, differ_mapped, one_of, one_of_token}
+use Rattle.osc_observe.specs.Observing.{is_notification, place_of, registers}
+use Rattle.osc_observe.specs.Received.{Received, Receives}
+use Rattle.osc_client.proofs.Asking.{contains_filter, differ_later, differ_mapped, one_of, one_of_token}
 use Rattle.osc_laws.proofs.OneClientAnswers.{tokens_differ}
 use Rattle.osc_kept.specs.Claims.{BothEnds, DeliversOnce, ended, IsAfter, IsForThatRequest, IsNext, IsUnended, IsUnheard, NotifiesRegistrations}
 use Rattle.osc_kept.specs.Freshness.{OpensFresh}

@@ -9,14 +9,14 @@ use Rattle.osc_context.specs.declared.partial_iv.Piv.{Piv}
 use Rattle.osc_coap.specs.Datagram.{Parts}
 use Rattle.osc_protect.specs.CipherLaws.{request_seal, response_seal}
 use Rattle.osc_window.specs.declared.window_size.WindowSize.{WindowSize}
-use Rattle.osc_endpoint.specs.declared.start.Start.{Start}
-use Rattle.osc_endpoint.specs.declared.start.Start.TheVariants as starts
-use Rattle.osc_endpoint.specs.ClientAnswer.{ClientAnswer}
-use Rattle.osc_endpoint.specs.ClientHistory as client
+use Rattle.osc_life.specs.declared.start.Start.{Start}
+use Rattle.osc_life.specs.declared.start.Start.TheVariants as starts
+use Rattle.osc_client.specs.ClientAnswer.{ClientAnswer}
+use Rattle.osc_client.specs.ClientHistory as client
 use Rattle.osc_endpoint.specs.Tickets.{TakesTickets}
-use Rattle.osc_endpoint.specs.Life.{Life, Mark, in_force, marked, renewed}
+use Rattle.osc_life.specs.Life.{Life, Mark, in_force, marked, renewed}
 use Rattle.osc_endpoint.specs.ServerAnswer.{ServerAnswer, IsTaken}
-use Rattle.osc_endpoint.specs.ServerHistory as server
+use Rattle.osc_life.specs.ServerHistory as server
 use Rattle.osc_kept.specs.GoingOn.{ClientRuns, GoesOn, HasSavedFirst, IsDrawn, SavesFirst, ServerRuns, server_started}
 use Rattle.osc_kept.specs.InWorld.{ClientInWorld, ClientStartsInWorld, ClientStays, ClientTrusts, IsAsClaimed, IsHeld, IsUnseen, ServerInWorld, ServerStartsInWorld, ServerStays, ServerTrusts}
 use Rattle.osc_kept_ends.specs.KeptAsking as asking

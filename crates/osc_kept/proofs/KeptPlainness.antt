@@ -4,13 +4,13 @@ use Rattle.std.specs.List.{AllByRecursion}
 use Rattle.std.specs.Prelude.{max}
 use Rattle.std.specs.Option.{option_map}
 use Rattle.osc_context.specs.SecurityContext.{SecurityContext}
-use Rattle.osc_endpoint.specs.ClientHistory as client
+use Rattle.osc_client.specs.ClientHistory as client
 use Rattle.osc_laws.specs.ClientLaws.{AllClientAnswers}
 use Rattle.osc_laws.specs.Laws.{delivered}
-use Rattle.osc_endpoint.specs.Life.{Life}
+use Rattle.osc_life.specs.Life.{Life}
 use Rattle.osc_laws.specs.Plainness.{ClientIsPlain, EndsArePlain, ServerIsPlain, WithoutObserve}
 use Rattle.osc_endpoint.specs.ServerAnswer.{ServerAnswer, arrival}
-use Rattle.osc_endpoint.specs.ServerHistory as server
+use Rattle.osc_life.specs.ServerHistory as server
 use Rattle.osc_kept.specs.KeptPlainness.{IsPlain, KeptEndsArePlain}
 use Rattle.osc_kept.specs.Premises.{AtEach, Answers}
 use Rattle.osc_kept.specs.World.{World, Begin, Then, ClientStarts, ServerStarts, AtClient, AtServer, Has, client_history, server_history}

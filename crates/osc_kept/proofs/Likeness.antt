@@ -4,12 +4,12 @@ use Rattle.std.proofs.Common.{◌≡◌, ℕ, ◌+◌, ◌∙◌, sym, ap, subst
 use Rattle.std.specs.Option.{option_map}
 use Rattle.osc_context.specs.SecurityContext.{SecurityContext}
 use Rattle.osc_window.specs.declared.window_size.WindowSize.{WindowSize}
-use Rattle.osc_endpoint.specs.declared.start.Start.{Start}
+use Rattle.osc_life.specs.declared.start.Start.{Start}
 use Rattle.osc_laws.specs.Laws.{AllAnswers}
 use Rattle.osc_endpoint.specs.Tickets.{AreLeft}
-use Rattle.osc_endpoint.specs.Life.{Life, born, marked, renewed}
+use Rattle.osc_life.specs.Life.{Life, born, marked, renewed}
 use Rattle.osc_laws.specs.OneContext.{ContextsStandAlone, share}
-use Rattle.osc_endpoint.specs.ServerHistory.{Add, Added, Advance, Advanced, Begin, Datagram, Deliver, Entry, Event, History, Notify, Replied, Reply, Restart, Restarted, Then, TicketValues, Took, added, clock, clock_by, life, mark_at, reply_mark_at}
+use Rattle.osc_life.specs.ServerHistory.{Add, Added, Advance, Advanced, Begin, Datagram, Deliver, Entry, Event, History, Notify, Replied, Reply, Restart, Restarted, Then, TicketValues, Took, added, clock, clock_by, life, mark_at, reply_mark_at}
 use Rattle.osc_laws.proofs.DeliveredNumbers.{none_beyond}
 use Rattle.osc_laws.proofs.Shares.{none_yet}
 use Rattle.osc_kept.specs.Among.{IsLike, StaysLike}

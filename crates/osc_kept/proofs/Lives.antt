@@ -5,13 +5,14 @@ use Rattle.std.proofs.lemmas.Bool.{eqb-true}
 use Rattle.std.specs.Option.{option_map, option_and_then}
 use Rattle.osc_context.specs.SecurityContext.{SecurityContext}
 use Rattle.osc_window.specs.declared.window_size.WindowSize.{WindowSize}
-use Rattle.osc_endpoint.specs.declared.start.Start.{Start}
+use Rattle.osc_life.specs.declared.start.Start.{Start}
 use Rattle.osc_laws.specs.Laws.{AllAnswers, delivered, answered}
-use Rattle.osc_endpoint.specs.Life.{Life, Mark, Spoiled, Challenged, Delivered, Answered, born, marked, next_own, renewed}
-use Rattle.osc_endpoint.specs.ServerAnswer.{ServerAnswer, LifeRestart, TakeAnswer, Arrival, own_number}
-use Rattle.osc_endpoint.specs.ClientHistory as client
-use Rattle.osc_endpoint.specs.Received.{Received}
-use Rattle.osc_endpoint.specs.ServerHistory as server
+use Rattle.osc_life.specs.Life.{Life, Mark, Spoiled, Challenged, Delivered, Answered, born, marked, next_own, renewed}
+use Rattle.osc_endpoint.specs.ServerAnswer.{ServerAnswer, TakeAnswer}
+use Rattle.osc_life.specs.LifeAnswer.{LifeRestart, Arrival, own_number}
+use Rattle.osc_client.specs.ClientHistory as client
+use Rattle.osc_observe.specs.Received.{Received}
+use Rattle.osc_life.specs.ServerHistory as server
 use Rattle.osc_kept_ends.specs.Numbering.{Effect, Stay, Load, Use, use_of}
 use Rattle.osc_kept.specs.Premises.{AtEach, Answers, IsNoAdd}
 use Rattle.osc_kept.specs.World.{World, Begin, Then, ServerStarts, AtClient, AtServer, client_history, server_history, server_life, server_effect}

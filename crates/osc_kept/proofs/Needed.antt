@@ -7,11 +7,11 @@ use Rattle.osc_context.specs.SecurityContext.{SecurityContext}
 use Rattle.osc_context.specs.Views.{number_of}
 use Rattle.osc_protect.specs.Protection.{Protects, responses_to}
 use Rattle.osc_protect.specs.Sealed.{SealsNotification, SealsRequest, inside}
-use Rattle.osc_endpoint.specs.declared.start.Start.TheVariants as starts
-use Rattle.osc_endpoint.specs.ClientHistory as client
-use Rattle.osc_endpoint.specs.Life.{Answered as AnsweredMark, Challenged, Delivered, Life, born, marked, next_own, renewed}
-use Rattle.osc_endpoint.specs.Received.{Received}
-use Rattle.osc_endpoint.specs.ServerHistory as server
+use Rattle.osc_life.specs.declared.start.Start.TheVariants as starts
+use Rattle.osc_client.specs.ClientHistory as client
+use Rattle.osc_life.specs.Life.{Answered as AnsweredMark, Challenged, Delivered, Life, born, marked, next_own, renewed}
+use Rattle.osc_observe.specs.Received.{Received}
+use Rattle.osc_life.specs.ServerHistory as server
 use Rattle.osc_kept.specs.Examples.{FreshAgainBreaks, OwnOutOfOrderBreaks, asks, delivers_registration, hears, notifies, observing, restarts_below, start_client}
 use Rattle.osc_kept.specs.Premises.{Answers, NobodyForgesRequests}
 use Rattle.osc_kept.specs.World.{World, Begin, Then, Server, ServerStarts, Draws, Reserves, AtClient, Has, Response, client_history, sent}

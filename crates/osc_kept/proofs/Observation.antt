@@ -9,14 +9,14 @@ use Rattle.osc_context.specs.Views.{number_of}
 use Rattle.osc_protect.specs.CipherLaws.{response_seal}
 use Rattle.osc_protect.specs.Protection.{Protects, as_notified, responses_to}
 use Rattle.osc_protect.specs.Sealed.{SealsNotification, SealsRequest, SealsResponse, inside}
-use Rattle.osc_endpoint.specs.declared.start.Start.TheVariants as starts
-use Rattle.osc_endpoint.specs.ClientHistory as client
-use Rattle.osc_endpoint.specs.Life.{Answered as AnsweredMark, Delivered, Life, born, marked, next_own}
-use Rattle.osc_endpoint.specs.Observing.{place_of}
-use Rattle.osc_endpoint.specs.Received.{Received}
-use Rattle.osc_endpoint.specs.Replies.{as_reply}
-use Rattle.osc_endpoint.specs.ServerAnswer.{as_notification as with_token}
-use Rattle.osc_endpoint.specs.ServerHistory as server
+use Rattle.osc_life.specs.declared.start.Start.TheVariants as starts
+use Rattle.osc_client.specs.ClientHistory as client
+use Rattle.osc_life.specs.Life.{Answered as AnsweredMark, Delivered, Life, born, marked, next_own}
+use Rattle.osc_observe.specs.Observing.{place_of}
+use Rattle.osc_observe.specs.Received.{Received}
+use Rattle.osc_life.specs.Replies.{as_reply}
+use Rattle.osc_life.specs.LifeAnswer.{as_notification as with_token}
+use Rattle.osc_life.specs.ServerHistory as server
 use Rattle.osc_kept.specs.Examples.{Answered, ObservationCanBeMet, asks, delivers_registration, hears, hears_old, notifies, notifies_thrice, observing, start_client, start_server}
 use Rattle.osc_kept.specs.Premises.{Answers, NobodyForgesResponses, SealedByServer}
 use Rattle.osc_kept.specs.World.{World, Begin, Then, Server, Draws, AtServer, Has, answered, client_history, server_history}

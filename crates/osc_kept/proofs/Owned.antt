@@ -5,9 +5,9 @@ use Rattle.std.specs.Option.{option_map}
 use Rattle.std.proofs.lemmas.List.Elements.{All-contains, All-filter, All-map, All-nil, All-push, All-weaker}
 use Rattle.osc_context.specs.SecurityContext.{SecurityContext}
 use Rattle.osc_protect.specs.Sealed.{inside}
-use Rattle.osc_endpoint.specs.ClientHistory as client
-use Rattle.osc_endpoint.specs.Observing.{place_of}
-use Rattle.osc_endpoint.specs.ServerHistory as server
+use Rattle.osc_client.specs.ClientHistory as client
+use Rattle.osc_observe.specs.Observing.{place_of}
+use Rattle.osc_life.specs.ServerHistory as server
 use Rattle.osc_kept.specs.Premises.{AtEach, Answers}
 use Rattle.osc_kept.specs.World.{World, Begin, Then, Client, Server, ClientStarts, Draws, Reserves, AtClient, AtServer, Has, Request, client_effect, client_history, server_effect, server_history, server_life}
 use Rattle.osc_kept.proofs.Deeds.{Deed, Sends, Challenges, Replies, Notifies, IsSent, life_in, owns, sends}

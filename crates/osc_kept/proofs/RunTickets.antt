@@ -3,9 +3,11 @@
 use Rattle.std.proofs.Common.{◌≡◌, ℕ, ◌∙◌, ap, refl, Bool, Option, Some, None, Ok, List, [], ◌∷◌, ◌++◌, Bor, slice_set}
 use Rattle.osc_coap.specs.Datagram.{Parts, IsDatagram}
 use Rattle.osc_endpoint.specs.declared.server_event.ServerEntry.TheVariants as served
-use Rattle.osc_endpoint.specs.ServerAnswer.{ServerAnswer, asks_own}
-use Rattle.osc_endpoint.specs.ServerHistory.{History, Then, Answer, Datagram, Notify, Replied, Reply, TicketValues, Took}
-use Rattle.osc_endpoint.specs.ServerRun.{ticket_at, ticket_of}
+use Rattle.osc_endpoint.specs.ServerAnswer.{ServerAnswer}
+use Rattle.osc_life.specs.LifeAnswer.{asks_own}
+use Rattle.osc_life.specs.ServerHistory.{History, Then, Answer, Datagram, Notify, Replied, Reply, TicketValues, Took}
+use Rattle.osc_endpoint.specs.ServerRun.{ticket_at}
+use Rattle.osc_life.specs.Logged.{ticket_of}
 use Rattle.osc_endpoint.proofs.RunTickets.{IsLeftTo, no_more, notified, replied, took}
 use Rattle.osc_kept.specs.InWorld.{IsHeld}
 

@@ -5,30 +5,30 @@ use Rattle.osc_context.specs.SecurityContext.{SecurityContext}
 use Rattle.osc_context.specs.declared.keeper.Keeper as keeper
 use Rattle.osc_endpoint.specs.declared.client_event.ClientEntry.{ClientEntry}
 use Rattle.osc_endpoint.specs.declared.client_event.ClientEntry.TheVariants as asked
-use Rattle.osc_endpoint.specs.declared.client_outcome.RequestError.TheVariants as requests
-use Rattle.osc_endpoint.specs.declared.server_error.ReplyError.TheVariants as replies
+use Rattle.osc_client.specs.declared.client_outcome.RequestError.TheVariants as requests
+use Rattle.osc_life.specs.declared.server_error.ReplyError.TheVariants as replies
 use Rattle.osc_endpoint.specs.declared.server_event.Arrival.{Arrival}
-use Rattle.osc_endpoint.specs.declared.server_event.Seen.TheVariants as seen
+use Rattle.osc_life.specs.declared.seen.Seen.TheVariants as seen
 use Rattle.osc_endpoint.specs.declared.server_event.ServerEntry.{ServerEntry}
 use Rattle.osc_endpoint.specs.declared.server_event.ServerEntry.TheVariants as served
-use Rattle.osc_endpoint.specs.ClientHistory as client
+use Rattle.osc_client.specs.ClientHistory as client
 use Rattle.osc_endpoint.specs.ClientRun as client_run
-use Rattle.osc_endpoint.specs.ServerAnswer.{asks_own}
-use Rattle.osc_endpoint.specs.ServerHistory as server
+use Rattle.osc_life.specs.LifeAnswer.{asks_own}
+use Rattle.osc_life.specs.ServerHistory as server
 use Rattle.osc_endpoint.specs.ServerRun as server_run
-use Rattle.osc_kept_ends.specs.declared.kept_event.KeptClientEvent.{KeptClientEvent}
-use Rattle.osc_kept_ends.specs.declared.kept_event.KeptClientEvent.TheVariants as client_events
-use Rattle.osc_kept_ends.specs.declared.kept_event.KeptClientEntry.{KeptClientEntry}
-use Rattle.osc_kept_ends.specs.declared.kept_event.KeptClientEntry.TheVariants as client_entries
-use Rattle.osc_kept_ends.specs.declared.kept_event.KeptServerEvent.{KeptServerEvent}
-use Rattle.osc_kept_ends.specs.declared.kept_event.KeptServerEvent.TheVariants as server_events
-use Rattle.osc_kept_ends.specs.declared.kept_event.KeptServerEntry.{KeptServerEntry}
-use Rattle.osc_kept_ends.specs.declared.kept_event.KeptServerEntry.TheVariants as server_entries
+use Rattle.osc_kept_runs.specs.declared.kept_event.KeptClientEvent.{KeptClientEvent}
+use Rattle.osc_kept_runs.specs.declared.kept_event.KeptClientEvent.TheVariants as client_events
+use Rattle.osc_kept_runs.specs.declared.kept_event.KeptClientEntry.{KeptClientEntry}
+use Rattle.osc_kept_runs.specs.declared.kept_event.KeptClientEntry.TheVariants as client_entries
+use Rattle.osc_kept_runs.specs.declared.kept_event.KeptServerEvent.{KeptServerEvent}
+use Rattle.osc_kept_runs.specs.declared.kept_event.KeptServerEvent.TheVariants as server_events
+use Rattle.osc_kept_runs.specs.declared.kept_event.KeptServerEntry.{KeptServerEntry}
+use Rattle.osc_kept_runs.specs.declared.kept_event.KeptServerEntry.TheVariants as server_entries
 use Rattle.osc_kept.specs.Claims.{BothEnds, TwoEnds}
 use Rattle.osc_kept.specs.GoingOn.{ClientMoves, ClientRuns, GoesOn, IsDrawn, KeepsFloor, KnowsFloor, ServerMoves, ServerRuns}
 use Rattle.osc_kept.specs.InWorld.{ClientStays, ClientTrusts, IsAsClaimed, IsUnseen, ServerStays, ServerTrusts}
 use Rattle.osc_kept_ends.specs.KeptAsking as asking
-use Rattle.osc_kept_ends.specs.KeptRuns.{ArrivalStep, ClientNumbers, ClientRun, ClientState, ClientStep, NotifyStep, ReplyStep, RequestStep, ServerRun, ServerState, ServerStep, client_state, server_state}
+use Rattle.osc_kept_runs.specs.KeptRuns.{ArrivalStep, ClientNumbers, ClientRun, ClientState, ClientStep, NotifyStep, ReplyStep, RequestStep, ServerRun, ServerState, ServerStep, client_state, server_state}
 use Rattle.osc_kept_ends.specs.Numbering.{Own, Steps}
 use Rattle.osc_kept_ends.specs.Owning.{own_in}
 use Rattle.osc_kept.specs.Premises.{IsKept, IsNoAdd, NobodyForgesRequests}

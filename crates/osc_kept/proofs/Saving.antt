@@ -6,11 +6,11 @@ use Rattle.osc_context.specs.Reserving.{next_limit}
 use Rattle.osc_context.specs.SecurityContext.{SecurityContext}
 use Rattle.osc_context.specs.Views.{number_of}
 use Rattle.osc_window.specs.declared.window_size.WindowSize.{WindowSize}
-use Rattle.osc_endpoint.specs.declared.start.Start.{Start}
-use Rattle.osc_endpoint.specs.declared.start.Start.TheVariants as starts
-use Rattle.osc_endpoint.specs.Life.{Life, Mark, Admits, Delivered, Spoiled, Challenged, Answered, born, challenge, is_open, opened}
-use Rattle.osc_endpoint.specs.Received.{Received}
-use Rattle.osc_endpoint.specs.ServerHistory as server
+use Rattle.osc_life.specs.declared.start.Start.{Start}
+use Rattle.osc_life.specs.declared.start.Start.TheVariants as starts
+use Rattle.osc_life.specs.Life.{Life, Mark, Admits, Delivered, Spoiled, Challenged, Answered, born, challenge, is_open, opened}
+use Rattle.osc_observe.specs.Received.{Received}
+use Rattle.osc_life.specs.ServerHistory as server
 use Rattle.osc_kept_ends.specs.Numbering.{Own, Effect, Reserve, after, Allowed}
 use Rattle.osc_kept.specs.GoingOn.{FreshBySaving, SavesFirst}
 use Rattle.osc_kept.specs.Premises.{Answers, AtEach, FreshWhileNothingDelivered, NumbersAreKept}

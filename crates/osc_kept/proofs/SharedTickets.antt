@@ -5,7 +5,7 @@ use Rattle.osc_laws.proofs.Shares.{of_chosen}
 use Rattle.osc_laws.specs.Laws.{AllAnswers}
 use Rattle.osc_endpoint.specs.Tickets.{AreLeft, TakesTickets}
 use Rattle.osc_laws.specs.OneContext.{share, ticket_alone}
-use Rattle.osc_endpoint.specs.ServerHistory.{Add, Added, Advance, Advanced, BadInner, Begin, Challenge, Datagram, Deliver, History, Notify, Replied, Reply, Restart, Restarted, Then, TicketValues, Took, life}
+use Rattle.osc_life.specs.ServerHistory.{Add, Added, Advance, Advanced, BadInner, Begin, Challenge, Datagram, Deliver, History, Notify, Replied, Reply, Restart, Restarted, Then, TicketValues, Took, life}
 use Rattle.osc_kept.proofs.Lives.{no_took}
 
 -- those of this context, as tickets of a server that has it alone

@@ -3,12 +3,12 @@
 use Rattle.std.specs.Prelude.{◌≡◌, ◌⊎◌, ℕ, List, Some}
 use Rattle.osc_context.specs.SecurityContext.{SecurityContext, IsUsable}
 use Rattle.osc_window.specs.declared.window_size.WindowSize.{WindowSize}
-use Rattle.osc_endpoint.specs.declared.start.Start.{Start}
+use Rattle.osc_life.specs.declared.start.Start.{Start}
 use Rattle.osc_laws.specs.Laws.{AllAnswers}
 use Rattle.osc_endpoint.specs.Tickets.{AreLeft, TakesTickets}
 use Rattle.osc_laws.specs.OneContext.{share}
 use Rattle.osc_endpoint.specs.ServerAnswer.{ServerAnswer}
-use Rattle.osc_endpoint.specs.ServerHistory as server
+use Rattle.osc_life.specs.ServerHistory as server
 use Rattle.osc_kept.specs.Claims.{BothEnds}
 use Rattle.osc_kept.specs.Premises.{Answers, AtEach, EchoIsNew, FreshWhileNothingDelivered, IsNoAdd, NobodyForges, BeginsAbove}
 use Rattle.osc_kept.specs.World.{World, Event, AtServer, ServerStarts, server_history}

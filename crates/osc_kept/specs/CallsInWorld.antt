@@ -4,27 +4,28 @@ use Rattle.std.specs.Prelude.{◌≡◌, ◌≤◌, ℕ, List, [], Option, Some,
 use Rattle.osc_context.specs.SecurityContext.{SecurityContext}
 use Rattle.osc_context.specs.declared.keeper.Keeper as keeper
 use Rattle.osc_window.specs.declared.window_size.WindowSize.{WindowSize}
-use Rattle.osc_endpoint.specs.declared.client_outcome.ClientOutcome.{ClientOutcome}
-use Rattle.osc_endpoint.specs.declared.decision.ClientDecision.{ClientDecision}
-use Rattle.osc_endpoint.specs.declared.decision.Decision.{Decision}
-use Rattle.osc_endpoint.specs.declared.outcome.Outcome.{Outcome}
-use Rattle.osc_endpoint.specs.declared.start.Fresh.{Fresh}
-use Rattle.osc_endpoint.specs.declared.start.Start.{Start}
-use Rattle.osc_endpoint.specs.ClientDeciding as client_deciding
-use Rattle.osc_endpoint.specs.ClientHistory as client
-use Rattle.osc_endpoint.specs.Deciding as deciding
-use Rattle.osc_endpoint.specs.ServerHistory as server
-use Rattle.osc_endpoint.specs.Views.{ClientShows, Shows}
+use Rattle.osc_client.specs.declared.client_outcome.ClientOutcome.{ClientOutcome}
+use Rattle.osc_client.specs.declared.decision.ClientDecision.{ClientDecision}
+use Rattle.osc_life.specs.declared.decision.Decision.{Decision}
+use Rattle.osc_life.specs.declared.outcome.Outcome.{Outcome}
+use Rattle.osc_life.specs.declared.start.Fresh.{Fresh}
+use Rattle.osc_life.specs.declared.start.Start.{Start}
+use Rattle.osc_client.specs.ClientDeciding as client_deciding
+use Rattle.osc_client.specs.ClientHistory as client
+use Rattle.osc_life.specs.Deciding as deciding
+use Rattle.osc_life.specs.ServerHistory as server
+use Rattle.osc_client.specs.Views.{ClientShows}
+use Rattle.osc_life.specs.Views.{Shows}
 use Rattle.osc_kept_ends.specs.declared.kept_client.KeptClient.{KeptClient}
-use Rattle.osc_kept_ends.specs.declared.kept_event.KeptClientEntry.{KeptClientEntry}
-use Rattle.osc_kept_ends.specs.declared.kept_event.KeptClientEvent.{KeptClientEvent}
-use Rattle.osc_kept_ends.specs.declared.kept_event.KeptServerEntry.{KeptServerEntry}
-use Rattle.osc_kept_ends.specs.declared.kept_event.KeptServerEvent.{KeptServerEvent}
+use Rattle.osc_kept_runs.specs.declared.kept_event.KeptClientEntry.{KeptClientEntry}
+use Rattle.osc_kept_runs.specs.declared.kept_event.KeptClientEvent.{KeptClientEvent}
+use Rattle.osc_kept_runs.specs.declared.kept_event.KeptServerEntry.{KeptServerEntry}
+use Rattle.osc_kept_runs.specs.declared.kept_event.KeptServerEvent.{KeptServerEvent}
 use Rattle.osc_kept_ends.specs.declared.kept_server.KeptServer.{KeptServer}
 use Rattle.osc_kept.specs.GoingOn.{ClientRuns, GoesOn, KnowsFloor, ServerRuns, server_started}
 use Rattle.osc_kept.specs.InWorld.{ClientStays, IsAsClaimed, IsHeld, ServerStays}
 use Rattle.osc_kept_ends.specs.KeptAsking as asking
-use Rattle.osc_kept_ends.specs.KeptRuns.{ClientRun, ServerRun, client_state, server_state}
+use Rattle.osc_kept_runs.specs.KeptRuns.{ClientRun, ServerRun, client_state, server_state}
 use Rattle.osc_kept_ends.specs.KeptServing as serving
 use Rattle.osc_kept_ends.specs.Numbering.{upcoming}
 use Rattle.osc_kept_ends.specs.Owning.{own_in}

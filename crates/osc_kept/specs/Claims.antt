@@ -4,9 +4,9 @@ use Rattle.std.specs.Prelude.{◌≡◌, ◌⊎◌, ℕ, List, [], ◌∷◌, tr
 use Rattle.osc_context.specs.Nonce.{nonce_of}
 use Rattle.osc_context.specs.SecurityContext.{SecurityContext}
 use Rattle.osc_protect.specs.Protection.{response_nonce}
-use Rattle.osc_endpoint.specs.ClientHistory as client
-use Rattle.osc_endpoint.specs.Observing.{registers}
-use Rattle.osc_endpoint.specs.ServerHistory as server
+use Rattle.osc_client.specs.ClientHistory as client
+use Rattle.osc_observe.specs.Observing.{registers}
+use Rattle.osc_life.specs.ServerHistory as server
 use Rattle.osc_kept.specs.Freshness.{OpensFresh}
 use Rattle.osc_kept.specs.Premises.{AtEach, IsLawful}
 use Rattle.osc_kept.specs.World.{World, Event, Begin, Then, AtClient, AtServer, Has, Request, Response, sent, answered, delivered, heard, heard_in}

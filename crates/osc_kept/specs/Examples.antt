@@ -11,10 +11,10 @@ use Rattle.osc_context.specs.Views.{number_of}
 use Rattle.osc_context.specs.declared.partial_iv.Piv.{Piv}
 use Rattle.osc_protect.specs.Sealed.{inside}
 use Rattle.osc_window.specs.declared.window_size.WindowSize.{WindowSize}
-use Rattle.osc_endpoint.specs.declared.start.Start.TheVariants as starts
-use Rattle.osc_endpoint.specs.ClientHistory as client
-use Rattle.osc_endpoint.specs.Received.{Received}
-use Rattle.osc_endpoint.specs.ServerHistory as server
+use Rattle.osc_life.specs.declared.start.Start.TheVariants as starts
+use Rattle.osc_client.specs.ClientHistory as client
+use Rattle.osc_observe.specs.Received.{Received}
+use Rattle.osc_life.specs.ServerHistory as server
 use Rattle.osc_kept.specs.Claims.{AtEachHeard, DeliversOnce, IsNext, SealsUnderNewNonces}
 use Rattle.osc_kept.specs.Premises.{Answers, AtEach, EchoIsNew, FreshWhileNothingDelivered, IsKept, NobodyForges, NumbersAreKept}
 use Rattle.osc_kept.specs.World.{World, Begin, Then, Client, Server, ClientStarts, ServerStarts, Draws, Reserves, AtClient, AtServer}

@@ -3,8 +3,8 @@
 -- milliseconds, by the server's clock.
 use Rattle.std.specs.Prelude.{◌≡◌, ◌⊎◌, ℕ, ◌-◌, ◌≤◌, List, Some, max, false}
 use Rattle.osc_context.specs.SecurityContext.{SecurityContext}
-use Rattle.osc_endpoint.specs.Life.{Life, is_open}
-use Rattle.osc_endpoint.specs.ServerHistory as server
+use Rattle.osc_life.specs.Life.{Life, is_open}
+use Rattle.osc_life.specs.ServerHistory as server
 use Rattle.osc_kept.specs.World.{World, Event, Begin, Then, AtServer, Has, Request, server_history, server_life, sent}
 
 -- a fact about the server's clock after a moment (own rule)

@@ -4,11 +4,11 @@ use Rattle.std.specs.Prelude.{◌≡◌, ◌⊎◌, ℕ, ◌<◌, ◌≤◌, tru
 use Rattle.osc_context.specs.SecurityContext.{SecurityContext}
 use Rattle.osc_context.specs.Views.{number_of}
 use Rattle.osc_window.specs.declared.window_size.WindowSize.{WindowSize}
-use Rattle.osc_endpoint.specs.declared.start.Start.{Start}
-use Rattle.osc_endpoint.specs.declared.start.Start.TheVariants as starts
-use Rattle.osc_endpoint.specs.ClientHistory as client
-use Rattle.osc_endpoint.specs.Life.{Life}
-use Rattle.osc_endpoint.specs.ServerHistory as server
+use Rattle.osc_life.specs.declared.start.Start.{Start}
+use Rattle.osc_life.specs.declared.start.Start.TheVariants as starts
+use Rattle.osc_client.specs.ClientHistory as client
+use Rattle.osc_life.specs.Life.{Life}
+use Rattle.osc_life.specs.ServerHistory as server
 use Rattle.osc_kept_ends.specs.KeptAsking as asking
 use Rattle.osc_kept_ends.specs.KeptServing as serving
 use Rattle.osc_kept_ends.specs.KeptServing.{IsStart, started}

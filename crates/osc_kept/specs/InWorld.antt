@@ -6,12 +6,12 @@ use Rattle.osc_coap.specs.Interpreted.{interpreted}
 use Rattle.osc_coap.specs.OptionNumbers as options
 use Rattle.osc_context.specs.SecurityContext.{SecurityContext}
 use Rattle.osc_window.specs.declared.window_size.WindowSize.{WindowSize}
-use Rattle.osc_endpoint.specs.declared.start.Start.{Start}
-use Rattle.osc_endpoint.specs.ClientAnswer.{ClientAnswer}
-use Rattle.osc_endpoint.specs.ClientHistory as client
+use Rattle.osc_life.specs.declared.start.Start.{Start}
+use Rattle.osc_client.specs.ClientAnswer.{ClientAnswer}
+use Rattle.osc_client.specs.ClientHistory as client
 use Rattle.osc_endpoint.specs.Tickets.{AreLeft, IsTakenOut}
 use Rattle.osc_endpoint.specs.ServerAnswer.{ServerAnswer}
-use Rattle.osc_endpoint.specs.ServerHistory as server
+use Rattle.osc_life.specs.ServerHistory as server
 use Rattle.osc_kept.specs.Claims.{BothEnds}
 use Rattle.osc_kept.specs.GoingOn.{ClientMoves, ClientRuns, GoesOn, HasSavedFirst, ServerMoves, ServerRuns, server_started}
 use Rattle.osc_kept_ends.specs.KeptServing.{IsStart, started}

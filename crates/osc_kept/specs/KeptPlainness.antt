@@ -2,10 +2,10 @@
 -- before an event, s the security context, n how many pending requests the client has room for.
 use Rattle.std.specs.Prelude.{◌≡◌, ℕ, Bool, false, Some, All}
 use Rattle.osc_context.specs.SecurityContext.{SecurityContext}
-use Rattle.osc_endpoint.specs.declared.pending.Wait.TheVariants.{Once}
-use Rattle.osc_endpoint.specs.ClientHistory as client
-use Rattle.osc_endpoint.specs.ServerAnswer.{asks_own}
-use Rattle.osc_endpoint.specs.ServerHistory as server
+use Rattle.osc_client.specs.declared.pending.Wait.TheVariants.{Once}
+use Rattle.osc_client.specs.ClientHistory as client
+use Rattle.osc_life.specs.LifeAnswer.{asks_own}
+use Rattle.osc_life.specs.ServerHistory as server
 use Rattle.osc_kept.specs.Premises.{Answers, AtEach}
 use Rattle.osc_kept.specs.World.{World, Event, AtClient, AtServer, client_history}
 

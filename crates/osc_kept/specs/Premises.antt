@@ -8,13 +8,13 @@ use Rattle.osc_coap.specs.OptionNumbers as options
 use Rattle.osc_context.specs.SecurityContext.{SecurityContext, IsUsable}
 use Rattle.osc_protect.specs.CipherLaws.{CipherInput, request_seal, response_seal}
 use Rattle.osc_protect.specs.Protection.{Protects, ProtectsRequest, responses_to}
-use Rattle.osc_endpoint.specs.declared.start.Start.TheVariants as starts
-use Rattle.osc_endpoint.specs.ClientAnswer.{ClientAnswer, awaited}
-use Rattle.osc_endpoint.specs.ClientHistory as client
+use Rattle.osc_life.specs.declared.start.Start.TheVariants as starts
+use Rattle.osc_client.specs.ClientAnswer.{ClientAnswer, awaited}
+use Rattle.osc_client.specs.ClientHistory as client
 use Rattle.osc_endpoint.specs.Tickets.{TakesTickets}
-use Rattle.osc_endpoint.specs.Life.{Life, born, in_force}
+use Rattle.osc_life.specs.Life.{Life, born, in_force}
 use Rattle.osc_endpoint.specs.ServerAnswer.{ServerAnswer}
-use Rattle.osc_endpoint.specs.ServerHistory as server
+use Rattle.osc_life.specs.ServerHistory as server
 use Rattle.osc_kept_ends.specs.Numbering.{Allowed, Load}
 use Rattle.osc_kept.specs.World.{World, Event, Begin, Then, End, Client, Server, ClientStarts, ServerStarts, AtClient, AtServer, Has, Request, Response, client_history, server_history, effect, numbers, sent, answered, delivered}
 

@@ -4,20 +4,20 @@
 use Rattle.std.specs.Prelude.{◌≡◌, ◌⊎◌, ◌∷◌, [], ℕ, ◌≤◌, List, Ok, max}
 use Rattle.osc_context.specs.SecurityContext.{SecurityContext}
 use Rattle.osc_context.specs.declared.keeper.Keeper as keeper
-use Rattle.osc_endpoint.specs.ClientHistory as client
-use Rattle.osc_endpoint.specs.ServerHistory as server
-use Rattle.osc_kept_ends.specs.declared.kept_event.KeptClientEvent.{KeptClientEvent}
-use Rattle.osc_kept_ends.specs.declared.kept_event.KeptClientEvent.TheVariants as client_events
-use Rattle.osc_kept_ends.specs.declared.kept_event.KeptClientEntry.{KeptClientEntry}
-use Rattle.osc_kept_ends.specs.declared.kept_event.KeptClientEntry.TheVariants as client_entries
-use Rattle.osc_kept_ends.specs.declared.kept_event.KeptServerEvent.{KeptServerEvent}
-use Rattle.osc_kept_ends.specs.declared.kept_event.KeptServerEvent.TheVariants as server_events
-use Rattle.osc_kept_ends.specs.declared.kept_event.KeptServerEntry.{KeptServerEntry}
-use Rattle.osc_kept_ends.specs.declared.kept_event.KeptServerEntry.TheVariants as server_entries
+use Rattle.osc_client.specs.ClientHistory as client
+use Rattle.osc_life.specs.ServerHistory as server
+use Rattle.osc_kept_runs.specs.declared.kept_event.KeptClientEvent.{KeptClientEvent}
+use Rattle.osc_kept_runs.specs.declared.kept_event.KeptClientEvent.TheVariants as client_events
+use Rattle.osc_kept_runs.specs.declared.kept_event.KeptClientEntry.{KeptClientEntry}
+use Rattle.osc_kept_runs.specs.declared.kept_event.KeptClientEntry.TheVariants as client_entries
+use Rattle.osc_kept_runs.specs.declared.kept_event.KeptServerEvent.{KeptServerEvent}
+use Rattle.osc_kept_runs.specs.declared.kept_event.KeptServerEvent.TheVariants as server_events
+use Rattle.osc_kept_runs.specs.declared.kept_event.KeptServerEntry.{KeptServerEntry}
+use Rattle.osc_kept_runs.specs.declared.kept_event.KeptServerEntry.TheVariants as server_entries
 use Rattle.osc_kept_ends.specs.declared.source.Source.{Source}
 use Rattle.osc_kept.specs.GoingOn.{ClientRuns, KeepsFloor, KnowsFloor, ServerRuns}
 use Rattle.osc_kept.specs.InWorld.{ClientStays, IsAsClaimed, IsUnseen, ServerStays}
-use Rattle.osc_kept_ends.specs.KeptRuns.{ClientRun, ClientState, ClientStep, ServerRun, ServerState, ServerStep, client_state, server_state}
+use Rattle.osc_kept_runs.specs.KeptRuns.{ClientRun, ClientState, ClientStep, ServerRun, ServerState, ServerStep, client_state, server_state}
 use Rattle.osc_kept_ends.specs.Numbering.{Own}
 use Rattle.osc_kept_ends.specs.Owning.{own_in}
 use Rattle.osc_kept.specs.Premises.{IsKept, NobodyForgesRequests, NobodyForgesResponses}

@@ -10,13 +10,13 @@ use Rattle.osc_context.specs.SecurityContext.{SecurityContext}
 use Rattle.osc_protect.specs.Protection.{as_notified}
 use Rattle.osc_protect.specs.Sealed.{inside}
 use Rattle.osc_window.specs.declared.window_size.WindowSize.{WindowSize}
-use Rattle.osc_endpoint.specs.declared.start.Start.{Start}
-use Rattle.osc_endpoint.specs.ClientAnswer.{told}
-use Rattle.osc_endpoint.specs.ClientHistory as client
-use Rattle.osc_endpoint.specs.Life.{Life, born}
-use Rattle.osc_endpoint.specs.Replies.{challenge_message}
-use Rattle.osc_endpoint.specs.ServerAnswer.{own_number}
-use Rattle.osc_endpoint.specs.ServerHistory as server
+use Rattle.osc_life.specs.declared.start.Start.{Start}
+use Rattle.osc_client.specs.ClientAnswer.{told}
+use Rattle.osc_client.specs.ClientHistory as client
+use Rattle.osc_life.specs.Life.{Life, born}
+use Rattle.osc_life.specs.Replies.{challenge_message}
+use Rattle.osc_life.specs.LifeAnswer.{own_number}
+use Rattle.osc_life.specs.ServerHistory as server
 use Rattle.osc_kept_ends.specs.KeptAsking as asking
 use Rattle.osc_kept_ends.specs.KeptServing as serving
 use Rattle.osc_kept_ends.specs.Numbering.{Own, Effect, Stay, Draw, Reserve, Load, after, nothing_drawn, use_of}

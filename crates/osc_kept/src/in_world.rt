@@ -6,14 +6,16 @@ ghost use Rattle.std.specs.Prelude.{◌≡◌, ◌≢◌, ◌≤◌, ◌<◌, �
 ghost use Rattle.osc_coap.specs.Views.{parts_of};
 ghost use Rattle.osc_context.specs.SecurityContext.{SecurityContext};
 ghost use Rattle.osc_context.specs.Views.{as_client, as_server};
-ghost use Rattle.osc_endpoint.specs.ClientHistory as asked;
-ghost use Rattle.osc_endpoint.specs.ServerHistory as served;
-ghost use Rattle.osc_endpoint.specs.ServerAnswer.{asks_own};
-ghost use Rattle.osc_endpoint.specs.Views.{reply_entry, request_entry, server_entry, values_of};
-ghost use Rattle.osc_endpoint.specs.declared.client_outcome.RequestError.TheVariants as requests;
-ghost use Rattle.osc_endpoint.specs.declared.outcome.Outcome.TheVariants as outcomes;
-ghost use Rattle.osc_endpoint.specs.declared.server_error.ReplyError.TheVariants as replies;
-ghost use Rattle.osc_endpoint.specs.declared.start.Start.{Start as StartOf};
+ghost use Rattle.osc_client.specs.ClientHistory as asked;
+ghost use Rattle.osc_life.specs.ServerHistory as served;
+ghost use Rattle.osc_life.specs.LifeAnswer.{asks_own};
+ghost use Rattle.osc_life.specs.Views.{reply_entry, values_of};
+ghost use Rattle.osc_client.specs.Views.{request_entry};
+ghost use Rattle.osc_endpoint.specs.Views.{server_entry};
+ghost use Rattle.osc_client.specs.declared.client_outcome.RequestError.TheVariants as requests;
+ghost use Rattle.osc_life.specs.declared.outcome.Outcome.TheVariants as outcomes;
+ghost use Rattle.osc_life.specs.declared.server_error.ReplyError.TheVariants as replies;
+ghost use Rattle.osc_life.specs.declared.start.Start.{Start as StartOf};
 ghost use Rattle.osc_kept.specs.CallsInWorld.{AsksInWorld, ClientAfter, ClientDecidesInWorld, ClientRestartsInWorld, ClientRunsIn, ClientStartsInWorld, ClientTakesInWorld, DecidesInWorld, HoldsTicket, NobodyForgesTo, RestartsInWorld, RunsIn, ServerAfter, ServesInWorld, StartsInWorld, TakesInWorld};
 ghost use Rattle.osc_kept.specs.GoingOn.{HasSavedFirst};
 ghost use Rattle.osc_kept.specs.InWorld.{IsUnseen};
@@ -29,9 +31,10 @@ use osc_context::{Context, Keeper, KeeperError};
 use osc_endpoint::{
     ClientDecision, ClientOutcome, Decided, Fresh, ReplyError, RequestError, Taken, Ticket,
 };
-use osc_kept_ends::{
-    KeptClient, KeptClientEntry, KeptClientEvent, KeptError, KeptServer, KeptServerEntry,
-    KeptServerEvent, run_kept_client_on, run_kept_server_on,
+use osc_kept_ends::{KeptClient, KeptError, KeptServer};
+use osc_kept_runs::{
+    KeptClientEntry, KeptClientEvent, KeptServerEntry, KeptServerEvent, run_kept_client_on,
+    run_kept_server_on,
 };
 use osc_window::WindowSize;
 use std::alloc::{AllocError, Global};

@@ -1,5 +1,5 @@
 //! What holds of both ends of OSCORE over all their lives, if their Sender Sequence Numbers outlive them (RFC 8613, 7.2.1, 7.4 and B.1). The
-//! ends are those of osc_kept_ends, under the same names.
+//! ends are those of osc_kept_ends, and their runs those of osc_kept_runs, under the same names.
 #![tactic(auto)]
 
 mod in_world;
@@ -16,7 +16,8 @@ pub use laws::{
     kept_ends_go_on, kept_ends_in_world, kept_runs_in_world, premises_are_needed,
     premises_can_be_met, shares_stay_like,
 };
-pub use osc_kept_ends::{
-    KeptClient, KeptClientEntry, KeptClientEvent, KeptError, KeptServer, KeptServerEntry,
-    KeptServerEvent, run_kept_client, run_kept_client_on, run_kept_server, run_kept_server_on,
+pub use osc_kept_ends::{KeptClient, KeptError, KeptServer};
+pub use osc_kept_runs::{
+    KeptClientEntry, KeptClientEvent, KeptServerEntry, KeptServerEvent, run_kept_client,
+    run_kept_client_on, run_kept_server, run_kept_server_on,
 };

@@ -2,11 +2,11 @@
 -- before, behind a draw, and after.
 use Rattle.std.proofs.Common.{◌≡◌, ℕ, ◌+◌, ◌<◌, ◌^◌, ◌∙◌, sym, ap, subst, refl, true, Some, List}
 use Rattle.osc_coap.specs.Datagram.{Parts}
-use Rattle.osc_endpoint.specs.declared.client.Client.{Client}
-use Rattle.osc_endpoint.specs.declared.client_outcome.RequestError.{RequestError}
-use Rattle.osc_endpoint.specs.Agrees.{ClientAgrees}
-use Rattle.osc_endpoint.specs.ClientAnswer.{ClientAnswer}
-use Rattle.osc_endpoint.specs.ClientHistory.{History, Then, Request, Sent, NotSent, next}
+use Rattle.osc_client.specs.declared.client.Client.{Client}
+use Rattle.osc_client.specs.declared.client_outcome.RequestError.{RequestError}
+use Rattle.osc_client.specs.Agrees.{ClientAgrees}
+use Rattle.osc_client.specs.ClientAnswer.{ClientAnswer}
+use Rattle.osc_client.specs.ClientHistory.{History, Then, Request, Sent, NotSent, next}
 use Rattle.osc_kept_ends.specs.KeptAsking.{IsKept, KeptStep}
 use Rattle.osc_kept_ends.specs.Numbering.{Own, Draws, Use, after, upcoming}
 use Rattle.osc_kept_ends.proofs.Drawing.{in_hand, upcoming_stays}

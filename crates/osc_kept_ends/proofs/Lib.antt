@@ -1,4 +1,3 @@
 pub mod Drawing
 pub mod ServerSteps
 pub mod ClientSteps
-pub mod KeptRunLemmas

@@ -7,20 +7,21 @@ use Rattle.std.specs.Option.{option_map}
 use Rattle.osc_coap.specs.Datagram.{Parts}
 use Rattle.osc_context.specs.SecurityContext.{SecurityContext}
 use Rattle.osc_window.specs.declared.window_size.WindowSize.{WindowSize}
-use Rattle.osc_endpoint.specs.declared.start.Start.{Start}
-use Rattle.osc_endpoint.specs.declared.start.Start.TheVariants as starts
+use Rattle.osc_life.specs.declared.start.Start.{Start}
+use Rattle.osc_life.specs.declared.start.Start.TheVariants as starts
 use Rattle.osc_endpoint.specs.declared.server.Server.{Server}
-use Rattle.osc_endpoint.specs.declared.slot.Slot.{Slot}
-use Rattle.osc_endpoint.specs.declared.server_error.ReplyError.{ReplyError}
-use Rattle.osc_endpoint.specs.declared.server_error.RestartError.{RestartError}
-use Rattle.osc_endpoint.specs.declared.server_error.RestartError.TheVariants.{NoSuchContext, LivesExhausted}
-use Rattle.osc_endpoint.specs.declared.decision.Decision.{Decision}
-use Rattle.osc_endpoint.specs.declared.decision.Decision.TheVariants as decisions
+use Rattle.osc_life.specs.declared.slot.Slot.{Slot}
+use Rattle.osc_life.specs.declared.server_error.ReplyError.{ReplyError}
+use Rattle.osc_life.specs.declared.server_error.RestartError.{RestartError}
+use Rattle.osc_life.specs.declared.server_error.RestartError.TheVariants.{NoSuchContext, LivesExhausted}
+use Rattle.osc_life.specs.declared.decision.Decision.{Decision}
+use Rattle.osc_life.specs.declared.decision.Decision.TheVariants as decisions
 use Rattle.osc_endpoint.specs.Agrees.{Agrees, PlaceAgrees}
-use Rattle.osc_endpoint.specs.Deciding.{Decides}
-use Rattle.osc_endpoint.specs.Life.{Life, Mark, Delivered, Spoiled, Challenged, Answered, HasOwn, born, marked, next_own, is_open_life, renewed}
-use Rattle.osc_endpoint.specs.ServerAnswer.{ServerAnswer, LifeRestart}
-use Rattle.osc_endpoint.specs.ServerHistory.{History, Begin, Then, Add, Added, Answer, TicketValues, Datagram, Notify, Reply, Advance, Took, Replied, NotReplied, Restart, Restarted, NotRestarted, Advanced, Malformed, NotRequest, Plain, Undecodable, NoContext, Replay, BadTag, BadInner, Challenge, SequenceExhausted, Deliver, added, life, mark_at, reply_mark_at}
+use Rattle.osc_life.specs.Deciding.{Decides}
+use Rattle.osc_life.specs.Life.{Life, Mark, Delivered, Spoiled, Challenged, Answered, HasOwn, born, marked, next_own, is_open_life, renewed}
+use Rattle.osc_endpoint.specs.ServerAnswer.{ServerAnswer}
+use Rattle.osc_life.specs.LifeAnswer.{LifeRestart}
+use Rattle.osc_life.specs.ServerHistory.{History, Begin, Then, Add, Added, Answer, TicketValues, Datagram, Notify, Reply, Advance, Took, Replied, NotReplied, Restart, Restarted, NotRestarted, Advanced, Malformed, NotRequest, Plain, Undecodable, NoContext, Replay, BadTag, BadInner, Challenge, SequenceExhausted, Deliver, added, life, mark_at, reply_mark_at}
 use Rattle.osc_kept_ends.specs.KeptServing.{IsKept, KeptStep, uses}
 use Rattle.osc_kept_ends.specs.Numbering.{Own, Draws, Goes, Steps, Use, after, upcoming, use_of}
 use Rattle.osc_kept_ends.proofs.Drawing.{in_hand, upcoming_stays}

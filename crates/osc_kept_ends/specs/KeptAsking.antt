@@ -1,14 +1,14 @@
 -- To be believed: a client whose numbers are kept (RFC 8613, 7.2.1 and B.1.1): each call is zero or one draw and then one event of a client. h is a
 -- history, N is how many pending requests there is room for, room the length of the buffer, old and new are the numbers before and after.
 use Rattle.std.specs.Prelude.{◌≡◌, ℕ, List, Bool, true, false, Option, Some, None}
-use Rattle.osc_endpoint.specs.declared.client.Client.{Client}
-use Rattle.osc_endpoint.specs.declared.client_outcome.ClientOutcome.{ClientOutcome}
-use Rattle.osc_endpoint.specs.declared.decision.ClientDecision.{ClientDecision}
-use Rattle.osc_endpoint.specs.Agrees.{ClientAgrees}
-use Rattle.osc_endpoint.specs.ClientAnswer.{ClientAnswer}
-use Rattle.osc_endpoint.specs.ClientDeciding.{Decides}
-use Rattle.osc_endpoint.specs.ClientHistory.{History, Then, Event, Entry, Answer, Request, Datagram, Sent, Took, next}
-use Rattle.osc_endpoint.specs.Views.{ClientShows}
+use Rattle.osc_client.specs.declared.client.Client.{Client}
+use Rattle.osc_client.specs.declared.client_outcome.ClientOutcome.{ClientOutcome}
+use Rattle.osc_client.specs.declared.decision.ClientDecision.{ClientDecision}
+use Rattle.osc_client.specs.Agrees.{ClientAgrees}
+use Rattle.osc_client.specs.ClientAnswer.{ClientAnswer}
+use Rattle.osc_client.specs.ClientDeciding.{Decides}
+use Rattle.osc_client.specs.ClientHistory.{History, Then, Event, Entry, Answer, Request, Datagram, Sent, Took, next}
+use Rattle.osc_client.specs.Views.{ClientShows}
 use Rattle.osc_kept_ends.specs.Numbering.{Own, Steps, upcoming}
 
 -- whether a number is drawn before an event: each request needs one (RFC 8613, 8.1)

@@ -3,18 +3,18 @@
 use Rattle.std.specs.Prelude.{◌≡◌, ◌≢◌, ℕ, List, Bool, true, false, not, Option, Some, None}
 use Rattle.std.specs.Option.{option_map}
 use Rattle.osc_context.specs.Views.{number_of}
-use Rattle.osc_endpoint.specs.declared.decision.Decided.{Decided}
-use Rattle.osc_endpoint.specs.declared.outcome.Outcome.{Outcome}
+use Rattle.osc_life.specs.declared.decision.Decided.{Decided}
+use Rattle.osc_life.specs.declared.outcome.Outcome.{Outcome}
 use Rattle.osc_endpoint.specs.declared.server.Server.{Server}
-use Rattle.osc_endpoint.specs.declared.start.Fresh.{Fresh}
-use Rattle.osc_endpoint.specs.declared.start.Start.{Start}
-use Rattle.osc_endpoint.specs.declared.start.Start.TheVariants as starts
+use Rattle.osc_life.specs.declared.start.Fresh.{Fresh}
+use Rattle.osc_life.specs.declared.start.Start.{Start}
+use Rattle.osc_life.specs.declared.start.Start.TheVariants as starts
 use Rattle.osc_endpoint.specs.Agrees.{Agrees}
-use Rattle.osc_endpoint.specs.Deciding.{Decides}
-use Rattle.osc_endpoint.specs.Life.{is_open_life, next_own}
+use Rattle.osc_life.specs.Deciding.{Decides}
+use Rattle.osc_life.specs.Life.{is_open_life, next_own}
 use Rattle.osc_endpoint.specs.ServerAnswer.{ServerAnswer}
-use Rattle.osc_endpoint.specs.ServerHistory.{History, Then, Event, Entry, Answer, Datagram, Reply, Notify, Took, Replied, Challenge, added, life}
-use Rattle.osc_endpoint.specs.Views.{Shows}
+use Rattle.osc_life.specs.ServerHistory.{History, Then, Event, Entry, Answer, Datagram, Reply, Notify, Took, Replied, Challenge, added, life}
+use Rattle.osc_life.specs.Views.{Shows}
 use Rattle.osc_kept_ends.specs.Numbering.{Own, Load, Reserve, Steps, after, upcoming}
 
 -- whether a number is drawn before an event: if a challenge may be the answer, if a reply asks for its own Partial IV, or for a notification

@@ -3,7 +3,6 @@ pub mod Numbering
 pub mod Refusals
 pub mod KeptServing
 pub mod KeptAsking
-pub mod KeptRuns
 -- how the code is seen
 pub mod Views
 pub mod Owning

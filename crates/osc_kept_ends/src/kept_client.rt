@@ -3,11 +3,11 @@
 ghost use Rattle.std.specs.Prelude.{◌≡◌, ◌≢◌, ◌≤◌, ◌+◌, ℕ, Err, IsOk, IfOk, IfErr, IsErrOf, OnErr, length, drop};
 ghost use Rattle.osc_coap.specs.Views.{parts_of};
 ghost use Rattle.osc_context.specs.Views.{as_client, number_of};
-ghost use Rattle.osc_endpoint.specs.ClientDeciding.{CanShow, LeavesBy};
-ghost use Rattle.osc_endpoint.specs.ClientHistory.{History, New, Then, Advance, Advanced, Forget, Forgot, Request, Restart, Restarted, next};
-ghost use Rattle.osc_endpoint.specs.Requesting.{sent_entry};
-ghost use Rattle.osc_endpoint.specs.Views.{request_entry};
-ghost use Rattle.osc_endpoint.specs.declared.client_outcome.RequestError.TheVariants.{KeeperFailed};
+ghost use Rattle.osc_client.specs.ClientDeciding.{CanShow, LeavesBy};
+ghost use Rattle.osc_client.specs.ClientHistory.{History, New, Then, Advance, Advanced, Forget, Forgot, Request, Restart, Restarted, next};
+ghost use Rattle.osc_client.specs.Requesting.{sent_entry};
+ghost use Rattle.osc_client.specs.Views.{request_entry};
+ghost use Rattle.osc_client.specs.declared.client_outcome.RequestError.TheVariants.{KeeperFailed};
 ghost use Rattle.osc_kept_ends.specs.declared.kept_error.KeptError.TheVariants.{LivesExhausted};
 ghost use Rattle.osc_kept_ends.specs.KeptAsking.{IsKept, KeptDecides, KeptStep, KeptTakes};
 ghost use Rattle.osc_kept_ends.specs.Numbering.{Goes, Load, nothing_drawn, upcoming};
@@ -76,7 +76,8 @@ impl<K: Keeper, const N: usize> KeptClient<K, N> {
     }
 
     /// Seals a request as `request` does, and returns the number of the request too.
-    pub(crate) fn send(
+    #[doc(hidden)]
+    pub fn send(
         &mut self,
         now: u64,
         plain: &Message<'_>,

@@ -1,9 +1,9 @@
 -- A kept client in bytes after each call: k are the bytes before, t those after, h is the history, old are the numbers before.
 use Rattle.std.proofs.Common.{◌≡◌, ℕ, ◌<◌, ◌≤◌, ◌^◌, ◌∙◌, sym, ap, subst, refl, arith, true, Some, List}
 use Rattle.osc_coap.specs.Datagram.{Parts}
-use Rattle.osc_endpoint.specs.ClientAnswer.{ClientAnswer}
-use Rattle.osc_endpoint.specs.ClientHistory.{History, Then, Request, Sent, NotSent, next}
-use Rattle.osc_endpoint.specs.declared.client_outcome.RequestError.{RequestError}
+use Rattle.osc_client.specs.ClientAnswer.{ClientAnswer}
+use Rattle.osc_client.specs.ClientHistory.{History, Then, Request, Sent, NotSent, next}
+use Rattle.osc_client.specs.declared.client_outcome.RequestError.{RequestError}
 use Rattle.osc_handle.specs.ClientBytes.{Asks}
 use Rattle.osc_kept_ends.proofs.Drawing.{in_hand, upcoming_stays}
 use Rattle.osc_kept_ends.specs.Numbering.{Own, Use, after, upcoming}

@@ -5,7 +5,7 @@ use Rattle.osc_coap.specs.Datagram.{Parts}
 use Rattle.osc_context.specs.SecurityContext.{SecurityContext}
 use Rattle.osc_laws.specs.Laws.{AreApart, answered, delivered}
 use Rattle.osc_endpoint.specs.Tickets.{AreLeft}
-use Rattle.osc_endpoint.specs.ServerHistory as server
+use Rattle.osc_life.specs.ServerHistory as server
 use Rattle.osc_laws.specs.Waiting.{AnsweredOnce}
 use Rattle.osc_kept.proofs.InWorld.{had_tickets}
 use Rattle.osc_kept.specs.InWorld.{IsHeld, ServerTrusts}

@@ -3,18 +3,19 @@
 use Rattle.std.specs.Prelude.{◌≡◌, ℕ, ◌<◌, ◌≤◌, List, Some}
 use Rattle.osc_context.specs.SecurityContext.{SecurityContext}
 use Rattle.osc_window.specs.declared.window_size.WindowSize.{WindowSize}
-use Rattle.osc_endpoint.specs.declared.client_outcome.ClientOutcome.{ClientOutcome}
-use Rattle.osc_endpoint.specs.declared.decision.ClientDecision.{ClientDecision}
-use Rattle.osc_endpoint.specs.declared.decision.Decision.{Decision}
-use Rattle.osc_endpoint.specs.declared.outcome.Outcome.{Outcome}
-use Rattle.osc_endpoint.specs.declared.start.Fresh.{Fresh}
-use Rattle.osc_endpoint.specs.declared.start.Start.{Start}
-use Rattle.osc_endpoint.specs.ClientDeciding as client_deciding
-use Rattle.osc_endpoint.specs.ClientHistory as client
-use Rattle.osc_endpoint.specs.Deciding as deciding
+use Rattle.osc_client.specs.declared.client_outcome.ClientOutcome.{ClientOutcome}
+use Rattle.osc_client.specs.declared.decision.ClientDecision.{ClientDecision}
+use Rattle.osc_life.specs.declared.decision.Decision.{Decision}
+use Rattle.osc_life.specs.declared.outcome.Outcome.{Outcome}
+use Rattle.osc_life.specs.declared.start.Fresh.{Fresh}
+use Rattle.osc_life.specs.declared.start.Start.{Start}
+use Rattle.osc_client.specs.ClientDeciding as client_deciding
+use Rattle.osc_client.specs.ClientHistory as client
+use Rattle.osc_life.specs.Deciding as deciding
 use Rattle.osc_laws.specs.Laws.{delivered}
-use Rattle.osc_endpoint.specs.ServerHistory as server
-use Rattle.osc_endpoint.specs.Views.{ClientShows, Shows}
+use Rattle.osc_life.specs.ServerHistory as server
+use Rattle.osc_client.specs.Views.{ClientShows}
+use Rattle.osc_life.specs.Views.{Shows}
 use Rattle.osc_kept.specs.GoingOn.{ClientRuns, GoesOn, ServerRuns, server_started}
 use Rattle.osc_kept.specs.InWorld.{ClientStays, IsAsClaimed, ServerStays}
 use Rattle.osc_kept_ends.specs.KeptServing.{IsStart}

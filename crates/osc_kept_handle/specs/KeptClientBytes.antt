@@ -1,12 +1,12 @@
 -- To be believed: what the bytes of a kept client say (RFC 8613, 7.2.1 and B.1.1). k are the bytes, h is a history, o, old and new are the numbers of the
 -- client, before and after a call.
 use Rattle.std.specs.Prelude.{◌≡◌, ℕ, ◌≤◌, ◌^◌, List, Option, Some, None, Result, Ok, Err, take}
-use Rattle.osc_endpoint.specs.ClientAnswer.{ClientAnswer}
-use Rattle.osc_endpoint.specs.ClientDeciding.{Decides}
-use Rattle.osc_endpoint.specs.ClientHistory.{History, Then, Event, Entry, Answer, Datagram, Sent, NotSent, Took, next}
-use Rattle.osc_endpoint.specs.Views.{ClientShows}
-use Rattle.osc_endpoint.specs.declared.client_outcome.ClientOutcome.{ClientOutcome}
-use Rattle.osc_endpoint.specs.declared.decision.ClientDecision.{ClientDecision}
+use Rattle.osc_client.specs.ClientAnswer.{ClientAnswer}
+use Rattle.osc_client.specs.ClientDeciding.{Decides}
+use Rattle.osc_client.specs.ClientHistory.{History, Then, Event, Entry, Answer, Datagram, Sent, NotSent, Took, next}
+use Rattle.osc_client.specs.Views.{ClientShows}
+use Rattle.osc_client.specs.declared.client_outcome.ClientOutcome.{ClientOutcome}
+use Rattle.osc_client.specs.declared.decision.ClientDecision.{ClientDecision}
 use Rattle.osc_handle.specs.ClientBytes.{Asks, IsClient}
 use Rattle.osc_kept_ends.specs.KeptAsking.{draws, uses}
 use Rattle.osc_kept_ends.specs.Numbering.{Own, Steps, upcoming}

@@ -1,9 +1,9 @@
 -- To be believed: what kept ends in bytes do whose contexts take no part in Observe: the contract of plain_laws.rt (RFC 8613, 4.1.3.5). k are the bytes, o
 -- the numbers of the end, h is a history.
 use Rattle.std.specs.Prelude.{◌≡◌, false}
-use Rattle.osc_endpoint.specs.ClientHistory as client
+use Rattle.osc_client.specs.ClientHistory as client
 use Rattle.osc_laws.specs.Plainness.{ClientIsPlain, ServerIsPlain}
-use Rattle.osc_endpoint.specs.ServerHistory as server
+use Rattle.osc_life.specs.ServerHistory as server
 use Rattle.osc_context_handle.specs.ContextBytes.{client_in, server_in}
 use Rattle.osc_kept_ends.specs.Numbering.{Own}
 use Rattle.osc_kept_handle.specs.KeptClientBytes.{AsksWith}

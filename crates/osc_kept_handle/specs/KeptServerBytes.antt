@@ -2,14 +2,14 @@
 -- server, before and after a call.
 use Rattle.std.specs.Prelude.{◌≡◌, ℕ, ◌≤◌, ◌^◌, List, Option, Some, None, Result, Ok, Err, take}
 use Rattle.std.specs.Option.{option_map}
-use Rattle.osc_endpoint.specs.Deciding.{Decides}
-use Rattle.osc_endpoint.specs.Life.{next_own}
+use Rattle.osc_life.specs.Deciding.{Decides}
+use Rattle.osc_life.specs.Life.{next_own}
 use Rattle.osc_endpoint.specs.ServerAnswer.{ServerAnswer}
-use Rattle.osc_endpoint.specs.ServerHistory.{History, Then, Event, Entry, Answer, Datagram, Took, Replied, NotReplied, added, life}
-use Rattle.osc_endpoint.specs.Views.{Shows}
-use Rattle.osc_endpoint.specs.declared.decision.Decision.{Decision}
-use Rattle.osc_endpoint.specs.declared.outcome.Outcome.{Outcome}
-use Rattle.osc_endpoint.specs.declared.start.Fresh.{Fresh}
+use Rattle.osc_life.specs.ServerHistory.{History, Then, Event, Entry, Answer, Datagram, Took, Replied, NotReplied, added, life}
+use Rattle.osc_life.specs.Views.{Shows}
+use Rattle.osc_life.specs.declared.decision.Decision.{Decision}
+use Rattle.osc_life.specs.declared.outcome.Outcome.{Outcome}
+use Rattle.osc_life.specs.declared.start.Fresh.{Fresh}
 use Rattle.osc_handle.specs.ServerBytes.{Serves}
 use Rattle.osc_handle.specs.SingleServerBytes.{server_of_one}
 use Rattle.osc_handle.specs.SlotBytes.{IsSlotBytes}

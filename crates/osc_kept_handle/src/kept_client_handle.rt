@@ -4,9 +4,9 @@ ghost use Rattle.std.specs.Prelude.{◌≡◌, ◌≢◌, ◌≤◌, ℕ, Ok, Er
 ghost use Rattle.osc_coap.specs.Views.{parts_of};
 ghost use Rattle.osc_context.specs.Reserving.{next_limit};
 ghost use Rattle.osc_context.specs.Views.{number_of};
-ghost use Rattle.osc_endpoint.specs.ClientDeciding.{CanShow};
-ghost use Rattle.osc_endpoint.specs.ClientHistory.{Forget, Forgot, History, New, Request};
-ghost use Rattle.osc_endpoint.specs.declared.client_outcome.RequestError.TheVariants.{KeeperFailed};
+ghost use Rattle.osc_client.specs.ClientDeciding.{CanShow};
+ghost use Rattle.osc_client.specs.ClientHistory.{Forget, Forgot, History, New, Request};
+ghost use Rattle.osc_client.specs.declared.client_outcome.RequestError.TheVariants.{KeeperFailed};
 ghost use Rattle.osc_handle.specs.ClientBytes.{parts_in};
 ghost use Rattle.osc_handle.specs.ClientSteps.{LeavesIn};
 ghost use Rattle.osc_context_handle.specs.ContextBytes.{IsContext, client_in};

@@ -11,9 +11,9 @@ use Rattle.osc_protect.specs.OptionSets.{is_unsupported}
 use Rattle.osc_protect.specs.Protection.{Protects, ProtectsResponse, as_notified, responses_to}
 use Rattle.osc_protect.specs.Sealed.{inside}
 use Rattle.osc_laws.specs.Arriving.{WhatIsSealedArrives}
-use Rattle.osc_endpoint.specs.ClientHistory as client
+use Rattle.osc_client.specs.ClientHistory as client
 use Rattle.osc_laws.proofs.Inside.{as_notification, unnotified}
-use Rattle.osc_endpoint.proofs.SealedReplies.{replied_features}
+use Rattle.osc_life.proofs.SealedReplies.{replied_features}
 
 -- what is sealed as a response protects whatever the request waits for
 either : (s : SecurityContext) (n : ℕ) (own : Option ℕ) (m : InnerParts) (d : List ℕ) (b : Bool) → ProtectsResponse s n own m d → Protects (responses_to s b n) own m d

@@ -2,11 +2,11 @@
 use Rattle.std.proofs.Common.{◌≡◌, ℕ, ◌+◌, ◌<◌, ◌≤◌, sym, subst, refl, arith, Bool, true, false, List, if◌then◌else◌}
 use Rattle.std.specs.Prelude.{All, max, not, bytes_eq}
 use Rattle.std.proofs.lemmas.List.Elements.{All-filter, All-map, All-nil, All-push, All-weaker}
-use Rattle.osc_endpoint.specs.declared.pending.Wait.{Wait}
-use Rattle.osc_endpoint.specs.declared.pending.Wait.TheVariants.{Once, Observing}
-use Rattle.osc_endpoint.specs.Observing.{place_of, registers}
+use Rattle.osc_client.specs.declared.pending.Wait.{Wait}
+use Rattle.osc_client.specs.declared.pending.Wait.TheVariants.{Once, Observing}
+use Rattle.osc_observe.specs.Observing.{place_of, registers}
 use Rattle.osc_coap.specs.Datagram.{Parts}
-use Rattle.osc_endpoint.specs.ClientHistory.{Asked, Datagram, Deliver, Entry, Event, Forget, History, New, Notified, Request, Restart, Sent, Then, Took, after_place, after_response, alive, asked, clock, context, is_alive, life_ms, next, observes, wait_of}
+use Rattle.osc_client.specs.ClientHistory.{Asked, Datagram, Deliver, Entry, Event, Forget, History, New, Notified, Request, Restart, Sent, Then, Took, after_place, after_response, alive, asked, clock, context, is_alive, life_ms, next, observes, wait_of}
 
 -- the fact about a request
 abbrev Of : (ℕ → List ℕ → Bool → Type 0) → Asked → Type 0

@@ -7,14 +7,14 @@ use Rattle.osc_endpoint.specs.declared.client_event.ClientEvent.{ClientEvent}
 use Rattle.osc_endpoint.specs.declared.client_event.ClientEvent.TheVariants as events
 use Rattle.osc_endpoint.specs.declared.client_event.ClientEntry.{ClientEntry}
 use Rattle.osc_endpoint.specs.declared.client_event.ClientEntry.TheVariants as entries
-use Rattle.osc_endpoint.specs.Awaited.{AwaitedShowHeads, OneAwaited}
-use Rattle.osc_endpoint.specs.ClientAnswer.{ClientAnswer, ResponseAnswer}
+use Rattle.osc_client.specs.Awaited.{AwaitedShowHeads, OneAwaited}
+use Rattle.osc_client.specs.ClientAnswer.{ClientAnswer, ResponseAnswer}
 use Rattle.osc_laws.specs.ClientHeadline.{ClientHeadline, ClientRowsExclude, EntryStands, GoesOnAlone, StandsAt}
-use Rattle.osc_endpoint.specs.ClientHistory as client
-use Rattle.osc_endpoint.specs.ClientHistory.{Datagram, Entry, Event, History, Took, clock}
+use Rattle.osc_client.specs.ClientHistory as client
+use Rattle.osc_client.specs.ClientHistory.{Datagram, Entry, Event, History, Took, clock}
 use Rattle.osc_laws.specs.ClientLaws.{AllClientAnswers, OneClientAnswer}
 use Rattle.osc_endpoint.specs.ClientRun.{ClientRunStep, GoesOn, RequestStep, Run}
-use Rattle.osc_endpoint.proofs.ClientDeliveries.{hears_row, row_hears, shown_hearing}
+use Rattle.osc_client.proofs.ClientDeliveries.{hears_row, row_hears, shown_hearing}
 use Rattle.osc_laws.proofs.OneClientAnswers.{tokens_differ}
 
 -- ---- rows

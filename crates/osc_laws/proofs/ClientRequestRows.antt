@@ -7,11 +7,11 @@ use Rattle.osc_protect.specs.SealRefusals.{IsPlainRequest, RefusesToSeal}
 use Rattle.osc_protect.specs.Sealed.{SealsRequest}
 use Rattle.osc_protect.specs.declared.protect_error.ProtectError.{ProtectError}
 use Rattle.osc_protect.specs.declared.protect_error.ProtectError.TheVariants as seals
-use Rattle.osc_endpoint.specs.declared.client_outcome.RequestError.TheVariants.{NotThatKind, Unsupported, TokenInUse, PendingFull, SequenceExhausted, TooLong, NoRoom}
+use Rattle.osc_client.specs.declared.client_outcome.RequestError.TheVariants.{NotThatKind, Unsupported, TokenInUse, PendingFull, SequenceExhausted, TooLong, NoRoom}
 use Rattle.osc_laws.specs.AnswerLaws.{ClientAnswerLaws}
-use Rattle.osc_endpoint.specs.ClientAnswer.{CanAsk, IsAmong, IsNewRequest, RequestAnswer}
-use Rattle.osc_endpoint.specs.ClientHistory.{Entry, History, NotSent, Sent, context, next, pending_at}
-use Rattle.osc_endpoint.specs.Requesting.{lifted}
+use Rattle.osc_client.specs.ClientAnswer.{CanAsk, IsAmong, IsNewRequest, RequestAnswer}
+use Rattle.osc_client.specs.ClientHistory.{Entry, History, NotSent, Sent, context, next, pending_at}
+use Rattle.osc_client.specs.Requesting.{lifted}
 use Rattle.osc_laws.proofs.LifeReplies.{unsupported_among}
 
 -- the request isn't one that can be sealed

@@ -11,14 +11,14 @@ use Rattle.osc_protect.specs.declared.head_error.HeadError.{HeadError}
 use Rattle.osc_protect.specs.declared.head_error.HeadError.TheVariants as heads
 use Rattle.osc_protect.specs.declared.unprotect_error.UnprotectError.{UnprotectError}
 use Rattle.osc_protect.specs.declared.unprotect_error.UnprotectError.TheVariants as opens
-use Rattle.osc_endpoint.specs.Agrees.{TokensDiffer}
+use Rattle.osc_client.specs.Agrees.{TokensDiffer}
 use Rattle.osc_laws.specs.AnswerLaws.{ClientAnswerLaws}
-use Rattle.osc_endpoint.specs.ClientAnswer.{AskedAnswer, IsAmong, IsAwaited, IsResponseWith, PendingAnswer, ResponseAnswer, SaysAwaited, SaysOwn, awaited, continues}
-use Rattle.osc_endpoint.specs.ClientHistory.{Answer, Asked, History, BadInner, BadTag, Deliver, Malformed, NotResponse, Notified, Old, Undecodable, UnknownToken, Unprotected, clock, context, first_place, observes, pending, pending_at}
-use Rattle.osc_endpoint.specs.Observing.{place_of}
-use Rattle.osc_endpoint.specs.Received.{Received, Receives}
-use Rattle.osc_endpoint.proofs.ClientDecisions.{same_own}
-use Rattle.osc_endpoint.proofs.ClientDeliveries.{same_request}
+use Rattle.osc_client.specs.ClientAnswer.{AskedAnswer, IsAmong, IsAwaited, IsResponseWith, PendingAnswer, ResponseAnswer, SaysAwaited, SaysOwn, awaited, continues}
+use Rattle.osc_client.specs.ClientHistory.{Answer, Asked, History, BadInner, BadTag, Deliver, Malformed, NotResponse, Notified, Old, Undecodable, UnknownToken, Unprotected, clock, context, first_place, observes, pending, pending_at}
+use Rattle.osc_observe.specs.Observing.{place_of}
+use Rattle.osc_observe.specs.Received.{Received, Receives}
+use Rattle.osc_client.proofs.ClientDecisions.{same_own}
+use Rattle.osc_client.proofs.ClientDeliveries.{same_request}
 use Rattle.osc_laws.proofs.OneReceived.{one_received}
 
 -- ---- the answer by a pending request

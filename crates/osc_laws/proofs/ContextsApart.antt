@@ -5,7 +5,7 @@ use Rattle.osc_context.specs.SecurityContext.{SecurityContext}
 use Rattle.osc_endpoint.specs.Agrees.{OneEach}
 use Rattle.osc_laws.specs.Laws.{AllAnswers}
 use Rattle.osc_endpoint.specs.ServerAnswer.{HaveSameLookup, ServerAnswer}
-use Rattle.osc_endpoint.specs.ServerHistory.{Add, Added, Begin, Datagram, Entry, Event, History, Notify, Replied, Reply, Restart, Restarted, Then, Took, life, mark_at, reply_mark_at}
+use Rattle.osc_life.specs.ServerHistory.{Add, Added, Begin, Datagram, Entry, Event, History, Notify, Replied, Reply, Restart, Restarted, Then, Took, life, mark_at, reply_mark_at}
 use Rattle.osc_endpoint.proofs.Additions.{HasBy, OneBy, lookup_turned, one_more}
 use Rattle.osc_endpoint.proofs.KeptContexts.{marked_by, one_kept, restarted_context}
 

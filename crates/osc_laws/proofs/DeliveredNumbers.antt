@@ -7,11 +7,12 @@ use Rattle.std.proofs.lemmas.Bool.{cases_Bool, cond-false, cond_both, eq-eqb, eq
 use Rattle.std.proofs.lemmas.List.Elements.{All-head, All-nil, All-tail}
 use Rattle.osc_coap.specs.Inner.{InnerParts}
 use Rattle.osc_laws.specs.Laws.{AllAnswers, AreApart, DeliveredOnce, Pairwise, delivered}
-use Rattle.osc_endpoint.specs.Life.{Admits, Answered, Challenged, Delivered, Life, Mark, Spoiled, born, is_open, marked, opened, renewed, spent}
-use Rattle.osc_endpoint.specs.Received.{Received}
-use Rattle.osc_endpoint.specs.ServerAnswer.{LifeRestart, ServerAnswer}
-use Rattle.osc_endpoint.specs.ServerHistory.{Add, Added, Advance, Answer, Begin, Datagram, Deliver, Entry, Event, History, Notify, Replied, Reply, Restart, Restarted, Then, TicketValues, Took, added, clock, life, mark_at, reply_mark_at}
-use Rattle.osc_endpoint.proofs.Lives.{closed_bare}
+use Rattle.osc_life.specs.Life.{Admits, Answered, Challenged, Delivered, Life, Mark, Spoiled, born, is_open, marked, opened, renewed, spent}
+use Rattle.osc_observe.specs.Received.{Received}
+use Rattle.osc_life.specs.LifeAnswer.{LifeRestart}
+use Rattle.osc_endpoint.specs.ServerAnswer.{ServerAnswer}
+use Rattle.osc_life.specs.ServerHistory.{Add, Added, Advance, Answer, Begin, Datagram, Deliver, Entry, Event, History, Notify, Replied, Reply, Restart, Restarted, Then, TicketValues, Took, added, clock, life, mark_at, reply_mark_at}
+use Rattle.osc_life.proofs.Lives.{closed_bare}
 
 -- ---- numbers that are spent
 

@@ -3,8 +3,8 @@ use Rattle.std.proofs.Common.{◌≡◌, ℕ, zero, suc, ◌∙◌, sym, ap, sub
 use Rattle.std.specs.Prelude.{slice_get, unwrap_or}
 use Rattle.osc_context.specs.Views.{number_of}
 use Rattle.osc_protect.specs.Laws.{OneRequestReading}
-use Rattle.osc_endpoint.specs.declared.server_event.Seen.{Seen}
-use Rattle.osc_endpoint.specs.declared.server_event.Seen.TheVariants as seen
+use Rattle.osc_life.specs.declared.seen.Seen.{Seen}
+use Rattle.osc_life.specs.declared.seen.Seen.TheVariants as seen
 use Rattle.osc_endpoint.specs.declared.server_event.ServerEvent.{ServerEvent}
 use Rattle.osc_endpoint.specs.declared.server_event.ServerEvent.TheVariants as events
 use Rattle.osc_endpoint.specs.declared.server_event.ServerEntry.{ServerEntry}
@@ -12,12 +12,13 @@ use Rattle.osc_endpoint.specs.declared.server_event.ServerEntry.TheVariants as e
 use Rattle.osc_laws.specs.AnswerLaws.{AnswerLaws}
 use Rattle.osc_laws.specs.Headline.{EntryStands, GoesOnAlone, ServerHeadline, ServerRowsExclude, StandsAt, told}
 use Rattle.osc_laws.specs.Laws.{AllAnswers, OneServerAnswer}
-use Rattle.osc_endpoint.specs.Received.{Received}
+use Rattle.osc_observe.specs.Received.{Received}
 use Rattle.osc_endpoint.specs.ServerAnswer.{MeetsRow, ServerAnswer}
-use Rattle.osc_endpoint.specs.ServerHistory as server
-use Rattle.osc_endpoint.specs.ServerHistory.{Entry, Event, History, TicketValues}
-use Rattle.osc_endpoint.specs.ServerRun.{DropStep, GoesOn, Logs, NotifyStep, ReplyStep, Run, ServerRunStep}
-use Rattle.osc_endpoint.specs.Views.{seen_delivery}
+use Rattle.osc_life.specs.ServerHistory as server
+use Rattle.osc_life.specs.ServerHistory.{Entry, Event, History, TicketValues}
+use Rattle.osc_endpoint.specs.ServerRun.{DropStep, GoesOn, NotifyStep, ReplyStep, Run, ServerRunStep}
+use Rattle.osc_life.specs.Logged.{Logs}
+use Rattle.osc_life.specs.Views.{seen_delivery}
 use Rattle.osc_endpoint.proofs.Deliveries.{delivered, delivers_row, row_delivers}
 use Rattle.osc_laws.proofs.ContextsApart.{contexts_differ}
 use Rattle.osc_laws.proofs.OneAnswers.{one_row}

@@ -19,22 +19,23 @@ use Rattle.osc_protect.specs.Sealed.{SealsNotification, SealsRequest, SealsRespo
 use Rattle.osc_protect.specs.declared.unprotect_error.UnprotectError.TheVariants.{Inner}
 use Rattle.osc_window.specs.declared.window_size.WindowSize.{WindowSize}
 use Rattle.osc_window.specs.Views.{places_of}
-use Rattle.osc_endpoint.specs.declared.start.Start.TheVariants as starts
+use Rattle.osc_life.specs.declared.start.Start.TheVariants as starts
 use Rattle.osc_laws.specs.Arriving.{WhatIsSealedArrives}
-use Rattle.osc_endpoint.specs.ClientAnswer.{ClientAnswer, Hears, continues, told}
+use Rattle.osc_client.specs.ClientAnswer.{ClientAnswer, Hears, continues, told}
 use Rattle.osc_laws.specs.ClientHeadline.{ClientRowsExclude}
-use Rattle.osc_endpoint.specs.ClientHistory as client
+use Rattle.osc_client.specs.ClientHistory as client
 use Rattle.osc_laws.specs.ClientLaws.{AllClientAnswers}
 use Rattle.osc_laws.specs.Exchange.{Request, Response, AtClient, AtServer, Brings, Exchange, Starts, Then, AdmitsInTime, AreInStep, GoesWell, IsHonest, IsWaitedFor, LeavesNew, Stands, StaysOpen, client_clock, client_of, said, sent, server_clock, server_of, tickets}
 use Rattle.osc_laws.specs.Headline as delivery
 use Rattle.osc_laws.specs.Laws.{AllAnswers}
-use Rattle.osc_endpoint.specs.Life.{Life, Admits, Carries, Challenged, Delivered, HasOwn, IsNewIn, Spoiled, born, in_force, is_open, is_open_life, marked}
-use Rattle.osc_endpoint.specs.Observing.{is_notification, registers}
-use Rattle.osc_endpoint.specs.Received.{Received}
-use Rattle.osc_endpoint.specs.Replies.{as_reply, challenge_message}
-use Rattle.osc_endpoint.specs.ServerAnswer.{IsRequestOf, MeetsRow, TakeAnswer, arrival, as_notification, challenge_given, own_number}
-use Rattle.osc_endpoint.specs.ServerHistory as server
-use Rattle.osc_endpoint.proofs.Asking.{contains_filter}
+use Rattle.osc_life.specs.Life.{Life, Admits, Carries, Challenged, Delivered, HasOwn, IsNewIn, Spoiled, born, in_force, is_open, is_open_life, marked}
+use Rattle.osc_observe.specs.Observing.{is_notification, registers}
+use Rattle.osc_observe.specs.Received.{Received}
+use Rattle.osc_life.specs.Replies.{as_reply, challenge_message}
+use Rattle.osc_endpoint.specs.ServerAnswer.{IsRequestOf, MeetsRow, TakeAnswer, arrival}
+use Rattle.osc_life.specs.LifeAnswer.{as_notification, challenge_given, own_number}
+use Rattle.osc_life.specs.ServerHistory as server
+use Rattle.osc_client.proofs.Asking.{contains_filter}
 use Rattle.osc_laws.proofs.AskedNumbers.{Knows, known_after, known_new}
 use Rattle.osc_laws.proofs.DeliveredNumbers.{none_beyond}
 use Rattle.osc_laws.proofs.ExchangeLives.{some_is, Allowed, allowed_if, in_step, fits, marked_fits, at_server, first_of_all, numbers_from, IsWide, still_wide, wide_by_one, wide_at_server}

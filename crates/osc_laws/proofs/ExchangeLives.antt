@@ -6,13 +6,13 @@ use Rattle.std.proofs.lemmas.Bool.{cases_Bool, cond_both, eqb-true}
 use Rattle.std.proofs.lemmas.List.Elements.{All-cons, All-head, All-nil, All-tail}
 use Rattle.osc_context.specs.SecurityContext.{SecurityContext}
 use Rattle.osc_window.specs.Views.{places_of}
-use Rattle.osc_endpoint.specs.ClientHistory as client
+use Rattle.osc_client.specs.ClientHistory as client
 use Rattle.osc_laws.specs.Exchange.{Request, AtClient, AtServer, Brings, Exchange, Starts, Then, AreInStep, IsElsewhere, IsHonest, IsOfThese, LeavesNew, StaysOpen, client_of, sent, server_of, tickets}
-use Rattle.osc_endpoint.specs.Life.{Life, Mark, Answered, Challenged, Delivered, IsNewIn, Spoiled, born, is_open, marked, renewed, spent}
+use Rattle.osc_life.specs.Life.{Life, Mark, Answered, Challenged, Delivered, IsNewIn, Spoiled, born, is_open, marked, renewed, spent}
 use Rattle.osc_endpoint.specs.ServerAnswer.{ServerAnswer}
-use Rattle.osc_endpoint.specs.ServerHistory as server
+use Rattle.osc_life.specs.ServerHistory as server
 use Rattle.osc_laws.proofs.DeliveredNumbers.{HasNoneBeyond}
-use Rattle.osc_endpoint.proofs.Lives.{closed_bare, floor_closed, floor_open}
+use Rattle.osc_life.proofs.Lives.{closed_bare, floor_closed, floor_open}
 
 pub some_is : {A : Type 0} {a b : A} → Some a ≡ Some b → a ≡ b
 some_is e = cc

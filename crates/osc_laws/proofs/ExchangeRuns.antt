@@ -8,26 +8,29 @@ use Rattle.osc_endpoint.specs.declared.client_event.ClientEvent.{ClientEvent}
 use Rattle.osc_endpoint.specs.declared.client_event.ClientEvent.TheVariants as asks
 use Rattle.osc_endpoint.specs.declared.client_event.ClientEntry.{ClientEntry}
 use Rattle.osc_endpoint.specs.declared.client_event.ClientEntry.TheVariants as heard
-use Rattle.osc_endpoint.specs.declared.client_outcome.ClientOutcome.{ClientOutcome}
-use Rattle.osc_endpoint.specs.declared.server_event.Seen.{Seen}
-use Rattle.osc_endpoint.specs.declared.server_event.Seen.TheVariants as seen
+use Rattle.osc_client.specs.declared.client_outcome.ClientOutcome.{ClientOutcome}
+use Rattle.osc_life.specs.declared.seen.Seen.{Seen}
+use Rattle.osc_life.specs.declared.seen.Seen.TheVariants as seen
 use Rattle.osc_endpoint.specs.declared.server_event.ServerEvent.{ServerEvent}
 use Rattle.osc_endpoint.specs.declared.server_event.ServerEvent.TheVariants as events
 use Rattle.osc_endpoint.specs.declared.server_event.ServerEntry.{ServerEntry}
 use Rattle.osc_endpoint.specs.declared.server_event.ServerEntry.TheVariants as entries
-use Rattle.osc_endpoint.specs.ClientAnswer.{ClientAnswer}
-use Rattle.osc_endpoint.specs.ClientHistory as client
+use Rattle.osc_client.specs.ClientAnswer.{ClientAnswer}
+use Rattle.osc_client.specs.ClientHistory as client
 use Rattle.osc_endpoint.specs.ClientRun.{ClientRunStep, Run as ClientRun}
 use Rattle.osc_protect.specs.Sealed.{inside}
 use Rattle.osc_laws.specs.Exchange.{Exchange, ExchangeInTime, HonestExchange, Request, Response, Then, AtClient, AtServer, Brings, IsElsewhere, IsHonest, IsOfThese, IsWaitedFor, client_clock, client_of, said, sent, server_clock, server_of, tickets}
 use Rattle.osc_laws.specs.ExchangeRuns.{RunsAreHonest, AreFair, AreGiven, GoesOn, IsFair, NotifyShows, OfClient, OfServer, Places, Plays, ReplyShows, Shows, ShowsElsewhere, Turn, client_events, client_log, next_after, sealed_after, server_events, server_log}
 use Rattle.osc_laws.specs.Headline.{EntryStands, ServerHeadline}
-use Rattle.osc_endpoint.specs.Life.{Life, Admits}
-use Rattle.osc_endpoint.specs.ServerAnswer.{Delivers, ServerAnswer, asks_own}
-use Rattle.osc_endpoint.specs.ServerHistory as server
-use Rattle.osc_endpoint.specs.ServerRun.{Logs, NotifyStep, ReplyStep, Run, ServerRunStep, ticket_at, ticket_of}
-use Rattle.osc_endpoint.specs.Views.{ClientShows, client_hearing_of, seen_delivery}
-use Rattle.osc_endpoint.proofs.ClientDeliveries.{shown_hearing}
+use Rattle.osc_life.specs.Life.{Life, Admits}
+use Rattle.osc_endpoint.specs.ServerAnswer.{Delivers, ServerAnswer}
+use Rattle.osc_life.specs.LifeAnswer.{asks_own}
+use Rattle.osc_life.specs.ServerHistory as server
+use Rattle.osc_life.specs.Logged.{Logs, ticket_of}
+use Rattle.osc_endpoint.specs.ServerRun.{NotifyStep, ReplyStep, Run, ServerRunStep, ticket_at}
+use Rattle.osc_client.specs.Views.{ClientShows, client_hearing_of}
+use Rattle.osc_life.specs.Views.{seen_delivery}
+use Rattle.osc_client.proofs.ClientDeliveries.{shown_hearing}
 use Rattle.osc_laws.proofs.ExchangeLives.{some_is}
 use Rattle.osc_laws.proofs.Exchange.{admits_in_time, ExchangeLaws, all_open, serves_all, stands, starts_in_step}
 

@@ -8,12 +8,13 @@ use Rattle.std.proofs.lemmas.List.Elements.{All-cons, All-contains, All-nil, All
 use Rattle.osc_context.specs.SecurityContext.{SecurityContext}
 use Rattle.osc_window.specs.declared.window_size.WindowSize.{WindowSize}
 use Rattle.osc_window.specs.Gate.{challenge_in_force}
-use Rattle.osc_endpoint.specs.declared.start.Start.{Start}
-use Rattle.osc_endpoint.specs.declared.start.Start.TheVariants.{Fresh, Restarted as ByRestart}
+use Rattle.osc_life.specs.declared.start.Start.{Start}
+use Rattle.osc_life.specs.declared.start.Start.TheVariants.{Fresh, Restarted as ByRestart}
 use Rattle.osc_laws.specs.Laws.{AllAnswers}
-use Rattle.osc_endpoint.specs.Life.{Answered, Challenged, Delivered, Life, Mark, Spoiled, born, challenge, in_force, is_open, marked, renewed}
-use Rattle.osc_endpoint.specs.ServerAnswer.{MeetsRow, arrival, challenge_given}
-use Rattle.osc_endpoint.specs.ServerHistory.{Add, Added, Answer, BadInner, Begin, Challenge, Datagram, Deliver, History, Notify, Replied, Reply, Restart, Restarted, Then, TicketValues, Took, clock, life, mark_at, reply_mark_at}
+use Rattle.osc_life.specs.Life.{Answered, Challenged, Delivered, Life, Mark, Spoiled, born, challenge, in_force, is_open, marked, renewed}
+use Rattle.osc_endpoint.specs.ServerAnswer.{MeetsRow, arrival}
+use Rattle.osc_life.specs.LifeAnswer.{challenge_given}
+use Rattle.osc_life.specs.ServerHistory.{Add, Added, Answer, BadInner, Begin, Challenge, Datagram, Deliver, History, Notify, Replied, Reply, Restart, Restarted, Then, TicketValues, Took, clock, life, mark_at, reply_mark_at}
 
 -- where the mark is a challenge, it serves from this moment on until its time is over
 abbrev Serves : Option (List ℕ × ℕ) → ℕ → Mark → Type 0

@@ -18,7 +18,7 @@ use Rattle.osc_context.specs.SecurityContext.{SecurityContext}
 use Rattle.osc_protect.specs.OptionSets.{is_barred, is_unsupported}
 use Rattle.osc_protect.specs.Protection.{ProtectsNotification, ProtectsResponse}
 use Rattle.osc_protect.specs.Sealed.{inside}
-use Rattle.osc_endpoint.specs.Observing.{is_notification, is_observable, registers, says_register}
+use Rattle.osc_observe.specs.Observing.{is_notification, is_observable, registers, says_register}
 
 one_of : (b : Bool) → (b ≡ true) ⊎ (b ≡ false)
 one_of true = inl refl

@@ -9,13 +9,13 @@ use Rattle.osc_protect.specs.Sealed.{SealsResponse}
 use Rattle.osc_protect.specs.declared.unprotect_error.UnprotectError.{UnprotectError}
 use Rattle.osc_protect.specs.declared.unprotect_error.UnprotectError.TheVariants.{Tag, Inner}
 use Rattle.osc_laws.specs.AnswerLaws.{AnswerLaws}
-use Rattle.osc_endpoint.specs.Life.{Life, Passes, is_open, next_own}
-use Rattle.osc_endpoint.specs.Observing.{registers}
-use Rattle.osc_endpoint.specs.Received.{Received}
-use Rattle.osc_endpoint.specs.Replies.{ErrorText, SaysError, as_reply, challenge_message, error_message}
-use Rattle.osc_endpoint.specs.ServerAnswer.{Arrival, IsReplay, MeetsLifeRow, SaysChallenge}
+use Rattle.osc_life.specs.Life.{Life, Passes, is_open, next_own}
+use Rattle.osc_observe.specs.Observing.{registers}
+use Rattle.osc_observe.specs.Received.{Received}
+use Rattle.osc_life.specs.Replies.{ErrorText, SaysError, as_reply, challenge_message, error_message}
+use Rattle.osc_life.specs.LifeAnswer.{Arrival, IsReplay, MeetsLifeRow, SaysChallenge}
 use Rattle.osc_laws.proofs.OneReceived.{one_received}
-use Rattle.osc_endpoint.specs.ServerHistory.{Answer, BadInner, BadTag, Challenge, Deliver, Replay, SequenceExhausted, TicketValues}
+use Rattle.osc_life.specs.ServerHistory.{Answer, BadInner, BadTag, Challenge, Deliver, Replay, SequenceExhausted, TicketValues}
 use Rattle.osc_endpoint.proofs.Deliveries.{no_want}
 
 -- ---- replies

@@ -9,14 +9,15 @@ use Rattle.osc_window.specs.declared.window_size.WindowSize.{WindowSize}
 use Rattle.osc_protect.specs.Laws.{ProtectionsShowHeads}
 use Rattle.osc_protect.specs.Protection.{responses_to}
 use Rattle.osc_protect.specs.Sealed.{IsSealed}
-use Rattle.osc_endpoint.specs.declared.server_error.RestartError.{RestartError}
-use Rattle.osc_endpoint.specs.declared.start.Start.{Start}
-use Rattle.osc_endpoint.specs.declared.start.Start.TheVariants as starts
+use Rattle.osc_life.specs.declared.server_error.RestartError.{RestartError}
+use Rattle.osc_life.specs.declared.start.Start.{Start}
+use Rattle.osc_life.specs.declared.start.Start.TheVariants as starts
 use Rattle.osc_laws.specs.AnswerLaws.{SealedHeads}
 use Rattle.osc_laws.specs.Laws.{Text, HasOwnNumber, texts, text_in, answered}
-use Rattle.osc_endpoint.specs.Life.{HasOwn, Mark, Delivered, Spoiled, Challenged, Answered, Life, own_count, next_own, marked, born, renewed}
-use Rattle.osc_endpoint.specs.ServerAnswer.{IsContext, LifeRestart, ServerAnswer}
-use Rattle.osc_endpoint.specs.ServerHistory.{History, Then, Event, Entry, TicketValues, Add, Datagram, Reply, Notify, Restart, Advance, BadInner, Challenge, Deliver, Added, NotAdded, Took, Replied, NotReplied, Restarted, NotRestarted, Advanced, added, life}
+use Rattle.osc_life.specs.Life.{HasOwn, Mark, Delivered, Spoiled, Challenged, Answered, Life, own_count, next_own, marked, born, renewed}
+use Rattle.osc_endpoint.specs.ServerAnswer.{IsContext, ServerAnswer}
+use Rattle.osc_life.specs.LifeAnswer.{LifeRestart}
+use Rattle.osc_life.specs.ServerHistory.{History, Then, Event, Entry, TicketValues, Add, Datagram, Reply, Notify, Restart, Advance, BadInner, Challenge, Deliver, Added, NotAdded, Took, Replied, NotReplied, Restarted, NotRestarted, Advanced, added, life}
 
 -- of a life: its context, how many were before it, its first Sender Sequence Number, and how many it used
 pub record Kept : Type 0 where

@@ -14,15 +14,15 @@ use Rattle.osc_protect.specs.declared.protect_error.ProtectError.{ProtectError}
 use Rattle.osc_protect.specs.declared.protect_error.ProtectError.TheVariants as seals
 use Rattle.osc_protect.proofs.Splits.{chosen}
 use Rattle.osc_protect.proofs.Supported.{never_refused, one_refusal}
-use Rattle.osc_endpoint.specs.declared.server_error.ReplyError.TheVariants.{NotThatKind, Unsupported, NotNotification, SequenceExhausted as NoOwnLeft, TooLong, NoRoom}
+use Rattle.osc_life.specs.declared.server_error.ReplyError.TheVariants.{NotThatKind, Unsupported, NotNotification, SequenceExhausted as NoOwnLeft, TooLong, NoRoom}
 use Rattle.osc_laws.specs.AnswerLaws.{AnswerLaws}
-use Rattle.osc_endpoint.specs.Life.{Life, HasOwn, next_own}
-use Rattle.osc_endpoint.specs.Observing.{is_notification}
-use Rattle.osc_endpoint.specs.Replying.{lifted}
-use Rattle.osc_endpoint.specs.ServerAnswer.{HasAsked, LifeNotify, LifeReply, own_number}
-use Rattle.osc_endpoint.specs.ServerHistory.{Entry, NotReplied, Replied}
+use Rattle.osc_life.specs.Life.{Life, HasOwn, next_own}
+use Rattle.osc_observe.specs.Observing.{is_notification}
+use Rattle.osc_life.specs.Replying.{lifted}
+use Rattle.osc_life.specs.LifeAnswer.{HasAsked, LifeNotify, LifeReply, own_number}
+use Rattle.osc_life.specs.ServerHistory.{Entry, NotReplied, Replied}
 use Rattle.osc_laws.proofs.SealedAnswers.{IsAnswer, one_sealed_answer}
-use Rattle.osc_endpoint.proofs.SealedReplies.{notified_features, replied_features}
+use Rattle.osc_life.proofs.SealedReplies.{notified_features, replied_features}
 
 -- where a number that can't be sealed is among the options, one is
 pub unsupported_among : (x : Features) (n : ℕ) (entries : List Spelled) → is_unsupported x n ≡ true → has_number (λ k. k == n) entries ≡ true → has_number (is_unsupported x) entries ≡ true

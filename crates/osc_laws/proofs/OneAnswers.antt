@@ -8,16 +8,17 @@ use Rattle.osc_protect.specs.Protection.{requests}
 use Rattle.osc_protect.specs.Refusals.{Names}
 use Rattle.osc_protect.specs.declared.head_error.HeadError.{HeadError}
 use Rattle.osc_protect.specs.declared.head_error.HeadError.TheVariants as heads
-use Rattle.osc_endpoint.specs.declared.server_error.AddError.TheVariants.{Full, SameLookup}
-use Rattle.osc_endpoint.specs.declared.server_error.ReplyError.TheVariants.{NotObserving, StaleTicket}
-use Rattle.osc_endpoint.specs.declared.server_error.RestartError.TheVariants.{NoSuchContext, LivesExhausted}
+use Rattle.osc_life.specs.declared.server_error.AddError.TheVariants.{Full, SameLookup}
+use Rattle.osc_life.specs.declared.server_error.ReplyError.TheVariants.{NotObserving, StaleTicket}
+use Rattle.osc_life.specs.declared.server_error.RestartError.TheVariants.{NoSuchContext, LivesExhausted}
 use Rattle.osc_endpoint.specs.Agrees.{OneEach}
 use Rattle.osc_laws.specs.AnswerLaws.{AnswerLaws}
 use Rattle.osc_laws.specs.Laws.{OneServerAnswer}
-use Rattle.osc_endpoint.specs.Life.{Life}
-use Rattle.osc_endpoint.specs.Replies.{as_reply, bad_tag, no_context, replay, undecodable}
-use Rattle.osc_endpoint.specs.ServerAnswer.{AddAnswer, Arrival, IsPresent, IsRequestOf, LifeNotify, LifeReply, LifeRestart, MeetsLifeRow, MeetsNamedRow, MeetsRow, NamesNone, NotifyAnswer, OfTicket, ReplyAnswer, SaysChallenge, SaysReply, ServerAnswer, TakeAnswer, arrival, as_notification}
-use Rattle.osc_endpoint.specs.ServerHistory.{Add, Added, Advance, Advanced, Answer, BadTag, Challenge, Datagram, Entry, Event, History, Malformed, NoContext, NotAdded, NotReplied, NotRequest, NotRestarted, Notify, Plain, Replay, Reply, Restart, Restarted, TicketValues, Took, Undecodable, life}
+use Rattle.osc_life.specs.Life.{Life}
+use Rattle.osc_life.specs.Replies.{as_reply, bad_tag, no_context, replay, undecodable}
+use Rattle.osc_endpoint.specs.ServerAnswer.{AddAnswer, IsPresent, IsRequestOf, MeetsNamedRow, MeetsRow, NamesNone, NotifyAnswer, OfTicket, ReplyAnswer, SaysReply, ServerAnswer, TakeAnswer, arrival}
+use Rattle.osc_life.specs.LifeAnswer.{Arrival, LifeNotify, LifeReply, LifeRestart, MeetsLifeRow, SaysChallenge, as_notification}
+use Rattle.osc_life.specs.ServerHistory.{Add, Added, Advance, Advanced, Answer, BadTag, Challenge, Datagram, Entry, Event, History, Malformed, NoContext, NotAdded, NotReplied, NotRequest, NotRestarted, Notify, Plain, Replay, Reply, Restart, Restarted, TicketValues, Took, Undecodable, life}
 use Rattle.osc_endpoint.proofs.Deliveries.{IsSame, same_named}
 use Rattle.osc_laws.proofs.ContextsApart.{contexts_differ}
 use Rattle.osc_laws.proofs.LifeAnswers.{one_challenge, one_error, one_life_row}

@@ -1,15 +1,15 @@
 -- That a client has one answer to an event.
 use Rattle.std.proofs.Common.{◌≡◌, ℕ, sym, ap, subst, refl, arith, Bool, true, false, List, [], bytes_eq, not}
 use Rattle.std.specs.Prelude.{◌↔◌, max}
-use Rattle.osc_endpoint.specs.Agrees.{TokensDiffer}
+use Rattle.osc_client.specs.Agrees.{TokensDiffer}
 use Rattle.osc_laws.specs.AnswerLaws.{ClientAnswerLaws}
-use Rattle.osc_endpoint.specs.ClientAnswer.{ClientAnswer}
-use Rattle.osc_endpoint.specs.ClientHistory.{Advance, Advanced, Asked, Datagram, Deliver, Entry, Event, Forget, Forgot, History, New, Notified, Request, Restart, Restarted, Sent, Then, Took, asked, clock, life_ms, context, next, pending, pending_at, wait_of, without}
+use Rattle.osc_client.specs.ClientAnswer.{ClientAnswer}
+use Rattle.osc_client.specs.ClientHistory.{Advance, Advanced, Asked, Datagram, Deliver, Entry, Event, Forget, Forgot, History, New, Notified, Request, Restart, Restarted, Sent, Then, Took, asked, clock, life_ms, context, next, pending, pending_at, wait_of, without}
 use Rattle.osc_laws.specs.ClientLaws.{AllClientAnswers, OneClientAnswer}
-use Rattle.osc_endpoint.specs.Observing.{place_of}
-use Rattle.osc_endpoint.proofs.Asking.{differ_filter, differ_heard, differ_later, ended, heard_alive}
+use Rattle.osc_observe.specs.Observing.{place_of}
+use Rattle.osc_client.proofs.Asking.{differ_filter, differ_heard, differ_later, ended, heard_alive}
 use Rattle.osc_laws.proofs.ClientRequestRows.{one_request_answer}
-use Rattle.osc_endpoint.proofs.ClientRequests.{alive_more, differ_more}
+use Rattle.osc_client.proofs.ClientRequests.{alive_more, differ_more}
 use Rattle.osc_laws.proofs.ClientTakeRows.{one_take_answer}
 
 -- without those of a token the others differ

@@ -7,7 +7,7 @@ use Rattle.osc_coap.specs.OptionNumbers.{uri_host as uri_host_number, uri_port a
 use Rattle.osc_coap.specs.Search.{values_at, first_of}
 use Rattle.osc_protect.specs.Laws.{OneMessage}
 use Rattle.osc_protect.specs.Protection.{Protection}
-use Rattle.osc_endpoint.specs.Received.{Received, Receives}
+use Rattle.osc_observe.specs.Received.{Received, Receives}
 
 -- what is received under a message
 abbrev received_by : Parts → Option ℕ → InnerParts → Received

@@ -7,7 +7,7 @@ use Rattle.std.specs.List.{AllByRecursion}
 use Rattle.osc_laws.specs.AnswerLaws.{SealedHeads}
 use Rattle.osc_laws.specs.Laws.{AllAnswers, CountsUp, HasOwnNumber, OwnNumbersOnce, Text, own_texts}
 use Rattle.osc_endpoint.specs.ServerAnswer.{IsContext}
-use Rattle.osc_endpoint.specs.ServerHistory.{History, Begin, Then}
+use Rattle.osc_life.specs.ServerHistory.{History, Begin, Then}
 use Rattle.osc_laws.proofs.LifeCounts.{Kept, kept, used_one, Image, image, Changes, IsSame, IsAddition, IsRestart, SealsNumbered, SealsPlain, Steps, Stays, Adds, Restarts, Numbers, Replies, steps}
 
 -- ---- lists

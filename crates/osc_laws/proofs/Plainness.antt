@@ -6,16 +6,17 @@ use Rattle.osc_coap.specs.Datagram.{Parts}
 use Rattle.osc_context.specs.declared.features.Features.{Features}
 use Rattle.osc_coap.specs.Interpreted.{interpreted}
 use Rattle.osc_coap.specs.OptionNumbers.{observe}
-use Rattle.osc_endpoint.specs.declared.pending.Wait.{Wait}
-use Rattle.osc_endpoint.specs.declared.pending.Wait.TheVariants.{Once, Observing}
-use Rattle.osc_endpoint.specs.Received.{Received}
-use Rattle.osc_endpoint.specs.Observing.{is_notification, is_observable, place_of, says_register}
-use Rattle.osc_endpoint.specs.ServerHistory as server
-use Rattle.osc_endpoint.specs.ServerAnswer.{Arrival, MeetsRow}
-use Rattle.osc_endpoint.specs.ClientHistory as client
+use Rattle.osc_client.specs.declared.pending.Wait.{Wait}
+use Rattle.osc_client.specs.declared.pending.Wait.TheVariants.{Once, Observing}
+use Rattle.osc_observe.specs.Received.{Received}
+use Rattle.osc_observe.specs.Observing.{is_notification, is_observable, place_of, says_register}
+use Rattle.osc_life.specs.ServerHistory as server
+use Rattle.osc_life.specs.LifeAnswer.{Arrival}
+use Rattle.osc_endpoint.specs.ServerAnswer.{MeetsRow}
+use Rattle.osc_client.specs.ClientHistory as client
 use Rattle.osc_laws.specs.ClientLaws.{AllClientAnswers}
 use Rattle.osc_laws.specs.Plainness.{WithoutObserve, ServerIsPlain, ClientIsPlain, EndsArePlain}
-use Rattle.osc_endpoint.proofs.Asking.{contains_filter}
+use Rattle.osc_client.proofs.Asking.{contains_filter}
 
 off : (b c : Bool) → b ≡ false → (b && c) ≡ false
 off b c e = ap (λ x. x && c) e

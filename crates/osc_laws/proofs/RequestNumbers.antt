@@ -8,7 +8,7 @@ use Rattle.osc_context.specs.OscoreValue.{IsOscoreValue}
 use Rattle.osc_context.specs.SecurityContext.{SecurityContext}
 use Rattle.osc_protect.specs.Laws.{RequestsShowHeads}
 use Rattle.osc_protect.specs.Sealed.{SealsRequest}
-use Rattle.osc_endpoint.specs.ClientHistory.{History, New, Request, Restart, Sent, Then, context, next}
+use Rattle.osc_client.specs.ClientHistory.{History, New, Request, Restart, Sent, Then, context, next}
 use Rattle.osc_laws.specs.ClientLaws.{AllClientAnswers, ClientNoncesOnce, HasNumber, RequestNumbersOnce, RequestsCountUp, RequestsHaveTwoNonces, SealedRequest, first_number, restarts, sealed, sealed_after}
 use Rattle.osc_laws.proofs.OwnNumbers.{all_weaker}
 

@@ -7,8 +7,8 @@ use Rattle.osc_protect.specs.Protection.{Protection}
 use Rattle.osc_protect.specs.SealRefusals.{CanBeSealed, RefusesToSeal}
 use Rattle.osc_protect.specs.Sealed.{IsSealed}
 use Rattle.osc_protect.specs.declared.protect_error.ProtectError.{ProtectError}
-use Rattle.osc_endpoint.specs.Replying.{lifted}
-use Rattle.osc_endpoint.specs.ServerHistory.{Entry, NotReplied, Replied}
+use Rattle.osc_life.specs.Replying.{lifted}
+use Rattle.osc_life.specs.ServerHistory.{Entry, NotReplied, Replied}
 
 -- it isn't sealed, and nothing else holds it back
 pub record IsRefused {I : Type 0} (f : Protection I) (i : I) (p : Parts) (room : ℕ) (Ready : Type 0) (entry : Entry) : Type 0 where

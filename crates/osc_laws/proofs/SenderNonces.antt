@@ -4,10 +4,10 @@ use Rattle.std.specs.List.{AllByRecursion}
 use Rattle.osc_context.specs.SecurityContext.{SecurityContext}
 use Rattle.osc_laws.specs.AnswerLaws.{SealedHeads}
 use Rattle.osc_laws.specs.Laws.{AllAnswers, HaveTwoNonces, Pairwise, ServerNoncesOnce, Text, texts}
-use Rattle.osc_endpoint.specs.Life.{Life}
+use Rattle.osc_life.specs.Life.{Life}
 use Rattle.osc_context.specs.Senders.{HaveSameSender}
 use Rattle.osc_laws.specs.Senders.{HaveTwoKeysOrNonces, SendersDiffer, ServerKeysOrNoncesOnce, WaitingKeysOrNoncesOnce}
-use Rattle.osc_endpoint.specs.ServerHistory.{History, Begin, Then, Event, Entry, Add, Added, life}
+use Rattle.osc_life.specs.ServerHistory.{History, Begin, Then, Event, Entry, Add, Added, life}
 use Rattle.osc_laws.specs.Waiting.{WaitingNoncesOnce}
 use Rattle.osc_endpoint.proofs.Additions.{OneBy}
 use Rattle.osc_laws.proofs.ContextsApart.{AddsFree, one_after, one_at_first}

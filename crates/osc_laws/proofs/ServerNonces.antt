@@ -9,9 +9,10 @@ use Rattle.osc_context.specs.SecurityContext.{SecurityContext}
 use Rattle.osc_protect.specs.Protection.{requests, response_nonce}
 use Rattle.osc_laws.specs.AnswerLaws.{SealedHeads}
 use Rattle.osc_laws.specs.Laws.{AllAnswers, AreApart, CountsUp, DeliveredOnce, HaveTwoNonces, Pairwise, ServerNoncesOnce, Text, answered, delivered, nonce_of_text, own_texts, texts}
-use Rattle.osc_endpoint.specs.Life.{Life}
-use Rattle.osc_endpoint.specs.ServerAnswer.{IsContext, LifeRestart}
-use Rattle.osc_endpoint.specs.ServerHistory.{History, Begin, Then, Add, Datagram, Reply, Notify, Restart, Advance, Deliver, Took, Answer, TicketValues, life}
+use Rattle.osc_life.specs.Life.{Life}
+use Rattle.osc_endpoint.specs.ServerAnswer.{IsContext}
+use Rattle.osc_life.specs.LifeAnswer.{LifeRestart}
+use Rattle.osc_life.specs.ServerHistory.{History, Begin, Then, Add, Datagram, Reply, Notify, Restart, Advance, Deliver, Took, Answer, TicketValues, life}
 use Rattle.osc_laws.proofs.LifeCounts.{Kept, Image, image, SealsNumbered, SealsPlain, Steps, Stays, Adds, Restarts, Numbers, Replies, steps}
 use Rattle.osc_laws.proofs.OwnNumbers.{IsCounted, IsOfLife, all_weaker, counted, is_own, passed_over, taken_up}
 use Rattle.osc_laws.proofs.Tickets.{all_answered, all_behind, pairs_behind, tickets_once}

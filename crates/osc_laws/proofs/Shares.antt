@@ -8,11 +8,12 @@ use Rattle.osc_protect.specs.Protection.{requests}
 use Rattle.osc_protect.specs.Refusals.{Names}
 use Rattle.osc_context.specs.SecurityContext.{SecurityContext}
 use Rattle.osc_laws.specs.Laws.{AllAnswers}
-use Rattle.osc_endpoint.specs.Life.{Life, Mark, born, marked, renewed}
-use Rattle.osc_endpoint.specs.Replies.{as_reply}
-use Rattle.osc_endpoint.specs.ServerAnswer.{AddAnswer, Arrival, IsTaken, LifeRestart, MeetsLifeRow, MeetsNamedRow, MeetsRow, NamesNone, NotifyAnswer, ReplyAnswer, SaysReply, TakeAnswer, arrival, as_notification}
-use Rattle.osc_endpoint.specs.ServerHistory.{Add, Added, Advance, Advanced, Answer, BadInner, BadTag, Begin, Challenge, Datagram, Deliver, Entry, History, Malformed, NoContext, NotReplied, NotRequest, Notify, Plain, Replay, Replied, Reply, Restart, Restarted, SequenceExhausted, Then, TicketValues, Took, Undecodable, added, clock, life, mark_at, reply_mark_at}
-use Rattle.osc_endpoint.specs.declared.server_error.ReplyError.TheVariants.{NotObserving, StaleTicket}
+use Rattle.osc_life.specs.Life.{Life, Mark, born, marked, renewed}
+use Rattle.osc_life.specs.Replies.{as_reply}
+use Rattle.osc_endpoint.specs.ServerAnswer.{AddAnswer, IsTaken, MeetsNamedRow, MeetsRow, NamesNone, NotifyAnswer, ReplyAnswer, SaysReply, TakeAnswer, arrival}
+use Rattle.osc_life.specs.LifeAnswer.{Arrival, LifeRestart, MeetsLifeRow, as_notification}
+use Rattle.osc_life.specs.ServerHistory.{Add, Added, Advance, Advanced, Answer, BadInner, BadTag, Begin, Challenge, Datagram, Deliver, Entry, History, Malformed, NoContext, NotReplied, NotRequest, Notify, Plain, Replay, Replied, Reply, Restart, Restarted, SequenceExhausted, Then, TicketValues, Took, Undecodable, added, clock, life, mark_at, reply_mark_at}
+use Rattle.osc_life.specs.declared.server_error.ReplyError.TheVariants.{NotObserving, StaleTicket}
 use Rattle.osc_laws.proofs.DeliveredNumbers.{none_beyond}
 use Rattle.osc_endpoint.proofs.Places.{same_life}
 use Rattle.osc_laws.specs.OneContext.{ContextsStandAlone, NamesNoOther, answer_alone, concerns, share, ticket_alone}

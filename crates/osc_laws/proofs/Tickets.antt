@@ -4,7 +4,7 @@ use Rattle.std.proofs.Common.{sym, subst, List, [], ◌∷◌, ◌++◌}
 use Rattle.std.specs.List.{AllByRecursion}
 use Rattle.osc_laws.specs.Laws.{AreApart, DeliveredOnce, Pairwise, TicketOnce, answered, delivered}
 use Rattle.osc_endpoint.specs.Tickets.{AreLeft}
-use Rattle.osc_endpoint.specs.ServerHistory.{History, Begin, Then, Reply, Notify, Deliver, Took, Replied, TicketValues}
+use Rattle.osc_life.specs.ServerHistory.{History, Begin, Then, Reply, Notify, Deliver, Took, Replied, TicketValues}
 
 -- ---- one element moves to the back
 

@@ -7,10 +7,10 @@ use Rattle.osc_coap.specs.declared.message.Kind.TheVariants.{Con}
 use Rattle.osc_context.specs.Laws.{OneNonce, ValueNumberInRange}
 use Rattle.osc_laws.specs.AnswerLaws.{SealedHeads}
 use Rattle.osc_laws.specs.Laws.{AllAnswers, AreApart, Pairwise, answered}
-use Rattle.osc_endpoint.specs.Life.{Life}
-use Rattle.osc_endpoint.specs.Received.{Received}
+use Rattle.osc_life.specs.Life.{Life}
+use Rattle.osc_observe.specs.Received.{Received}
 use Rattle.osc_endpoint.specs.ServerAnswer.{ServerAnswer}
-use Rattle.osc_endpoint.specs.ServerHistory.{Begin, Datagram, Deliver, Entry, Event, History, Replied, Reply, Then, TicketValues, Took, life}
+use Rattle.osc_life.specs.ServerHistory.{Begin, Datagram, Deliver, Entry, Event, History, Replied, Reply, Then, TicketValues, Took, life}
 use Rattle.osc_laws.specs.Waiting.{AnsweredOnce, AnswersWaiting, WaitingHasLife, WaitingNoncesOnce, is_far_above, is_to, waits}
 use Rattle.osc_laws.proofs.DeliveredNumbers.{HasNoneBeyond, IsSpentIn, all_kept, first_delivery, none_beyond, still_spent}
 use Rattle.osc_laws.proofs.ServerNonces.{IsFor, all_for, texts_apart}

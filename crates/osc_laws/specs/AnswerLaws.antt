@@ -1,7 +1,7 @@
 -- For the proofs: what holds for all datagrams in the layers below, from which it follows that a server has one answer, and a client too.
 use Rattle.osc_coap.specs.Laws.{DatagramHasNoFault, DatagramIsOneMessage, PartsHaveOneDatagram}
 use Rattle.osc_protect.specs.Laws.{NotificationsShowHeads, OneRequest, OneRequestHead, OneResponseHead, OneSealed, ResponsesShowHeads}
-use Rattle.osc_endpoint.specs.Awaited.{AwaitedShowHeads, OneAwaited}
+use Rattle.osc_client.specs.Awaited.{AwaitedShowHeads, OneAwaited}
 
 -- the laws of the layers below, one field each (RFC 7252, 3; RFC 8613, 8.1 to 8.3)
 pub record AnswerLaws : Type 0 where

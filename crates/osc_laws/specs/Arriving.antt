@@ -4,11 +4,11 @@ use Rattle.std.specs.Prelude.{◌≡◌, ℕ, List, Option, Some, Contains, fals
 use Rattle.osc_coap.specs.Datagram.{Parts}
 use Rattle.osc_protect.specs.Protection.{as_notified}
 use Rattle.osc_protect.specs.Sealed.{SealsNotification, SealsRequest, SealsResponse, inside}
-use Rattle.osc_endpoint.specs.Life.{Life, Admits}
-use Rattle.osc_endpoint.specs.ServerHistory as server
+use Rattle.osc_life.specs.Life.{Life, Admits}
+use Rattle.osc_life.specs.ServerHistory as server
 use Rattle.osc_endpoint.specs.ServerAnswer.{Delivers}
-use Rattle.osc_endpoint.specs.ClientHistory as client
-use Rattle.osc_endpoint.specs.ClientAnswer.{Hears, IsAwaited, continues}
+use Rattle.osc_client.specs.ClientHistory as client
+use Rattle.osc_client.specs.ClientAnswer.{Hears, IsAwaited, continues}
 
 -- a request that was sealed under a context of the server is delivered, if its number or its Echo value is admitted; the response that was sealed
 -- to a pending request, with its token, is heard, and so is a notification to a pending registration, if it is awaited (RFC 8613, 8.2, 8.4 and 8.4.2)

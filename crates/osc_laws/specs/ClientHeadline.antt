@@ -3,16 +3,16 @@
 -- message, d a datagram.
 use Rattle.std.specs.Prelude.{◌≡◌, ◌↔◌, ℕ, Bool, List, Option, Some, max, slice_get, take}
 use Rattle.osc_coap.specs.Inner.{InnerParts}
-use Rattle.osc_endpoint.specs.ClientAnswer.{ClientAnswer, Hears, ResponseAnswer, told}
-use Rattle.osc_endpoint.specs.ClientHistory.{History, Then, Event, Entry, Answer, clock}
+use Rattle.osc_client.specs.ClientAnswer.{ClientAnswer, Hears, ResponseAnswer, told}
+use Rattle.osc_client.specs.ClientHistory.{History, Then, Event, Entry, Answer, clock}
 use Rattle.osc_laws.specs.ClientLaws.{AllClientAnswers}
 use Rattle.osc_endpoint.specs.ClientRun.{ClientRunStep, Run}
-use Rattle.osc_endpoint.specs.Views.{ClientShows, client_hearing_of}
+use Rattle.osc_client.specs.Views.{ClientShows, client_hearing_of}
 use Rattle.osc_endpoint.specs.declared.client_event.ClientEvent.{ClientEvent}
 use Rattle.osc_endpoint.specs.declared.client_event.ClientEvent.TheVariants as events
 use Rattle.osc_endpoint.specs.declared.client_event.ClientEntry.{ClientEntry}
 use Rattle.osc_endpoint.specs.declared.client_event.ClientEntry.TheVariants as entries
-use Rattle.osc_endpoint.specs.declared.client_outcome.ClientOutcome.{ClientOutcome}
+use Rattle.osc_client.specs.declared.client_outcome.ClientOutcome.{ClientOutcome}
 
 -- after a history of answers, the conditions of a datagram's rows exclude each other: a row's condition holds if and only if that row is
 -- the answer, and the answer delivers or notifies exactly what is to be; each other event has at most one entry (RFC 8613, 8.1 and 8.4)

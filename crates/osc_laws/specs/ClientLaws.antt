@@ -8,8 +8,8 @@ use Rattle.osc_context.specs.Nonce.{nonce_of}
 use Rattle.osc_context.specs.OscoreValue.{IsOscoreValue}
 use Rattle.osc_context.specs.SecurityContext.{SecurityContext}
 use Rattle.osc_protect.specs.Usage.{value_of_request}
-use Rattle.osc_endpoint.specs.ClientAnswer.{ClientAnswer}
-use Rattle.osc_endpoint.specs.ClientHistory.{History, New, Then, Event, Entry, Request, Restart, Sent, context, next}
+use Rattle.osc_client.specs.ClientAnswer.{ClientAnswer}
+use Rattle.osc_client.specs.ClientHistory.{History, New, Then, Event, Entry, Request, Restart, Sent, context, next}
 use Rattle.osc_laws.specs.Laws.{Pairwise}
 
 -- each entry is the client's answer to its event (own rule)

@@ -11,13 +11,14 @@ use Rattle.osc_protect.specs.Protection.{as_notified}
 use Rattle.osc_protect.specs.Sealed.{inside}
 use Rattle.osc_window.specs.Views.{places_of}
 use Rattle.osc_window.specs.declared.window_size.WindowSize.{WindowSize}
-use Rattle.osc_endpoint.specs.declared.start.Start.TheVariants as starts
-use Rattle.osc_endpoint.specs.Life.{Life, Admits, Carries, Challenged, HasOwn, IsNewIn, is_open, is_open_life}
-use Rattle.osc_endpoint.specs.Replies.{challenge_message}
-use Rattle.osc_endpoint.specs.ServerHistory as server
-use Rattle.osc_endpoint.specs.ServerAnswer.{ServerAnswer, challenge_given, own_number}
-use Rattle.osc_endpoint.specs.ClientHistory as client
-use Rattle.osc_endpoint.specs.ClientAnswer.{ClientAnswer, IsAwaited, told}
+use Rattle.osc_life.specs.declared.start.Start.TheVariants as starts
+use Rattle.osc_life.specs.Life.{Life, Admits, Carries, Challenged, HasOwn, IsNewIn, is_open, is_open_life}
+use Rattle.osc_life.specs.Replies.{challenge_message}
+use Rattle.osc_life.specs.ServerHistory as server
+use Rattle.osc_endpoint.specs.ServerAnswer.{ServerAnswer}
+use Rattle.osc_life.specs.LifeAnswer.{challenge_given, own_number}
+use Rattle.osc_client.specs.ClientHistory as client
+use Rattle.osc_client.specs.ClientAnswer.{ClientAnswer, IsAwaited, told}
 use Rattle.osc_laws.specs.ClientLaws.{AllClientAnswers}
 use Rattle.osc_laws.specs.Headline as delivery
 use Rattle.osc_laws.specs.Laws.{AllAnswers}

@@ -10,20 +10,21 @@ use Rattle.osc_endpoint.specs.declared.client_event.ClientEvent.{ClientEvent}
 use Rattle.osc_endpoint.specs.declared.client_event.ClientEvent.TheVariants as asks
 use Rattle.osc_endpoint.specs.declared.client_event.ClientEntry.{ClientEntry}
 use Rattle.osc_endpoint.specs.declared.client_event.ClientEntry.TheVariants as heard
-use Rattle.osc_endpoint.specs.declared.server_event.Seen.{Seen}
-use Rattle.osc_endpoint.specs.declared.server_event.Seen.TheVariants as seen
+use Rattle.osc_life.specs.declared.seen.Seen.{Seen}
+use Rattle.osc_life.specs.declared.seen.Seen.TheVariants as seen
 use Rattle.osc_endpoint.specs.declared.server_event.ServerEvent.{ServerEvent}
 use Rattle.osc_endpoint.specs.declared.server_event.ServerEvent.TheVariants as events
 use Rattle.osc_endpoint.specs.declared.server_event.ServerEntry.{ServerEntry}
 use Rattle.osc_endpoint.specs.declared.server_event.ServerEntry.TheVariants as entries
-use Rattle.osc_endpoint.specs.ClientHistory as client
+use Rattle.osc_client.specs.ClientHistory as client
 use Rattle.osc_endpoint.specs.ClientRun as asking
 use Rattle.osc_laws.specs.Exchange.{Exchange, Request, Response, IsHonest, IsWaitedFor, by_ticket, client_clock, client_of, said, sent, server_clock, server_of, tickets}
-use Rattle.osc_endpoint.specs.Life.{Life, Admits}
-use Rattle.osc_endpoint.specs.ServerAnswer.{asks_own}
-use Rattle.osc_endpoint.specs.ServerHistory as server
+use Rattle.osc_life.specs.Life.{Life, Admits}
+use Rattle.osc_life.specs.LifeAnswer.{asks_own}
+use Rattle.osc_life.specs.ServerHistory as server
 use Rattle.osc_endpoint.specs.ServerRun as serving
-use Rattle.osc_endpoint.specs.Views.{client_hearing_of, seen_delivery}
+use Rattle.osc_client.specs.Views.{client_hearing_of}
+use Rattle.osc_life.specs.Views.{seen_delivery}
 
 -- the tickets at the places of a server's run (own rule)
 abbrev pub Places : Type 0

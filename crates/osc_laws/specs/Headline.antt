@@ -3,11 +3,13 @@
 use Rattle.std.specs.Prelude.{◌≡◌, ◌⊎◌, ◌↔◌, ℕ, List, Option, Some, None, slice_get, take}
 use Rattle.osc_coap.specs.Inner.{InnerParts}
 use Rattle.osc_laws.specs.Laws.{AllAnswers}
-use Rattle.osc_endpoint.specs.ServerAnswer.{Arrival, Delivers, MeetsRow, SaysReply, ServerAnswer, TakeAnswer, arrival}
-use Rattle.osc_endpoint.specs.ServerHistory.{History, Then, Event, Entry, Answer, Deliver, TicketValues}
-use Rattle.osc_endpoint.specs.ServerRun.{Logs, Run, ServerRunStep}
-use Rattle.osc_endpoint.specs.Views.{seen_delivery}
-use Rattle.osc_endpoint.specs.declared.server_event.Seen.{Seen}
+use Rattle.osc_life.specs.LifeAnswer.{Arrival}
+use Rattle.osc_endpoint.specs.ServerAnswer.{Delivers, MeetsRow, SaysReply, ServerAnswer, TakeAnswer, arrival}
+use Rattle.osc_life.specs.ServerHistory.{History, Then, Event, Entry, Answer, Deliver, TicketValues}
+use Rattle.osc_life.specs.Logged.{Logs}
+use Rattle.osc_endpoint.specs.ServerRun.{Run, ServerRunStep}
+use Rattle.osc_life.specs.Views.{seen_delivery}
+use Rattle.osc_life.specs.declared.seen.Seen.{Seen}
 use Rattle.osc_endpoint.specs.declared.server_event.ServerEvent.{ServerEvent}
 use Rattle.osc_endpoint.specs.declared.server_event.ServerEvent.TheVariants as events
 use Rattle.osc_endpoint.specs.declared.server_event.ServerEntry.{ServerEntry}

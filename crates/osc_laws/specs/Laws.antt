@@ -9,10 +9,11 @@ use Rattle.osc_context.specs.OscoreValue.{IsOscoreValue}
 use Rattle.osc_context.specs.SecurityContext.{SecurityContext}
 use Rattle.osc_protect.specs.Protection.{response_nonce}
 use Rattle.osc_protect.specs.Usage.{value_of_response}
-use Rattle.osc_endpoint.specs.Life.{Life}
-use Rattle.osc_endpoint.specs.ServerAnswer.{ServerAnswer, own_number}
+use Rattle.osc_life.specs.Life.{Life}
+use Rattle.osc_endpoint.specs.ServerAnswer.{ServerAnswer}
+use Rattle.osc_life.specs.LifeAnswer.{own_number}
 use Rattle.osc_endpoint.specs.Tickets.{TakesTickets}
-use Rattle.osc_endpoint.specs.ServerHistory.{History, Begin, Then, Event, Entry, TicketValues, Reply, Notify, Challenge, Deliver, Took, Replied, life}
+use Rattle.osc_life.specs.ServerHistory.{History, Begin, Then, Event, Entry, TicketValues, Reply, Notify, Challenge, Deliver, Took, Replied, life}
 
 -- each entry is the server's answer to its event (own rule)
 abbrev pub AllAnswers : History → Type 0

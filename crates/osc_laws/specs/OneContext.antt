@@ -3,9 +3,9 @@
 use Rattle.std.specs.Prelude.{◌≡◌, ℕ, ◌==◌, Bool, false, List, if◌then◌else◌}
 use Rattle.osc_coap.specs.Datagram.{Parts}
 use Rattle.osc_laws.specs.Laws.{AllAnswers}
-use Rattle.osc_endpoint.specs.Life.{Life}
+use Rattle.osc_life.specs.Life.{Life}
 use Rattle.osc_endpoint.specs.ServerAnswer.{IsRequestOf, ServerAnswer}
-use Rattle.osc_endpoint.specs.ServerHistory.{Add, Added, Advance, Advanced, Answer, BadInner, Begin, Challenge, Datagram, Deliver, Entry, History, Notify, Replied, Reply, Restart, Restarted, Then, TicketValues, Took, clock, life}
+use Rattle.osc_life.specs.ServerHistory.{Add, Added, Advance, Advanced, Answer, BadInner, Begin, Challenge, Datagram, Deliver, Entry, History, Notify, Replied, Reply, Restart, Restarted, Then, TicketValues, Took, clock, life}
 
 -- the answer leaves something in the life of this context (own rule)
 abbrev pub concerns : ℕ → Answer → Bool

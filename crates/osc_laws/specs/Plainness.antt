@@ -2,13 +2,14 @@
 -- number of pending requests that there is room for.
 use Rattle.std.specs.Prelude.{◌≡◌, ℕ, List, Bool, false, Some, All}
 use Rattle.osc_coap.specs.Datagram.{Parts}
-use Rattle.osc_endpoint.specs.declared.pending.Wait.TheVariants.{Once}
-use Rattle.osc_endpoint.specs.Life.{Life}
-use Rattle.osc_endpoint.specs.Received.{Received}
-use Rattle.osc_endpoint.specs.ServerHistory as server
-use Rattle.osc_endpoint.specs.ServerAnswer.{Arrival, MeetsRow, ServerAnswer, asks_own}
-use Rattle.osc_endpoint.specs.ClientHistory as client
-use Rattle.osc_endpoint.specs.ClientAnswer.{ResponseAnswer}
+use Rattle.osc_client.specs.declared.pending.Wait.TheVariants.{Once}
+use Rattle.osc_life.specs.Life.{Life}
+use Rattle.osc_observe.specs.Received.{Received}
+use Rattle.osc_life.specs.ServerHistory as server
+use Rattle.osc_life.specs.LifeAnswer.{Arrival, asks_own}
+use Rattle.osc_endpoint.specs.ServerAnswer.{MeetsRow, ServerAnswer}
+use Rattle.osc_client.specs.ClientHistory as client
+use Rattle.osc_client.specs.ClientAnswer.{ResponseAnswer}
 use Rattle.osc_laws.specs.ClientLaws.{AllClientAnswers}
 
 -- no context of the server takes part in Observe (RFC 8613, 4.1.3.5)

@@ -5,8 +5,8 @@ use Rattle.osc_context.specs.SecurityContext.{SecurityContext}
 use Rattle.osc_context.specs.Senders.{HaveSameSender}
 use Rattle.osc_laws.specs.Laws.{AllAnswers, Pairwise, Text, nonce_of_text, texts}
 use Rattle.osc_endpoint.specs.Tickets.{TakesTickets}
-use Rattle.osc_endpoint.specs.Life.{Life}
-use Rattle.osc_endpoint.specs.ServerHistory.{History, Begin, Then, Add, Added, life}
+use Rattle.osc_life.specs.Life.{Life}
+use Rattle.osc_life.specs.ServerHistory.{History, Begin, Then, Add, Added, life}
 use Rattle.osc_laws.specs.Waiting.{AnswersWaiting}
 
 -- a context that is there has the same Sender Key as this one (RFC 8613, 3.3)

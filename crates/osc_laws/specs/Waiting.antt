@@ -2,8 +2,8 @@
 -- history, i the index of a context, c how many lives the context had before a given one, n the number of a request.
 use Rattle.std.specs.Prelude.{◌≡◌, ℕ, ◌+◌, ◌≤◌, ◌==◌, ◌&&◌, Bool, true, false, not, nat_le, Some, if◌then◌else◌}
 use Rattle.osc_laws.specs.Laws.{AllAnswers, AreApart, HaveTwoNonces, Pairwise, answered, texts}
-use Rattle.osc_endpoint.specs.Life.{Life}
-use Rattle.osc_endpoint.specs.ServerHistory.{History, Begin, Then, TicketValues, Datagram, Reply, Deliver, Took, Replied, life}
+use Rattle.osc_life.specs.Life.{Life}
+use Rattle.osc_life.specs.ServerHistory.{History, Begin, Then, TicketValues, Datagram, Reply, Deliver, Took, Replied, life}
 
 -- the ticket is for this request (RFC 8613, 8.3)
 abbrev pub is_to : ℕ → ℕ → ℕ → TicketValues → Bool

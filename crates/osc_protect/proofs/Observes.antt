@@ -1,18 +1,20 @@
 -- Which Observe option of a message counts: the one that is interpreted, which is the first, if its value is valid. entries are the options of
 -- a plain message, tail is what stands behind them outside.
-use Rattle.std.proofs.Common.{◌≡◌, ℕ, ◌==◌, Bool, true, false, List, [], ◌∷◌, ◌++◌, length, refl, sym, ap, subst, ◌∙◌, inl, inr, Option, Some, None, if◌then◌else◌, is_some, ◌&&◌}
+use Rattle.std.proofs.Common.{◌≡◌, ℕ, ◌==◌, Bool, true, false, List, [], ◌∷◌, ◌++◌, length, refl, sym, ap, subst, ◌∙◌, inl, inr, Option, Some, None, if◌then◌else◌, is_some, ◌&&◌, not}
 use Rattle.std.proofs.lemmas.Bool.{eqb-true}
 use Rattle.std.specs.Option.{unwrap_or}
 use Rattle.osc_coap.specs.Class.{class, is_outer, outer_options}
 use Rattle.osc_coap.specs.Interpreted.{interpreted, is_valid_length}
 use Rattle.osc_coap.specs.OptionNumbers.{observe}
 use Rattle.osc_coap.specs.OptionSpelling.{Entry}
-use Rattle.osc_coap.specs.Search.{values_at}
+use Rattle.osc_coap.specs.Search.{has_number, values_at}
+use Rattle.osc_context.specs.declared.features.Features.{Features}
+use Rattle.osc_protect.specs.OptionSets.{is_unsupported}
 use Rattle.osc_protect.specs.Protection.{emptied}
 use Rattle.osc_protect.specs.Sealed.{options_outside}
 use Rattle.osc_protect.specs.Split.{has_observe}
 use Rattle.osc_protect.proofs.Sides.{unsought_outside}
-use Rattle.osc_protect.proofs.Splits.{chosen}
+use Rattle.osc_protect.proofs.Splits.{chosen, neither, supported}
 
 -- Observe isn't of class U
 inner_number : (n : ℕ) → (n == observe) ≡ true → is_outer (class n) ≡ false
@@ -156,3 +158,20 @@ sought_read (entry ∷ entries) = elim (chosen (entry.0 == observe)) [
 pub observes_read : (sought : Bool) (entries : List Entry) → has_observe sought entries ≡ sought && is_some (interpreted observe entries)
 observes_read true entries = sought_read entries
 observes_read false entries = none_sought entries
+
+-- where Observe is left out, a message that can be sealed has none
+none_left_out : (x : Features) (entries : List Entry) → x.observe ≡ false → has_number (is_unsupported x) entries ≡ false → is_some (interpreted observe entries) ≡ false
+none_left_out x [] off h = refl
+none_left_out x (entry ∷ entries) off h =
+    let both = neither (is_unsupported x entry.0) (has_number (is_unsupported x) entries) h in
+    let left = neither _ _ (supported x entry.0 both.0).0 in
+    let first : (not x.observe && (entry.0 == observe)) ≡ false = (neither _ _ left.0).0 in
+    let isnt : (entry.0 == observe) ≡ false = subst (λ (b : Bool). (not b && (entry.0 == observe)) ≡ false) off first in
+    ap is_some (behind entry entries isnt) ∙ none_left_out x entries off both.1
+
+-- in a message that can be sealed Observe counts where it is interpreted
+pub observes_sealed : (x : Features) (entries : List Entry) → has_number (is_unsupported x) entries ≡ false → has_observe x.observe entries ≡ is_some (interpreted observe entries)
+observes_sealed x entries h = observes_read x.observe entries ∙ elim (chosen x.observe) [
+  | inl on ↦ rw on refl
+  | inr off ↦ rw off (sym (none_left_out x entries off h))
+]

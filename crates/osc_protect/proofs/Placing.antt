@@ -14,14 +14,6 @@ mid_last a xs = grind (arith, common_steps)
 pub put_last : (a : ℕ) (xs ys : List ℕ) → a ≤ length xs → put_mid a (length xs - a) xs ys ≡ take a xs ++ ys
 put_last a xs ys h = grind (arith, common_steps)
 
--- the bytes before a part that was written, and the part
-pub kept : (at : ℕ) (xs ys : List ℕ) → at < length xs → (take at (put_mid (at + 1) (length xs - (at + 1)) xs ys) ≡ take at xs) × (drop (at + 1) (put_mid (at + 1) (length xs - (at + 1)) xs ys) ≡ ys)
-kept at xs ys h =
-    let e = put_last (at + 1) xs ys (omega arith) in
-    let front : take at (take (at + 1) xs ++ ys) ≡ take at xs = grind (arith, common_steps) in
-    let long : length (take (at + 1) xs) ≡ at + 1 = omega (arith, length-take (at + 1) xs) in
-    (ap (take at) e ∙ front, ap (drop (at + 1)) e ∙ drop_at (take (at + 1) xs) ys (at + 1) long)
-
 -- the bytes up to one that was written
 set_front : (at : ℕ) (xs : List ℕ) (x : ℕ) → at < length xs → take (at + 1) (slice_set xs at x) ≡ take at xs ++ x ∷ []
 set_front at xs x h = grind (arith, common_steps)
@@ -67,22 +59,20 @@ payload_bytes new a cipher n at long e fits =
     subst AreBytes (ap (drop (at + 1)) (e ∙ sym (append_assoc a (255 ∷ []) cipher)) ∙ drop_at (a ++ 255 ∷ []) cipher (at + 1) front)
     (All-drop (λ b. b < 256) (at + 1) (take n new) (All-take (λ b. b < 256) n new all))
 
--- what stood behind a front that was written, and behind a part that was, stands there still
-pub left_behind : (old out buf : List ℕ) (at len : ℕ) → at < length out → drop at out ≡ drop at old
-    → drop len buf ≡ drop len (mid_of (at + 1) (length out - (at + 1)) out)
-    → drop (at + 9 + len) (put_mid (at + 1) (length out - (at + 1)) out buf) ≡ drop (at + 9 + len) old
-left_behind old out buf at len h front part =
-    let inside : drop (at + 1) (put_mid (at + 1) (length out - (at + 1)) out buf) ≡ buf = (kept at out buf h).1 in
-    let rest : drop len buf ≡ drop len (drop (at + 1) out) = part ∙ ap (drop len) (mid_last (at + 1) out) in
-    split (at + 1) (len + 8) (at + 9 + len) (put_mid (at + 1) (length out - (at + 1)) out buf) (omega arith)
-    ∙ ap (drop (len + 8)) inside
+-- two parts of a buffer, the first of which is a byte longer than what stands in it
+pub parted : (at : ℕ) (front buf : List ℕ) → length front ≡ at + 1 → (take at (front ++ buf) ≡ take at front) × (drop (at + 1) (front ++ buf) ≡ buf)
+parted at front buf long = (grind (arith, common_steps), drop_at front buf (at + 1) long)
+
+-- what stood behind what was written into the second part stands there still
+pub left_behind : (old front buf : List ℕ) (at len : ℕ) → length front ≡ at + 1 → drop len buf ≡ drop len (drop (at + 1) old)
+    → drop (at + 9 + len) (front ++ buf) ≡ drop (at + 9 + len) old
+left_behind old front buf at len long part =
+    split (at + 1) (len + 8) (at + 9 + len) (front ++ buf) (omega arith)
+    ∙ ap (drop (len + 8)) (parted at front buf long).1
     ∙ split len 8 (len + 8) buf (omega arith)
-    ∙ ap (drop 8) rest
-    ∙ sym (split len 8 (len + 8) (drop (at + 1) out) (omega arith))
-    ∙ sym (split (at + 1) (len + 8) (at + 9 + len) out (omega arith))
-    ∙ split at (9 + len) (at + 9 + len) out (omega arith)
-    ∙ ap (drop (9 + len)) front
-    ∙ sym (split at (9 + len) (at + 9 + len) old (omega arith))
+    ∙ ap (drop 8) part
+    ∙ sym (split len 8 (len + 8) (drop (at + 1) old) (omega arith))
+    ∙ sym (split (at + 1) (len + 8) (at + 9 + len) old (omega arith))
   where
     split : (a b n : ℕ) (xs : List ℕ) → n ≡ a + b → drop n xs ≡ drop b (drop a xs)
     split a b n xs e = rw e (sym (drop-drop b a xs))

@@ -1,13 +1,12 @@
 -- How long what is sealed is, by its parts.
 use Rattle.std.proofs.Common.{◌≡◌, ℕ, ◌+◌, ◌-◌, ◌<◌, ◌⊎◌, Bool, List, [], ◌∷◌, ◌++◌, length, refl, ap, ◌∙◌, arith, inl, inr}
-use Rattle.osc_coap.specs.Datagram.{Parts}
+use Rattle.osc_coap.specs.Datagram.{Parts, datagram_length}
 use Rattle.osc_coap.specs.Inner.{inner_length}
 use Rattle.osc_coap.specs.OptionSpelling.{Entry, last_number, marked, option_length, spelling_length}
 use Rattle.osc_coap.specs.OptionNumbers.{oscore}
 use Rattle.osc_context.specs.declared.features.Features.{Features}
-use Rattle.osc_protect.specs.Sealed.{inside, options_outside, sealed_length}
-use Rattle.osc_protect.specs.Split.{options_on, said}
-use Rattle.osc_protect.specs.declared.split.Side.TheVariants.{Inside, Outside}
+use Rattle.osc_protect.specs.Sealed.{inside, options_outside, outside, sealed_length}
+use Rattle.osc_protect.specs.Split.{Inside, Outside, options_on, said}
 use Rattle.osc_protect.proofs.Sides.{inside_length, outside_read}
 
 -- two lists of options, one after the other
@@ -16,31 +15,42 @@ spelled_append d [] ys = omega arith
 spelled_append d (x ∷ xs) ys = let rest = spelled_append x.0 xs ys in omega (arith, rest)
 
 module _ (x : Features) (notifies : Bool) (p : Parts) (value : List ℕ) where
-  -- the sum of the lengths of what is sealed
-  pub sealed_sum : (pay : List ℕ) (os : List Entry) (head outer last inner delta option mark : ℕ)
-      → os ≡ p.options → pay ≡ p.payload → head ≡ 4 + length p.token
-      → outer ≡ spelling_length 0 (options_on (Outside x.observe) os) → last ≡ last_number 0 (options_on (Outside x.observe) os) → inner ≡ spelling_length 0 (options_on (Inside notifies) os)
-      → delta ≡ 9 - last → option ≡ option_length delta (length value) → mark ≡ length (marked pay)
-      → sealed_length x (said notifies) p value ≡ head + outer + option + 1 + (1 + inner + mark) + 8
-  sealed_sum pay os head outer last inner delta option mark eo ep eh eu el ei ed ek em =
+  -- the sum of the lengths of what stands outside
+  pub outside_sum : (os : List Entry) (head outer last delta option : ℕ)
+      → os ≡ p.options → head ≡ 4 + length p.token
+      → outer ≡ spelling_length 0 (options_on (Outside x.observe) os) → last ≡ last_number 0 (options_on (Outside x.observe) os)
+      → delta ≡ 9 - last → option ≡ option_length delta (length value)
+      → datagram_length (outside x p p.code value []) ≡ head + outer + option
+  outside_sum os head outer last delta option eo eh eu el ed ek =
       let all = spelled_append 0 (options_outside x.observe p.options) ((oscore, value) ∷ []) in
-      let long = inside_length notifies p in
       let u : outer ≡ spelling_length 0 (options_outside x.observe p.options) = eu ∙ ap (spelling_length 0) (outside_read x.observe p os eo) in
-      let i : inner ≡ spelling_length 0 (options_on (Inside notifies) p.options) = ei ∙ ap (λ (es : List Entry). spelling_length 0 (options_on (Inside notifies) es)) eo in
       let k : option ≡ option_length (9 - last_number 0 (options_outside x.observe p.options)) (length value) =
       ek ∙ ap (λ (d : ℕ). option_length d (length value)) (ed ∙ ap (λ (n : ℕ). 9 - n) (el ∙ ap (last_number 0) (outside_read x.observe p os eo))) in
-      let m : mark ≡ length (marked p.payload) = em ∙ ap (λ (bytes : List ℕ). length (marked bytes)) ep in
-      sums (length p.token) (spelling_length 0 (options_outside x.observe p.options ++ (oscore, value) ∷ [])) (spelling_length 0 (options_outside x.observe p.options)) (option_length (9 - last_number 0 (options_outside x.observe p.options)) (length value)) (spelling_length 0 (options_on (Inside notifies) p.options)) (length (marked p.payload)) (inner_length (inside (said notifies p))) head outer option inner mark all long eh u k i m
+      sums (length p.token) (spelling_length 0 (options_outside x.observe p.options ++ (oscore, value) ∷ [])) (spelling_length 0 (options_outside x.observe p.options)) (option_length (9 - last_number 0 (options_outside x.observe p.options)) (length value)) head outer option all eh u k
     where
-      sums : (t w a b c e l head outer option inner mark : ℕ) → w ≡ a + (b + 0) → l ≡ 1 + c + e → head ≡ 4 + t → outer ≡ a → option ≡ b → inner ≡ c → mark ≡ e
-          → 4 + t + w + 0 + (1 + (l + 8)) ≡ head + outer + option + 1 + (1 + inner + mark) + 8
-      sums t w a b c e l head outer option inner mark h0 hl h1 h2 h3 h4 h5 = omega arith
+      sums : (t w a b head outer option : ℕ) → w ≡ a + (b + 0) → head ≡ 4 + t → outer ≡ a → option ≡ b → 4 + t + w + 0 ≡ head + outer + option
+      sums t w a b head outer option h0 h1 h2 h3 = omega arith
+
+  -- the sum of the lengths of what is sealed
+  pub sealed_sum : (pay : List ℕ) (os : List Entry) (front inner mark : ℕ)
+      → os ≡ p.options → pay ≡ p.payload → datagram_length (outside x p p.code value []) ≡ front
+      → inner ≡ spelling_length 0 (options_on (Inside notifies) os) → mark ≡ length (marked pay)
+      → sealed_length x (said notifies) p value ≡ front + 1 + (1 + inner + mark) + 8
+  sealed_sum pay os front inner mark eo ep ef ei em =
+      let long = inside_length notifies p in
+      let i : inner ≡ spelling_length 0 (options_on (Inside notifies) p.options) = ei ∙ ap (λ (es : List Entry). spelling_length 0 (options_on (Inside notifies) es)) eo in
+      let m : mark ≡ length (marked p.payload) = em ∙ ap (λ (bytes : List ℕ). length (marked bytes)) ep in
+      sums (datagram_length (outside x p p.code value [])) (spelling_length 0 (options_on (Inside notifies) p.options)) (length (marked p.payload)) (inner_length (inside (said notifies p))) front inner mark ef long i m
+    where
+      sums : (d c e l front inner mark : ℕ) → d ≡ front → l ≡ 1 + c + e → inner ≡ c → mark ≡ e → d + (1 + (l + 8)) ≡ front + 1 + (1 + inner + mark) + 8
+      sums d c e l front inner mark h0 h1 h2 h3 = omega arith
 
   -- where a part is longer than a datagram can be, the whole is
   pub sealed_beyond : (os : List Entry) → os ≡ p.options
       → (65535 < spelling_length 0 (options_on (Outside x.observe) os)) ⊎ (65535 < spelling_length 0 (options_on (Inside notifies) os)) → 65535 < sealed_length x (said notifies) p value
   sealed_beyond os eo beyond =
-      let sum = sealed_sum p.payload os (4 + length p.token) (spelling_length 0 (options_on (Outside x.observe) os)) (last_number 0 (options_on (Outside x.observe) os)) (spelling_length 0 (options_on (Inside notifies) os)) (9 - last_number 0 (options_on (Outside x.observe) os)) (option_length (9 - last_number 0 (options_on (Outside x.observe) os)) (length value)) (length (marked p.payload)) eo refl refl refl refl refl refl refl refl in
+      let front = outside_sum os (4 + length p.token) (spelling_length 0 (options_on (Outside x.observe) os)) (last_number 0 (options_on (Outside x.observe) os)) (9 - last_number 0 (options_on (Outside x.observe) os)) (option_length (9 - last_number 0 (options_on (Outside x.observe) os)) (length value)) eo refl refl refl refl refl in
+      let sum = sealed_sum p.payload os (4 + length p.token + spelling_length 0 (options_on (Outside x.observe) os) + option_length (9 - last_number 0 (options_on (Outside x.observe) os)) (length value)) (spelling_length 0 (options_on (Inside notifies) os)) (length (marked p.payload)) eo refl front refl refl in
       elim beyond [
         | inl h ↦ more (sealed_length x (said notifies) p value) (length p.token) (spelling_length 0 (options_on (Outside x.observe) os)) (option_length (9 - last_number 0 (options_on (Outside x.observe) os)) (length value)) (spelling_length 0 (options_on (Inside notifies) os)) (length (marked p.payload)) sum (inl h)
         | inr h ↦ more (sealed_length x (said notifies) p value) (length p.token) (spelling_length 0 (options_on (Outside x.observe) os)) (option_length (9 - last_number 0 (options_on (Outside x.observe) os)) (length value)) (spelling_length 0 (options_on (Inside notifies) os)) (length (marked p.payload)) sum (inr h)

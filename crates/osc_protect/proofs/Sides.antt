@@ -8,9 +8,7 @@ use Rattle.osc_coap.specs.Search.{has_number}
 use Rattle.osc_protect.specs.OptionSets.{counts_as_observe, is_outside, sought_behind}
 use Rattle.osc_protect.specs.Protection.{emptied}
 use Rattle.osc_protect.specs.Sealed.{inside, options_outside}
-use Rattle.osc_protect.specs.Split.{entry_on, options_on, said}
-use Rattle.osc_protect.specs.declared.split.Side.{Side}
-use Rattle.osc_protect.specs.declared.split.Side.TheVariants.{Outside, Inside}
+use Rattle.osc_protect.specs.Split.{Inside, Outside, Side, entry_on, options_on, said}
 
 -- an option without its value, or as it is
 abbrev pub without_value : Bool → Entry → Entry

@@ -1,19 +1,19 @@
 -- The options of one side, and that a writer takes them.
-use Rattle.std.proofs.Common.{◌≡◌, ◌≢◌, ℕ, ◌+◌, ◌≤◌, ◌==◌, ◌&&◌, ◌||◌, ◌⊎◌, Bool, true, false, List, [], ◌∷◌, ◌++◌, refl, sym, ap, subst, arith, inl, inr, append_assoc, Result, Err, IsOk}
+use Rattle.std.proofs.Common.{◌≡◌, ◌≢◌, ℕ, ◌+◌, ◌≤◌, ◌==◌, ◌&&◌, ◌||◌, ◌⊎◌, Bool, true, false, List, [], ◌∷◌, ◌++◌, Option, refl, sym, ap, subst, ◌∙◌, arith, inl, inr, append_assoc, Result, Err, IfNone, IfSome, None, Some, IsOk}
 use Rattle.std.proofs.lemmas.Bool.{eqb-true}
 use Rattle.osc_coap.specs.Class.{class, is_outer}
 use Rattle.osc_coap.specs.Datagram.{Parts, datagram_length}
-use Rattle.osc_coap.specs.Inner.{inner_length}
+use Rattle.osc_coap.specs.Inner.{InnerParts, inner_length}
 use Rattle.osc_coap.specs.OptionSpelling.{Entry, Ascends, last_number, spelling_length}
-use Rattle.osc_coap.specs.Writing.{Draft, Datagram, Plaintext, TakesOption, TakesPayload, bare, bare_inner, options_of, length_of, with_option, with_options}
+use Rattle.osc_coap.specs.Writing.{Draft, Datagram, Plaintext, TakesOption, TakesPayload, bare, bare_inner, options_of, length_of, with_option, with_options, with_payload}
+use Rattle.osc_coap.specs.Writer.{Holds}
+use Rattle.osc_coap.specs.declared.writer.Writer.{Writer}
 use Rattle.osc_coap.specs.Search.{has_number}
 use Rattle.osc_coap.specs.OptionNumbers.{observe, oscore}
 use Rattle.osc_context.specs.declared.features.Features.{Features}
 use Rattle.osc_protect.specs.OptionSets.{counts_as_observe, is_left_out, is_outside, is_proxy, is_unsupported, sought_behind}
 use Rattle.osc_protect.specs.Sealed.{inside, options_outside, outside}
-use Rattle.osc_protect.specs.Split.{TakesAll, entry_on, options_on, said, side_behind, stands_on}
-use Rattle.osc_protect.specs.declared.split.Side.{Side}
-use Rattle.osc_protect.specs.declared.split.Side.TheVariants.{Outside, Inside}
+use Rattle.osc_protect.specs.Split.{Inside, Outside, Side, TakesAll, entry_on, option_with, options_on, said, side_behind, stands_on, value_on}
 use Rattle.osc_protect.proofs.SealedLengths.{spelled_append}
 use Rattle.osc_protect.proofs.Sides.{inside_length, inside_read, number_on, outside_options, outside_read}
 
@@ -105,8 +105,20 @@ part_fits d done entry rest = sums _ _ _ _ _ (spelled_append d done (entry ∷ [
 -- ---- what a writer takes
 
 -- the options of a side with one of them in front
-pub some_more : (side : Side) (entry : Entry) (entries : List Entry) → stands_on side entry ≡ true → options_on side (entry ∷ entries) ≡ entry_on side entry ∷ options_on (side_behind side entry) entries
-some_more side entry entries h = rw h refl
+pub step : (side : Side) (entry : Entry) (entries : List Entry) → options_on side (entry ∷ entries) ≡ option_with entry.0 (value_on side entry) ++ options_on (side_behind side entry) entries
+step side entry entries = elim (chosen (stands_on side entry)) [
+  | inl is ↦ rw is (ap (λ (n : ℕ). (n, (entry_on side entry).1) ∷ options_on (side_behind side entry) entries) (number_on side entry))
+  | inr isnt ↦ rw isnt refl
+]
+
+-- what is counted of the options of a side: of the next one, if it stands there, and of those behind it
+pub counted : {A : Type 0} (f : List Entry → A) (side behind : Side) (entry : Entry) (placed : Option (List ℕ)) (before rest : List Entry) → placed ≡ value_on side entry → behind ≡ side_behind side entry → before ≡ entry ∷ rest
+    → f (option_with entry.0 placed ++ options_on behind rest) ≡ f (options_on side before)
+counted f side behind entry placed before rest is next e =
+    ap (λ (p : Option (List ℕ)). f (option_with entry.0 p ++ options_on behind rest)) is
+    ∙ ap (λ (s : Side). f (option_with entry.0 (value_on side entry) ++ options_on s rest)) next
+    ∙ sym (ap f (step side entry rest))
+    ∙ ap (λ (es : List Entry). f (options_on side es)) (sym e)
 
 -- the last number of a draft with options more
 last_with : (draft : Draft) (done : List Entry) → last_number 0 (options_of (with_options draft done)) ≡ last_number (last_number 0 (options_of draft)) done
@@ -152,9 +164,30 @@ takes_next (Plaintext p) done room all t number value rest e =
     (t.filled, t.unfinished, omega (arith, after, last), (omega (arith, fits, same, room_in), omega (arith, fits, same, room_all)))
 
 -- further options behind some
-pub with_options-push : (draft : Draft) (done : List Entry) (number : ℕ) (value : List ℕ) → with_option (with_options draft done) number value ≡ with_options draft (done ++ (number, value) ∷ [])
-with_options-push (Datagram p) done number value = ap (λ (es : List Entry). Datagram (record p { options = es })) (append_assoc p.options done ((number, value) ∷ []))
-with_options-push (Plaintext p) done number value = ap (λ (es : List Entry). Plaintext (record p { options = es })) (append_assoc p.options done ((number, value) ∷ []))
+pub with_options-append : (draft : Draft) (done more : List Entry) → with_options (with_options draft done) more ≡ with_options draft (done ++ more)
+with_options-append (Datagram p) done more = ap (λ (es : List Entry). Datagram (record p { options = es })) (append_assoc p.options done more)
+with_options-append (Plaintext p) done more = ap (λ (es : List Entry). Plaintext (record p { options = es })) (append_assoc p.options done more)
+
+-- the options that are written, the next one among them if it stands there, and those that are left
+pub grown : (all done : List Entry) (side behind : Side) (entry : Entry) (placed : Option (List ℕ)) (before rest : List Entry) → all ≡ done ++ options_on side before → placed ≡ value_on side entry → behind ≡ side_behind side entry → before ≡ entry ∷ rest
+    → all ≡ (done ++ option_with entry.0 placed) ++ options_on behind rest
+grown all done side behind entry placed before rest e is next steps =
+    e ∙ ap (λ (es : List Entry). done ++ es) (sym (counted (λ (es : List Entry). es) side behind entry placed before rest is next steps)) ∙ sym (append_assoc done _ _)
+
+-- the next option is taken, if it stands there
+pub takes_on : (draft : Draft) (room : ℕ) (all done : List Entry) (side : Side) (entry : Entry) (placed : Option (List ℕ)) (before rest : List Entry) → TakesAll room draft all → all ≡ done ++ options_on side before → placed ≡ value_on side entry → before ≡ entry ∷ rest
+    → IfSome placed (TakesOption room (with_options draft done) entry.0)
+takes_on draft room all done side entry placed before rest t e is steps =
+    subst (λ (p : Option (List ℕ)). IfSome p (TakesOption room (with_options draft done) entry.0)) (sym is) (elim (chosen (stands_on side entry)) [
+      | inl stands ↦ rw stands (takes_next draft done room all t entry.0 (entry_on side entry).1 (options_on (side_behind side entry) rest)
+          (e ∙ ap (λ (es : List Entry). done ++ options_on side es) steps ∙ ap (λ (es : List Entry). done ++ es) (step side entry rest) ∙ rw stands refl))
+      | inr isnt ↦ rw isnt tt
+    ])
+
+-- what holds anyway holds where there is nothing
+pub at_none : {T : Type 0} {P : Type 0} (r : Option T) → P → IfNone r P
+at_none None p = p
+at_none (Some x) p = tt
 
 -- what is Ok is no error
 pub not_err : {T E : Type 0} (r : Result T E) (e : E) → r ≡ Err e → IsOk r → ⊥
@@ -174,12 +207,12 @@ side_ascends side d (entry ∷ entries) up = elim (chosen (stands_on side entry)
 ]
 
 -- the options outside have their room behind a head
-pub outside_takes : (x : Features) (p : Parts) (code : ℕ) (value : List ℕ) (os : List Entry) (room : ℕ) → os ≡ p.options → code ≢ 0 → Ascends 0 p.options
+pub outside_takes : (x : Features) (p : Parts) (code : ℕ) (value : List ℕ) (os : List Entry) (sought : Bool) (room : ℕ) → os ≡ p.options → sought ≡ x.observe → code ≢ 0 → Ascends 0 p.options
     → datagram_length (outside x p code value []) ≤ room → datagram_length (outside x p code value []) ≤ 65535
-    → TakesAll room (Datagram (bare p.kind code p.message_id p.token)) (options_on (Outside x.observe) os)
-outside_takes x p code value os room e some up in_room in_all =
+    → TakesAll room (Datagram (bare p.kind code p.message_id p.token)) (options_on (Outside sought) os)
+outside_takes x p code value os sought room e is some up in_room in_all =
     let all = spelled_append 0 (options_outside x.observe p.options) ((oscore, value) ∷ []) in
-    let same = outside_read x.observe p os e in
+    let same = ap (λ (b : Bool). options_on (Outside b) os) is ∙ outside_read x.observe p os e in
     subst (λ (es : List Entry). TakesAll room (Datagram (bare p.kind code p.message_id p.token)) es) (sym same) (record {
       filled = some;
       unfinished = refl;
@@ -188,21 +221,28 @@ outside_takes x p code value os room e some up in_room in_all =
     })
 
 -- the OSCORE option has its room behind them
-pub oscore_takes : (x : Features) (p : Parts) (code : ℕ) (value : List ℕ) (os : List Entry) (room : ℕ) → os ≡ p.options → code ≢ 0 → has_number (is_unsupported x) p.options ≡ false
+pub oscore_takes : (x : Features) (p : Parts) (code : ℕ) (value : List ℕ) (os : List Entry) (sought : Bool) (room : ℕ) → os ≡ p.options → sought ≡ x.observe → code ≢ 0 → has_number (is_unsupported x) p.options ≡ false
     → datagram_length (outside x p code value []) ≤ room → datagram_length (outside x p code value []) ≤ 65535
-    → TakesOption room (with_options (Datagram (bare p.kind code p.message_id p.token)) (options_on (Outside x.observe) os)) oscore value
-oscore_takes x p code value os room e some none in_room in_all =
-    let same = outside_read x.observe p os e in
+    → TakesOption room (with_options (Datagram (bare p.kind code p.message_id p.token)) (options_on (Outside sought) os)) oscore value
+oscore_takes x p code value os sought room e is some none in_room in_all =
+    let same = ap (λ (b : Bool). options_on (Outside b) os) is ∙ outside_read x.observe p os e in
     subst (λ (es : List Entry). TakesOption room (with_options (Datagram (bare p.kind code p.message_id p.token)) es) 9 value) (sym same)
     (some, refl, all_below x x.observe 0 p.options (omega arith) none, (in_room, in_all))
 
+-- what is written then stands outside
+pub outside_held : (x : Features) (p : Parts) (code : ℕ) (value : List ℕ) (os : List Entry) (sought : Bool) (w : Writer) (old : List ℕ) → os ≡ p.options → sought ≡ x.observe
+    → Holds w (with_option (with_options (Datagram (bare p.kind code p.message_id p.token)) (options_on (Outside sought) os)) oscore value) old → Holds w (Datagram (outside x p code value [])) old
+outside_held x p code value os sought w old e is held =
+    subst (λ (es : List Entry). Holds w (with_option (with_options (Datagram (bare p.kind code p.message_id p.token)) es) 9 value) old) (ap (λ (b : Bool). options_on (Outside b) os) is ∙ outside_read x.observe p os e) held
+
 -- the options inside have their room behind the code
-pub inside_takes : (notifies : Bool) (p : Parts) (os : List Entry) (room : ℕ) → os ≡ p.options → Ascends 0 p.options
+pub inside_takes : (notifies : Bool) (p : Parts) (os : List Entry) (sought : Bool) (room : ℕ) → os ≡ p.options → sought ≡ notifies → Ascends 0 p.options
     → inner_length (inside (said notifies p)) ≤ room → inner_length (inside (said notifies p)) ≤ 65535
-    → TakesAll room (Plaintext (bare_inner p.code)) (options_on (Inside notifies) os)
-inside_takes notifies p os room e up in_room in_all =
+    → TakesAll room (Plaintext (bare_inner p.code)) (options_on (Inside sought) os)
+inside_takes notifies p os sought room e is up in_room in_all =
     let long = inside_length notifies p in
-    subst (λ (es : List Entry). TakesAll room (Plaintext (bare_inner p.code)) (options_on (Inside notifies) es)) (sym e) (record {
+    let same = ap (λ (b : Bool). options_on (Inside b) os) is ∙ ap (options_on (Inside notifies)) e in
+    subst (λ (es : List Entry). TakesAll room (Plaintext (bare_inner p.code)) es) (sym same) (record {
       filled = λ x. x;
       unfinished = refl;
       ascends = side_ascends (Inside notifies) 0 p.options up;
@@ -210,9 +250,17 @@ inside_takes notifies p os room e up in_room in_all =
     })
 
 -- the payload inside has its room behind them
-pub payload_takes : (notifies : Bool) (p : Parts) (os : List Entry) (pay : List ℕ) (room : ℕ) → os ≡ p.options → pay ≡ p.payload
+pub payload_takes : (notifies : Bool) (p : Parts) (os : List Entry) (pay : List ℕ) (sought : Bool) (room : ℕ) → os ≡ p.options → pay ≡ p.payload → sought ≡ notifies
     → inner_length (inside (said notifies p)) ≤ room → inner_length (inside (said notifies p)) ≤ 65535
-    → TakesPayload room (with_options (Plaintext (bare_inner p.code)) (options_on (Inside notifies) os)) pay
-payload_takes notifies p os pay room e k in_room in_all =
+    → TakesPayload room (with_options (Plaintext (bare_inner p.code)) (options_on (Inside sought) os)) pay
+payload_takes notifies p os pay sought room e k is in_room in_all =
     let same = ap inner_length (inside_read notifies p os pay e k) in
+    subst (λ (b : Bool). TakesPayload room (with_options (Plaintext (bare_inner p.code)) (options_on (Inside b) os)) pay) (sym is)
     (λ x. x, refl, (omega (arith, same, in_room), omega (arith, same, in_all)))
+
+-- what is written then stands inside
+pub inside_held : (notifies : Bool) (p : Parts) (os : List Entry) (pay : List ℕ) (sought : Bool) (w : Writer) (old : List ℕ) → os ≡ p.options → pay ≡ p.payload → sought ≡ notifies
+    → Holds w (with_payload (with_options (Plaintext (bare_inner p.code)) (options_on (Inside sought) os)) pay) old → Holds w (Plaintext (inside (said notifies p))) old
+inside_held notifies p os pay sought w old e k is held =
+    subst (λ (m : InnerParts). Holds w (Plaintext m) old) (inside_read notifies p os pay e k)
+    (subst (λ (b : Bool). Holds w (with_payload (with_options (Plaintext (bare_inner p.code)) (options_on (Inside b) os)) pay) old) is held)

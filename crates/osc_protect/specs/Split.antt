@@ -1,18 +1,22 @@
 -- For the proofs: the two sides of a protection (RFC 8613, 4.1), and when a writer takes options. notifies is whether the message is a
 -- notification.
-use Rattle.std.specs.Prelude.{◌≡◌, ◌||◌, ℕ, Bool, false, List, [], ◌∷◌, if◌then◌else◌}
+use Rattle.std.specs.Prelude.{◌≡◌, ◌||◌, ℕ, Bool, false, List, [], ◌∷◌, Option, Some, None, if◌then◌else◌}
 use Rattle.osc_coap.specs.Class.{class, is_inner}
 use Rattle.osc_coap.specs.Datagram.{Parts}
 use Rattle.osc_coap.specs.OptionSpelling.{Entry, Ascends, last_number}
 use Rattle.osc_coap.specs.Writing.{Draft, HasRoom, IsEmptyMessage, length_of, options_of, payload_of, with_options}
 use Rattle.osc_protect.specs.OptionSets.{counts_as_observe, is_outside, sought_behind}
 use Rattle.osc_protect.specs.Protection.{as_it_is, as_notified}
-use Rattle.osc_protect.specs.declared.split.Side.{Side}
-use Rattle.osc_protect.specs.declared.split.Side.TheVariants.{Outside, Inside}
 
 -- what a plain message says inside (RFC 8613, 4.1.3.5.2 and 5.3)
 abbrev pub said : Bool → Parts → Parts
 said notifies = if notifies then as_notified else as_it_is
+
+-- a side of the protection, up to a place among the options. sought is whether Observe is sought on it: outside if the features have it,
+-- inside if the message is a notification (RFC 8613, 4.1.3.5)
+pub data Side : Type 0 where
+  Outside : Bool → Side
+  Inside : Bool → Side
 
 -- the option stands on this side (RFC 8613, 4.1)
 abbrev pub stands_on : Side → Entry → Bool
@@ -23,6 +27,15 @@ stands_on (Inside sought) entry = is_inner (class entry.0)
 abbrev pub entry_on : Side → Entry → Entry
 entry_on (Outside sought) entry = entry
 entry_on (Inside sought) entry = if counts_as_observe sought entry then (entry.0, []) else entry
+
+-- the value that the option has on this side, if it stands there (RFC 8613, 4.1)
+abbrev pub value_on : Side → Entry → Option (List ℕ)
+value_on side entry = if stands_on side entry then Some (entry_on side entry).1 else None
+
+-- an option with this number and value, or none (RFC 7252, 3.1)
+abbrev pub option_with : ℕ → Option (List ℕ) → List Entry
+option_with number None = []
+option_with number (Some value) = (number, value) ∷ []
 
 -- the side behind this option (RFC 7252, 5.4.5)
 abbrev pub side_behind : Side → Entry → Side

@@ -66,3 +66,10 @@ pub use stages::{
     DecryptedRequest, DecryptedResponse, ReadRequest, ReadResponse, SealedRequest, SealedResponse,
 };
 pub use unprotect_error::UnprotectError;
+
+/// The base of the crates that seal notifications: a response that was checked, so that it isn't checked a second time. If you seal messages,
+/// you need none of it.
+#[doc(hidden)]
+pub mod siblings {
+    pub use crate::checked::Checked;
+}

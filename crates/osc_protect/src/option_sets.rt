@@ -1,7 +1,7 @@
 //! Which options a protected message doesn't have at all, doesn't have inside, or has outside (RFC 8613, 4.1).
 
-ghost use Rattle.std.specs.Prelude.{◌≡◌, []};
-ghost use Rattle.osc_protect.specs.OptionSets.{counts_as_observe, is_barred, is_left_out, is_proxy, is_unsupported, sought_behind};
+ghost use Rattle.std.specs.Prelude.{◌≡◌, true};
+ghost use Rattle.osc_protect.specs.OptionSets.{counts_as_observe, is_barred, is_left_out, is_proxy, is_unsupported};
 
 use osc_coap::option_numbers::{BLOCK1, BLOCK2, OBSERVE, OSCORE, PROXY_SCHEME, PROXY_URI};
 use osc_coap::{Class, class_of};
@@ -41,17 +41,9 @@ pub(crate) fn is_barred(features: Features, number: u16) -> bool
     is_left_out(features, number) || matches!(class_of(number), Class::U)
 }
 
-/// Returns whether an option counts as Observe, where one is sought. One with a longer value is as if unknown (RFC 7252, 5.4.3).
-pub(crate) fn counts_as_observe(sought: bool, number: u16, value: &[u8]) -> bool
-    ensures { result ≡ counts_as_observe sought (number, value.now) }
+/// Returns whether an option counts as Observe, if one is sought. One with a longer value is as if unknown (RFC 7252, 5.4.3).
+pub(crate) fn is_valid_observe(number: u16, value: &[u8]) -> bool
+    ensures { result ≡ counts_as_observe true (number, value.now) }
 {
-    sought && number == OBSERVE && value.len() <= MOST_OBSERVE
-}
-
-/// Returns whether Observe is sought behind an option of this number: of several Observe options the first one alone may count (RFC 7252,
-/// 5.4.5).
-pub(crate) fn sought_behind(sought: bool, number: u16) -> bool
-    ensures { result ≡ sought_behind sought (number, []) }
-{
-    sought && number != OBSERVE
+    number == OBSERVE && value.len() <= MOST_OBSERVE
 }

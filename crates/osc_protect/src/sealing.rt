@@ -16,7 +16,7 @@ ghost use Rattle.osc_coap.specs.Search.{has_number};
 ghost use Rattle.osc_protect.specs.OptionSets.{is_unsupported};
 ghost use Rattle.osc_protect.specs.Sealed.{HoldsSealed, IsSealed, SealsRequest, inside, outside, sealed_length};
 ghost use Rattle.osc_protect.specs.SealRefusals.{FitsToSeal, RefusesSize, RefusesToSeal};
-ghost use Rattle.osc_protect.specs.Checks.{Checks};
+ghost use Rattle.osc_protect.specs.Checks.{Checks, ChecksResponse};
 ghost use Rattle.osc_protect.specs.Halves.{Makes};
 ghost use Rattle.osc_protect.specs.Split.{said};
 ghost use Rattle.osc_protect.specs.Usage.{outer_code_of, value_of_response};
@@ -24,13 +24,13 @@ ghost use Rattle.osc_protect.specs.Views.{cipher_of, sealed_requests, sealed_res
 ghost use Rattle.osc_protect.specs.declared.protect_error.ProtectError.{ProtectError};
 
 use crate::aead::Aead;
-use crate::checked::{Lists, check};
+use crate::checked::{Checked, check};
 use crate::ends::Sender;
 use crate::family::Family;
 use crate::lengths::check_length;
 use crate::protect_error::ProtectError;
 use crate::request_ref::RequestRef;
-use crate::split::{Side, write_side};
+use crate::split::write_options;
 use crate::usage::{Usage, outer_code};
 use arrayvec::ArrayVec;
 use osc_ccm::protection_length;
@@ -41,52 +41,41 @@ use osc_context::{Context, Features, OscoreOption, Piv, one_option_value};
 /// The byte in front of a payload.
 const MARKER: u8 = 0xff;
 
-/// Writes what stands outside the protection, and returns its length.
-fn write_outside(
-    features: Features,
-    plain: &Message<'_>,
+/// Writes what stands outside the protection, and the plaintext, each into its buffer. Returns how long each is.
+fn write_parts(
+    family: Family,
     code: u8,
     value: &[u8],
-    out: &mut [u8],
-) -> usize
+    plain: &Message<'_>,
+    front: &mut [u8],
+    buf: &mut [u8],
+) -> (usize, usize)
     requires code { code ≢ 0 }
-    requires supported { has_number (is_unsupported features) (parts_of plain.now).options ≡ false }
+    requires supported { has_number (is_unsupported family.features) (parts_of plain.now).options ≡ false }
     requires value { length value.now ≤ 255 }
-    requires room { datagram_length (outside features (parts_of plain.now) code value.now []) ≤ length out.old }
-    requires fits { datagram_length (outside features (parts_of plain.now) code value.now []) ≤ 65535 }
-    ensures written { IsDatagram (outside features (parts_of plain.now) code value.now []) (take result out.new) }
-    ensures behind { drop result out.new ≡ drop result out.old }
-    ensures length { result ≡ datagram_length (outside features (parts_of plain.now) code value.now []) }
-    ensures same_length { length out.new ≡ length out.old }
+    requires outer_room { datagram_length (outside family.features (parts_of plain.now) code value.now []) ≤ length front.old }
+    requires outer_fits { datagram_length (outside family.features (parts_of plain.now) code value.now []) ≤ 65535 }
+    requires inner_room { inner_length (inside (said family.notifies (parts_of plain.now))) ≤ length buf.old }
+    requires inner_fits { inner_length (inside (said family.notifies (parts_of plain.now))) ≤ 65535 }
+    ensures outside { IsDatagram (outside family.features (parts_of plain.now) code value.now [])
+        (take result.0 front.new) }
+    ensures outer_length { result.0 ≡ datagram_length (outside family.features (parts_of plain.now) code value.now []) }
+    ensures inside { IsInner (inside (said family.notifies (parts_of plain.now))) (take result.1 buf.new) }
+    ensures inner_length { result.1 ≡ inner_length (inside (said family.notifies (parts_of plain.now))) }
+    ensures behind { drop result.1 buf.new ≡ drop result.1 buf.old }
+    ensures same_front { length front.new ≡ length front.old }
+    ensures same_buf { length buf.new ≡ length buf.old }
 {
     // For the proof alone.
     options_ascend();
-    let mut writer = Writer::begin(out, plain.kind, code, plain.message_id, &plain.token);
-    let side = Side::Outside(features.observe);
-    write_side(&mut writer, plain.options(), side);
-    let Ok(()) = writer.option(OSCORE, value) else {
+    let mut outer = Writer::begin(front, plain.kind, code, plain.message_id, &plain.token);
+    let mut inner = Writer::begin_inner(buf, plain.code);
+    write_options(&mut outer, &mut inner, plain.options(), family.sought());
+    outer.add_option(OSCORE, value);
+    let Ok(()) = inner.payload(plain.payload()) else {
         unreachable!()
     };
-    writer.finish()
-}
-
-/// Writes the plaintext, of a notification or of another message, and returns its length.
-fn write_inside(notifies: bool, plain: &Message<'_>, buf: &mut [u8]) -> usize
-    requires room { inner_length (inside (said notifies (parts_of plain.now))) ≤ length buf.old }
-    requires fits { inner_length (inside (said notifies (parts_of plain.now))) ≤ 65535 }
-    ensures written { IsInner (inside (said notifies (parts_of plain.now))) (take result buf.new) }
-    ensures behind { drop result buf.new ≡ drop result buf.old }
-    ensures length { result ≡ inner_length (inside (said notifies (parts_of plain.now))) }
-    ensures same_length { length buf.new ≡ length buf.old }
-{
-    // For the proof alone.
-    options_ascend();
-    let mut writer = Writer::begin_inner(buf, plain.code);
-    write_side(&mut writer, plain.options(), Side::Inside(notifies));
-    let Ok(()) = writer.payload(plain.payload()) else {
-        unreachable!()
-    };
-    writer.finish()
+    (outer.finish(), inner.finish())
 }
 
 /// Seals a plaintext in place. It lies after a message and the place of a marker, and becomes the message's payload.
@@ -144,9 +133,10 @@ fn write_response_value(own: Option<Piv>, value: &mut ArrayVec<u8, 255>)
     write_value(option, value);
 }
 
-/// Seals a message that passed the checks: there is room for it.
-fn seal_checked(
+/// Seals a message that passed the checks: there is room for it, with the marker at this place.
+fn seal_parts(
     family: Family,
+    marker: usize,
     code: u8,
     value: &[u8],
     aead: &Aead<'_>,
@@ -156,14 +146,15 @@ fn seal_checked(
     requires supported { has_number (is_unsupported family.features) (parts_of plain.now).options ≡ false }
     requires code { code ≡ outer_code_of family.usage family.features (parts_of plain.now).options }
     requires short { length value.now ≤ 255 }
+    requires marker { marker ≡ datagram_length (outside family.features (parts_of plain.now) code value.now []) }
     requires fits { sealed_length family.features (said family.notifies) (parts_of plain.now) value.now ≤ 65535 }
     requires room { sealed_length family.features (said family.notifies) (parts_of plain.now) value.now ≤ length out.old }
     ensures sealed { HoldsSealed family.features (said family.notifies) (parts_of plain.now) (outer_code_of family.usage family.features (parts_of plain.now).options) value.now (cipher_of aead.now) (take result out.new) }
     ensures length { result ≡ sealed_length family.features (said family.notifies) (parts_of plain.now) value.now }
     ensures behind { drop result out.new ≡ drop result out.old }
 {
-    let at = write_outside(family.features, plain, code, value, out);
-    let len = write_inside(family.notifies, plain, &mut out[at + 1..]);
+    let (front, buf) = out.split_at_mut(marker + 1);
+    let (at, len) = write_parts(family, code, value, plain, front, buf);
     seal_behind(aead, out, at, len)
 }
 
@@ -171,13 +162,13 @@ fn seal_checked(
 #[inline(always)]
 fn seal_in_room(
     family: Family,
-    lists: Option<Lists>,
+    checked: Checked,
     value: &[u8],
     aead: &Aead<'_>,
     plain: &Message<'_>,
     out: &mut [u8],
 ) -> Result<usize, ProtectError>
-    requires checked { Checks family (parts_of plain.now) lists }
+    requires checked { Checks family (parts_of plain.now) checked }
     requires short { length value.now ≤ 255 }
     ensures sealed { IfOk result (λ n. HoldsSealed family.features (said family.notifies) (parts_of plain.now) (outer_code_of family.usage family.features (parts_of plain.now).options) value.now (cipher_of aead.now) (take n out.new)) }
     ensures length { IfOk result (λ n. n ≡ sealed_length family.features (said family.notifies) (parts_of plain.now) value.now) }
@@ -188,9 +179,10 @@ fn seal_in_room(
     ensures refused { IfErr result (λ e. RefusesSize (sealed_length family.features (said family.notifies) (parts_of plain.now) value.now) (length out.old) e) }
     ensures unchanged { OnErr result (out.new ≡ out.old) }
 {
-    let lists = check_length(family, lists, plain, value, out.len())?;
-    let code = outer_code(family.usage, lists.observes);
-    Ok(seal_checked(family, code, value, aead, plain, out))
+    let layout = check_length(family, checked, plain, value, out.len())?;
+    let code = outer_code(family.usage, layout.observes);
+    let len = seal_parts(family, layout.marker, code, value, aead, plain, out);
+    Ok(len)
 }
 
 /// Seals a request with the sender's next Sender Sequence Number, and returns how many bytes it takes at the front of `out`. The bytes
@@ -306,11 +298,11 @@ fn seal_request_forward(
         features: context.features(),
         notifies: false,
     };
-    let lists = check(family, plain)?;
+    let checked = check(family, plain)?;
     let mut value = ArrayVec::new();
     write_request_value(context, number, &mut value);
     let aead = Aead::of_request(sender.end(), context.common_iv(), number);
-    seal_in_room(family, lists, value.as_slice(), &aead, plain, out)
+    seal_in_room(family, checked, value.as_slice(), &aead, plain, out)
 }
 
 /// Checks a response, then its length, then seals it.
@@ -329,22 +321,39 @@ fn seal_response_forward(
         (λ e. RefusesToSeal (sealed_responses sender.entry.context.now request.now) (option_map number_of own) (parts_of plain.now) (length out.old) e) }
     ensures unchanged { OnErr result (out.new ≡ out.old) }
 {
+    let family = Family::of_response(sender.context, request);
+    let checked = check(family, plain)?;
+    seal_checked_response(sender, request, own, checked, plain, out)
+}
+
+/// Seals a response that was checked, if it isn't too long and there is room for it.
+pub(crate) fn seal_checked_response(
+    sender: Sender<'_>,
+    request: &RequestRef,
+    own: Option<Piv>,
+    checked: Checked,
+    plain: &Message<'_>,
+    out: &mut [u8],
+) -> Result<usize, ProtectError>
+    requires { ChecksResponse sender.context.now request.now (parts_of plain.now) checked }
+    ensures sealed { IfOk result (λ n. IsSealed (sealed_responses sender.entry.context.now request.now) (option_map number_of own) (parts_of plain.now) (take n out.new)) }
+    ensures made { IfOk result (λ n. Makes (sealed_responses sender.entry.context.now request.now) (option_map number_of own) (parts_of plain.now) (length out.old) n) }
+    ensures within { IfOk result (λ n. n ≤ length out.new) }
+    ensures behind { IfOk result (λ n. drop n out.new ≡ drop n out.old) }
+    ensures refused { IfErr result
+        (λ e. RefusesToSeal (sealed_responses sender.entry.context.now request.now) (option_map number_of own) (parts_of plain.now) (length out.old) e) }
+    ensures unchanged { OnErr result (out.new ≡ out.old) }
+{
+    let family = Family::of_response(sender.context, request);
     let context = sender.context;
-    let family = Family {
-        usage: Usage::Response,
-        features: request.features(context),
-        notifies: request.registers,
-    };
-    let lists = check(family, plain)?;
-    let client = context.recipient();
     let mut value = ArrayVec::new();
     write_response_value(own, &mut value);
     let aead = Aead::of_response(
         sender.end(),
         context.common_iv(),
-        client,
+        context.recipient(),
         request.number,
         own,
     );
-    seal_in_room(family, lists, value.as_slice(), &aead, plain, out)
+    seal_in_room(family, checked, value.as_slice(), &aead, plain, out)
 }

@@ -1,65 +1,103 @@
 //! The options of a message, split by where its protection puts them (RFC 8613, 4.1).
 
-ghost use Rattle.std.specs.Prelude.{◌≡◌, ℕ, List, length, IfSome, is_some};
+ghost use Rattle.std.specs.Prelude.{◌≡◌, ℕ, List, length, IfSome, true, option_copied};
 ghost use Rattle.osc_coap.specs.Views.{options_left};
 ghost use Rattle.osc_coap.specs.Writer.{Holds, buffer_of};
-ghost use Rattle.osc_coap.specs.Writing.{Draft, with_options};
+ghost use Rattle.osc_coap.specs.Writing.{Draft, TakesOption, with_options};
+ghost use Rattle.osc_protect.specs.OptionSets.{counts_as_observe, sought_behind};
+ghost use Rattle.osc_protect.specs.Split.{Inside, Outside, TakesAll, option_with, options_on, value_on};
 
-use crate::option_sets::{counts_as_observe, sought_behind};
+use crate::option_sets::is_valid_observe;
+use osc_coap::option_numbers::OBSERVE;
 use osc_coap::{Class, Options, Writer, class_of};
 
-/// A side of the protection, as the options up to a place leave it. Only the first Observe is one, so none is sought behind it (RFC 7252,
-/// 5.4.5).
+/// Whether Observe is sought among the options from a place on: outside, and inside. Only the first Observe is one, so none is sought behind
+/// it (RFC 7252, 5.4.5).
 #[derive(Clone, Copy)]
-pub(crate) enum Side {
-    /// The side of the options of class U, and of Observe, if it is sought.
-    Outside(bool),
-    /// The side of the options of class E, and of those of both classes; own rule. Observe, if it is sought, has an empty value there: the
-    /// message is a notification (RFC 8613, 4.1.3.5.2).
-    Inside(bool),
+pub(crate) struct Sought {
+    pub(crate) outside: bool,
+    /// Observe has an empty value inside: the message is a notification (RFC 8613, 4.1.3.5.2).
+    pub(crate) inside: bool,
 }
 
-ghost use Rattle.osc_protect.specs.Split.{TakesAll, entry_on, options_on, side_behind, stands_on};
+/// An option as its message is protected: the value that it has outside and the one inside, each `None` if it doesn't stand there. Outside
+/// stand the options of class U, and Observe; inside stand those of class E and of both classes; own rule (RFC 8613, 4.1).
+#[derive(Clone, Copy)]
+pub(crate) struct Placed<'a> {
+    pub(crate) outside: Option<&'a [u8]>,
+    pub(crate) inside: Option<&'a [u8]>,
+    /// It counts as Observe outside.
+    pub(crate) observes: bool,
+}
 
-impl Side {
-    /// Returns the side behind an option, and the value that the option has on this side, or `None` if it doesn't stand there.
-    pub(crate) fn place<'a>(self, number: u16, value: &'a [u8]) -> (Side, Option<&'a [u8]>)
-        ensures behind { (other : List ℕ) → result.0 ≡ side_behind self (number, other) }
-        ensures stands { is_some result.1 ≡ stands_on self (number, value.now) }
-        ensures entry { IfSome result.1 (λ placed. (number, placed.now) ≡ entry_on self (number, value.now)) }
+impl Sought {
+    /// Returns what is sought behind an option, and where the option stands.
+    #[inline(always)]
+    pub(crate) fn place<'a>(self, number: u16, value: &'a [u8]) -> (Sought, Placed<'a>)
+        ensures outer_behind { result.0.outside ≡ sought_behind self.outside (number, value.now) }
+        ensures inner_behind { result.0.inside ≡ sought_behind self.inside (number, value.now) }
+        ensures outside { option_copied result.1.outside ≡ value_on (Outside self.outside) (number, value.now) }
+        ensures inside { option_copied result.1.inside ≡ value_on (Inside self.inside) (number, value.now) }
+        ensures observes { result.1.observes ≡ counts_as_observe self.outside (number, value.now) }
     {
         let is_outer = matches!(class_of(number), Class::U);
-        match self {
-            Side::Outside(sought) => {
-                let stands = counts_as_observe(sought, number, value) || is_outer;
-                let placed = if stands { Some(value) } else { None };
-                (Side::Outside(sought_behind(sought, number)), placed)
-            }
-            Side::Inside(sought) => {
-                let is_emptied = counts_as_observe(sought, number, value);
-                let whole = if is_emptied { &value[..0] } else { value };
-                let placed = if is_outer { None } else { Some(whole) };
-                (Side::Inside(sought_behind(sought, number)), placed)
-            }
-        }
+        let is_observe = is_valid_observe(number, value);
+        let observes = self.outside && is_observe;
+        let is_emptied = self.inside && is_observe;
+        let whole = if is_emptied { &value[..0] } else { value };
+        let placed = Placed {
+            outside: if observes || is_outer {
+                Some(value)
+            } else {
+                None
+            },
+            inside: if is_outer { None } else { Some(whole) },
+            observes,
+        };
+        let goes_on = number != OBSERVE;
+        let behind = Sought {
+            outside: self.outside && goes_on,
+            inside: self.inside && goes_on,
+        };
+        (behind, placed)
     }
 }
 
-/// Writes the options as they stand on one side, in order. There must be room for them.
-pub(crate) fn write_side(writer: &mut Writer<'_>, options: Options<'_>, mut side: Side)
+/// Writes an option, if it stands there. There must be room for it.
+fn write_option(writer: &mut Writer<'_>, number: u16, placed: Option<&[u8]>)
     requires { (draft : Draft) × (old : List ℕ) × Holds writer.old draft old
-        × TakesAll (length old) draft (options_on side (options_left options)) }
+        × IfSome (option_copied placed) (TakesOption (length old) draft number) }
     ensures same_reference { buffer_of writer.new ≡ buffer_of writer.old }
     ensures written { (draft : Draft) (old : List ℕ) → Holds writer.old draft old
-        → Holds writer.new (with_options draft (options_on side (options_left options.entry))) old }
+        → Holds writer.new (with_options draft (option_with number (option_copied placed.entry))) old }
+{
+    if let Some(value) = placed {
+        writer.add_option(number, value);
+    }
+}
+
+/// Writes the options outside and inside, in order, in one pass. There must be room for them.
+pub(crate) fn write_options(
+    outer: &mut Writer<'_>,
+    inner: &mut Writer<'_>,
+    options: Options<'_>,
+    mut sought: Sought,
+)
+    requires outer { (draft : Draft) × (old : List ℕ) × Holds outer.old draft old
+        × TakesAll (length old) draft (options_on (Outside sought.outside) (options_left options)) }
+    requires inner { (draft : Draft) × (old : List ℕ) × Holds inner.old draft old
+        × TakesAll (length old) draft (options_on (Inside sought.inside) (options_left options)) }
+    ensures same_outer { buffer_of outer.new ≡ buffer_of outer.old }
+    ensures same_inner { buffer_of inner.new ≡ buffer_of inner.old }
+    ensures outside { (draft : Draft) (old : List ℕ) → Holds outer.old draft old
+        → Holds outer.new (with_options draft (options_on (Outside sought.outside) (options_left options.entry))) old }
+    ensures inside { (draft : Draft) (old : List ℕ) → Holds inner.old draft old
+        → Holds inner.new (with_options draft (options_on (Inside sought.inside) (options_left options.entry))) old }
 {
     for (number, value) in options {
-        let (behind, placed) = side.place(number, value);
-        if let Some(value) = placed {
-            let Ok(()) = writer.option(number, value) else {
-                unreachable!()
-            };
-        }
-        side = behind;
+        let (behind, placed) = sought.place(number, value);
+        write_option(outer, number, placed.outside);
+        write_option(inner, number, placed.inside);
+        sought = behind;
     }
 }

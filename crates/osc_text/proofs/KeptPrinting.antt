@@ -7,7 +7,7 @@ use Rattle.osc_context.specs.SecurityContext.{SecurityContext}
 use Rattle.osc_context.specs.declared.keeper.Keeper as keeper
 use Rattle.osc_context.specs.declared.parameters.Params.{Params}
 use Rattle.osc_text.specs.declared.agreed.Agreed.{Agreed}
-use Rattle.osc_kept_ends.specs.KeptRuns.{RunOf}
+use Rattle.osc_kept_runs.specs.KeptRuns.{RunOf}
 use Rattle.osc_window.specs.declared.window_size.WindowSize.{WindowSize}
 use Rattle.osc_text.specs.Asking.{places}
 use Rattle.osc_text.specs.Contexts.{agreed_client, agreed_server, InContext, Told}

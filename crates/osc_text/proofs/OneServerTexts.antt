@@ -3,10 +3,11 @@ use Rattle.std.proofs.Common.{◌≡◌, ℕ, List, [], ◌∷◌, ◌++◌, Opt
 use Rattle.osc_coap.specs.Datagram.{Parts, IsDatagram}
 use Rattle.osc_coap.specs.Laws.{DatagramHasNoFault, DatagramHasOneFault, DatagramIsOneMessage}
 use Rattle.osc_laws.specs.Laws.{AllAnswers, OneServerAnswer}
-use Rattle.osc_endpoint.specs.ServerAnswer.{asks_own}
-use Rattle.osc_endpoint.specs.ServerHistory.{Datagram, Entry, Event, History, NotReplied, NotRestarted, Notify, Replied, Reply, Restarted, Then, TicketValues, Took}
-use Rattle.osc_endpoint.specs.ServerRun.{GoesOn, ticket_at, ticket_of}
-use Rattle.osc_endpoint.specs.Text.{reply_error_text, restart_error_text}
+use Rattle.osc_life.specs.LifeAnswer.{asks_own}
+use Rattle.osc_life.specs.ServerHistory.{Datagram, Entry, Event, History, NotReplied, NotRestarted, Notify, Replied, Reply, Restarted, Then, TicketValues, Took}
+use Rattle.osc_endpoint.specs.ServerRun.{GoesOn, ticket_at}
+use Rattle.osc_life.specs.Logged.{ticket_of}
+use Rattle.osc_life.specs.Text.{reply_error_text, restart_error_text}
 use Rattle.osc_text.specs.InputEvents.{InputEvent}
 use Rattle.osc_text.specs.InputEvents as input
 use Rattle.osc_text.specs.EntryLines.{bad_plain_line, not_done_line, restarted_line}

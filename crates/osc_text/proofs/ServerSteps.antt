@@ -2,16 +2,17 @@
 use Rattle.std.proofs.Common.{◌≡◌, ℕ, Bool, List, [], ◌∷◌, ◌++◌, All, map, length, Option, Ok, Err, refl, ap, subst}
 use Rattle.std.proofs.lemmas.List.Elements.{All-head, All-tail}
 use Rattle.osc_context.specs.Views.{number_of}
-use Rattle.osc_endpoint.specs.declared.server_event.Seen.{Seen}
-use Rattle.osc_endpoint.specs.declared.server_event.Seen.TheVariants as seen
+use Rattle.osc_life.specs.declared.seen.Seen.{Seen}
+use Rattle.osc_life.specs.declared.seen.Seen.TheVariants as seen
 use Rattle.osc_endpoint.specs.declared.server_event.ServerEvent.{ServerEvent}
 use Rattle.osc_endpoint.specs.declared.server_event.ServerEvent.TheVariants as events
 use Rattle.osc_endpoint.specs.declared.server_event.ServerEntry.{ServerEntry}
 use Rattle.osc_endpoint.specs.declared.server_event.ServerEntry.TheVariants as entries
-use Rattle.osc_endpoint.specs.ServerHistory.{History, Answer, TicketValues, Malformed, NotRequest, Plain, Undecodable, NoContext, Replay, BadTag, BadInner, Challenge, SequenceExhausted, Deliver, NotReplied, NotRestarted, Replied, Reply, Restart, Restarted, Notify}
-use Rattle.osc_endpoint.specs.Received.{Received}
-use Rattle.osc_endpoint.specs.ServerAnswer.{asks_own}
-use Rattle.osc_endpoint.specs.ServerRun.{DropStep, GoesOn, Logs, NotifyStep, ReplyStep, Run, ServerRunStep}
+use Rattle.osc_life.specs.ServerHistory.{History, Answer, TicketValues, Malformed, NotRequest, Plain, Undecodable, NoContext, Replay, BadTag, BadInner, Challenge, SequenceExhausted, Deliver, NotReplied, NotRestarted, Replied, Reply, Restart, Restarted, Notify}
+use Rattle.osc_observe.specs.Received.{Received}
+use Rattle.osc_life.specs.LifeAnswer.{asks_own}
+use Rattle.osc_endpoint.specs.ServerRun.{DropStep, GoesOn, NotifyStep, ReplyStep, Run, ServerRunStep}
+use Rattle.osc_life.specs.Logged.{Logs}
 use Rattle.osc_text.specs.EntryLines.{entry_line}
 use Rattle.osc_text.specs.InputText.{EventLines}
 use Rattle.osc_text.specs.ServedReading.{IsOfRun, event_seen}

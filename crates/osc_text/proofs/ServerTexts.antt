@@ -4,10 +4,10 @@ use Rattle.osc_context.specs.SecurityContext.{SecurityContext}
 use Rattle.osc_window.specs.declared.window_size.WindowSize.{WindowSize}
 use Rattle.osc_laws.specs.Laws.{OneServerAnswer}
 use Rattle.osc_endpoint.specs.ServerAnswer.{ServerAnswer}
-use Rattle.osc_endpoint.specs.ServerHistory.{Add, Added, Begin, Entry, NotAdded, Then}
-use Rattle.osc_endpoint.specs.Text.{add_error_text}
-use Rattle.osc_endpoint.specs.declared.server_error.AddError.{AddError}
-use Rattle.osc_endpoint.specs.declared.start.Start.{Start}
+use Rattle.osc_life.specs.ServerHistory.{Add, Added, Begin, Entry, NotAdded, Then}
+use Rattle.osc_life.specs.Text.{add_error_text}
+use Rattle.osc_life.specs.declared.server_error.AddError.{AddError}
+use Rattle.osc_life.specs.declared.start.Start.{Start}
 use Rattle.osc_text.specs.InputEvents.{SpellsEvent}
 use Rattle.osc_text.specs.InputText.{InputText}
 use Rattle.osc_text.specs.Inputs.{IsFirstBadLine}

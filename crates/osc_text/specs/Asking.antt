@@ -8,10 +8,10 @@ use Rattle.osc_context.specs.ContextRefusal.{RefusesParams}
 use Rattle.osc_context.specs.Views.{number_of}
 use Rattle.osc_context.specs.declared.context_error.ContextError.{ContextError}
 use Rattle.osc_text.specs.declared.agreed.Agreed.{Agreed}
-use Rattle.osc_endpoint.specs.ClientHistory.{History, New, Answer, Request, Datagram, Forget, Restart, Advance, Sent, NotSent, Took, Forgot, Restarted, Advanced, next}
+use Rattle.osc_client.specs.ClientHistory.{History, New, Answer, Request, Datagram, Forget, Restart, Advance, Sent, NotSent, Took, Forgot, Restarted, Advanced, next}
 use Rattle.osc_endpoint.specs.ClientRun.{GoesOn}
-use Rattle.osc_endpoint.specs.Text.{request_error_text}
-use Rattle.osc_endpoint.specs.declared.client_outcome.RequestError.{RequestError}
+use Rattle.osc_client.specs.Text.{request_error_text}
+use Rattle.osc_client.specs.declared.client_outcome.RequestError.{RequestError}
 use Rattle.osc_text.specs.AskedEvents.{AskedEvent, SpellsAsked}
 use Rattle.osc_text.specs.AskedEvents as asked
 use Rattle.osc_text.specs.ClientLines.{answer_line, forgot_line, sent_line}

@@ -3,7 +3,7 @@
 use Rattle.std.specs.Prelude.{ℕ, Bool, true, false, List, ◌++◌, Option, codes}
 use Rattle.std.specs.Fmt.{decimal}
 use Rattle.osc_coap.specs.Inner.{InnerParts}
-use Rattle.osc_endpoint.specs.ClientHistory.{Answer, Malformed, NotResponse, UnknownToken, Unprotected, Undecodable, BadTag, BadInner, Old, Notified, Deliver}
+use Rattle.osc_client.specs.ClientHistory.{Answer, Malformed, NotResponse, UnknownToken, Unprotected, Undecodable, BadTag, BadInner, Old, Notified, Deliver}
 use Rattle.osc_text.specs.EntryLines.{entry_line, fault_text, message_text}
 use Rattle.osc_text.specs.Lines.{bytes_text, number_text}
 

@@ -2,11 +2,11 @@
 use Rattle.std.specs.Prelude.{ℕ, List, ◌++◌, codes}
 use Rattle.osc_context.specs.Views.{number_of}
 use Rattle.osc_protect.specs.Views.{message_of, opened_number}
-use Rattle.osc_endpoint.specs.Text.{request_error_text}
+use Rattle.osc_client.specs.Text.{request_error_text}
 use Rattle.osc_endpoint.specs.declared.client_event.ClientEntry.{ClientEntry}
 use Rattle.osc_endpoint.specs.declared.client_event.ClientEntry.TheVariants as entries
-use Rattle.osc_endpoint.specs.declared.client_outcome.ClientOutcome.{ClientOutcome}
-use Rattle.osc_endpoint.specs.declared.client_outcome.ClientOutcome.TheVariants as outcomes
+use Rattle.osc_client.specs.declared.client_outcome.ClientOutcome.{ClientOutcome}
+use Rattle.osc_client.specs.declared.client_outcome.ClientOutcome.TheVariants as outcomes
 use Rattle.osc_text.specs.ClientLines.{forgot_text, response_text, sent_text}
 use Rattle.osc_text.specs.EntryLines.{entry_line, fault_text}
 

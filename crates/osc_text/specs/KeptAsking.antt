@@ -6,8 +6,8 @@ use Rattle.osc_context.specs.SecurityContext.{SecurityContext}
 use Rattle.osc_context.specs.declared.context_error.ContextError.{ContextError}
 use Rattle.osc_context.specs.declared.keeper.Keeper as keeper
 use Rattle.osc_text.specs.declared.agreed.Agreed.{Agreed}
-use Rattle.osc_endpoint.specs.ClientHistory.{New}
-use Rattle.osc_kept_ends.specs.KeptRuns.{ClientState, ClientStep}
+use Rattle.osc_client.specs.ClientHistory.{New}
+use Rattle.osc_kept_runs.specs.KeptRuns.{ClientState, ClientStep}
 use Rattle.osc_kept_ends.specs.Numbering.{Goes, Load, nothing_drawn}
 use Rattle.osc_kept_ends.specs.Owning.{own_in}
 use Rattle.osc_kept_ends.specs.Refusals.{Loaded, RefusesAt}

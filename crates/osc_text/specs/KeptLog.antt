@@ -2,12 +2,12 @@
 use Rattle.std.specs.Prelude.{ℕ, List, ◌++◌, Result, Ok, Err, codes}
 use Rattle.osc_kept_ends.specs.Views.{kept_error_text}
 use Rattle.osc_kept_ends.specs.declared.kept_error.KeptError.{KeptError}
-use Rattle.osc_kept_ends.specs.declared.kept_event.KeptClientEntry.{KeptClientEntry}
-use Rattle.osc_kept_ends.specs.declared.kept_event.KeptClientEntry.TheVariants.{Asked}
-use Rattle.osc_kept_ends.specs.declared.kept_event.KeptClientEntry.TheVariants as client
-use Rattle.osc_kept_ends.specs.declared.kept_event.KeptServerEntry.{KeptServerEntry}
-use Rattle.osc_kept_ends.specs.declared.kept_event.KeptServerEntry.TheVariants.{Served}
-use Rattle.osc_kept_ends.specs.declared.kept_event.KeptServerEntry.TheVariants as server
+use Rattle.osc_kept_runs.specs.declared.kept_event.KeptClientEntry.{KeptClientEntry}
+use Rattle.osc_kept_runs.specs.declared.kept_event.KeptClientEntry.TheVariants.{Asked}
+use Rattle.osc_kept_runs.specs.declared.kept_event.KeptClientEntry.TheVariants as client
+use Rattle.osc_kept_runs.specs.declared.kept_event.KeptServerEntry.{KeptServerEntry}
+use Rattle.osc_kept_runs.specs.declared.kept_event.KeptServerEntry.TheVariants.{Served}
+use Rattle.osc_kept_runs.specs.declared.kept_event.KeptServerEntry.TheVariants as server
 use Rattle.osc_text.specs.ClientLog.{asked_text}
 use Rattle.osc_text.specs.ServerLog.{entry_text}
 

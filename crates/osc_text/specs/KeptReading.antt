@@ -1,8 +1,8 @@
 -- For the proofs: how the events of ends whose numbers are kept are read.
 use Rattle.std.specs.Prelude.{List, ℕ, codes, bytes_eq, Option, Some, None, if◌then◌else◌}
 use Rattle.std.specs.Option.{option_and_then}
-use Rattle.osc_kept_ends.specs.declared.kept_event.KeptClientEvent.{KeptClientEvent}
-use Rattle.osc_kept_ends.specs.declared.kept_event.KeptServerEvent.{KeptServerEvent}
+use Rattle.osc_kept_runs.specs.declared.kept_event.KeptClientEvent.{KeptClientEvent}
+use Rattle.osc_kept_runs.specs.declared.kept_event.KeptServerEvent.{KeptServerEvent}
 use Rattle.osc_text.specs.AskedEvents.{AskedEvent}
 use Rattle.osc_text.specs.AskedEvents as asked
 use Rattle.osc_text.specs.AskedReading.{asked_read}

@@ -1,9 +1,9 @@
 -- How the code is seen: the events of the runs of ends whose numbers are kept, as their lines say them, and the room that they have.
 use Rattle.std.specs.Prelude.{◌≡◌, ◌+◌, length}
-use Rattle.osc_kept_ends.specs.declared.kept_event.KeptClientEvent.{KeptClientEvent}
-use Rattle.osc_kept_ends.specs.declared.kept_event.KeptClientEvent.TheVariants as client
-use Rattle.osc_kept_ends.specs.declared.kept_event.KeptServerEvent.{KeptServerEvent}
-use Rattle.osc_kept_ends.specs.declared.kept_event.KeptServerEvent.TheVariants as server
+use Rattle.osc_kept_runs.specs.declared.kept_event.KeptClientEvent.{KeptClientEvent}
+use Rattle.osc_kept_runs.specs.declared.kept_event.KeptClientEvent.TheVariants as client
+use Rattle.osc_kept_runs.specs.declared.kept_event.KeptServerEvent.{KeptServerEvent}
+use Rattle.osc_kept_runs.specs.declared.kept_event.KeptServerEvent.TheVariants as server
 use Rattle.osc_text.specs.KeptAskedEvents.{KeptAsked}
 use Rattle.osc_text.specs.KeptAskedEvents as asked
 use Rattle.osc_text.specs.KeptEvents.{KeptEvent, Take, Reply, Notify, Drop, Restart}

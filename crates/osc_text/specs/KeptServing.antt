@@ -6,9 +6,9 @@ use Rattle.osc_context.specs.SecurityContext.{SecurityContext}
 use Rattle.osc_context.specs.declared.context_error.ContextError.{ContextError}
 use Rattle.osc_context.specs.declared.keeper.Keeper as keeper
 use Rattle.osc_text.specs.declared.agreed.Agreed.{Agreed}
-use Rattle.osc_endpoint.specs.ServerHistory.{Begin, Then, Add, Added}
-use Rattle.osc_endpoint.specs.declared.start.Start.{Start}
-use Rattle.osc_kept_ends.specs.KeptRuns.{ServerState, ServerStep}
+use Rattle.osc_life.specs.ServerHistory.{Begin, Then, Add, Added}
+use Rattle.osc_life.specs.declared.start.Start.{Start}
+use Rattle.osc_kept_runs.specs.KeptRuns.{ServerState, ServerStep}
 use Rattle.osc_kept_ends.specs.KeptServing.{IsStart, started}
 use Rattle.osc_kept_ends.specs.Numbering.{nothing_drawn}
 use Rattle.osc_kept_ends.specs.Owning.{own_in}

@@ -2,7 +2,7 @@
 use Rattle.std.specs.Prelude.{ℕ, List}
 use Rattle.osc_context.specs.SecurityContext.{SecurityContext}
 use Rattle.osc_context.specs.declared.keeper.Keeper as keeper
-use Rattle.osc_kept_ends.specs.KeptRuns.{ClientState, ServerState}
+use Rattle.osc_kept_runs.specs.KeptRuns.{ClientState, ServerState}
 use Rattle.osc_window.specs.declared.window_size.WindowSize.{WindowSize}
 use Rattle.osc_text.specs.Inputs.{IsFirstBadLine}
 use Rattle.osc_text.specs.KeptAskedEvents.{SpellsKeptAsked}

@@ -2,9 +2,9 @@
 use Rattle.std.specs.Prelude.{ℕ, List, ◌++◌, Ok, Err, codes}
 use Rattle.osc_context.specs.Views.{number_of}
 use Rattle.osc_protect.specs.Views.{message_of}
-use Rattle.osc_endpoint.specs.Text.{reply_error_text, restart_error_text}
-use Rattle.osc_endpoint.specs.declared.server_event.Seen.{Seen}
-use Rattle.osc_endpoint.specs.declared.server_event.Seen.TheVariants as seen
+use Rattle.osc_life.specs.Text.{reply_error_text, restart_error_text}
+use Rattle.osc_life.specs.declared.seen.Seen.{Seen}
+use Rattle.osc_life.specs.declared.seen.Seen.TheVariants as seen
 use Rattle.osc_endpoint.specs.declared.server_event.ServerEntry.{ServerEntry}
 use Rattle.osc_endpoint.specs.declared.server_event.ServerEntry.TheVariants as entries
 use Rattle.osc_text.specs.EntryLines.{entry_line, fault_text}

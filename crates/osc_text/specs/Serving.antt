@@ -9,15 +9,17 @@ use Rattle.osc_context.specs.ContextRefusal.{RefusesParams}
 use Rattle.osc_context.specs.declared.context_error.ContextError.{ContextError}
 use Rattle.osc_text.specs.declared.agreed.Agreed.{Agreed}
 use Rattle.osc_window.specs.declared.window_size.WindowSize.{WindowSize}
-use Rattle.osc_endpoint.specs.ServerAnswer.{ServerAnswer, asks_own}
-use Rattle.osc_endpoint.specs.ServerHistory.{History, Begin, Then, Event, Answer, TicketValues, Add, Datagram, Reply, Notify, Restart, Added, NotAdded, Took, Replied, NotReplied, Restarted, NotRestarted}
-use Rattle.osc_endpoint.specs.ServerRun.{GoesOn, ticket_at, ticket_of}
-use Rattle.osc_endpoint.specs.Text.{add_error_text, reply_error_text, restart_error_text}
-use Rattle.osc_endpoint.specs.declared.server_error.AddError.{AddError}
-use Rattle.osc_endpoint.specs.declared.server_error.ReplyError.{ReplyError}
-use Rattle.osc_endpoint.specs.declared.server_error.RestartError.{RestartError}
-use Rattle.osc_endpoint.specs.declared.start.Start.{Start}
-use Rattle.osc_endpoint.specs.declared.start.Start.TheVariants as starts
+use Rattle.osc_endpoint.specs.ServerAnswer.{ServerAnswer}
+use Rattle.osc_life.specs.LifeAnswer.{asks_own}
+use Rattle.osc_life.specs.ServerHistory.{History, Begin, Then, Event, Answer, TicketValues, Add, Datagram, Reply, Notify, Restart, Added, NotAdded, Took, Replied, NotReplied, Restarted, NotRestarted}
+use Rattle.osc_endpoint.specs.ServerRun.{GoesOn, ticket_at}
+use Rattle.osc_life.specs.Logged.{ticket_of}
+use Rattle.osc_life.specs.Text.{add_error_text, reply_error_text, restart_error_text}
+use Rattle.osc_life.specs.declared.server_error.AddError.{AddError}
+use Rattle.osc_life.specs.declared.server_error.ReplyError.{ReplyError}
+use Rattle.osc_life.specs.declared.server_error.RestartError.{RestartError}
+use Rattle.osc_life.specs.declared.start.Start.{Start}
+use Rattle.osc_life.specs.declared.start.Start.TheVariants as starts
 use Rattle.osc_text.specs.Contexts.{agreed_server, InContext, Told}
 use Rattle.osc_text.specs.EntryLines.{bad_plain_line, not_done_line, restarted_line}
 use Rattle.osc_text.specs.InputEvents.{InputEvent, SpellsEvent}

@@ -2,8 +2,8 @@
 
 ghost use Rattle.std.specs.Prelude.{◌≡◌, ◌⊎◌, ℕ, List, All, Err, IfOk, map};
 ghost use Rattle.osc_context.specs.Views.{number_of};
-ghost use Rattle.osc_endpoint.specs.Agrees.{ClientAgrees};
-ghost use Rattle.osc_endpoint.specs.ClientHistory.{History, New};
+ghost use Rattle.osc_client.specs.Agrees.{ClientAgrees};
+ghost use Rattle.osc_client.specs.ClientHistory.{History, New};
 
 use crate::agreed::Agreed;
 use crate::ends::{Beginning, End, write_input, write_run};

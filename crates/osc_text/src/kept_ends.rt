@@ -2,10 +2,10 @@
 
 ghost use Rattle.std.specs.Mem.{FitsInMemory};
 ghost use Rattle.std.specs.Prelude.{◌≡◌, ◌⊎◌, ◌↔◌, [], All, IfOk, map, true};
-ghost use Rattle.osc_endpoint.specs.ClientHistory.{History as ClientHistory};
-ghost use Rattle.osc_endpoint.specs.ServerHistory.{History as ServerHistory};
+ghost use Rattle.osc_client.specs.ClientHistory.{History as ClientHistory};
+ghost use Rattle.osc_life.specs.ServerHistory.{History as ServerHistory};
 ghost use Rattle.osc_kept_ends.specs.KeptAsking.{IsKept as IsKeptClient};
-ghost use Rattle.osc_kept_ends.specs.KeptRuns.{client_state, server_state};
+ghost use Rattle.osc_kept_runs.specs.KeptRuns.{client_state, server_state};
 ghost use Rattle.osc_kept_ends.specs.KeptServing.{IsKept as IsKeptServer};
 ghost use Rattle.osc_kept_ends.specs.Numbering.{upcoming};
 ghost use Rattle.osc_kept_ends.specs.Owning.{own_in};
@@ -26,9 +26,8 @@ use crate::entry_lines::write_log;
 use crate::fault::Fault;
 use crate::lines::put_refused;
 use osc_context::{Context, Keeper};
-use osc_kept_ends::{
-    KeptClient, KeptClientEvent, KeptServer, KeptServerEvent, run_kept_client, run_kept_server,
-};
+use osc_kept_ends::{KeptClient, KeptServer};
+use osc_kept_runs::{KeptClientEvent, KeptServerEvent, run_kept_client, run_kept_server};
 use osc_window::WindowSize;
 use std::alloc::Global;
 use std::io::Write;

@@ -4,7 +4,8 @@ ghost use Rattle.std.specs.Prelude.{◌≡◌, IfOk, string_bytes};
 ghost use Rattle.osc_text.specs.KeptLog.{kept_asked_text, kept_text, restart_text};
 
 use crate::entry_lines::LogEntry;
-use osc_kept_ends::{KeptClientEntry, KeptError, KeptServerEntry};
+use osc_kept_ends::KeptError;
+use osc_kept_runs::{KeptClientEntry, KeptServerEntry};
 use std::alloc::{AllocError, Global};
 
 /// Returns the text that says whether an end was restarted.

@@ -12,7 +12,7 @@ ghost use Rattle.osc_text.specs.ServedReading.{IsOfRun, event_seen};
 use crate::input_lines::LineEvent;
 use crate::{asked_events, input_events};
 use osc_endpoint::{ClientEvent, ServerEvent};
-use osc_kept_ends::{KeptClientEvent, KeptServerEvent};
+use osc_kept_runs::{KeptClientEvent, KeptServerEvent};
 use std::alloc::{AllocError, Global};
 
 /// The line of a restart.

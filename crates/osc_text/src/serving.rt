@@ -2,7 +2,7 @@
 
 ghost use Rattle.std.specs.Prelude.{◌≡◌, ◌⊎◌, ℕ, [], List, All, Err, IfOk, map};
 ghost use Rattle.osc_endpoint.specs.Agrees.{Agrees};
-ghost use Rattle.osc_endpoint.specs.ServerHistory.{History};
+ghost use Rattle.osc_life.specs.ServerHistory.{History};
 
 use crate::agreed::Agreed;
 use crate::ends::{Beginning, End, write_input, write_run};

@@ -55,9 +55,8 @@ fn put(
             block,
             payload,
         };
-        let mut out = [0u8; 1100];
-        let len = ends.send(rt, &request, &mut out);
-        let (taken, ticket) = ends.take_request(rt, BLOCK1, &mut out[..len]);
+        let mut room = [0u8; 1100];
+        let (taken, ticket) = ends.ask(rt, &request, &mut room);
         let received = came
             .take(b"PUT /body", taken.block, taken.payload)
             .expect(rt, "a block");
@@ -71,9 +70,8 @@ fn put(
             block: taken.block,
             payload: &[],
         };
-        let mut out = [0u8; 1100];
-        let len = ends.reply(rt, ticket, &response, &mut out);
-        let heard = ends.take_response(rt, BLOCK1, &mut out[..len]);
+        let mut room = [0u8; 1100];
+        let heard = ends.answer(rt, ticket, &response, &mut room);
         assert_eq!(rt; (heard.code, heard.block), (code, block));
         count = number + 1;
     }
@@ -96,9 +94,8 @@ fn get(
             block: asked,
             payload: &[],
         };
-        let mut out = [0u8; 1100];
-        let len = ends.send(rt, &request, &mut out);
-        let (taken, ticket) = ends.take_request(rt, BLOCK2, &mut out[..len]);
+        let mut room = [0u8; 1100];
+        let (taken, ticket) = ends.ask(rt, &request, &mut room);
         let cut = block_of(held, taken.block.number(), taken.block.size());
         let (block, payload) = cut.expect(rt, "a block of the body");
         let response = Part {
@@ -107,9 +104,8 @@ fn get(
             block,
             payload,
         };
-        let mut out = [0u8; 1100];
-        let len = ends.reply(rt, ticket, &response, &mut out);
-        let heard = ends.take_response(rt, BLOCK2, &mut out[..len]);
+        let mut room = [0u8; 1100];
+        let heard = ends.answer(rt, ticket, &response, &mut room);
         match came
             .take(b"ETag 1", heard.block, heard.payload)
             .expect(rt, "a block")
@@ -121,17 +117,21 @@ fn get(
     rt.abort();
 }
 
+/// Takes a body there and back in blocks of this size, of which it has so many.
+fn there_and_back(rt: &impl Abort, sent: &[u8], size: BlockSize, blocks: u32) {
+    let mut ends = Ends::start(rt);
+    let mut there = Body::new();
+    assert_eq!(rt; put(rt, &mut ends, sent, size, &mut there), blocks);
+    assert_eq!(rt; there.whole(), Some(sent));
+    let mut back = Body::new();
+    assert_eq!(rt; get(rt, &mut ends, sent, size, &mut back), blocks);
+    assert_eq!(rt; back.whole(), Some(sent));
+}
+
+// 10,000 bytes are 625 blocks of 16, and ten of 1,024, the last of which has 784.
 #[test]
 fn a_body_goes_there_and_back(rt: HostRuntime) {
     let sent = body();
-    // 10,000 bytes are 625 blocks of 16, and ten of 1,024, the last of which has 784.
-    for (size, blocks) in [(BlockSize::Bytes16, 625), (BlockSize::Bytes1024, 10)] {
-        let mut ends = Ends::start(&rt);
-        let (mut there, mut back) = (Body::new(), Body::new());
-        assert_eq!(rt; put(&rt, &mut ends, &sent, size, &mut there), blocks);
-        assert_eq!(rt; there.whole(), Some(sent.as_slice()));
-        let held = there.whole().expect(&rt, "a body");
-        assert_eq!(rt; get(&rt, &mut ends, held, size, &mut back), blocks);
-        assert_eq!(rt; back.whole(), Some(sent.as_slice()));
-    }
+    there_and_back(&rt, &sent, BlockSize::Bytes16, 625);
+    there_and_back(&rt, &sent, BlockSize::Bytes1024, 10);
 }

@@ -13,10 +13,14 @@ const ROUNDS: u64 = 140;
 
 /// Returns whether each number is above the one before.
 fn ascend(numbers: &[u64]) -> bool {
-    numbers
-        .iter()
-        .zip(numbers.iter().skip(1))
-        .all(|(before, next)| before < next)
+    let mut least = 0;
+    for number in numbers {
+        if *number < least {
+            return false;
+        }
+        least = number.saturating_add(1);
+    }
+    true
 }
 
 /// Runs both ends, with a restart and a stop of each. One call of each keeper goes wrong, if `wrong` names one. Returns how often the

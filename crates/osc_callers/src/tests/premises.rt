@@ -3,13 +3,14 @@
 
 mod steps;
 
-ghost use Rattle.std.specs.Prelude.{IsSome, IsTrue};
+ghost use Rattle.std.specs.Prelude.{IfSome, IsSome};
+ghost use Rattle.osc_callers.specs.Courses.{Exchange, GoesOn, Start};
 ghost use Rattle.osc_callers.specs.PremisesMet.{PremisesAreMet};
 
 use osc_coap::parse;
 use osc_context::usable_contexts;
+use osc_endpoint::{Client, Server};
 use osc_kept::premises_can_be_met;
-use osc_protect::sealed_opens;
 use steps::{
     answer, ask, challenge, contexts, deliver, hear, plain, restart, start_client, start_server,
 };
@@ -29,40 +30,57 @@ const AGAIN: &[u8] = b"\x41\x01\x00\x00\x02\xb3tv1\xd8\xe4\x01\x02\x03\x04\x05\x
 // ACK, 2.05, Hello World!
 const REPLY: &[u8] = b"\x60\x45\x00\x00\xffHello World!";
 
+/// Starts both ends at 0, with the context of RFC 8613, C.1.
+fn start() -> Option<(Client<8>, Server)>
+    ensures { IfSome result (λ ends. Start ends.0 ends.1) }
+{
+    usable_contexts();
+    let (of_client, of_server) = contexts()?;
+    let client = start_client(of_client)?;
+    let server = start_server(of_server)?;
+    Some((client, server))
+}
+
+/// Has the client ask, the server deliver and reply, and the client hear the reply.
+fn exchange(client: &mut Client<8>, server: &mut Server, echo: [u8; 8]) -> Option<()>
+    ensures { IsSome result → Exchange client.old client.new server.old server.new echo }
+{
+    let first = plain(FIRST)?;
+    let reply = parse(REPLY).ok()?;
+    let (mut request, mut response) = ([0u8; 64], [0u8; 64]);
+    let len = ask(client, &first, &mut request)?;
+    let ticket = deliver(server, 0, echo, &mut request[..len])?;
+    let len = answer(server, ticket, &reply, &mut response)?;
+    hear(client, 0, &mut response[..len])
+}
+
+/// Has the client ask, the server challenge, the client hear the challenge and ask again, and the server deliver.
+fn go_on(client: &mut Client<8>, server: &mut Server, echo: [u8; 8]) -> Option<()>
+    ensures { IsSome result → GoesOn client.old client.new server.old server.new echo }
+{
+    let second = plain(SECOND)?;
+    let again = parse(AGAIN).ok()?;
+    let (mut request, mut response) = ([0u8; 64], [0u8; 64]);
+    let len = ask(client, &second, &mut request)?;
+    let len = challenge(server, echo, &mut request[..len], &mut response)?;
+    hear(client, 64, &mut response[..len])?;
+    let len = ask(client, &again, &mut request)?;
+    deliver(server, 65, echo, &mut request[..len])?;
+    Some(())
+}
+
 /// Takes both ends through the list. Returns `None` at the first call that isn't answered as the list says.
 fn go_through() -> Option<()>
     ensures { IsSome result → PremisesAreMet 8 }
 {
-    usable_contexts();
-    sealed_opens();
     premises_can_be_met();
-    let (of_client, of_server) = contexts()?;
-    let (first, second) = (plain(FIRST)?, plain(SECOND)?);
-    let (again, reply) = (parse(AGAIN).ok()?, parse(REPLY).ok()?);
-    let (mut request, mut response) = ([0u8; 64], [0u8; 64]);
-    let mut client = start_client(of_client)?;
-    let len = ask(&mut client, &first, &mut request)?;
-    let mut server = start_server(of_server)?;
-    let ticket = deliver(&mut server, 0, ECHO, &mut request[..len])?;
-    let len = answer(&mut server, ticket, &reply, &mut response)?;
-    hear(&mut client, 0, &mut response[..len])?;
+    let (mut client, mut server) = start()?;
+    exchange(&mut client, &mut server, ECHO)?;
     restart(&mut client, &mut server)?;
-    let len = ask(&mut client, &second, &mut request)?;
-    let len = challenge(&mut server, ECHO, &mut request[..len], &mut response)?;
-    hear(&mut client, 64, &mut response[..len])?;
-    let len = ask(&mut client, &again, &mut request)?;
-    deliver(&mut server, 65, ECHO, &mut request[..len])?;
-    Some(())
-}
-
-/// Returns whether both ends answer each call of the list as the list says.
-fn meets_premises() -> bool
-    ensures { IsTrue result → PremisesAreMet 8 }
-{
-    go_through().is_some()
+    go_on(&mut client, &mut server, ECHO)
 }
 
 #[test]
 fn premises_are_met(rt: HostRuntime) {
-    assert!(rt; meets_premises());
+    assert!(rt; go_through().is_some());
 }

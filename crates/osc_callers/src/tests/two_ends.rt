@@ -45,15 +45,23 @@ fn run(rt: &(impl Abort + Alloc<A = Global>), row: &Row, plan: Plan) -> Option<T
         world.events <= row.events && world.sent <= row.datagrams,
         "{plan:?}"
     );
-    came_about(&plan, &world, &of_client, &of_server).then(|| Totals::of(&world.log))
+    if came_about(&plan, &world, &of_client, &of_server) {
+        Some(Totals::of(&world.log))
+    } else {
+        None
+    }
 }
 
 /// Returns whether all of a plan came about.
 fn came_about(plan: &Plan, world: &World, of_client: &Watch, of_server: &Watch) -> bool {
-    let has_fate = plan.fate.map_or(true, |(index, _)| index < world.sent);
-    let has_new_life = plan
-        .new_life
-        .map_or(true, |new_life| new_life.after <= world.events);
+    let has_fate = match plan.fate {
+        None => true,
+        Some((index, _)) => index < world.sent,
+    };
+    let has_new_life = match plan.new_life {
+        None => true,
+        Some(new_life) => new_life.after <= world.events,
+    };
     let has_wrong = match plan.wrong {
         None => true,
         Some((End::Client, call, _)) => call < of_client.calls.get(),
@@ -94,7 +102,7 @@ fn run_new_lives(
 
 /// Makes all runs of a row.
 fn run_row(rt: &(impl Abort + Alloc<A = Global>), row: &Row) -> Totals {
-    let mut totals = Totals::default();
+    let mut totals = Totals::none_of(0);
     for place in 0..=row.wrong_calls() {
         let plan = Plan {
             order: Order::AsSealed,
@@ -107,23 +115,24 @@ fn run_row(rt: &(impl Abort + Alloc<A = Global>), row: &Row) -> Totals {
     totals
 }
 
+/// Makes all runs of some rows, and compares what was delivered.
+fn run_rows(rt: &(impl Abort + Alloc<A = Global>), rows: &[Row]) {
+    for row in rows {
+        assert_eq!(rt; run_row(rt, row), row.totals, "{}", row.name);
+    }
+}
+
 #[test]
 fn new_lives_of_the_client(rt: HostRuntime) {
-    for row in OF_CLIENT {
-        assert_eq!(rt; run_row(&rt, &row), row.totals, "{}", row.name);
-    }
+    run_rows(&rt, &OF_CLIENT);
 }
 
 #[test]
 fn new_lives_of_the_server(rt: HostRuntime) {
-    for row in OF_SERVER {
-        assert_eq!(rt; run_row(&rt, &row), row.totals, "{}", row.name);
-    }
+    run_rows(&rt, &OF_SERVER);
 }
 
 #[test]
 fn keepers_that_fail(rt: HostRuntime) {
-    for row in OF_KEEPERS {
-        assert_eq!(rt; run_row(&rt, &row), row.totals, "{}", row.name);
-    }
+    run_rows(&rt, &OF_KEEPERS);
 }

@@ -1,6 +1,6 @@
 use Rattle.std.proofs.Common.{◌≡◌, Bool, refl, rules, subst, true, false}
-use Rattle.osc_endpoint.specs.ClientAnswer.{ClientAnswer}
-use Rattle.osc_endpoint.specs.ClientHistory.{Forget, Forgot, Then}
+use Rattle.osc_client.specs.ClientAnswer.{ClientAnswer}
+use Rattle.osc_client.specs.ClientHistory.{Forget, Forgot, Then}
 use Rattle.osc_handle.specs.ClientBytes.{Asks}
 use Rattle.osc_c.specs.ClientCalls.{ReadsForgetting}
 use Rattle.osc_c.specs.ClientCalls.RefusesForgetting.{bad_handle, not_pending}

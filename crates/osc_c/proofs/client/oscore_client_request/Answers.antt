@@ -1,7 +1,7 @@
 use Rattle.std.proofs.Common.{length, refl, subst, take, ◌∙◌, sym}
 use Rattle.osc_coap.specs.Datagram.{Parts}
-use Rattle.osc_endpoint.specs.ClientAnswer.{ClientAnswer}
-use Rattle.osc_endpoint.specs.ClientHistory.{Request, Sent}
+use Rattle.osc_client.specs.ClientAnswer.{ClientAnswer}
+use Rattle.osc_client.specs.ClientHistory.{Request, Sent}
 use Rattle.osc_c.specs.ClientCalls.{ReadsAsking}
 use Rattle.osc_c.proofs.Read.{asking_read, carried_too, request_faulty}
 use Rattle.osc_c.proofs.Room.{asking_has_room}

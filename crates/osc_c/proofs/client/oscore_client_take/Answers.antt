@@ -1,7 +1,7 @@
 use Rattle.std.proofs.Common.{sym, subst}
 use Rattle.osc_context.specs.Views.{number_of}
-use Rattle.osc_endpoint.specs.ClientHistory.{Datagram, Took}
-use Rattle.osc_endpoint.specs.Views.{received_of}
+use Rattle.osc_client.specs.ClientHistory.{Datagram, Took}
+use Rattle.osc_observe.specs.Views.{received_of}
 use Rattle.osc_c.specs.ClientCalls.{ReadsTaking, heard_as}
 use Rattle.osc_c.proofs.Read.{carried_too, taking_read}
 use Rattle.osc_c.proofs.Taking.{AnswersSo, heard_read, shows_too}

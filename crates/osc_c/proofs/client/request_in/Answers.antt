@@ -1,9 +1,9 @@
 use Rattle.std.proofs.Common.{◌≡◌, ℕ, ap, subst, refl, length, Result, OnErr}
 use Rattle.osc_coap.specs.Views.{parts_of}
-use Rattle.osc_endpoint.specs.ClientAnswer.{ClientAnswer}
-use Rattle.osc_endpoint.specs.ClientHistory.{Advance, Advanced, History, Request, Then}
-use Rattle.osc_endpoint.specs.Views.{request_entry}
-use Rattle.osc_endpoint.specs.declared.client_outcome.RequestError.{RequestError}
+use Rattle.osc_client.specs.ClientAnswer.{ClientAnswer}
+use Rattle.osc_client.specs.ClientHistory.{Advance, Advanced, History, Request, Then}
+use Rattle.osc_client.specs.Views.{request_entry}
+use Rattle.osc_client.specs.declared.client_outcome.RequestError.{RequestError}
 use Rattle.osc_handle.specs.ClientBytes.{Asks}
 use Rattle.osc_c.specs.ClientCalls.RefusesAsking.{malformed, refused}
 use Rattle.osc_c.specs.declared.status.Refusal.{Refusal}

@@ -1,5 +1,5 @@
 use Rattle.std.proofs.Common.{ℕ, ◌≤◌, arith, refl, rules, subst}
-use Rattle.osc_endpoint.specs.ClientHistory.{New}
+use Rattle.osc_client.specs.ClientHistory.{New}
 use Rattle.osc_context_handle.specs.ContextBytes.{client_in}
 use Rattle.osc_kept_ends.specs.Numbering.{Load, after, nothing_drawn}
 use Rattle.osc_kept_handle.specs.KeptClientBytes.{AsksWith}

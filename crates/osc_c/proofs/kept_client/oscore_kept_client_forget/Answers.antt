@@ -1,6 +1,6 @@
 use Rattle.std.proofs.Common.{◌≡◌, Bool, refl, rules, subst, true, false}
-use Rattle.osc_endpoint.specs.ClientAnswer.{ClientAnswer}
-use Rattle.osc_endpoint.specs.ClientHistory.{Forget, Forgot}
+use Rattle.osc_client.specs.ClientAnswer.{ClientAnswer}
+use Rattle.osc_client.specs.ClientHistory.{Forget, Forgot}
 use Rattle.osc_kept_handle.specs.KeptClientBytes.{StepsClient}
 use Rattle.osc_c.specs.ClientCalls.{ReadsForgetting}
 use Rattle.osc_c.specs.KeptClientCalls.RefusesKeptForgetting.{bad_handle, not_pending}

@@ -1,7 +1,7 @@
 use Rattle.std.proofs.Common.{◌∙◌, ap, length, refl, subst, take}
 use Rattle.osc_coap.specs.Datagram.{Parts}
-use Rattle.osc_endpoint.specs.ClientAnswer.{ClientAnswer}
-use Rattle.osc_endpoint.specs.ClientHistory.{Request, Sent}
+use Rattle.osc_client.specs.ClientAnswer.{ClientAnswer}
+use Rattle.osc_client.specs.ClientHistory.{Request, Sent}
 use Rattle.osc_c.specs.ClientCalls.{ReadsAsking}
 use Rattle.osc_c.specs.Statuses.{code}
 use Rattle.osc_c.proofs.KeptRead.{kept_asking_read, kept_request_faulty}

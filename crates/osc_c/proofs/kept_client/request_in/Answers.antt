@@ -1,6 +1,6 @@
 use Rattle.std.proofs.Common.{◌≡◌, ◌∙◌, Err, IfSome, ap, length, refl, subst}
 use Rattle.osc_coap.specs.Views.{parts_of}
-use Rattle.osc_endpoint.specs.ClientHistory.{Request}
+use Rattle.osc_client.specs.ClientHistory.{Request}
 use Rattle.osc_kept_handle.specs.KeptClientBytes.{StepsClient, entry_of_kept_request}
 use Rattle.osc_kept_handle.specs.declared.kept_refusal.KeptRequestRefusal.{KeptRequestRefusal}
 use Rattle.osc_kept_handle.specs.declared.kept_refusal.KeptRequestRefusal.TheVariants.{BadHandle, Refused, SaveFirst}

@@ -1,7 +1,7 @@
 use Rattle.std.proofs.Common.{◌≡◌, ◌∙◌, Err, IfSome, ap, length, refl, subst}
 use Rattle.osc_coap.specs.Views.{parts_of}
 use Rattle.osc_context.specs.Reserving.{next_limit}
-use Rattle.osc_endpoint.specs.ServerHistory.{Notify}
+use Rattle.osc_life.specs.ServerHistory.{Notify}
 use Rattle.osc_handle.specs.TicketBytes.{ticket_in}
 use Rattle.osc_kept_handle.proofs.NumberSteps.{no_error}
 use Rattle.osc_kept_handle.specs.KeptServerBytes.{StepsServer, entry_of_kept_reply}

@@ -1,5 +1,5 @@
 use Rattle.std.proofs.Common.{◌≡◌, ℕ, ◌≤◌, arith, false, refl, rules, subst, true}
-use Rattle.osc_endpoint.specs.ServerHistory.{Add, Added, Begin, Then}
+use Rattle.osc_life.specs.ServerHistory.{Add, Added, Begin, Then}
 use Rattle.osc_context_handle.specs.ContextBytes.{server_in}
 use Rattle.osc_kept_ends.specs.KeptServing.{IsStart}
 use Rattle.osc_kept_ends.specs.Numbering.{Load, after, nothing_drawn}

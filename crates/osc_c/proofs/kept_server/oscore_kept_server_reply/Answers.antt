@@ -1,7 +1,8 @@
 use Rattle.std.proofs.Common.{◌∙◌, ap, length, refl, subst, take}
 use Rattle.osc_coap.specs.Datagram.{Parts}
-use Rattle.osc_endpoint.specs.ServerAnswer.{ServerAnswer, asks_own}
-use Rattle.osc_endpoint.specs.ServerHistory.{Replied, Reply}
+use Rattle.osc_endpoint.specs.ServerAnswer.{ServerAnswer}
+use Rattle.osc_life.specs.LifeAnswer.{asks_own}
+use Rattle.osc_life.specs.ServerHistory.{Replied, Reply}
 use Rattle.osc_handle.specs.TicketBytes.{ticket_in}
 use Rattle.osc_c.specs.ServerCalls.{ReadsReplying}
 use Rattle.osc_c.specs.Statuses.{code}

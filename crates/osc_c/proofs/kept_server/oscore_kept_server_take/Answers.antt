@@ -1,6 +1,7 @@
 use Rattle.std.proofs.Common.{◌∙◌, ap, refl, sym, subst, take}
-use Rattle.osc_endpoint.specs.ServerHistory.{Datagram, Deliver, Took}
-use Rattle.osc_endpoint.specs.Views.{received_of, values_of}
+use Rattle.osc_life.specs.ServerHistory.{Datagram, Deliver, Took}
+use Rattle.osc_observe.specs.Views.{received_of}
+use Rattle.osc_life.specs.Views.{values_of}
 use Rattle.osc_handle.specs.TicketBytes.{ticket_in}
 use Rattle.osc_kept_handle.specs.KeptServerBytes.{StepsServer}
 use Rattle.osc_c.specs.ServerCalls.{ReadsServing}

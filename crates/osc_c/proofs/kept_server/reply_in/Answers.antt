@@ -1,8 +1,8 @@
 use Rattle.std.proofs.Common.{◌≡◌, ◌∙◌, Err, IfSome, ap, length, refl, subst}
 use Rattle.osc_coap.specs.Views.{parts_of}
 use Rattle.osc_context.specs.Reserving.{next_limit}
-use Rattle.osc_endpoint.specs.ServerAnswer.{asks_own}
-use Rattle.osc_endpoint.specs.ServerHistory.{Reply}
+use Rattle.osc_life.specs.LifeAnswer.{asks_own}
+use Rattle.osc_life.specs.ServerHistory.{Reply}
 use Rattle.osc_handle.specs.TicketBytes.{ticket_in}
 use Rattle.osc_kept_handle.proofs.NumberSteps.{no_error}
 use Rattle.osc_kept_handle.specs.KeptServerBytes.{StepsServer, entry_of_kept_reply}

@@ -1,8 +1,8 @@
 use Rattle.std.proofs.Common.{ap, length, refl, subst, Result, ℕ}
 use Rattle.osc_coap.specs.Views.{parts_of}
-use Rattle.osc_endpoint.specs.ServerHistory.{History}
-use Rattle.osc_endpoint.specs.Views.{reply_entry}
-use Rattle.osc_endpoint.specs.declared.server_error.ReplyError.{ReplyError}
+use Rattle.osc_life.specs.ServerHistory.{History}
+use Rattle.osc_life.specs.Views.{reply_entry}
+use Rattle.osc_life.specs.declared.server_error.ReplyError.{ReplyError}
 use Rattle.osc_handle.specs.ServerBytes.{NotifiesIn, Serves}
 use Rattle.osc_handle.specs.TicketBytes.{ticket_in}
 use Rattle.osc_c.specs.ServerCalls.RefusesNotifying.{malformed, refused}

@@ -1,9 +1,9 @@
 use Rattle.std.proofs.Common.{ap, false, length, refl, subst, Result, ℕ}
 use Rattle.std.proofs.lemmas.Bool.{both_ways}
 use Rattle.osc_coap.specs.Views.{parts_of}
-use Rattle.osc_endpoint.specs.ServerHistory.{History}
-use Rattle.osc_endpoint.specs.Views.{reply_entry}
-use Rattle.osc_endpoint.specs.declared.server_error.ReplyError.{ReplyError}
+use Rattle.osc_life.specs.ServerHistory.{History}
+use Rattle.osc_life.specs.Views.{reply_entry}
+use Rattle.osc_life.specs.declared.server_error.ReplyError.{ReplyError}
 use Rattle.osc_handle.specs.ServerBytes.{NotifiesIn, Serves}
 use Rattle.osc_handle.specs.SingleServerBytes.{server_of_one}
 use Rattle.osc_handle.specs.TicketBytes.{ticket_in}

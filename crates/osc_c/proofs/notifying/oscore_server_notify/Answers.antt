@@ -1,7 +1,7 @@
 use Rattle.std.proofs.Common.{◌∙◌, length, refl, subst, take, sym}
 use Rattle.osc_coap.specs.Datagram.{Parts}
 use Rattle.osc_endpoint.specs.ServerAnswer.{ServerAnswer}
-use Rattle.osc_endpoint.specs.ServerHistory.{Notify, Replied}
+use Rattle.osc_life.specs.ServerHistory.{Notify, Replied}
 use Rattle.osc_handle.specs.TicketBytes.{ticket_in}
 use Rattle.osc_c.specs.ServerCalls.{ReadsReplying}
 use Rattle.osc_c.proofs.Read.{carried, notify_faulty, notifying_read}

@@ -1,5 +1,5 @@
 use Rattle.std.proofs.Common.{refl}
-use Rattle.osc_endpoint.specs.ServerHistory.{Add, Added}
+use Rattle.osc_life.specs.ServerHistory.{Add, Added}
 use Rattle.osc_context_handle.specs.ContextBytes.{server_in}
 use Rattle.osc_c.specs.ServerCalls.{ReadsAdding, start_given}
 use Rattle.osc_c.proofs.Read.{addable, adding_read, are_addable, carried}

@@ -1,5 +1,5 @@
 use Rattle.std.proofs.Common.{refl}
-use Rattle.osc_endpoint.specs.ServerHistory.{Restart, Restarted}
+use Rattle.osc_life.specs.ServerHistory.{Restart, Restarted}
 use Rattle.osc_c.specs.ServerCalls.{ReadsRestarting}
 use Rattle.osc_c.proofs.Read.{carried, restartable, restarting_read}
 use Rattle.osc_c.proofs.server.oscore_server_restart.Goals as goal

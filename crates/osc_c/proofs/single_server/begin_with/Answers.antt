@@ -1,6 +1,6 @@
 use Rattle.std.proofs.Common.{subst}
-use Rattle.osc_endpoint.specs.ServerHistory.{Added, Begin}
-use Rattle.osc_endpoint.specs.declared.start.Start.{Start}
+use Rattle.osc_life.specs.ServerHistory.{Added, Begin}
+use Rattle.osc_life.specs.declared.start.Start.{Start}
 use Rattle.osc_context_handle.specs.ContextBytes.{server_in}
 use Rattle.osc_handle.specs.ServerBytes.{AddsIn}
 use Rattle.osc_handle.specs.SingleServerBytes.{server_of_one}

@@ -1,5 +1,5 @@
 use Rattle.std.proofs.Common.{◌∙◌, ap, refl}
-use Rattle.osc_endpoint.specs.ServerHistory.{Restart, Restarted}
+use Rattle.osc_life.specs.ServerHistory.{Restart, Restarted}
 use Rattle.osc_handle.specs.SingleServerBytes.{server_of_one}
 use Rattle.osc_c.specs.ServerCalls.{ReadsRestarting}
 use Rattle.osc_c.specs.Statuses.{code}

@@ -1,7 +1,7 @@
 use Rattle.std.proofs.Common.{◌≡◌, ℕ, ap, refl, subst, length, Result, Ok, Err, IfSome, ◌∙◌, sym}
 use Rattle.osc_coap.specs.Views.{parts_of}
-use Rattle.osc_endpoint.specs.ServerAnswer.{asks_own}
-use Rattle.osc_endpoint.specs.ServerHistory.{History}
+use Rattle.osc_life.specs.LifeAnswer.{asks_own}
+use Rattle.osc_life.specs.ServerHistory.{History}
 use Rattle.osc_handle.specs.ServerBytes.{RepliesIn, Serves, entry_of_reply}
 use Rattle.osc_handle.specs.SingleServerBytes.{server_of_one}
 use Rattle.osc_handle.specs.TicketBytes.{ticket_in}

@@ -84,8 +84,31 @@ impl Ends {
         }
     }
 
+    /// Has the client seal a request, which the server delivers.
+    pub fn ask<'b>(
+        &mut self,
+        rt: &impl Abort,
+        part: &Part<'_>,
+        room: &'b mut [u8; 1100],
+    ) -> (Part<'b>, Ticket) {
+        let len = self.send(rt, part, room);
+        self.take_request(rt, part.number, &mut room[..len])
+    }
+
+    /// Has the server seal the reply to a request, which the client delivers.
+    pub fn answer<'b>(
+        &mut self,
+        rt: &impl Abort,
+        ticket: Ticket,
+        part: &Part<'_>,
+        room: &'b mut [u8; 1100],
+    ) -> Part<'b> {
+        let len = self.reply(rt, ticket, part, room);
+        self.take_response(rt, part.number, &mut room[..len])
+    }
+
     /// Has the client seal a request. Returns how many bytes it takes at the front of `out`.
-    pub fn send(&mut self, rt: &impl Abort, part: &Part<'_>, out: &mut [u8]) -> usize
+    fn send(&mut self, rt: &impl Abort, part: &Part<'_>, out: &mut [u8]) -> usize
         ensures { result ≤ length out.new }
     {
         let mut text = [0u8; 1100];
@@ -95,7 +118,7 @@ impl Ends {
     }
 
     /// Passes a request to the server, which delivers it.
-    pub fn take_request<'b>(
+    fn take_request<'b>(
         &mut self,
         rt: &impl Abort,
         number: u16,
@@ -123,26 +146,20 @@ impl Ends {
     }
 
     /// Has the server reply to a request. Returns how many bytes the reply takes at the front of `out`.
-    pub fn reply(
-        &mut self,
-        rt: &impl Abort,
-        ticket: Ticket,
-        part: &Part<'_>,
-        out: &mut [u8],
-    ) -> usize
+    fn reply(&mut self, rt: &impl Abort, ticket: Ticket, part: &Part<'_>, out: &mut [u8]) -> usize
         ensures { result ≤ length out.new }
     {
         let mut text = [0u8; 1100];
         let len = write(rt, Kind::Ack, part, &mut text);
         let plain = parse(text.get(..len).expect(rt, "its bytes")).expect(rt, "a message");
-        self.server
-            .reply(ticket, false, 1, &plain, out)
-            .map_err(|(error, _)| error)
-            .expect(rt, "a reply")
+        match self.server.reply(ticket, false, 1, &plain, out) {
+            Ok(len) => len,
+            Err(_) => rt.abort(),
+        }
     }
 
     /// Passes a response to the client, which delivers it.
-    pub fn take_response<'b>(
+    fn take_response<'b>(
         &mut self,
         rt: &impl Abort,
         number: u16,

@@ -72,28 +72,28 @@ fn context<'x>(rt: &impl Abort, sender: &'x [u8], recipient: &'x [u8]) -> Contex
 /// Starts a server. If the keeper goes wrong, starts it once more.
 pub fn start_server<'a>(rt: &impl Abort, keeper: Memory<'a>) -> Server<'a> {
     keeper.start();
+    let keeper = match Server::start(context(rt, &[1], &[]), keeper, WindowSize::default()) {
+        Ok(server) => return server,
+        Err((_, keeper)) => keeper,
+    };
+    keeper.start();
     match Server::start(context(rt, &[1], &[]), keeper, WindowSize::default()) {
         Ok(server) => server,
-        Err((_, keeper)) => {
-            keeper.start();
-            Server::start(context(rt, &[1], &[]), keeper, WindowSize::default())
-                .map_err(|(error, _)| error)
-                .expect(rt, "a second start")
-        }
+        Err(_) => rt.abort(),
     }
 }
 
 /// Starts a client. If the keeper goes wrong, starts it once more.
 pub fn start_client<'a>(rt: &impl Abort, keeper: Memory<'a>) -> Client<'a> {
     keeper.start();
+    let keeper = match Client::start(context(rt, &[], &[1]), keeper, 60_000) {
+        Ok(client) => return client,
+        Err((_, keeper)) => keeper,
+    };
+    keeper.start();
     match Client::start(context(rt, &[], &[1]), keeper, 60_000) {
         Ok(client) => client,
-        Err((_, keeper)) => {
-            keeper.start();
-            Client::start(context(rt, &[], &[1]), keeper, 60_000)
-                .map_err(|(error, _)| error)
-                .expect(rt, "a second start")
-        }
+        Err(_) => rt.abort(),
     }
 }
 
@@ -161,13 +161,11 @@ fn reply(
         answered => answered,
     };
     match answered {
+        Ok(len) => take_response(rt, now, client, &mut out[..len], seen),
         Err((ReplyError::KeeperFailed, _)) => {
             client.forget(&TOKEN);
         }
-        answered => {
-            let len = answered.map_err(|(error, _)| error).expect(rt, "a reply");
-            take_response(rt, now, client, &mut out[..len], seen);
-        }
+        Err(_) => rt.abort(),
     }
 }
 

@@ -6,7 +6,7 @@ use osc_context::{Count, Keeper, KeeperError};
 use std::cell::Cell;
 
 /// How a call of a keeper goes wrong.
-#[derive(Clone, Copy, Debug, PartialEq, Eq)]
+#[derive(Clone, Copy, Debug)]
 pub enum Wrong {
     /// The call fails, and what was kept stays.
     Fails,
@@ -67,7 +67,7 @@ impl<'a> Memory<'a> {
         self.watch.calls.set(call.wrapping_add(1));
         match self.wrong {
             Some((wrong_call, wrong)) if wrong_call == call => {
-                self.watch.is_stopped.set(wrong == Wrong::Stops);
+                self.watch.is_stopped.set(matches!(wrong, Wrong::Stops));
                 Some(wrong)
             }
             _ => None,
@@ -92,12 +92,14 @@ impl Keeper for Memory<'_> {
 
     fn save(&mut self, next: u64) -> Result<(), KeeperError> {
         let wrong = self.next_call();
-        if wrong != Some(Wrong::Fails) {
-            self.kept = next;
-        }
-        if wrong.is_none() {
-            self.saved = next;
-            return Ok(());
+        match wrong {
+            None => {
+                self.kept = next;
+                self.saved = next;
+                return Ok(());
+            }
+            Some(Wrong::Stops) => self.kept = next,
+            Some(Wrong::Fails) => {}
         }
         self.failures = Count::one_more(&self.failures);
         Err(KeeperError)

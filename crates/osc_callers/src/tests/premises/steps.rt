@@ -6,10 +6,11 @@ ghost use Rattle.osc_context.specs.SecurityContext.{SecurityContext};
 ghost use Rattle.osc_context.specs.Views.{as_client, as_server, number_of};
 ghost use Rattle.osc_context.specs.declared.partial_iv.Piv.{Piv as PartialIv};
 ghost use Rattle.osc_window.specs.declared.window_size.WindowSize.TheVariants.{Places32};
-ghost use Rattle.osc_endpoint.specs.declared.start.Start.TheVariants as starts;
-ghost use Rattle.osc_endpoint.specs.Agrees.{Agrees, ClientAgrees};
-ghost use Rattle.osc_endpoint.specs.ClientHistory as asking;
-ghost use Rattle.osc_endpoint.specs.ServerHistory as serving;
+ghost use Rattle.osc_life.specs.declared.start.Start.TheVariants as starts;
+ghost use Rattle.osc_endpoint.specs.Agrees.{Agrees};
+ghost use Rattle.osc_client.specs.Agrees.{ClientAgrees};
+ghost use Rattle.osc_client.specs.ClientHistory as asking;
+ghost use Rattle.osc_life.specs.ServerHistory as serving;
 ghost use Rattle.osc_callers.specs.Calls.{Asks, Challenges, ClientGoes, Delivers, HasNoEcho, Hears, Replies, ServerGoes};
 
 use osc_coap::{Message, option_numbers, parse};

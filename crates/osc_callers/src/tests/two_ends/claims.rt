@@ -37,31 +37,45 @@ fn broken_by(entry: Entry, before: &[Entry]) -> Option<Claim> {
 
 /// Returns whether the client sealed a request with this number.
 fn is_number_used(number: u64, before: &[Entry]) -> bool {
-    before.iter().any(|entry| match entry {
-        Entry::RequestSealed(request) => request.number == number,
-        _ => false,
-    })
+    for entry in before {
+        if let Entry::RequestSealed(request) = entry
+            && request.number == number
+        {
+            return true;
+        }
+    }
+    false
+}
+
+/// Returns whether the server delivered a request with this number.
+fn is_delivered(number: u64, before: &[Entry]) -> bool {
+    for entry in before {
+        if let Entry::RequestDelivered(request) = entry
+            && request.number == number
+        {
+            return true;
+        }
+    }
+    false
 }
 
 /// Returns whether a request was sealed, and none with its number was delivered.
 fn may_deliver(request: Request, before: &[Entry]) -> bool {
-    let is_delivered = before.iter().any(|entry| match entry {
-        Entry::RequestDelivered(other) => other.number == request.number,
-        _ => false,
-    });
-    !is_delivered && before.contains(&Entry::RequestSealed(request))
+    !is_delivered(request.number, before) && before.contains(&Entry::RequestSealed(request))
 }
 
 /// Returns whether the server sealed a response with the same Partial IV or, for a response without one, another without one to
 /// the same request: that one is under the nonce of the request.
 fn is_nonce_used(response: Response, before: &[Entry]) -> bool {
-    before.iter().any(|entry| match entry {
-        Entry::ResponseSealed(other) => {
-            let is_of_request = response.own.is_none() && other.request == response.request;
-            other.own == response.own && (other.own.is_some() || is_of_request)
+    for entry in before {
+        if let Entry::ResponseSealed(other) = entry
+            && other.own == response.own
+            && (other.own.is_some() || other.request == response.request)
+        {
+            return true;
         }
-        _ => false,
-    })
+    }
+    false
 }
 
 /// Returns whether a response was sealed, for the request that the client waits for.

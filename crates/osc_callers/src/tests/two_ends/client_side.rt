@@ -1,6 +1,6 @@
 //! What the client does in an event.
 
-use super::datagram::{Front, read};
+use super::datagram::{Front, number_in, read};
 use super::log::{Entry, Payload, Request, Response};
 use super::messages::request_text;
 use super::plan::End;
@@ -32,8 +32,7 @@ pub fn ask(
         answered => answered.expect(rt, "a request"),
     };
     let datagram = &out[..len];
-    let number = read(datagram).and_then(|front| front.number);
-    let number = number.expect(rt, "a number");
+    let number = number_in(datagram).expect(rt, "a number");
     world.note(rt, Entry::RequestSealed(Request { number, payload }));
     world.send(rt, End::Server, datagram);
     Ok(())

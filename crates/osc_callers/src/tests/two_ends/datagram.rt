@@ -2,7 +2,7 @@
 //! among their outer options (RFC 7252, 3; RFC 8613, 6.1).
 
 /// What is read of a datagram before its payload.
-#[derive(Clone, Copy, Debug)]
+#[derive(Clone, Copy)]
 pub struct Front {
     pub token: u8,
     /// The number that the Partial IV spells, if there is one.
@@ -23,6 +23,11 @@ pub fn read(datagram: &[u8]) -> Option<Front> {
         token: *token,
         number: partial_iv(value),
     })
+}
+
+/// Returns the number that the front of a datagram spells.
+pub fn number_in(datagram: &[u8]) -> Option<u64> {
+    read(datagram)?.number
 }
 
 /// Returns the number that the Partial IV in the value of an OSCORE option spells, high byte first.

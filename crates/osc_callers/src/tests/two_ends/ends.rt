@@ -53,7 +53,7 @@ impl<'a> Ends<'a> {
     /// Begins a new life of an end. If its keeper fails then, its process is stopped.
     pub fn begin(mut self, rt: &impl Abort, world: &mut World, new_life: NewLife) -> Ends<'a> {
         let NewLife { end, by, .. } = new_life;
-        if by == Beginning::Start {
+        if let Beginning::Start = by {
             return self.start_anew(rt, world, end);
         }
         let restarted = match end {

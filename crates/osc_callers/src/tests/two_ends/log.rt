@@ -1,7 +1,7 @@
 //! What is noted about a run, in order.
 
 /// What a request and the reply to it say: the request's token, and the event in which the request was sealed.
-#[derive(Clone, Copy, Debug, PartialEq, Eq)]
+#[derive(Clone, Copy, PartialEq, Eq)]
 pub struct Payload {
     pub token: u8,
     pub event: u8,
@@ -21,14 +21,14 @@ impl Payload {
 }
 
 /// A request, with its number.
-#[derive(Clone, Copy, Debug, PartialEq, Eq)]
+#[derive(Clone, Copy, PartialEq, Eq)]
 pub struct Request {
     pub number: u64,
     pub payload: Payload,
 }
 
 /// A response: its token, the number of its request, and its own Partial IV, if it has one. A challenge has no payload.
-#[derive(Clone, Copy, Debug, PartialEq, Eq)]
+#[derive(Clone, Copy, PartialEq, Eq)]
 pub struct Response {
     pub token: u8,
     pub request: u64,
@@ -37,7 +37,7 @@ pub struct Response {
 }
 
 /// What an end did.
-#[derive(Clone, Copy, Debug, PartialEq, Eq)]
+#[derive(Clone, Copy, PartialEq, Eq)]
 pub enum Entry {
     /// The client sealed a request.
     RequestSealed(Request),
@@ -50,7 +50,7 @@ pub enum Entry {
 }
 
 /// How many runs there were, and what was delivered in them.
-#[derive(Clone, Copy, Debug, Default, PartialEq, Eq)]
+#[derive(Clone, Copy, Debug, PartialEq, Eq)]
 pub struct Totals {
     pub runs: u64,
     pub requests: u64,
@@ -59,12 +59,19 @@ pub struct Totals {
 }
 
 impl Totals {
+    /// Makes the totals of so many runs in which nothing was delivered.
+    pub fn none_of(runs: u64) -> Totals {
+        Totals {
+            runs,
+            requests: 0,
+            replies: 0,
+            challenges: 0,
+        }
+    }
+
     /// Returns what was delivered in one run.
     pub fn of(log: &[Entry]) -> Totals {
-        let mut totals = Totals {
-            runs: 1,
-            ..Totals::default()
-        };
+        let mut totals = Totals::none_of(1);
         for entry in log {
             totals.count(*entry);
         }

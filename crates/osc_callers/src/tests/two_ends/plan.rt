@@ -11,14 +11,14 @@ pub enum End {
 }
 
 /// The order in which sealed datagrams are delivered.
-#[derive(Clone, Copy, Debug, PartialEq, Eq)]
+#[derive(Clone, Copy, Debug)]
 pub enum Order {
     AsSealed,
     Reverse,
 }
 
 /// What becomes of a datagram that isn't just delivered.
-#[derive(Clone, Copy, Debug, PartialEq, Eq)]
+#[derive(Clone, Copy, Debug)]
 pub enum Fate {
     Lost,
     /// It is delivered twice, one delivery right after the other.
@@ -28,7 +28,7 @@ pub enum Fate {
 }
 
 /// How an end begins a new life.
-#[derive(Clone, Copy, Debug, PartialEq, Eq)]
+#[derive(Clone, Copy, Debug)]
 pub enum Beginning {
     /// By a restart: the application keeps the tickets that it holds.
     Restart,
@@ -66,7 +66,10 @@ impl Plan {
 
     /// Returns the new life that an end begins after this many events.
     pub fn new_life_after(&self, events: u8) -> Option<NewLife> {
-        self.new_life.filter(|new_life| new_life.after == events)
+        match self.new_life {
+            Some(new_life) if new_life.after == events => Some(new_life),
+            _ => None,
+        }
     }
 
     /// Returns the call of an end's keeper that goes wrong.

@@ -1,6 +1,6 @@
 //! What the server does in an event. If the server's keeper failed, each call returns the server as its error.
 
-use super::datagram::read;
+use super::datagram::{number_in, read};
 use super::log::{Entry, Payload, Request, Response};
 use super::messages::reply_text;
 use super::plan::End;
@@ -17,8 +17,7 @@ pub fn take_request(
     server: &mut Server<'_>,
     mut datagram: Vec<u8>,
 ) -> Result<(), End> {
-    let number = read(&datagram).and_then(|front| front.number);
-    let number = number.expect(rt, "a number");
+    let number = number_in(&datagram).expect(rt, "a number");
     let mut out = [0u8; 64];
     let fresh = Fresh {
         echo: [world.events; 8],

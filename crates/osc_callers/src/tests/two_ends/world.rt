@@ -35,6 +35,11 @@ pub struct World {
     pub log: Vec<Entry>,
 }
 
+/// Drops the jobs that have a ticket.
+fn without_tickets(jobs: &mut Vec<Job>) {
+    jobs.retain(|job| !matches!(job, Job::Answer(..)));
+}
+
 impl World {
     /// Begins with two requests that are to be sealed.
     pub fn new(rt: &impl Abort, alloc: Global, plan: Plan) -> World {
@@ -71,16 +76,16 @@ impl World {
             return None;
         }
         self.events = self.events.saturating_add(1);
-        if self.plan.order == Order::Reverse {
-            return self.present.pop();
+        match self.plan.order {
+            Order::AsSealed => Some(self.present.remove(0)),
+            Order::Reverse => self.present.pop(),
         }
-        Some(self.present.remove(0))
     }
 
     /// Drops the tickets of the server, which are gone with its application.
     pub fn drop_tickets(&mut self) {
-        self.present.retain(|job| !matches!(job, Job::Answer(..)));
-        self.next.retain(|job| !matches!(job, Job::Answer(..)));
+        without_tickets(&mut self.present);
+        without_tickets(&mut self.next);
     }
 
     /// Sends a datagram to an end. It arrives in the next round, unless the plan says something else about it.

@@ -1,6 +1,6 @@
 use Rattle.std.proofs.Common.{◌≡◌, ◌≤◌, length, take, drop, vec_len}
-use Rattle.osc_endpoint.specs.Agrees.{ClientAgrees}
-use Rattle.osc_endpoint.specs.ClientHistory.{History}
+use Rattle.osc_client.specs.Agrees.{ClientAgrees}
+use Rattle.osc_client.specs.ClientHistory.{History}
 use Rattle.osc_endpoint.specs.ClientRun.{Run}
 use Rattle.osc_endpoint.proofs.client_run.run_client_on.Given as goal
 

@@ -1,8 +1,8 @@
 use Rattle.std.proofs.Common.{sym, subst, refl, List, ℕ}
 use Rattle.osc_endpoint.specs.declared.client_event.ClientEvent.{ClientEvent}
 use Rattle.osc_endpoint.specs.declared.client_event.ClientEntry.TheVariants as entries
-use Rattle.osc_endpoint.specs.ClientDeciding.{ClientTakes}
-use Rattle.osc_endpoint.specs.ClientHistory.{Then, Datagram, Took}
+use Rattle.osc_client.specs.ClientDeciding.{ClientTakes}
+use Rattle.osc_client.specs.ClientHistory.{Then, Datagram, Took}
 use Rattle.osc_endpoint.specs.ClientRun.{ClientRunStep}
 use Rattle.osc_endpoint.proofs.client_run.run_event.Goals as goal
 

@@ -2,10 +2,10 @@ use Rattle.std.proofs.Common.{◌≡◌, ◌∙◌, ◌+◌, ◌<◌, ap, List, 
 use Rattle.std.proofs.lemmas.Grind.{common_steps}
 use Rattle.std.proofs.lemmas.List.{take_at}
 use Rattle.std.specs.Option.{option_map}
-use Rattle.osc_endpoint.specs.declared.ticket.Ticket.{Ticket}
+use Rattle.osc_life.specs.declared.ticket.Ticket.{Ticket}
 use Rattle.osc_endpoint.specs.ServerRun.{values_in}
 use Rattle.osc_endpoint.specs.Serving.{Serves}
-use Rattle.osc_endpoint.specs.Views.{values_of}
+use Rattle.osc_life.specs.Views.{values_of}
 use Rattle.osc_endpoint.proofs.EventsLeft.{after_is, one_more}
 use Rattle.osc_endpoint.proofs.RunTickets.{run_takes}
 use Rattle.osc_endpoint.proofs.Runs.{run_on}

@@ -1,6 +1,6 @@
 use Rattle.std.proofs.Common.{◌≡◌, ◌≤◌, [], length, take, drop, vec_len}
 use Rattle.osc_endpoint.specs.Agrees.{Agrees}
-use Rattle.osc_endpoint.specs.ServerHistory.{History}
+use Rattle.osc_life.specs.ServerHistory.{History}
 use Rattle.osc_endpoint.specs.ServerRun.{Run, values_in}
 use Rattle.osc_endpoint.proofs.server_run.run_server_on.Given as goal
 

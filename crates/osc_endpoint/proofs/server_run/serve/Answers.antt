@@ -3,7 +3,7 @@ use Rattle.std.specs.Option.{option_map}
 use Rattle.osc_endpoint.specs.declared.server_event.ServerEvent.{ServerEvent}
 use Rattle.osc_endpoint.specs.ServerRun.{values_in}
 use Rattle.osc_endpoint.specs.Serving.{Serves}
-use Rattle.osc_endpoint.specs.Views.{values_of}
+use Rattle.osc_life.specs.Views.{values_of}
 use Rattle.osc_endpoint.proofs.server_run.serve.Goals as goal
 
 pub returns-in-Datagram : goal.returns-in-Datagram

@@ -1,7 +1,7 @@
 use Rattle.std.proofs.Common.{◌∙◌, sym, ap, refl, slice_set, Some}
 use Rattle.std.specs.Option.{option_map}
 use Rattle.osc_coap.specs.Views.{parts_of}
-use Rattle.osc_endpoint.specs.Views.{values_of}
+use Rattle.osc_life.specs.Views.{values_of}
 use Rattle.osc_endpoint.specs.ServerRun.{values_in}
 use Rattle.osc_endpoint.proofs.Runs.{ticket_seen, put_again, values_taken, no_ticket}
 use Rattle.osc_endpoint.proofs.server_run.serve_reply.Goals as goal

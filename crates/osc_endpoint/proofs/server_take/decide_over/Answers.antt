@@ -1,7 +1,7 @@
 use Rattle.std.proofs.Common.{refl}
 use Rattle.osc_coap.specs.Views.{parts_of}
 use Rattle.osc_endpoint.specs.Agrees.{server_of}
-use Rattle.osc_endpoint.specs.ServerHistory as server
+use Rattle.osc_life.specs.ServerHistory as server
 use Rattle.osc_endpoint.proofs.Decisions.{malformed, headless, unnamed, judged, found_named}
 use Rattle.osc_endpoint.proofs.Finding.{found_place, place_found}
 use Rattle.osc_endpoint.proofs.server_take.decide_over.Goals as goal

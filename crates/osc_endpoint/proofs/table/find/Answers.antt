@@ -3,8 +3,8 @@ use Rattle.std.specs.Prelude.{slice_get}
 use Rattle.std.proofs.lemmas.Bool.{cases_eq}
 use Rattle.std.proofs.lemmas.Option.{slice_get_read, slice_get_within}
 use Rattle.osc_protect.specs.Views.{shown}
-use Rattle.osc_endpoint.specs.declared.slot.Slot.{Slot}
-use Rattle.osc_endpoint.specs.Table.{LooksUp}
+use Rattle.osc_life.specs.declared.slot.Slot.{Slot}
+use Rattle.osc_life.specs.Judging.{LooksUp}
 use Rattle.osc_endpoint.proofs.table.find.Goals as goal
 
 pub returns-then-is_for-clause-found : goal.returns-then-is_for-clause-found

@@ -1,8 +1,8 @@
 use Rattle.std.proofs.Common.{◌≡◌, ℕ, ◌<◌, Some, Option}
 use Rattle.std.specs.Prelude.{slice_get}
 use Rattle.osc_protect.specs.Views.{shown}
-use Rattle.osc_endpoint.specs.declared.slot.Slot.{Slot}
-use Rattle.osc_endpoint.specs.Table.{LooksUp}
+use Rattle.osc_life.specs.declared.slot.Slot.{Slot}
+use Rattle.osc_life.specs.Judging.{LooksUp}
 use Rattle.osc_endpoint.proofs.table.find.Given as goal
 
 abbrev pub invariant-loop-index : goal.invariant-loop-index

@@ -1,5 +1,5 @@
 use Rattle.std.proofs.Common.{rules, ap}
-use Rattle.osc_endpoint.specs.Views.{delivery_of}
+use Rattle.osc_life.specs.Views.{delivery_of}
 use Rattle.osc_examples.proofs.endpoint.obeys.Goals as goal
 
 pub returns-in-Deliver : goal.returns-in-Deliver

@@ -1,7 +1,7 @@
 use Rattle.std.proofs.Common.{◌≡◌, ℕ, Bool, IfSome, List, Ok, Err, Result, Some, ap, length, rules, take, true}
 use Rattle.std.specs.Prelude.{IfOk}
 use Rattle.osc_coap.specs.Views.{parts_of}
-use Rattle.osc_endpoint.specs.ClientHistory.{Entry, History, Request, Sent}
+use Rattle.osc_client.specs.ClientHistory.{Entry, History, Request, Sent}
 use Rattle.osc_kept_ends.specs.Numbering.{Goes, Own, Reserve, after}
 use Rattle.osc_kept_handle.specs.KeptClientBytes.{AsksWith, StepsClient, entry_of_kept_request}
 use Rattle.osc_kept_handle.specs.declared.kept_refusal.KeptRequestRefusal.{KeptRequestRefusal}

@@ -1,6 +1,6 @@
 use Rattle.std.proofs.Common.{◌≡◌, ℕ, ◌<◌, Some}
 use Rattle.std.specs.Prelude.{map, slice_get}
-use Rattle.osc_endpoint.specs.ClientHistory.{Asked}
+use Rattle.osc_client.specs.ClientHistory.{Asked}
 use Rattle.osc_handle.specs.ClientBytes.{asked_at}
 use Rattle.osc_handle.proofs.client_handle.has_token.Given as goal
 

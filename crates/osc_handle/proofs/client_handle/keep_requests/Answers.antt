@@ -1,7 +1,7 @@
 use Rattle.std.proofs.Common.{◌≡◌, ◌<◌, ◌∙◌, sym, ap, subst, refl, arith, rules, length, map, take}
 use Rattle.std.proofs.lemmas.List.{length-set}
 use Rattle.std.proofs.lemmas.Option.{slice_get_read}
-use Rattle.osc_endpoint.specs.Views.{asked_of}
+use Rattle.osc_client.specs.Views.{asked_of}
 use Rattle.osc_handle.specs.ClientBytes.{asked_at}
 use Rattle.osc_handle.proofs.ClientPlaces.{each_placed, placed_more, take_all}
 use Rattle.osc_handle.proofs.Tables.{in_front}

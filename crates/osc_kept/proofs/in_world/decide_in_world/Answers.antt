@@ -1,5 +1,5 @@
 use Rattle.std.proofs.Common.{refl}
-use Rattle.osc_endpoint.specs.ServerHistory as server
+use Rattle.osc_life.specs.ServerHistory as server
 use Rattle.std.proofs.lemmas.Result.{IfOk-weaker}
 use Rattle.osc_kept.proofs.in_world.decide_in_world.Goals as goal
 

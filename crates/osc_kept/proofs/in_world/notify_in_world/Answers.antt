@@ -1,6 +1,6 @@
 use Rattle.std.proofs.Common.{length}
 use Rattle.osc_coap.specs.Views.{parts_of}
-use Rattle.osc_endpoint.specs.Views.{reply_entry, values_of}
+use Rattle.osc_life.specs.Views.{reply_entry, values_of}
 use Rattle.osc_kept.proofs.CallsInWorld.{both_err, runs_still}
 use Rattle.osc_kept.proofs.InWorld.{notify_trusts}
 use Rattle.osc_kept.proofs.in_world.notify_in_world.Goals as goal

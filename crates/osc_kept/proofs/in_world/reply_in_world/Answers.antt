@@ -1,8 +1,9 @@
 use Rattle.std.proofs.Common.{length}
 use Rattle.osc_coap.specs.Views.{parts_of}
-use Rattle.osc_endpoint.specs.ServerAnswer.{asks_own}
-use Rattle.osc_endpoint.specs.ServerHistory.{Reply}
-use Rattle.osc_endpoint.specs.Views.{server_entry, values_of}
+use Rattle.osc_life.specs.LifeAnswer.{asks_own}
+use Rattle.osc_life.specs.ServerHistory.{Reply}
+use Rattle.osc_endpoint.specs.Views.{server_entry}
+use Rattle.osc_life.specs.Views.{values_of}
 use Rattle.osc_kept.proofs.CallsInWorld.{both_err, runs_still}
 use Rattle.osc_kept.proofs.InWorld.{reply_trusts}
 use Rattle.osc_kept.proofs.in_world.reply_in_world.Goals as goal

@@ -1,6 +1,6 @@
 use Rattle.std.proofs.Common.{refl, subst}
-use Rattle.osc_endpoint.specs.Deciding.{Decides}
-use Rattle.osc_endpoint.specs.declared.decision.Decision.{Decision}
+use Rattle.osc_life.specs.Deciding.{Decides}
+use Rattle.osc_life.specs.declared.decision.Decision.{Decision}
 use Rattle.osc_context.specs.Views.{next_of}
 use Rattle.osc_kept_ends.specs.Owning.{own_in}
 use Rattle.osc_kept_ends.proofs.Drawing.{last_drawn}

@@ -1,6 +1,6 @@
 use Rattle.std.proofs.Common.{◌≡◌, ◌∙◌, sym, ap, subst, refl, Bool, true, false, not}
-use Rattle.osc_endpoint.specs.Life.{is_open_life}
-use Rattle.osc_endpoint.specs.ServerHistory.{life}
+use Rattle.osc_life.specs.Life.{is_open_life}
+use Rattle.osc_life.specs.ServerHistory.{life}
 use Rattle.osc_kept_ends.specs.Numbering.{Draws}
 use Rattle.osc_kept_ends.specs.Owning.{own_in}
 use Rattle.osc_kept_ends.proofs.drawn.draw_for_datagram.Goals as goal

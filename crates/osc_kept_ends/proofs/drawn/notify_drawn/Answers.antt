@@ -1,7 +1,7 @@
 use Rattle.std.proofs.Common.{length, take}
 use Rattle.osc_coap.specs.Views.{parts_of}
 use Rattle.osc_context.specs.Views.{next_of}
-use Rattle.osc_endpoint.specs.Views.{values_of}
+use Rattle.osc_life.specs.Views.{values_of}
 use Rattle.osc_kept_ends.specs.Owning.{own_in}
 use Rattle.osc_kept_ends.proofs.Drawing.{last_drawn}
 use Rattle.osc_kept_ends.proofs.ServerSteps.{notify_own, notify_refused}

@@ -1,8 +1,8 @@
 use Rattle.std.proofs.Common.{◌∙◌, length, sym, take}
 use Rattle.osc_coap.specs.Views.{parts_of}
 use Rattle.osc_context.specs.Views.{next_of}
-use Rattle.osc_endpoint.specs.ServerAnswer.{asks_own}
-use Rattle.osc_endpoint.specs.Views.{values_of}
+use Rattle.osc_life.specs.LifeAnswer.{asks_own}
+use Rattle.osc_life.specs.Views.{values_of}
 use Rattle.osc_kept_ends.specs.Owning.{own_in}
 use Rattle.osc_kept_ends.proofs.Drawing.{last_drawn}
 use Rattle.osc_kept_ends.proofs.ServerSteps.{reply_refused, reply_with, reply_without}

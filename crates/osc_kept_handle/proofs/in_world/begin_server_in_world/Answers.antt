@@ -1,7 +1,7 @@
 use Rattle.std.proofs.Common.{ℕ, ◌≤◌, subst, sym, arith}
 use Rattle.std.proofs.lemmas.Option.{IfSome_then}
 use Rattle.osc_context.specs.Views.{number_of}
-use Rattle.osc_endpoint.specs.ServerHistory.{Add, Added, Begin, Then}
+use Rattle.osc_life.specs.ServerHistory.{Add, Added, Begin, Then}
 use Rattle.osc_context_handle.specs.ContextBytes.{server_in}
 use Rattle.osc_kept_ends.specs.KeptServing.{IsStart}
 use Rattle.osc_kept_ends.specs.Numbering.{Load, after, nothing_drawn}

@@ -1,7 +1,7 @@
 use Rattle.std.proofs.Common.{length}
 use Rattle.std.proofs.lemmas.Option.{IfSome_then}
 use Rattle.osc_coap.specs.Views.{parts_of}
-use Rattle.osc_endpoint.specs.ServerAnswer.{asks_own}
+use Rattle.osc_life.specs.LifeAnswer.{asks_own}
 use Rattle.osc_handle.specs.TicketBytes.{ticket_in}
 use Rattle.osc_kept_handle.proofs.BytesInWorld.{server_after}
 use Rattle.osc_kept_handle.proofs.GivenTickets.{reply_takes}

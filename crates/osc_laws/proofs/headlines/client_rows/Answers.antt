@@ -1,4 +1,4 @@
-use Rattle.osc_endpoint.proofs.ClientDecisions.{heads_law, responses_law}
+use Rattle.osc_client.proofs.ClientDecisions.{heads_law, responses_law}
 use Rattle.osc_laws.proofs.ClientEntriesStand.{rows_exclude}
 use Rattle.osc_laws.proofs.headlines.client_rows.Goals as goal
 

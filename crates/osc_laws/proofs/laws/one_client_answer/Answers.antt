@@ -1,4 +1,4 @@
-use Rattle.osc_endpoint.proofs.ClientDecisions.{heads_law, responses_law}
+use Rattle.osc_client.proofs.ClientDecisions.{heads_law, responses_law}
 use Rattle.osc_laws.proofs.OneClientAnswers.{client_answers_once}
 use Rattle.osc_laws.proofs.laws.one_client_answer.Goals as goal
 

@@ -1,5 +1,5 @@
 use Rattle.osc_context.specs.Views.{number_of}
-use Rattle.osc_endpoint.specs.ClientHistory.{New}
+use Rattle.osc_client.specs.ClientHistory.{New}
 use Rattle.osc_text.specs.Contexts.{agreed_client}
 use Rattle.osc_text.specs.AskedEvents.{SpellsAsked}
 use Rattle.osc_text.specs.Asking.{ClientLine, HasBadAskedLine}

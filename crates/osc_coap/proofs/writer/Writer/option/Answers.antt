@@ -1,17 +1,17 @@
-use Rattle.std.proofs.Common.{arith}
+use Rattle.std.proofs.Common.{◌-◌, arith, refl}
 use Rattle.osc_coap.specs.OptionSpelling.{AreBytes}
 use Rattle.osc_coap.specs.Writer.{Holds}
 use Rattle.osc_coap.proofs.Bytes.{bytes_by_place}
-use Rattle.osc_coap.proofs.Refusals.{option_ok, option_err}
 use Rattle.osc_coap.proofs.Grown.{option_stands, option_last, option_stage}
+use Rattle.osc_coap.proofs.Refusals.{option_ok, option_err}
 use Rattle.osc_coap.proofs.writer.Writer.option.Goals as goal
 
 pub returns-clause-taken : goal.returns-clause-taken
 unfolding Holds
 returns-clause-taken c = λ draft old h.
-    let taken = c.in_ok-delta.ensures in
+    let taken = c.in_ok-judge_option.ensures in
     let are : AreBytes c.args.value.now = bytes_by_place c.args.value.now (λ i. let b = c.type_inv.value i in omega (arith, b)) in
-    let stands = option_stands c.args.self.now draft old c.args.number c.in_ok-delta.delta c.args.value.now c.put_option-self.new.buf c.put_option-self.result h taken (omega arith) are c.put_option-self.ensures.written c.put_option-self.ensures.end in
+    let stands = option_stands c.args.self.now draft old c.args.number (c.args.number - c.args.self.now.number) c.args.value.now c.put_option-self.new.buf c.put_option-self.result h taken refl (omega arith) are c.put_option-self.ensures.written c.put_option-self.ensures.end in
     record {
       written = stands.written;
       size = stands.size;
@@ -21,22 +21,22 @@ returns-clause-taken c = λ draft old h.
       stage = option_stage c.args.self.now.stage draft c.args.number c.args.value.now taken.stage h.stage;
     }
 
-pub returns-in_err-delta-clause-accepts : goal.returns-in_err-delta-clause-accepts
+pub returns-in_err-judge_option-clause-accepts : goal.returns-in_err-judge_option-clause-accepts
 unfolding Holds
-returns-in_err-delta-clause-accepts c = λ draft old h. (option_err c.args.self.now draft old c.args.number c.args.value.now c.in_err-delta.field-0.0 c.from_residual.result h c.in_err-delta.ensures c.from_residual.ensures.1).accepts
+returns-in_err-judge_option-clause-accepts c = λ draft old h. (option_err c.args.self.now draft old c.args.number c.args.value.now c.in_err-judge_option.field-0.0 c.from_residual.result h c.in_err-judge_option.ensures c.from_residual.ensures.1).accepts
 
-pub returns-in_err-delta-clause-refused : goal.returns-in_err-delta-clause-refused
+pub returns-in_err-judge_option-clause-refused : goal.returns-in_err-judge_option-clause-refused
 unfolding Holds
-returns-in_err-delta-clause-refused c = λ draft old h. (option_err c.args.self.now draft old c.args.number c.args.value.now c.in_err-delta.field-0.0 c.from_residual.result h c.in_err-delta.ensures c.from_residual.ensures.1).refused
+returns-in_err-judge_option-clause-refused c = λ draft old h. (option_err c.args.self.now draft old c.args.number c.args.value.now c.in_err-judge_option.field-0.0 c.from_residual.result h c.in_err-judge_option.ensures c.from_residual.ensures.1).refused
 
-pub returns-in_err-delta-clause-refuses : goal.returns-in_err-delta-clause-refuses
+pub returns-in_err-judge_option-clause-refuses : goal.returns-in_err-judge_option-clause-refuses
 unfolding Holds
-returns-in_err-delta-clause-refuses c = λ draft old h. (option_err c.args.self.now draft old c.args.number c.args.value.now c.in_err-delta.field-0.0 c.from_residual.result h c.in_err-delta.ensures c.from_residual.ensures.1).refuses
+returns-in_err-judge_option-clause-refuses c = λ draft old h. (option_err c.args.self.now draft old c.args.number c.args.value.now c.in_err-judge_option.field-0.0 c.from_residual.result h c.in_err-judge_option.ensures c.from_residual.ensures.1).refuses
 
 pub returns-clause-accepted : goal.returns-clause-accepted
 unfolding Holds
-returns-clause-accepted c = λ draft old h. (option_ok c.args.self.now draft old c.args.number c.in_ok-delta.delta c.args.value.now h c.in_ok-delta.ensures).accepted
+returns-clause-accepted c = λ draft old h. (option_ok c.args.self.now draft old c.args.number c.args.value.now h c.in_ok-judge_option.ensures).accepted
 
 pub returns-clause-refuses : goal.returns-clause-refuses
 unfolding Holds
-returns-clause-refuses c = λ draft old h. (option_ok c.args.self.now draft old c.args.number c.in_ok-delta.delta c.args.value.now h c.in_ok-delta.ensures).refuses
+returns-clause-refuses c = λ draft old h. (option_ok c.args.self.now draft old c.args.number c.args.value.now h c.in_ok-judge_option.ensures).refuses

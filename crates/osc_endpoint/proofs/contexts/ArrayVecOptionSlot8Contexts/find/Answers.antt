@@ -1,8 +1,8 @@
 use Rattle.std.proofs.Common.{◌≡◌, subst, List, Option, Some, IfSome}
 use Rattle.std.specs.Prelude.{slice_get}
 use Rattle.osc_protect.specs.Views.{shown}
-use Rattle.osc_endpoint.specs.Table.{LooksUp}
-use Rattle.osc_endpoint.specs.declared.slot.Slot.{Slot}
+use Rattle.osc_life.specs.Judging.{LooksUp}
+use Rattle.osc_life.specs.declared.slot.Slot.{Slot}
 use Rattle.osc_endpoint.proofs.Finding.{finds}
 use Rattle.osc_endpoint.proofs.contexts.ArrayVecOptionSlot8Contexts.find.Goals as goal
 

@@ -1,12 +1,12 @@
 use Rattle.std.proofs.Common.{◌≡◌, ◌∙◌, sym, ap, subst, refl, length, true, List, Option}
 use Rattle.std.specs.Option.{option_map}
 use Rattle.osc_coap.specs.Views.{parts_of}
-use Rattle.osc_endpoint.specs.declared.slot.Slot.{Slot}
+use Rattle.osc_life.specs.declared.slot.Slot.{Slot}
 use Rattle.osc_endpoint.specs.Agrees.{TableAgrees}
-use Rattle.osc_endpoint.specs.Life.{marked}
+use Rattle.osc_life.specs.Life.{marked}
 use Rattle.osc_endpoint.specs.Replying.{marks_at}
-use Rattle.osc_endpoint.specs.ServerHistory as server
-use Rattle.osc_endpoint.specs.Views.{values_of}
+use Rattle.osc_life.specs.ServerHistory as server
+use Rattle.osc_life.specs.Views.{values_of}
 use Rattle.osc_endpoint.proofs.Decisions.{agrees_notified, refill_same}
 use Rattle.osc_endpoint.proofs.server.Server.notify.Goals as goal
 

@@ -1,12 +1,12 @@
 use Rattle.std.proofs.Common.{◌≡◌, ◌∙◌, sym, ap, subst, refl, length, List, Option}
 use Rattle.osc_coap.specs.Views.{parts_of}
 use Rattle.std.specs.Option.{option_map}
-use Rattle.osc_endpoint.specs.declared.slot.Slot.{Slot}
+use Rattle.osc_life.specs.declared.slot.Slot.{Slot}
 use Rattle.osc_endpoint.specs.Agrees.{TableAgrees}
-use Rattle.osc_endpoint.specs.Life.{marked}
-use Rattle.osc_endpoint.specs.ServerAnswer.{asks_own}
-use Rattle.osc_endpoint.specs.ServerHistory as server
-use Rattle.osc_endpoint.specs.Views.{values_of}
+use Rattle.osc_life.specs.Life.{marked}
+use Rattle.osc_life.specs.LifeAnswer.{asks_own}
+use Rattle.osc_life.specs.ServerHistory as server
+use Rattle.osc_life.specs.Views.{values_of}
 use Rattle.osc_endpoint.proofs.Decisions.{refill_same, agrees_replied}
 use Rattle.osc_endpoint.proofs.server.Server.reply.Goals as goal
 

@@ -1,7 +1,7 @@
 use Rattle.std.proofs.Common.{◌≡◌, ◌<◌, sym, subst, arith, rules, length, map, take}
 use Rattle.std.proofs.lemmas.Option.{slice_get-get_or}
-use Rattle.osc_endpoint.specs.Agrees.{TokensDiffer}
-use Rattle.osc_endpoint.specs.ClientAnswer.{IsAmong}
+use Rattle.osc_client.specs.Agrees.{TokensDiffer}
+use Rattle.osc_client.specs.ClientAnswer.{IsAmong}
 use Rattle.osc_handle.specs.ClientBytes.{asked_at}
 use Rattle.osc_handle.proofs.ClientPlaces.{apart_more, each_read, met}
 use Rattle.osc_handle.proofs.Tables.{in_front}

@@ -1,7 +1,7 @@
 use Rattle.std.proofs.Common.{subst, refl}
 use Rattle.osc_handle.specs.ClientSteps.{LeavesIn}
 use Rattle.osc_context.specs.Views.{as_client}
-use Rattle.osc_endpoint.specs.Agrees.{client_parts}
+use Rattle.osc_client.specs.Agrees.{client_parts}
 use Rattle.osc_handle.proofs.ClientHistories.{agrees_of, apart_of, asks_on, begun, leaves_parts}
 use Rattle.osc_handle.proofs.client_handle.ClientHandle.decide.Goals as goal
 

@@ -1,5 +1,5 @@
 use Rattle.std.proofs.Common.{◌∙◌, sym, subst, refl}
-use Rattle.osc_endpoint.specs.Agrees.{TokensDiffer}
+use Rattle.osc_client.specs.Agrees.{TokensDiffer}
 use Rattle.osc_handle.proofs.client_handle.ClientHandle.keep.Goals as goal
 
 pub returns-clause-kept : goal.returns-clause-kept

@@ -1,5 +1,5 @@
 use Rattle.std.proofs.Common.{◌≡◌}
-use Rattle.osc_endpoint.specs.Agrees.{client_parts}
+use Rattle.osc_client.specs.Agrees.{client_parts}
 use Rattle.osc_handle.specs.ClientSteps.{parts_with}
 use Rattle.osc_handle.proofs.client_handle.ClientHandle.recall.Given as goal
 

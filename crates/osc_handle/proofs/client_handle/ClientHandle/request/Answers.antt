@@ -1,6 +1,6 @@
 use Rattle.std.proofs.Common.{refl}
 use Rattle.osc_context.specs.Views.{as_client}
-use Rattle.osc_endpoint.specs.Agrees.{client_parts}
+use Rattle.osc_client.specs.Agrees.{client_parts}
 use Rattle.osc_handle.proofs.ClientHistories.{agrees_of, apart_of, asks_on, begun, on_err}
 use Rattle.osc_handle.proofs.client_handle.ClientHandle.request.Goals as goal
 

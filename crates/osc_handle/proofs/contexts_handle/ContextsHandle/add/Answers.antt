@@ -1,7 +1,7 @@
 use Rattle.std.proofs.Common.{rules, ◌<◌, arith, refl, subst, length}
 use Rattle.osc_context.specs.SecurityContext.{SecurityContext}
-use Rattle.osc_endpoint.specs.Agrees.{SlotAgrees}
-use Rattle.osc_endpoint.specs.Life.{born}
+use Rattle.osc_life.specs.Agrees.{SlotAgrees}
+use Rattle.osc_life.specs.Life.{born}
 use Rattle.osc_context_handle.specs.ContextBytes.{server_in}
 use Rattle.osc_handle.proofs.Tables.{bytes_grown, found_by, not_found_by, table_grown}
 use Rattle.osc_handle.proofs.contexts_handle.ContextsHandle.add.Goals as goal

@@ -1,6 +1,6 @@
 use Rattle.std.proofs.Common.{◌∙◌, ◌∷◌, [], arith, Some, refl, subst, sym}
 use Rattle.osc_context.specs.Views.{number_of}
-use Rattle.osc_endpoint.specs.Judging.{GateRefuses}
+use Rattle.osc_life.specs.Judging.{GateRefuses}
 use Rattle.osc_handle.proofs.Tables.{bytes_kept, judged_in, leaves_in, named_in, named_used, replayed_in, slot_at, table_kept}
 use Rattle.osc_handle.proofs.contexts_handle.ContextsHandleContexts.judge_at.Goals as goal
 

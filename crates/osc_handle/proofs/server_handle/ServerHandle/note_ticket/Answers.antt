@@ -1,6 +1,6 @@
 use Rattle.std.proofs.Common.{rules, ◌<◌, ◌≤◌, ◌∙◌, length}
 use Rattle.std.proofs.lemmas.Option.{slice_get-get_or}
-use Rattle.osc_endpoint.specs.Views.{values_of}
+use Rattle.osc_life.specs.Views.{values_of}
 use Rattle.osc_handle.proofs.Waits.{notes_added_at, notes_none_at}
 use Rattle.osc_handle.proofs.server_handle.ServerHandle.note_ticket.Goals as goal
 

@@ -2,8 +2,8 @@ use Rattle.std.proofs.Common.{rules, ◌<◌, ◌∙◌, refl, sym, length, take
 use Rattle.std.proofs.lemmas.Bool.{both_ways}
 use Rattle.std.proofs.lemmas.Option.{slice_get-get_or}
 use Rattle.osc_coap.specs.Views.{parts_of}
-use Rattle.osc_endpoint.specs.ServerAnswer.{asks_own}
-use Rattle.osc_endpoint.specs.ServerHistory.{NotReplied, Replied, life}
+use Rattle.osc_life.specs.LifeAnswer.{asks_own}
+use Rattle.osc_life.specs.ServerHistory.{NotReplied, Replied, life}
 use Rattle.osc_laws.specs.Waiting.{waits}
 use Rattle.osc_handle.proofs.Servers.{asked_as, bit_says, is_absent, is_there, present_used, reply_as, serves_not_replied, serves_replied, serves_same, serves_stale}
 use Rattle.osc_handle.specs.TicketBytes.{ticket_in}

@@ -1,9 +1,9 @@
 use Rattle.std.proofs.Common.{◌∷◌, [], arith, refl, subst}
 use Rattle.std.proofs.lemmas.Option.{none-some}
 use Rattle.osc_context.specs.SecurityContext.{SecurityContext}
-use Rattle.osc_endpoint.specs.Agrees.{SlotAgrees}
-use Rattle.osc_endpoint.specs.Life.{born}
-use Rattle.osc_endpoint.specs.ServerHistory.{Begin}
+use Rattle.osc_life.specs.Agrees.{SlotAgrees}
+use Rattle.osc_life.specs.Life.{born}
+use Rattle.osc_life.specs.ServerHistory.{Begin}
 use Rattle.osc_handle.specs.SingleServerBytes.{table_of}
 use Rattle.osc_handle.specs.declared.server_handle.ServerHandle.{ServerHandle}
 use Rattle.osc_handle.proofs.Servers.{serves_added, serves_new}

@@ -1,5 +1,5 @@
 use Rattle.std.proofs.Common.{◌∙◌, ◌∷◌, [], arith, refl, sym}
-use Rattle.osc_endpoint.specs.Views.{values_of}
+use Rattle.osc_life.specs.Views.{values_of}
 use Rattle.osc_handle.proofs.Waits.{notes_added_at, notes_none_at}
 use Rattle.osc_handle.proofs.single_server_handle.SingleServerHandle.note_ticket.Goals as goal
 

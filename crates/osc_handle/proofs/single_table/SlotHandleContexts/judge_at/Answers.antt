@@ -1,6 +1,6 @@
 use Rattle.std.proofs.Common.{◌∙◌, ◌∷◌, [], List, Some, refl, subst, sym}
 use Rattle.osc_context.specs.Views.{number_of}
-use Rattle.osc_endpoint.specs.Judging.{GateRefuses}
+use Rattle.osc_life.specs.Judging.{GateRefuses}
 use Rattle.osc_handle.specs.SingleServerBytes.{table_of}
 use Rattle.osc_handle.specs.SlotBytes.{IsGateIn, IsSlotIn}
 use Rattle.osc_handle.specs.TableBytes.{IsTableIn}

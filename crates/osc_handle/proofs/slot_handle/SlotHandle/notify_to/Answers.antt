@@ -1,5 +1,5 @@
 use Rattle.std.proofs.Common.{◌∙◌, Ok, sym, true}
-use Rattle.osc_endpoint.specs.Replying.{reply_mark}
+use Rattle.osc_life.specs.Replying.{reply_mark}
 use Rattle.osc_handle.proofs.Tables.{size_marked, slots_alike}
 use Rattle.osc_handle.proofs.slot_handle.SlotHandle.notify_to.Goals as goal
 

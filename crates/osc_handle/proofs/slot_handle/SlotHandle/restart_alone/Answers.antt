@@ -3,11 +3,11 @@ use Rattle.std.specs.Prelude.{◌==◌}
 use Rattle.std.specs.Option.{option_map}
 use Rattle.std.proofs.lemmas.Bool.{cond-false, ne_eqb}
 use Rattle.osc_context.specs.Views.{number_of}
-use Rattle.osc_endpoint.specs.Life.{renewed}
+use Rattle.osc_life.specs.Life.{renewed}
 use Rattle.osc_endpoint.specs.Restarting.{lives_after}
-use Rattle.osc_endpoint.specs.ServerAnswer.{LifeRestart}
-use Rattle.osc_endpoint.specs.ServerHistory.{NotRestarted, Restarted}
-use Rattle.osc_endpoint.specs.declared.server_error.RestartError.TheVariants.{LivesExhausted}
+use Rattle.osc_life.specs.LifeAnswer.{LifeRestart}
+use Rattle.osc_life.specs.ServerHistory.{NotRestarted, Restarted}
+use Rattle.osc_life.specs.declared.server_error.RestartError.TheVariants.{LivesExhausted}
 use Rattle.osc_handle.specs.SingleServerBytes.{table_of}
 use Rattle.osc_handle.proofs.Tables.{life_count, life_there, place_changed}
 use Rattle.osc_handle.proofs.slot_handle.SlotHandle.restart_alone.Goals as goal

@@ -1,6 +1,6 @@
 use Rattle.std.proofs.Common.{refl}
 use Rattle.std.proofs.Math.Logic.{∥∥₁_map}
-use Rattle.osc_endpoint.specs.ClientHistory.{Then, Forget, Forgot}
+use Rattle.osc_client.specs.ClientHistory.{Then, Forget, Forgot}
 use Rattle.osc_kept_ends.proofs.kept_client.KeptClient.forget.Goals as goal
 
 pub invariant_of-self : goal.invariant_of-self

@@ -1,7 +1,7 @@
 use Rattle.std.proofs.Common.{◌∙◌, sym, ap}
 use Rattle.std.proofs.Math.Logic.{∥∥₁_map}
 use Rattle.osc_context.specs.Views.{number_of}
-use Rattle.osc_endpoint.specs.ClientHistory.{Then, Restart, Restarted}
+use Rattle.osc_client.specs.ClientHistory.{Then, Restart, Restarted}
 use Rattle.osc_kept_ends.specs.Numbering.{upcoming}
 use Rattle.osc_kept_ends.proofs.kept_client.KeptClient.restart.Goals as goal
 

@@ -1,7 +1,7 @@
 use Rattle.std.proofs.Common.{sym, ap}
 use Rattle.std.proofs.lemmas.Grind.{merely}
 use Rattle.osc_context.specs.Views.{as_client, number_of}
-use Rattle.osc_endpoint.specs.ClientHistory.{New}
+use Rattle.osc_client.specs.ClientHistory.{New}
 use Rattle.osc_kept_ends.specs.Numbering.{upcoming}
 use Rattle.osc_kept_ends.proofs.kept_client.KeptClient.start.Goals as goal
 

@@ -1,5 +1,5 @@
 use Rattle.std.proofs.Math.Logic.{∥∥₁_map}
-use Rattle.osc_endpoint.specs.ClientHistory.{Then, Datagram, Took}
+use Rattle.osc_client.specs.ClientHistory.{Then, Datagram, Took}
 use Rattle.osc_kept_ends.proofs.kept_client.KeptClient.take.Goals as goal
 
 pub invariant_of-self : goal.invariant_of-self

@@ -1,5 +1,5 @@
 use Rattle.osc_context.specs.Views.{as_server}
-use Rattle.osc_endpoint.specs.ServerHistory.{Begin}
+use Rattle.osc_life.specs.ServerHistory.{Begin}
 use Rattle.osc_kept_ends.proofs.ServerSteps.{added_alone}
 use Rattle.osc_kept_ends.proofs.kept_server.KeptServer.begin.Goals as goal
 

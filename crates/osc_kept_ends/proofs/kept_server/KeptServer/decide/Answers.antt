@@ -1,6 +1,6 @@
 use Rattle.std.proofs.Common.{◌∙◌, sym, ap, refl, Some}
 use Rattle.std.proofs.Math.Logic.{∥∥₁_map}
-use Rattle.osc_endpoint.specs.ServerHistory.{Then, Advance, Advanced}
+use Rattle.osc_life.specs.ServerHistory.{Then, Advance, Advanced}
 use Rattle.osc_kept_ends.specs.Numbering.{upcoming}
 use Rattle.osc_kept_ends.specs.Owning.{own_in}
 use Rattle.osc_kept_ends.proofs.kept_server.KeptServer.decide.Goals as goal

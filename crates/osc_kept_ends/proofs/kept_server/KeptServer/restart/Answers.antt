@@ -3,7 +3,7 @@ use Rattle.std.proofs.Math.Logic.{∥∥₁_map}
 use Rattle.osc_context.specs.Views.{number_of}
 use Rattle.osc_endpoint.specs.declared.server.Server.{Server}
 use Rattle.osc_endpoint.specs.Agrees.{Agrees}
-use Rattle.osc_endpoint.specs.ServerHistory.{Then, Restart, Restarted, life}
+use Rattle.osc_life.specs.ServerHistory.{Then, Restart, Restarted, life}
 use Rattle.osc_kept_ends.specs.Numbering.{upcoming}
 use Rattle.osc_kept_ends.proofs.ServerSteps.{lives_out, restarted}
 use Rattle.osc_kept_ends.proofs.kept_server.KeptServer.restart.Goals as goal

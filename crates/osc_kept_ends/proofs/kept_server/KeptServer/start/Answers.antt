@@ -1,7 +1,7 @@
 use Rattle.std.proofs.Common.{◌≡◌, ◌∙◌, ◌<◌, ◌≤◌, sym, ap, subst, refl, arith}
 use Rattle.osc_context.specs.Views.{number_of, as_server}
-use Rattle.osc_endpoint.specs.ServerHistory.{Begin, Then, Add, Added}
-use Rattle.osc_endpoint.specs.declared.start.Start.TheVariants as starts
+use Rattle.osc_life.specs.ServerHistory.{Begin, Then, Add, Added}
+use Rattle.osc_life.specs.declared.start.Start.TheVariants as starts
 use Rattle.osc_kept_ends.specs.KeptServing.{IsKept}
 use Rattle.osc_kept_ends.specs.Numbering.{upcoming}
 use Rattle.osc_kept_ends.specs.Owning.{own_in}

@@ -1,9 +1,9 @@
 use Rattle.std.proofs.Common.{ℕ, Result, length, refl, subst, take}
 use Rattle.osc_coap.specs.Views.{parts_of}
-use Rattle.osc_endpoint.specs.ClientAnswer.{ClientAnswer}
-use Rattle.osc_endpoint.specs.ClientHistory.{Request, Then}
-use Rattle.osc_endpoint.specs.Views.{request_entry}
-use Rattle.osc_endpoint.specs.declared.client_outcome.RequestError.{RequestError}
+use Rattle.osc_client.specs.ClientAnswer.{ClientAnswer}
+use Rattle.osc_client.specs.ClientHistory.{Request, Then}
+use Rattle.osc_client.specs.Views.{request_entry}
+use Rattle.osc_client.specs.declared.client_outcome.RequestError.{RequestError}
 use Rattle.osc_handle.specs.ClientBytes.{Asks}
 use Rattle.osc_kept_handle.proofs.ClientSteps.{not_sent, sent}
 use Rattle.osc_kept_handle.proofs.kept_client_handle.KeptClientHandle.request.Goals as goal

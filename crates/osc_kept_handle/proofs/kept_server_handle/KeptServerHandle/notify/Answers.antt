@@ -1,7 +1,7 @@
 use Rattle.std.proofs.Common.{ℕ, Result, length, refl, subst, take}
 use Rattle.osc_coap.specs.Views.{parts_of}
-use Rattle.osc_endpoint.specs.Views.{reply_entry}
-use Rattle.osc_endpoint.specs.declared.server_error.ReplyError.{ReplyError}
+use Rattle.osc_life.specs.Views.{reply_entry}
+use Rattle.osc_life.specs.declared.server_error.ReplyError.{ReplyError}
 use Rattle.osc_handle.specs.ServerBytes.{NotifiesIn}
 use Rattle.osc_handle.specs.SingleServerBytes.{server_of_one}
 use Rattle.osc_handle.specs.TicketBytes.{ticket_in}

@@ -1,6 +1,6 @@
 use Rattle.std.proofs.Common.{◌≡◌, ◌∙◌, IfSome, Err, length, refl, subst, sym, take}
 use Rattle.osc_coap.specs.Views.{parts_of}
-use Rattle.osc_endpoint.specs.ServerAnswer.{asks_own}
+use Rattle.osc_life.specs.LifeAnswer.{asks_own}
 use Rattle.osc_handle.specs.ServerBytes.{RepliesIn, entry_of_reply}
 use Rattle.osc_handle.specs.SingleServerBytes.{server_of_one}
 use Rattle.osc_handle.specs.TicketBytes.{ticket_in}

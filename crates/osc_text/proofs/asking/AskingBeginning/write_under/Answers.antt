@@ -1,5 +1,5 @@
 use Rattle.osc_context.specs.Views.{as_client, number_of}
-use Rattle.osc_endpoint.specs.ClientHistory.{New}
+use Rattle.osc_client.specs.ClientHistory.{New}
 use Rattle.osc_laws.specs.ClientLaws.{AllClientAnswers}
 use Rattle.osc_text.specs.AskedEvents.{SpellsAsked}
 use Rattle.osc_text.specs.AskedReading.{HasRoom, asked_read, asked_seen}

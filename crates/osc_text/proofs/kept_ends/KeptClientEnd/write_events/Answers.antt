@@ -1,5 +1,5 @@
 use Rattle.std.proofs.Common.{map, vec_len}
-use Rattle.osc_kept_ends.specs.KeptRuns.{ClientStep, client_state}
+use Rattle.osc_kept_runs.specs.KeptRuns.{ClientStep, client_state}
 use Rattle.osc_text.specs.EntryLines.{entry_line}
 use Rattle.osc_text.specs.KeptLog.{kept_asked_text}
 use Rattle.osc_text.specs.KeptSeen.{IsRoomyAsked, kept_asked_seen}

@@ -1,5 +1,5 @@
 use Rattle.std.proofs.Common.{[], map, vec_len}
-use Rattle.osc_kept_ends.specs.KeptRuns.{ServerStep, server_state}
+use Rattle.osc_kept_runs.specs.KeptRuns.{ServerStep, server_state}
 use Rattle.osc_text.specs.EntryLines.{entry_line}
 use Rattle.osc_text.specs.KeptLog.{kept_text}
 use Rattle.osc_text.specs.KeptSeen.{IsRoomy, kept_seen}

@@ -1,7 +1,7 @@
 use Rattle.std.proofs.Common.{refl}
 use Rattle.osc_context.specs.Views.{as_client}
-use Rattle.osc_endpoint.specs.ClientHistory.{New}
-use Rattle.osc_kept_ends.specs.KeptRuns.{client_state}
+use Rattle.osc_client.specs.ClientHistory.{New}
+use Rattle.osc_kept_runs.specs.KeptRuns.{client_state}
 use Rattle.osc_kept_ends.specs.Views.{kept_error_text}
 use Rattle.osc_text.specs.Asking.{places}
 use Rattle.osc_text.specs.KeptAskedEvents.{SpellsKeptAsked}

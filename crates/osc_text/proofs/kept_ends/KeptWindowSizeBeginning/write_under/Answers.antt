@@ -1,7 +1,7 @@
 use Rattle.std.proofs.Common.{[], refl}
 use Rattle.osc_context.specs.Views.{as_server}
-use Rattle.osc_endpoint.specs.ServerHistory.{Add, Added, Begin, Then}
-use Rattle.osc_kept_ends.specs.KeptRuns.{server_state}
+use Rattle.osc_life.specs.ServerHistory.{Add, Added, Begin, Then}
+use Rattle.osc_kept_runs.specs.KeptRuns.{server_state}
 use Rattle.osc_kept_ends.specs.Views.{kept_error_text}
 use Rattle.osc_text.specs.KeptEvents.{SpellsKept}
 use Rattle.osc_text.specs.KeptServing.{KeptLine, StartText, Starts}

@@ -3,8 +3,8 @@ use Rattle.osc_context.specs.Views.{as_server}
 use Rattle.osc_endpoint.specs.Agrees.{Agrees}
 use Rattle.osc_laws.specs.Laws.{AllAnswers}
 use Rattle.osc_endpoint.specs.ServerAnswer.{ServerAnswer}
-use Rattle.osc_endpoint.specs.ServerHistory.{Add, Added, Begin, NotAdded, Then}
-use Rattle.osc_endpoint.specs.declared.start.Start.{Start}
+use Rattle.osc_life.specs.ServerHistory.{Add, Added, Begin, NotAdded, Then}
+use Rattle.osc_life.specs.declared.start.Start.{Start}
 use Rattle.osc_text.specs.InputEvents.{SpellsEvent}
 use Rattle.osc_text.specs.ServedReading.{IsOfRun, event_read, event_seen}
 use Rattle.osc_text.specs.Serving.{ServerLine, start_of}

@@ -1,7 +1,7 @@
 use Rattle.std.proofs.Common.{◌≡◌, subst, take}
 use Rattle.std.proofs.lemmas.Bool.Decides.{Decides-eqb}
 use Rattle.std.proofs.lemmas.Slice.Eq.{slice_eq-Decides}
-use Rattle.osc_endpoint.specs.Views.{Shows}
+use Rattle.osc_life.specs.Views.{Shows}
 use Rattle.osc_callers.proofs.GoingThrough.{challenged}
 use Rattle.osc_callers.proofs.tests.premises.steps.challenge.Goals as goal
 

@@ -2,8 +2,8 @@ use Rattle.std.proofs.Common.{ℕ, subst}
 use Rattle.osc_context.specs.SecurityContext.{SecurityContext}
 use Rattle.osc_context.specs.Views.{as_server}
 use Rattle.osc_window.specs.declared.window_size.WindowSize.TheVariants.{Places32}
-use Rattle.osc_endpoint.specs.declared.start.Start.TheVariants as starts
-use Rattle.osc_endpoint.specs.ServerHistory as serving
+use Rattle.osc_life.specs.declared.start.Start.TheVariants as starts
+use Rattle.osc_life.specs.ServerHistory as serving
 use Rattle.osc_callers.specs.Calls.{ServerGoes}
 use Rattle.osc_callers.proofs.tests.premises.steps.start_server.Goals as goal
 

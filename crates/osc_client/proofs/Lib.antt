@@ -1,0 +1,5 @@
+pub mod Showing
+pub mod Asking
+pub mod ClientDecisions
+pub mod ClientDeliveries
+pub mod ClientRequests

@@ -1,0 +1,75 @@
+//! The client: one context, and the requests that wait for their responses.
+
+ghost use Rattle.std.specs.Prelude.{◌≤◌, ◌^◌};
+ghost use Rattle.osc_context.specs.Views.{as_client, number_of};
+
+use crate::pending::{Pending, drop_expired, find_request};
+use arrayvec::ArrayVec;
+use osc_context::{Context, Piv};
+use osc_protect::KeyedContext;
+
+/// A client of one context, with room for N pending requests. It has no socket and no clock: you pass in datagrams and timestamps in
+/// milliseconds.
+#[derive(Drop)]
+pub struct Client<const N: usize> {
+    pub(crate) context: KeyedContext,
+    pub(crate) life_ms: u64,
+    pub(crate) clock: u64,
+    // The next Sender Sequence Number, or the limit if none is left.
+    pub(crate) next: u64,
+    pub(crate) pending: ArrayVec<Pending, N>,
+    pub ghost in_range: { next ≤ 2 ^ 40 },
+}
+
+impl<const N: usize> Client<N> {
+    ghost use Rattle.osc_client.specs.Agrees.{ClientAgrees, HasTokensApart};
+    ghost use Rattle.osc_client.specs.ClientAnswer.{ClientAnswer};
+    ghost use Rattle.osc_client.specs.ClientHistory.{History, New, Then, Advance, Advanced, Forget, Forgot, Restart, Restarted};
+
+    /// Makes a client with nothing pending. Its requests are pending for `life_ms` milliseconds and no longer, except a registration that
+    /// was notified.
+    #[must_use]
+    pub fn new(context: Context, next: Piv, life_ms: u64) -> Client<N>
+        ensures { ClientAgrees result (New (as_client context) (number_of next) life_ms) }
+    {
+        Client {
+            context: KeyedContext::new(context),
+            life_ms,
+            clock: 0,
+            next: next.number(),
+            pending: ArrayVec::new(),
+        }
+    }
+
+    /// Drops every pending request, and continues with `next` as the next Sender Sequence Number. The clock doesn't change.
+    pub fn restart(&mut self, next: Piv)
+        ensures { (h : History) → ClientAgrees self.old h → ClientAgrees self.new (Then h (Restart (number_of next)) Restarted) }
+    {
+        self.next = next.number();
+        self.pending.clear();
+    }
+
+    /// Moves the clock to `now`, in milliseconds, if that is later. Drops the requests whose time has passed.
+    pub fn advance(&mut self, now: u64)
+        ensures follows { (h : History) → ClientAgrees self.old h → ClientAgrees self.new (Then h (Advance now) Advanced) }
+        ensures apart { HasTokensApart self.old → HasTokensApart self.new }
+    {
+        self.clock = self.clock.max(now);
+        drop_expired(&mut self.pending, self.clock, self.life_ms);
+    }
+
+    /// Stops waiting for the response to the request with this token. Returns whether the token was pending.
+    pub fn forget(&mut self, token: &[u8]) -> bool
+        ensures answered { (h : History) → ClientAgrees self.old h → ClientAnswer N h (Forget token.now) (Forgot result) }
+        ensures follows { (h : History) → ClientAgrees self.old h → ClientAgrees self.new (Then h (Forget token.now) (Forgot result)) }
+        ensures apart { HasTokensApart self.old → HasTokensApart self.new }
+    {
+        match find_request(self.pending.as_slice(), token) {
+            Some(found) => {
+                let _forgotten = self.pending.remove(found.place);
+                true
+            }
+            None => false,
+        }
+    }
+}

@@ -1,0 +1,160 @@
+//! Requests of a client.
+
+ghost use Rattle.std.specs.Prelude.{◌≡◌, ◌≢◌, ◌≤◌, ◌<◌, ◌^◌, ℕ, IfOk, IfErr, OnOk, OnErr, length, drop};
+ghost use Rattle.arrayvec.specs.ArrayVec.{array_vec_len};
+ghost use Rattle.osc_coap.specs.Views.{parts_of};
+ghost use Rattle.osc_context.specs.Views.{number_of};
+ghost use Rattle.osc_client.specs.Requesting.{IsFirstReason, lifted};
+ghost use Rattle.osc_protect.specs.SealRefusals.{IsPlainRequest};
+ghost use Rattle.osc_client.specs.declared.client_outcome.RequestError.TheVariants.{KeeperFailed};
+
+use crate::client::Client;
+use crate::client_outcome::RequestError;
+use crate::pending::{Pending, Wait, find_request};
+use osc_coap::Message;
+use osc_context::{Features, Piv};
+use osc_observe::siblings::{copy_of, registers};
+use osc_protect::{ProtectError, check_request};
+
+/// Turns a refusal to seal into the refusal of a request.
+fn lift(error: ProtectError) -> RequestError
+    ensures value { result ≡ lifted error }
+    ensures no_keeper_failed { result ≢ KeeperFailed }
+{
+    match error {
+        ProtectError::NotThatKind => RequestError::NotThatKind,
+        ProtectError::Unsupported(number) => RequestError::Unsupported(number),
+        ProtectError::TooLong => RequestError::TooLong,
+        ProtectError::NoRoom => RequestError::NoRoom,
+    }
+}
+
+/// Returns why a request isn't sealed for which there is this other reason: what keeps it from being sealed at all comes first.
+fn first_reason(plain: &Message<'_>, features: Features, other: RequestError) -> RequestError
+    requires { other ≢ KeeperFailed }
+    ensures first { IsFirstReason features (parts_of plain.now) other result }
+    ensures no_keeper_failed { result ≢ KeeperFailed }
+{
+    match check_request(plain, features) {
+        Ok(()) => other,
+        Err(error) => lift(error),
+    }
+}
+
+impl<const N: usize> Client<N> {
+    ghost use Rattle.osc_client.specs.Agrees.{ClientAgrees, HasTokensApart, client_parts};
+    ghost use Rattle.osc_client.specs.ClientAnswer.{CanAsk, ClientAnswer, IsAmong, RequestAnswer};
+    ghost use Rattle.osc_client.specs.ClientHistory.{History, Then, Request, NotSent, Advance, Advanced, clock, context, next, wait_of};
+    ghost use Rattle.osc_protect.specs.Views.{context_of};
+    ghost use Rattle.osc_client.specs.Requesting.{sent_entry};
+    ghost use Rattle.osc_client.specs.Views.{request_entry};
+
+    /// Returns the Sender Sequence Number of a request that is sealed now, or why there is none for a request that can be sealed, whatever
+    /// the room for it.
+    fn number_for(&self, plain: &Message<'_>) -> Result<Piv, RequestError>
+        ensures accepted { IfOk result (λ number. (h : History) → ClientAgrees self.now h
+            → IsPlainRequest (context h).features (parts_of plain.now)
+            → CanAsk N h (clock h) (parts_of plain.now) × (number_of number ≡ next h)) }
+        ensures number { IfOk result (λ number. (h : History) → ClientAgrees self.now h → number_of number ≡ next h) }
+        ensures refused { IfErr result (λ e. (h : History) (room : ℕ) → ClientAgrees self.now h
+            → IsPlainRequest (context h).features (parts_of plain.now)
+            → RequestAnswer N h (clock h) (parts_of plain.now) room (NotSent e)) }
+        ensures fits { OnOk result ((array_vec_len self.now.pending < N) × (self.now.next < 2 ^ 40)) }
+        ensures unused { OnOk result (IsAmong (parts_of plain.now).token (client_parts self.now).pending → ⊥) }
+        ensures no_keeper_failed { IfErr result (λ e. e ≢ KeeperFailed) }
+    {
+        if find_request(self.pending.as_slice(), plain.token.as_slice()).is_some() {
+            return Err(RequestError::TokenInUse);
+        }
+        if self.pending.is_full() {
+            return Err(RequestError::PendingFull);
+        }
+        match Piv::new(self.next) {
+            Some(number) => Ok(number),
+            None => Err(RequestError::SequenceExhausted),
+        }
+    }
+
+    /// Returns what a request waits for once it is sealed.
+    fn wait_for(&self, plain: &Message<'_>) -> Wait
+        ensures { result ≡ wait_of (context_of self.now.context).features (parts_of plain.now) }
+    {
+        let features = self.context.context().features();
+        if registers(features, plain.code, &plain.options()) {
+            Wait::Observing { from: 0 }
+        } else {
+            Wait::Once
+        }
+    }
+
+    /// Does what `request` does, and returns the number of the request too.
+    #[doc(hidden)]
+    pub fn send(
+        &mut self,
+        now: u64,
+        plain: &Message<'_>,
+        out: &mut [u8],
+    ) -> Result<(Piv, usize), RequestError>
+        ensures answered { (h : History) → ClientAgrees self.old h
+            → ClientAnswer N h (Request now (parts_of plain.now) (length out.old)) (sent_entry result out.new) }
+        ensures follows { (h : History) → ClientAgrees self.old h
+            → ClientAgrees self.new (Then h (Request now (parts_of plain.now) (length out.old)) (sent_entry result out.new)) }
+        ensures number { IfOk result (λ r. (h : History) → ClientAgrees self.old h → number_of r.0 ≡ next h) }
+        ensures within { IfOk result (λ r. r.1 ≤ length out.new) }
+        ensures behind { IfOk result (λ r. drop r.1 out.new ≡ drop r.1 out.old) }
+        ensures unchanged { OnErr result ((out.new ≡ out.old)
+            × ((h : History) → ClientAgrees self.old h → ClientAgrees self.new (Then h (Advance now) Advanced))) }
+        ensures no_keeper_failed { IfErr result (λ e. e ≢ KeeperFailed) }
+        ensures apart { HasTokensApart self.old → HasTokensApart self.new }
+    {
+        self.advance(now);
+        let number = match self.number_for(plain) {
+            Ok(number) => number,
+            Err(other) => {
+                let features = self.context.context().features();
+                let reason = first_reason(plain, features, other);
+                return Err(reason);
+            }
+        };
+        match self.context.seal_request(number, plain, out) {
+            Ok(len) => {
+                let wait = self.wait_for(plain);
+                self.next += 1;
+                self.pending.push(Pending {
+                    token: copy_of(&plain.token),
+                    number,
+                    moment: self.clock,
+                    wait,
+                });
+                Ok((number, len))
+            }
+            Err(error) => Err(lift(error)),
+        }
+    }
+
+    /// Seals a request with the next Sender Sequence Number into `out`, and returns how many bytes it takes at the front of `out` (RFC
+    /// 8613, 8.1). The request's token is pending from then on, of a registration over all its notifications. Returns the first refusal in
+    /// the order of `RequestError`. A refusal leaves `out` unchanged, and changes the client only as `advance` does.
+    pub fn request(
+        &mut self,
+        now: u64,
+        plain: &Message<'_>,
+        out: &mut [u8],
+    ) -> Result<usize, RequestError>
+        ensures answered { (h : History) → ClientAgrees self.old h
+            → ClientAnswer N h (Request now (parts_of plain.now) (length out.old)) (request_entry result out.new) }
+        ensures follows { (h : History) → ClientAgrees self.old h
+            → ClientAgrees self.new (Then h (Request now (parts_of plain.now) (length out.old)) (request_entry result out.new)) }
+        ensures within { IfOk result (λ n. n ≤ length out.new) }
+        ensures behind { IfOk result (λ n. drop n out.new ≡ drop n out.old) }
+        ensures unchanged { OnErr result ((out.new ≡ out.old)
+            × ((h : History) → ClientAgrees self.old h → ClientAgrees self.new (Then h (Advance now) Advanced))) }
+        ensures no_keeper_failed { IfErr result (λ e. e ≢ KeeperFailed) }
+        ensures apart { HasTokensApart self.old → HasTokensApart self.new }
+    {
+        match self.send(now, plain, out) {
+            Ok((_, len)) => Ok(len),
+            Err(error) => Err(error),
+        }
+    }
+}

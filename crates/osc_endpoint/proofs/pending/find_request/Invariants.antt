@@ -1,8 +1,0 @@
-use Rattle.std.proofs.Common.{◌≡◌, ℕ, ◌<◌, Some}
-use Rattle.std.specs.Prelude.{map, slice_get}
-use Rattle.osc_endpoint.specs.ClientHistory.{Asked}
-use Rattle.osc_endpoint.specs.Views.{asked_of}
-use Rattle.osc_endpoint.proofs.pending.find_request.Given as goal
-
-abbrev pub invariant-loop-place : goal.invariant-loop-place
-invariant-loop-place l = (i : ℕ) (r : Asked) → i < l.place → slice_get (map asked_of l.pending) i ≡ Some r → r.token ≡ l.token → ⊥

@@ -1,0 +1,2 @@
+-- to be believed
+pub mod KeptRuns

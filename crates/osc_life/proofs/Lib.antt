@@ -1,0 +1,5 @@
+pub mod Lives
+pub mod ChallengeLengths
+pub mod Showing
+pub mod Judgments
+pub mod SealedReplies

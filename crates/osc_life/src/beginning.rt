@@ -1,0 +1,46 @@
+//! How a life of a context begins (RFC 8613, B.1).
+
+ghost use Rattle.std.specs.Prelude.{◌≡◌, ◌<◌, ◌+◌, ◌^◌};
+ghost use Rattle.osc_context.specs.Views.{as_server, number_of};
+ghost use Rattle.osc_protect.specs.Views.{context_of};
+
+use crate::slot::Slot;
+use crate::start::Start;
+use osc_context::{Context, Piv};
+use osc_protect::KeyedContext;
+use osc_window::{Gate, Window, WindowSize};
+
+impl Slot {
+    ghost use Rattle.osc_life.specs.Agrees.{SlotAgrees};
+    ghost use Rattle.osc_life.specs.Life.{Life, born, renewed};
+
+    /// Begins a context.
+    #[must_use]
+    pub fn begin(context: Context, start: Start, size: WindowSize) -> Slot
+        ensures context { context_of result.context ≡ context }
+        ensures agrees { SlotAgrees result (born (as_server context) start size) }
+    {
+        let (gate, next) = match start {
+            Start::Fresh(next) => (Gate::Open(Window::fresh(size)), next),
+            Start::Restarted(next) => (Gate::Restarted { challenge: None }, next),
+        };
+        Slot {
+            context: KeyedContext::new(context),
+            size,
+            gate,
+            next: next.number(),
+            life: 0,
+        }
+    }
+
+    /// Begins a new life.
+    pub fn renew(&mut self, next: Piv)
+        requires { self.old.life + 1 < 2 ^ 64 }
+        ensures context { self.new.context ≡ self.old.context }
+        ensures kept { (l : Life) → SlotAgrees self.old l → SlotAgrees self.new (renewed (number_of next) l) }
+    {
+        self.gate = Gate::Restarted { challenge: None };
+        self.next = next.number();
+        self.life += 1;
+    }
+}

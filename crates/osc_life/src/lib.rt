@@ -1,0 +1,41 @@
+//! One context of a server, in its present life: what it answers to requests, what it seals by tickets, and how a new life of it begins (RFC
+//! 8613, 7.4, 8.2, 8.3 and B.1).
+#![tactic(auto)]
+
+mod asker;
+mod beginning;
+mod challenge_reply;
+mod decision;
+mod echo;
+mod error_reply;
+mod judging;
+mod notifying;
+mod outcome;
+mod place;
+mod replying;
+mod seen;
+mod server_error;
+mod slot;
+mod start;
+mod ticket;
+mod ticket_places;
+
+pub use decision::{Decided, Decision};
+pub use outcome::{Outcome, Taken};
+pub use seen::Seen;
+pub use server_error::{AddError, ReplyError, RestartError};
+pub use start::{Fresh, Start};
+pub use ticket::Ticket;
+
+/// The base of the crates that keep contexts in a table. If you have a server, you need none of it.
+#[doc(hidden)]
+pub mod siblings {
+    pub use crate::asker::Asker;
+    pub use crate::error_reply::{ErrorReply, write_error};
+    pub use crate::judging::{Named, is_replay, refuse_replay};
+    pub use crate::place::{
+        is_for, is_open_place, judge_place, notify_place, reply_place, restart_place,
+    };
+    pub use crate::slot::Slot;
+    pub use crate::ticket_places::{make_places, put_back, take_out, ticket_at};
+}

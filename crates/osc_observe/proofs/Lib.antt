@@ -1,0 +1,2 @@
+pub mod Receiving
+pub mod Fronts
