@@ -1,14 +1,14 @@
 -- The written tables against the definitions, by computation.
-use Rattle.std.proofs.Common.{◌≡◌, ℕ, ◌+◌, ◌-◌, ◌*◌, ◌/◌, ◌%◌, ◌^◌, ◌<◌, List, [], ◌∷◌, refl, ap, ◌∙◌, sym, get_or, map, bit_and, bit_xor, arith, w32}
+use Rattle.std.proofs.Common.{◌≡◌, ℕ, zero, suc, ◌+◌, ◌-◌, ◌*◌, ◌/◌, ◌%◌, ◌^◌, ◌<◌, List, [], ◌∷◌, refl, ap, ◌∙◌, sym, get_or, map, bit_and, bit_xor, arith, w32}
 use Rattle.std.specs.Int.{to_be_bytes}
 use Rattle.std.specs.List.{range_with_len}
 use Rattle.std.proofs.lemmas.List.FromFn.{get_or-map-range_with_len}
 use Rattle.osc_aes.specs.Field.{mul, power, product_of_squares, inverse}
 use Rattle.osc_aes.specs.SubstitutionBox.{substitute}
-use Rattle.osc_aes.specs.RoundWords.{round_word}
+use Rattle.osc_aes.specs.RoundWords.{lone_byte, round_word}
 use Rattle.osc_aes.specs.declared.substitution_box.TheConstants.{SUBSTITUTION_BOX}
 use Rattle.osc_aes.specs.declared.key_schedule.TheConstants.{ROUND_CONSTANTS}
-use Rattle.osc_aes.specs.declared.round_words.TheConstants.{T0, T1, T2, T3}
+use Rattle.osc_aes.specs.declared.round_words.TheConstants.{TABLES}
 
 -- a table that lists f has f x at x
 table_entry : (f : ℕ → ℕ) (n : ℕ) (table : List ℕ) → table ≡ map f (range_with_len 0 n) → (x : ℕ) → x < n → get_or table x 0 ≡ f x
@@ -75,148 +75,50 @@ round_constants-entry = table_entry (power 2) 10 ROUND_CONSTANTS round_constant_
 
 -- ---- the tables of a round
 
--- the whole of table 0
-table_0_values : T0 ≡ map (round_word 0) (range_with_len 0 256)
+-- all four tables
+table_values : (t : ℕ) → t < 4 → get_or TABLES t [] ≡ map (round_word t) (range_with_len 0 256)
 unfolding mul power product_of_squares inverse substitute round_word
-table_0_values = refl
+table_values zero h = refl
+table_values (suc zero) h = refl
+table_values (suc (suc zero)) h = refl
+table_values (suc (suc (suc zero))) h = refl
+table_values (suc (suc (suc (suc t)))) h = absurd (omega arith)
 
--- table 0, entry by entry
-pub table_0-entry : (b : ℕ) → b < 256 → get_or T0 b 0 ≡ round_word 0 b
-table_0-entry = table_entry (round_word 0) 256 T0 table_0_values
+-- a table, entry by entry
+pub table-entry : (t : ℕ) → t < 4 → (b : ℕ) → b < 256 → get_or (get_or TABLES t []) b 0 ≡ round_word t b
+table-entry t h = table_entry (round_word t) 256 (get_or TABLES t []) (table_values t h)
 
--- what table 0 has for each row
-abbrev pub rows_0 : ℕ → List ℕ
-rows_0 b = mul 2 (substitute b) ∷ substitute b ∷ substitute b ∷ mul 3 (substitute b) ∷ []
+-- what table t has for each row: 02·S, S, S and 03·S, rotated right by t
+abbrev pub rows : ℕ → ℕ → List ℕ
+rows t b =
+    map (λ r. get_or (mul 2 (substitute b) ∷ substitute b ∷ substitute b ∷ mul 3 (substitute b) ∷ []) ((r + 4 - t) % 4) 0) (range_with_len 0 4)
 
--- the bytes of all words of table 0
-round_word_0_rows : map (λ b. to_be_bytes w32 (round_word 0 b)) (range_with_len 0 256) ≡ map rows_0 (range_with_len 0 256)
+-- the bytes of all words of a table
+table_rows : (t : ℕ) → t < 4 → map (λ b. to_be_bytes w32 (round_word t b)) (range_with_len 0 256) ≡ map (rows t) (range_with_len 0 256)
 unfolding mul power product_of_squares inverse substitute round_word
-round_word_0_rows = refl
+table_rows zero h = refl
+table_rows (suc zero) h = refl
+table_rows (suc (suc zero)) h = refl
+table_rows (suc (suc (suc zero))) h = refl
+table_rows (suc (suc (suc (suc t)))) h = absurd (omega arith)
 
--- the bytes of a word of table 0
-pub round_word_0-rows : (b : ℕ) → b < 256 → to_be_bytes w32 (round_word 0 b) ≡ rows_0 b
-round_word_0-rows = same_on_bytes _ _ round_word_0_rows
+-- the bytes of a word of table t for byte b, which is x
+pub table-rows : (t : ℕ) → t < 4 → (w b x : ℕ) → w ≡ round_word t b → b < 256 → b ≡ x → to_be_bytes w32 w ≡ rows t x
+table-rows t h w b x e lt same = ap (to_be_bytes w32) e ∙ same_on_bytes (λ n. to_be_bytes w32 (round_word t n)) (rows t) (table_rows t h) b lt ∙ ap (rows t) same
 
--- the whole of table 1
-table_1_values : T1 ≡ map (round_word 1) (range_with_len 0 256)
+-- what is left of all words in the last round
+left_rows : (r : ℕ) → r < 4 → map (λ b. to_be_bytes w32 (bit_and (round_word ((r + 2) % 4) b) (0xff000000 / 2 ^ (8 * r)))) (range_with_len 0 256)
+    ≡ map (λ b. lone_byte r (substitute b)) (range_with_len 0 256)
 unfolding mul power product_of_squares inverse substitute round_word
-table_1_values = refl
+left_rows zero h = refl
+left_rows (suc zero) h = refl
+left_rows (suc (suc zero)) h = refl
+left_rows (suc (suc (suc zero))) h = refl
+left_rows (suc (suc (suc (suc r)))) h = absurd (omega arith)
 
--- table 1, entry by entry
-pub table_1-entry : (b : ℕ) → b < 256 → get_or T1 b 0 ≡ round_word 1 b
-table_1-entry = table_entry (round_word 1) 256 T1 table_1_values
-
--- what table 1 has for each row
-abbrev pub rows_1 : ℕ → List ℕ
-rows_1 b = mul 3 (substitute b) ∷ mul 2 (substitute b) ∷ substitute b ∷ substitute b ∷ []
-
--- the bytes of all words of table 1
-round_word_1_rows : map (λ b. to_be_bytes w32 (round_word 1 b)) (range_with_len 0 256) ≡ map rows_1 (range_with_len 0 256)
-unfolding mul power product_of_squares inverse substitute round_word
-round_word_1_rows = refl
-
--- the bytes of a word of table 1
-pub round_word_1-rows : (b : ℕ) → b < 256 → to_be_bytes w32 (round_word 1 b) ≡ rows_1 b
-round_word_1-rows = same_on_bytes _ _ round_word_1_rows
-
--- the whole of table 2
-table_2_values : T2 ≡ map (round_word 2) (range_with_len 0 256)
-unfolding mul power product_of_squares inverse substitute round_word
-table_2_values = refl
-
--- table 2, entry by entry
-pub table_2-entry : (b : ℕ) → b < 256 → get_or T2 b 0 ≡ round_word 2 b
-table_2-entry = table_entry (round_word 2) 256 T2 table_2_values
-
--- what table 2 has for each row
-abbrev pub rows_2 : ℕ → List ℕ
-rows_2 b = substitute b ∷ mul 3 (substitute b) ∷ mul 2 (substitute b) ∷ substitute b ∷ []
-
--- the bytes of all words of table 2
-round_word_2_rows : map (λ b. to_be_bytes w32 (round_word 2 b)) (range_with_len 0 256) ≡ map rows_2 (range_with_len 0 256)
-unfolding mul power product_of_squares inverse substitute round_word
-round_word_2_rows = refl
-
--- the bytes of a word of table 2
-pub round_word_2-rows : (b : ℕ) → b < 256 → to_be_bytes w32 (round_word 2 b) ≡ rows_2 b
-round_word_2-rows = same_on_bytes _ _ round_word_2_rows
-
--- the whole of table 3
-table_3_values : T3 ≡ map (round_word 3) (range_with_len 0 256)
-unfolding mul power product_of_squares inverse substitute round_word
-table_3_values = refl
-
--- table 3, entry by entry
-pub table_3-entry : (b : ℕ) → b < 256 → get_or T3 b 0 ≡ round_word 3 b
-table_3-entry = table_entry (round_word 3) 256 T3 table_3_values
-
--- what table 3 has for each row
-abbrev pub rows_3 : ℕ → List ℕ
-rows_3 b = substitute b ∷ substitute b ∷ mul 3 (substitute b) ∷ mul 2 (substitute b) ∷ []
-
--- the bytes of all words of table 3
-round_word_3_rows : map (λ b. to_be_bytes w32 (round_word 3 b)) (range_with_len 0 256) ≡ map rows_3 (range_with_len 0 256)
-unfolding mul power product_of_squares inverse substitute round_word
-round_word_3_rows = refl
-
--- the bytes of a word of table 3
-pub round_word_3-rows : (b : ℕ) → b < 256 → to_be_bytes w32 (round_word 3 b) ≡ rows_3 b
-round_word_3-rows = same_on_bytes _ _ round_word_3_rows
-
--- row r of a word of table t, whose byte b is x
-pub table_row : (r t : ℕ) (rows : ℕ → List ℕ) → ((b : ℕ) → b < 256 → to_be_bytes w32 (round_word t b) ≡ rows b)
-    → (w b x : ℕ) → w ≡ round_word t b → b < 256 → b ≡ x → get_or (to_be_bytes w32 w) r 0 ≡ get_or (rows x) r 0
-table_row r t rows law w b x e lt same =
-    ap (λ (l : List ℕ). get_or l r 0) (ap (to_be_bytes w32) e ∙ law b lt ∙ ap rows same)
-
--- what is left of a word of table 2 in the last round
-abbrev pub lone_0 : ℕ → List ℕ
-lone_0 b = substitute b ∷ 0 ∷ 0 ∷ 0 ∷ []
-
--- row 0 of all words of table 2
-round_word_2_lone : map (λ b. to_be_bytes w32 (bit_and (round_word 2 b) 0xff000000)) (range_with_len 0 256) ≡ map lone_0 (range_with_len 0 256)
-unfolding mul power product_of_squares inverse substitute round_word
-round_word_2_lone = refl
-
--- row 0 of a word of table 2
-pub round_word_2-lone : (b : ℕ) → b < 256 → to_be_bytes w32 (bit_and (round_word 2 b) 0xff000000) ≡ lone_0 b
-round_word_2-lone = same_on_bytes _ _ round_word_2_lone
-
--- what is left of a word of table 3 in the last round
-abbrev pub lone_1 : ℕ → List ℕ
-lone_1 b = 0 ∷ substitute b ∷ 0 ∷ 0 ∷ []
-
--- row 1 of all words of table 3
-round_word_3_lone : map (λ b. to_be_bytes w32 (bit_and (round_word 3 b) 0x00ff0000)) (range_with_len 0 256) ≡ map lone_1 (range_with_len 0 256)
-unfolding mul power product_of_squares inverse substitute round_word
-round_word_3_lone = refl
-
--- row 1 of a word of table 3
-pub round_word_3-lone : (b : ℕ) → b < 256 → to_be_bytes w32 (bit_and (round_word 3 b) 0x00ff0000) ≡ lone_1 b
-round_word_3-lone = same_on_bytes _ _ round_word_3_lone
-
--- what is left of a word of table 0 in the last round
-abbrev pub lone_2 : ℕ → List ℕ
-lone_2 b = 0 ∷ 0 ∷ substitute b ∷ 0 ∷ []
-
--- row 2 of all words of table 0
-round_word_0_lone : map (λ b. to_be_bytes w32 (bit_and (round_word 0 b) 0x0000ff00)) (range_with_len 0 256) ≡ map lone_2 (range_with_len 0 256)
-unfolding mul power product_of_squares inverse substitute round_word
-round_word_0_lone = refl
-
--- row 2 of a word of table 0
-pub round_word_0-lone : (b : ℕ) → b < 256 → to_be_bytes w32 (bit_and (round_word 0 b) 0x0000ff00) ≡ lone_2 b
-round_word_0-lone = same_on_bytes _ _ round_word_0_lone
-
--- what is left of a word of table 1 in the last round
-abbrev pub lone_3 : ℕ → List ℕ
-lone_3 b = 0 ∷ 0 ∷ 0 ∷ substitute b ∷ []
-
--- row 3 of all words of table 1
-round_word_1_lone : map (λ b. to_be_bytes w32 (bit_and (round_word 1 b) 0x000000ff)) (range_with_len 0 256) ≡ map lone_3 (range_with_len 0 256)
-unfolding mul power product_of_squares inverse substitute round_word
-round_word_1_lone = refl
-
--- row 3 of a word of table 1
-pub round_word_1-lone : (b : ℕ) → b < 256 → to_be_bytes w32 (bit_and (round_word 1 b) 0x000000ff) ≡ lone_3 b
-round_word_1-lone = same_on_bytes _ _ round_word_1_lone
+-- what is left of a word in the last round
+pub left-rows : (r : ℕ) → r < 4 → (w b : ℕ) → w ≡ round_word ((r + 2) % 4) b → b < 256
+    → to_be_bytes w32 (bit_and w (0xff000000 / 2 ^ (8 * r))) ≡ lone_byte r (substitute b)
+left-rows r h w b e lt =
+    let kept : ℕ → List ℕ = λ n. to_be_bytes w32 (bit_and n (0xff000000 / 2 ^ (8 * r))) in
+    ap kept e ∙ same_on_bytes (λ n. kept (round_word ((r + 2) % 4) n)) (λ n. lone_byte r (substitute n)) (left_rows r h) b lt

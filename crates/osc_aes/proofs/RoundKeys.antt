@@ -5,14 +5,7 @@ use Rattle.std.specs.Int.{to_be_bytes}
 use Rattle.osc_aes.specs.Aes128.{added_word, expanded_key, word_at, xor_word}
 use Rattle.osc_aes.specs.RoundWords.{AreRoundKey, AreWordsTo}
 use Rattle.osc_aes.proofs.Keys.{added_word-within, expanded_key-word}
-use Rattle.osc_aes.proofs.WordRounds.{byte0-xor, byte1-xor, byte2-xor, byte3-xor}
-
--- the bytes of a sum
-to_be_bytes-xor : (x y : ℕ) → to_be_bytes w32 (bit_xor x y) ≡ xor_word (to_be_bytes w32 x) (to_be_bytes w32 y)
-to_be_bytes-xor x y =
-    ap₂ (λ (b : ℕ) (bs : List ℕ). b ∷ bs) (byte3-xor x y)
-    (ap₂ (λ (b : ℕ) (bs : List ℕ). b ∷ bs) (byte2-xor x y)
-    (ap₂ (λ (b : ℕ) (bs : List ℕ). b ∷ bs) (byte1-xor x y) (ap (λ (b : ℕ). b ∷ []) (byte0-xor x y))))
+use Rattle.osc_aes.proofs.WordRounds.{to_be_bytes-xor}
 
 -- the word of a round key and a column
 pub held_word : (words w : List ℕ) (i c x : ℕ) → AreWordsTo i words w → i < 11 → c < 4

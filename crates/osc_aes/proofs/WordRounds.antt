@@ -1,35 +1,36 @@
 -- A word's bytes under xor, and rounds on words.
-use Rattle.std.proofs.Common.{◌≡◌, ℕ, zero, suc, ◌+◌, ◌-◌, ◌*◌, ◌/◌, ◌%◌, ◌^◌, ◌<◌, List, get_or, bit_xor, refl, ap, ap₂, ◌∙◌, sym, arith, add-zero, add-one, w32}
+use Rattle.std.proofs.Common.{◌≡◌, ℕ, zero, suc, ◌+◌, ◌-◌, ◌*◌, ◌/◌, ◌%◌, ◌^◌, ◌<◌, List, [], ◌∷◌, ◌++◌, get_or, bit_xor, refl, ap, ap₂, ◌∙◌, sym, arith, add-zero, add-one, w32}
 use Rattle.std.proofs.lemmas.Nat.{xor_mod, xor_shr, xor_comm}
 use Rattle.std.proofs.lemmas.List.FromFn.{fill_by_all, get_or-map-range_with_len}
 use Rattle.std.specs.Int.{byte_at, to_be_bytes}
+use Rattle.osc_aes.specs.Field.{mul}
+use Rattle.osc_aes.specs.SubstitutionBox.{substitute}
 use lib.Bits.{xor_assoc, xor_zero_r}
-use Rattle.osc_aes.specs.Aes128.{State, add_round_key, after_rounds, block_of, cipher, mix_columns, shift_rows, state_of, sub_bytes, word_at}
-use Rattle.osc_aes.specs.RoundWords.{AreWordsOf, add_round_words}
+use Rattle.osc_aes.specs.Aes128.{State, add_round_key, after_rounds, block_of, cipher, mix_columns, shift_rows, state_of, sub_bytes, word_at, xor_word}
+use Rattle.osc_aes.specs.RoundWords.{AreWordsOf, add_round_words, block_of_words, lone_byte, mixed_column}
+use Rattle.osc_aes.proofs.Entries.{rows}
 
--- eight bits of a number from bit k on
-abbrev pub bits_at : ℕ → ℕ → ℕ
-bits_at k x = x / 2 ^ k % 2 ^ 8
-
--- they are added bit by bit
-pub bits_at-xor : (k x y : ℕ) → bits_at k (bit_xor x y) ≡ bit_xor (bits_at k x) (bits_at k y)
+-- eight bits of a number from bit k on are added bit by bit
+bits_at-xor : (k x y : ℕ) → bit_xor x y / 2 ^ k % 2 ^ 8 ≡ bit_xor (x / 2 ^ k % 2 ^ 8) (y / 2 ^ k % 2 ^ 8)
 bits_at-xor k x y = ap (λ (n : ℕ). n % 2 ^ 8) (xor_shr x y k) ∙ xor_mod (x / 2 ^ k) (y / 2 ^ k) 8
 
--- byte 3 of a sum
-pub byte3-xor : (x y : ℕ) → byte_at 3 (bit_xor x y) ≡ bit_xor (byte_at 3 x) (byte_at 3 y)
-byte3-xor = bits_at-xor 24
+-- the bytes of a sum
+pub to_be_bytes-xor : (x y : ℕ) → to_be_bytes w32 (bit_xor x y) ≡ xor_word (to_be_bytes w32 x) (to_be_bytes w32 y)
+to_be_bytes-xor x y =
+    let before : ℕ → List ℕ → List ℕ = λ b bs. b ∷ bs in
+    ap₂ before (bits_at-xor 24 x y)
+    (ap₂ before (bits_at-xor 16 x y) (ap₂ before (bits_at-xor 8 x y) (ap (λ (b : ℕ). b ∷ []) (xor_mod x y 8))))
 
--- byte 2 of a sum
-pub byte2-xor : (x y : ℕ) → byte_at 2 (bit_xor x y) ≡ bit_xor (byte_at 2 x) (byte_at 2 y)
-byte2-xor = bits_at-xor 16
-
--- byte 1 of a sum
-pub byte1-xor : (x y : ℕ) → byte_at 1 (bit_xor x y) ≡ bit_xor (byte_at 1 x) (byte_at 1 y)
-byte1-xor = bits_at-xor 8
-
--- byte 0 of a sum
-pub byte0-xor : (x y : ℕ) → byte_at 0 (bit_xor x y) ≡ bit_xor (byte_at 0 x) (byte_at 0 y)
-byte0-xor x y = xor_mod x y 8
+-- the bytes of the sum of four words and a key
+pub sum-bytes : (p q r s key : ℕ) (P Q R S : List ℕ)
+    → to_be_bytes w32 p ≡ P → to_be_bytes w32 q ≡ Q → to_be_bytes w32 r ≡ R → to_be_bytes w32 s ≡ S
+    → to_be_bytes w32 (bit_xor (bit_xor (bit_xor p q) (bit_xor r s)) key)
+    ≡ xor_word (xor_word (xor_word P Q) (xor_word R S)) (to_be_bytes w32 key)
+sum-bytes p q r s key P Q R S ep eq er es =
+    to_be_bytes-xor (bit_xor (bit_xor p q) (bit_xor r s)) key
+    ∙ ap (λ (u : List ℕ). xor_word u (to_be_bytes w32 key))
+    (to_be_bytes-xor (bit_xor p q) (bit_xor r s)
+    ∙ ap₂ xor_word (to_be_bytes-xor p q ∙ ap₂ xor_word ep eq) (to_be_bytes-xor r s ∙ ap₂ xor_word er es))
 
 -- a sum of four, from the second on
 xor_turn : (a b c d : ℕ) → bit_xor (bit_xor a b) (bit_xor c d) ≡ bit_xor (bit_xor b c) (bit_xor d a)
@@ -37,60 +38,28 @@ xor_turn a b c d =
     xor_assoc a b (bit_xor c d) ∙ xor_comm a (bit_xor b (bit_xor c d))
     ∙ ap (λ (x : ℕ). bit_xor x a) (sym (xor_assoc b c d)) ∙ xor_assoc (bit_xor b c) d a
 
--- a byte f of the sum of four words and a key, from each of the four words on
-module _ (f : ℕ → ℕ) (additive : (x y : ℕ) → f (bit_xor x y) ≡ bit_xor (f x) (f y)) (p q r s key P Q R S : ℕ) where
-  pub column_byte : f p ≡ P → f q ≡ Q → f r ≡ R → f s ≡ S
-      → f (bit_xor (bit_xor (bit_xor p q) (bit_xor r s)) key) ≡ bit_xor (bit_xor (bit_xor P Q) (bit_xor R S)) (f key)
-  column_byte ep eq er es =
-      additive (bit_xor (bit_xor p q) (bit_xor r s)) key
-      ∙ ap (λ (x : ℕ). bit_xor x (f key)) (
-      additive (bit_xor p q) (bit_xor r s)
-      ∙ ap₂ bit_xor (additive p q ∙ ap₂ bit_xor ep eq) (additive r s ∙ ap₂ bit_xor er es)
-      )
+-- the sum of a column's four words in the tables is the mixed column
+pub rows-mixed : (a b c d : ℕ) → xor_word (xor_word (rows 0 a) (rows 1 b)) (xor_word (rows 2 c) (rows 3 d)) ≡ mixed_column a b c d
+rows-mixed a b c d =
+    let two : ℕ → ℕ = λ x. mul 2 (substitute x) in
+    let three : ℕ → ℕ = λ x. mul 3 (substitute x) in
+    let one : ℕ → ℕ = substitute in
+    let before : ℕ → List ℕ → List ℕ = λ x xs. x ∷ xs in
+    ap (before _)
+    (ap₂ before (xor_turn (one a) (two b) (three c) (one d))
+    (ap₂ before (xor_turn (one a) (one b) (two c) (three d) ∙ xor_turn (one b) (two c) (three d) (one a))
+    (ap (λ (x : ℕ). x ∷ []) (
+    xor_turn (three a) (one b) (one c) (two d) ∙ xor_turn (one b) (one c) (two d) (three a) ∙ xor_turn (one c) (two d) (three a) (one b)
+    ))))
 
-  -- the same from the second word on
-  pub column_byte_1 : f p ≡ P → f q ≡ Q → f r ≡ R → f s ≡ S
-      → f (bit_xor (bit_xor (bit_xor p q) (bit_xor r s)) key) ≡ bit_xor (bit_xor (bit_xor Q R) (bit_xor S P)) (f key)
-  column_byte_1 ep eq er es =
-      column_byte ep eq er es ∙ ap (λ (x : ℕ). bit_xor x (f key)) (xor_turn P Q R S)
-
-  -- from the third
-  pub column_byte_2 : f p ≡ P → f q ≡ Q → f r ≡ R → f s ≡ S
-      → f (bit_xor (bit_xor (bit_xor p q) (bit_xor r s)) key) ≡ bit_xor (bit_xor (bit_xor R S) (bit_xor P Q)) (f key)
-  column_byte_2 ep eq er es =
-      column_byte_1 ep eq er es ∙ ap (λ (x : ℕ). bit_xor x (f key)) (xor_turn Q R S P)
-
-  -- from the fourth
-  pub column_byte_3 : f p ≡ P → f q ≡ Q → f r ≡ R → f s ≡ S
-      → f (bit_xor (bit_xor (bit_xor p q) (bit_xor r s)) key) ≡ bit_xor (bit_xor (bit_xor S P) (bit_xor Q R)) (f key)
-  column_byte_3 ep eq er es =
-      column_byte_2 ep eq er es ∙ ap (λ (x : ℕ). bit_xor x (f key)) (xor_turn R S P Q)
-
--- a byte f of the sum of four words and a key, where f is S in one of the four and zero in the others
-module _ (f : ℕ → ℕ) (additive : (x y : ℕ) → f (bit_xor x y) ≡ bit_xor (f x) (f y)) (p q r s key S : ℕ) where
-  -- S in the first
-  pub lone_byte_0 : f p ≡ S → f q ≡ 0 → f r ≡ 0 → f s ≡ 0
-      → f (bit_xor (bit_xor (bit_xor p q) (bit_xor r s)) key) ≡ bit_xor S (f key)
-  lone_byte_0 ep eq er es =
-      column_byte f additive p q r s key S 0 0 0 ep eq er es ∙ ap (λ (x : ℕ). bit_xor x (f key)) (xor_zero_r (bit_xor S 0) ∙ xor_zero_r S)
-
-  -- in the second
-  pub lone_byte_1 : f p ≡ 0 → f q ≡ S → f r ≡ 0 → f s ≡ 0
-      → f (bit_xor (bit_xor (bit_xor p q) (bit_xor r s)) key) ≡ bit_xor S (f key)
-  lone_byte_1 ep eq er es =
-      column_byte_1 f additive p q r s key 0 S 0 0 ep eq er es ∙ ap (λ (x : ℕ). bit_xor x (f key)) (xor_zero_r (bit_xor S 0) ∙ xor_zero_r S)
-
-  -- in the third
-  pub lone_byte_2 : f p ≡ 0 → f q ≡ 0 → f r ≡ S → f s ≡ 0
-      → f (bit_xor (bit_xor (bit_xor p q) (bit_xor r s)) key) ≡ bit_xor S (f key)
-  lone_byte_2 ep eq er es =
-      column_byte_2 f additive p q r s key 0 0 S 0 ep eq er es ∙ ap (λ (x : ℕ). bit_xor x (f key)) (xor_zero_r (bit_xor S 0) ∙ xor_zero_r S)
-
-  -- in the fourth
-  pub lone_byte_3 : f p ≡ 0 → f q ≡ 0 → f r ≡ 0 → f s ≡ S
-      → f (bit_xor (bit_xor (bit_xor p q) (bit_xor r s)) key) ≡ bit_xor S (f key)
-  lone_byte_3 ep eq er es =
-      column_byte_3 f additive p q r s key 0 0 0 S ep eq er es ∙ ap (λ (x : ℕ). bit_xor x (f key)) (xor_zero_r (bit_xor S 0) ∙ xor_zero_r S)
+-- the sum of four bytes, each in a row of its own, has those rows
+pub lone-sum : (a b c d : ℕ) → xor_word (xor_word (lone_byte 0 a) (lone_byte 1 b)) (xor_word (lone_byte 2 c) (lone_byte 3 d)) ≡ a ∷ b ∷ c ∷ d ∷ []
+lone-sum a b c d =
+    let zero_l : (x : ℕ) → bit_xor 0 x ≡ x = λ x. xor_comm 0 x ∙ xor_zero_r x in
+    let before : ℕ → List ℕ → List ℕ = λ x xs. x ∷ xs in
+    ap₂ before (xor_zero_r (bit_xor a 0) ∙ xor_zero_r a)
+    (ap₂ before (xor_zero_r (bit_xor 0 b) ∙ zero_l b)
+    (ap₂ before (zero_l (bit_xor c 0) ∙ xor_zero_r c) (ap (λ (x : ℕ). x ∷ []) (zero_l (bit_xor 0 d) ∙ zero_l d))))
 
 -- a byte of a word in its list
 byte_of_word : (r n : ℕ) → r < 4 → byte_at (3 - r) n ≡ get_or (to_be_bytes w32 n) r 0
@@ -113,6 +82,24 @@ same_block : (s t : State) → ((r c : ℕ) → r < 4 → c < 4 → s r c ≡ t 
 same_block s t same =
     fill_by_all (λ k. t (k % 4) (k / 4)) (block_of s) 16 0 refl
     (λ k lt. get_or-map-range_with_len (λ k. s (k % 4) (k / 4)) 0 16 k k 0 lt (omega arith) ∙ same (k % 4) (k / 4) (omega arith) (omega arith))
+
+-- the bytes of a column of a state
+abbrev column : State → ℕ → List ℕ
+column s c = s 0 c ∷ s 1 c ∷ s 2 c ∷ s 3 c ∷ []
+
+-- four words are the columns of a state, with their words of a round key
+pub columns_added : (words : List ℕ) (i : ℕ) (s : State) (w0 w1 w2 w3 k0 k1 k2 k3 : ℕ)
+    → k0 ≡ get_or words (11 * 0 + i) 0 → to_be_bytes w32 w0 ≡ xor_word (column s 0) (to_be_bytes w32 k0)
+    → k1 ≡ get_or words (11 * 1 + i) 0 → to_be_bytes w32 w1 ≡ xor_word (column s 1) (to_be_bytes w32 k1)
+    → k2 ≡ get_or words (11 * 2 + i) 0 → to_be_bytes w32 w2 ≡ xor_word (column s 2) (to_be_bytes w32 k2)
+    → k3 ≡ get_or words (11 * 3 + i) 0 → to_be_bytes w32 w3 ≡ xor_word (column s 3) (to_be_bytes w32 k3)
+    → block_of_words (w0 ∷ w1 ∷ w2 ∷ w3 ∷ []) ≡ block_of (add_round_words words i s)
+columns_added words i s w0 w1 w2 w3 k0 k1 k2 k3 e0 h0 e1 h1 e2 h2 e3 h3 =
+    let with_key : (c w k k' : ℕ) → k ≡ k' → to_be_bytes w32 w ≡ xor_word (column s c) (to_be_bytes w32 k)
+    → to_be_bytes w32 w ≡ xor_word (column s c) (to_be_bytes w32 k') =
+    λ c w k k' e h. h ∙ ap (λ (n : ℕ). xor_word (column s c) (to_be_bytes w32 n)) e in
+    ap₂ ◌++◌ (with_key 0 w0 k0 _ e0 h0)
+    (ap₂ ◌++◌ (with_key 1 w1 k1 _ e1 h1) (ap₂ ◌++◌ (with_key 2 w2 k2 _ e2 h2) (with_key 3 w3 k3 _ e3 h3)))
 
 -- a round key in words
 pub add_words : (words w : List ℕ) (i : ℕ) (s : State) → AreWordsOf words w → i < 11

@@ -1,7 +1,8 @@
 -- For the proofs: AES-128 on words of 32 bits, as in the Rijndael proposal of Daemen and Rijmen, section 5.2.1. A column
 -- is a word, and its highest byte is in row 0. words holds 4 columns, or the 44 words of an expanded key.
-use Rattle.std.specs.Prelude.{◌≡◌, ℕ, ◌+◌, ◌-◌, ◌*◌, ◌/◌, ◌%◌, ◌<◌, ◌≤◌, List, [], ◌∷◌, slice_index, bit_xor}
+use Rattle.std.specs.Prelude.{◌≡◌, ℕ, ◌+◌, ◌-◌, ◌*◌, ◌/◌, ◌%◌, ◌<◌, ◌≤◌, List, [], ◌∷◌, ◌==◌, map, slice_index, bit_xor, if◌then◌else◌}
 use Rattle.std.specs.Int.{byte_at, to_be_bytes, from_be_bytes, rotate_right, w32}
+use Rattle.std.specs.List.{range_with_len}
 use Rattle.osc_aes.specs.Field.{mul}
 use Rattle.osc_aes.specs.SubstitutionBox.{substitute}
 use Rattle.osc_aes.specs.Aes128.{State, block_of, word_at}
@@ -16,6 +17,14 @@ round_word t b =
 abbrev pub mixed_byte : ℕ → ℕ → ℕ → ℕ → ℕ
 mixed_byte a b c d =
     bit_xor (bit_xor (mul 2 (substitute a)) (mul 3 (substitute b))) (bit_xor (substitute c) (substitute d))
+
+-- a column after substitution and mixing, whose bytes are a, b, c and d before them (FIPS 197, 5.1.3)
+abbrev pub mixed_column : ℕ → ℕ → ℕ → ℕ → List ℕ
+mixed_column a b c d = mixed_byte a b c d ∷ mixed_byte b c d a ∷ mixed_byte c d a b ∷ mixed_byte d a b c ∷ []
+
+-- a column with a byte in one row, and zeros in the others (Rijndael, 5.2.1)
+abbrev pub lone_byte : ℕ → ℕ → List ℕ
+lone_byte row x = map (λ k. if k == row then x else 0) (range_with_len 0 4)
 
 -- the state whose columns are four words (FIPS 197, 3.5)
 abbrev pub state_of_words : List ℕ → State

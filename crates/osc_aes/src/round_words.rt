@@ -3,10 +3,10 @@
 //! Tables 1, 2 and 3 hold the same, rotated right by one, two and three bytes. The last round, which doesn't mix
 //! columns, keeps only one byte S of such a column.
 
-ghost use Rattle.std.specs.Prelude.{◌≡◌, [], ◌∷◌};
+ghost use Rattle.std.specs.Prelude.{◌≡◌, ◌<◌};
 ghost use Rattle.std.specs.Int.{to_be_bytes, w32};
 ghost use Rattle.osc_aes.specs.SubstitutionBox.{substitute};
-ghost use Rattle.osc_aes.specs.RoundWords.{round_word};
+ghost use Rattle.osc_aes.specs.RoundWords.{lone_byte, round_word};
 
 const T0: [u32; 256] = [
     0xc66363a5, 0xf87c7c84, 0xee777799, 0xf67b7b8d, 0xfff2f20d, 0xd66b6bbd, 0xde6f6fb1, 0x91c5c554,
@@ -151,66 +151,20 @@ const T3: [u32; 256] = [
 /// The tables one after the other, so that a round needs one place in memory for all four.
 const TABLES: [[u32; 256]; 4] = [T0, T1, T2, T3];
 
-/// Returns the column that a byte of row 0 becomes.
+/// Returns the column that a byte of a row becomes.
 #[inline(always)]
-pub(crate) fn table_0(byte: u8) -> u32
-    ensures { result ≡ round_word 0 byte }
+pub(crate) fn table_word(row: usize, byte: u8) -> u32
+    requires { row < 4 }
+    ensures { result ≡ round_word row byte }
 {
-    TABLES[0][byte as usize]
+    TABLES[row][byte as usize]
 }
 
-/// Returns the column that a byte of row 1 becomes.
+/// Returns the column with the substituted byte in its row, and zeros in the other rows.
 #[inline(always)]
-pub(crate) fn table_1(byte: u8) -> u32
-    ensures { result ≡ round_word 1 byte }
+pub(crate) fn substituted(row: usize, byte: u8) -> u32
+    requires { row < 4 }
+    ensures { to_be_bytes w32 result ≡ lone_byte row (substitute byte) }
 {
-    TABLES[1][byte as usize]
-}
-
-/// Returns the column that a byte of row 2 becomes.
-#[inline(always)]
-pub(crate) fn table_2(byte: u8) -> u32
-    ensures { result ≡ round_word 2 byte }
-{
-    TABLES[2][byte as usize]
-}
-
-/// Returns the column that a byte of row 3 becomes.
-#[inline(always)]
-pub(crate) fn table_3(byte: u8) -> u32
-    ensures { result ≡ round_word 3 byte }
-{
-    TABLES[3][byte as usize]
-}
-
-/// Returns the column with the substituted byte in row 0, and zeros in the other rows.
-#[inline(always)]
-pub(crate) fn substituted_0(byte: u8) -> u32
-    ensures { to_be_bytes w32 result ≡ substitute byte ∷ 0 ∷ 0 ∷ 0 ∷ [] }
-{
-    table_2(byte) & 0xff00_0000
-}
-
-/// Returns the column with the substituted byte in row 1, and zeros in the other rows.
-#[inline(always)]
-pub(crate) fn substituted_1(byte: u8) -> u32
-    ensures { to_be_bytes w32 result ≡ 0 ∷ substitute byte ∷ 0 ∷ 0 ∷ [] }
-{
-    table_3(byte) & 0x00ff_0000
-}
-
-/// Returns the column with the substituted byte in row 2, and zeros in the other rows.
-#[inline(always)]
-pub(crate) fn substituted_2(byte: u8) -> u32
-    ensures { to_be_bytes w32 result ≡ 0 ∷ 0 ∷ substitute byte ∷ 0 ∷ [] }
-{
-    table_0(byte) & 0x0000_ff00
-}
-
-/// Returns the column with the substituted byte in row 3, and zeros in the other rows.
-#[inline(always)]
-pub(crate) fn substituted_3(byte: u8) -> u32
-    ensures { to_be_bytes w32 result ≡ 0 ∷ 0 ∷ 0 ∷ substitute byte ∷ [] }
-{
-    table_1(byte) & 0x0000_00ff
+    table_word((row + 2) % 4, byte) & (0xff00_0000 >> (8 * row))
 }

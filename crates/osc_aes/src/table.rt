@@ -1,18 +1,15 @@
 //! AES-128 with tables of words (Daemen and Rijmen, AES Proposal: Rijndael, 5.2.1). A column is a word, and its highest
 //! byte is in row 0.
 
-ghost use Rattle.std.specs.Prelude.{◌≡◌, ◌+◌, ◌*◌, ◌<◌, ◌≤◌, ℕ, List, [], ◌∷◌, length, slice_index, bit_xor};
+ghost use Rattle.std.specs.Prelude.{◌≡◌, ◌+◌, ◌*◌, ◌<◌, ◌≤◌, ℕ, List, [], ◌∷◌, length, slice_index};
 ghost use Rattle.std.specs.Int.{byte_at, to_be_bytes, w32};
-ghost use Rattle.osc_aes.specs.SubstitutionBox.{substitute};
-ghost use Rattle.osc_aes.specs.Aes128.{added_word, block_of, cipher, expanded_key, mix_columns, shift_rows, state_of, sub_bytes, word_at};
-ghost use Rattle.osc_aes.specs.RoundWords.{AreRoundKey, AreWordsOf, AreWordsTo, add_round_words, block_of_words, mixed_byte};
+ghost use Rattle.osc_aes.specs.Aes128.{added_word, block_of, cipher, expanded_key, mix_columns, shift_rows, state_of, sub_bytes, sub_word, word_at, xor_word};
+ghost use Rattle.osc_aes.specs.RoundWords.{AreRoundKey, AreWordsOf, AreWordsTo, add_round_words, block_of_words, mixed_column};
 ghost use Rattle.osc_aes.specs.Views.{key_of_words};
 
 use crate::block_cipher::BlockCipher;
 use crate::key_schedule::round_constant;
-use crate::round_words::{
-    substituted_0, substituted_1, substituted_2, substituted_3, table_0, table_1, table_2, table_3,
-};
+use crate::round_words::{substituted, table_word};
 use crate::substitution_box::substitute_byte;
 use byteorder::{BigEndian, ByteOrder};
 
@@ -152,10 +149,7 @@ fn first_columns(block: &[u8; 16], words: &[u32; 44]) -> [u32; 4]
 #[inline(always)]
 fn first_word(block: &[u8; 16], column: usize, key: u32) -> u32
     requires { column < 4 }
-    ensures row0 { byte_at 3 result ≡ bit_xor (slice_index block.now (4 * column)) (byte_at 3 key) }
-    ensures row1 { byte_at 2 result ≡ bit_xor (slice_index block.now (4 * column + 1)) (byte_at 2 key) }
-    ensures row2 { byte_at 1 result ≡ bit_xor (slice_index block.now (4 * column + 2)) (byte_at 1 key) }
-    ensures row3 { byte_at 0 result ≡ bit_xor (slice_index block.now (4 * column + 3)) (byte_at 0 key) }
+    ensures { to_be_bytes w32 result ≡ xor_word (word_at block.now column) (to_be_bytes w32 key) }
 {
     read_word(block, column) ^ key
 }
@@ -180,16 +174,12 @@ fn next_columns(columns: [u32; 4], words: &[u32; 44], round: usize) -> [u32; 4]
 /// Returns a column of a round. Rows 0 to 3 come from the columns a, b, c and d, because row r is rotated left by r.
 #[inline(always)]
 fn mixed_word(a: u32, b: u32, c: u32, d: u32, key: u32) -> u32
-    ensures row0 { byte_at 3 result
-        ≡ bit_xor (mixed_byte (byte_at 3 a) (byte_at 2 b) (byte_at 1 c) (byte_at 0 d)) (byte_at 3 key) }
-    ensures row1 { byte_at 2 result
-        ≡ bit_xor (mixed_byte (byte_at 2 b) (byte_at 1 c) (byte_at 0 d) (byte_at 3 a)) (byte_at 2 key) }
-    ensures row2 { byte_at 1 result
-        ≡ bit_xor (mixed_byte (byte_at 1 c) (byte_at 0 d) (byte_at 3 a) (byte_at 2 b)) (byte_at 1 key) }
-    ensures row3 { byte_at 0 result
-        ≡ bit_xor (mixed_byte (byte_at 0 d) (byte_at 3 a) (byte_at 2 b) (byte_at 1 c)) (byte_at 0 key) }
+    ensures { to_be_bytes w32 result
+        ≡ xor_word (mixed_column (byte_at 3 a) (byte_at 2 b) (byte_at 1 c) (byte_at 0 d)) (to_be_bytes w32 key) }
 {
-    (table_0(byte3(a)) ^ table_1(byte2(b))) ^ (table_2(byte1(c)) ^ table_3(byte0(d))) ^ key
+    (table_word(0, byte3(a)) ^ table_word(1, byte2(b)))
+        ^ (table_word(2, byte1(c)) ^ table_word(3, byte0(d)))
+        ^ key
 }
 
 /// Returns the columns after the last round, which doesn't mix columns.
@@ -211,13 +201,11 @@ fn last_columns(columns: [u32; 4], words: &[u32; 44]) -> [u32; 4]
 /// Returns a column of the last round.
 #[inline(always)]
 fn last_word(a: u32, b: u32, c: u32, d: u32, key: u32) -> u32
-    ensures row0 { byte_at 3 result ≡ bit_xor (substitute (byte_at 3 a)) (byte_at 3 key) }
-    ensures row1 { byte_at 2 result ≡ bit_xor (substitute (byte_at 2 b)) (byte_at 2 key) }
-    ensures row2 { byte_at 1 result ≡ bit_xor (substitute (byte_at 1 c)) (byte_at 1 key) }
-    ensures row3 { byte_at 0 result ≡ bit_xor (substitute (byte_at 0 d)) (byte_at 0 key) }
+    ensures { to_be_bytes w32 result
+        ≡ xor_word (sub_word (byte_at 3 a ∷ byte_at 2 b ∷ byte_at 1 c ∷ byte_at 0 d ∷ [])) (to_be_bytes w32 key) }
 {
-    (substituted_0(byte3(a)) ^ substituted_1(byte2(b)))
-        ^ (substituted_2(byte1(c)) ^ substituted_3(byte0(d)))
+    (substituted(0, byte3(a)) ^ substituted(1, byte2(b)))
+        ^ (substituted(2, byte1(c)) ^ substituted(3, byte0(d)))
         ^ key
 }
 

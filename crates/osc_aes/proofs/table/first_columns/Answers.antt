@@ -1,26 +1,8 @@
+use Rattle.osc_aes.specs.Aes128.{state_of}
+use Rattle.osc_aes.proofs.WordRounds.{columns_added}
 use Rattle.osc_aes.proofs.table.first_columns.Goals as goal
 
 pub returns : goal.returns
 returns c =
-    rw (
-      c.first_word.ensures.row0,
-      c.first_word.ensures.row1,
-      c.first_word.ensures.row2,
-      c.first_word.ensures.row3,
-      c.first_word-2.ensures.row0,
-      c.first_word-2.ensures.row1,
-      c.first_word-2.ensures.row2,
-      c.first_word-2.ensures.row3,
-      c.first_word-3.ensures.row0,
-      c.first_word-3.ensures.row1,
-      c.first_word-3.ensures.row2,
-      c.first_word-3.ensures.row3,
-      c.first_word-4.ensures.row0,
-      c.first_word-4.ensures.row1,
-      c.first_word-4.ensures.row2,
-      c.first_word-4.ensures.row3,
-      c.key_word.ensures,
-      c.key_word-2.ensures,
-      c.key_word-3.ensures,
-      c.key_word-4.ensures,
-    )
+    columns_added c.args.words.now 0 (state_of c.args.block.now) _ _ _ _ _ _ _ _
+    c.key_word.ensures c.first_word.ensures c.key_word-2.ensures c.first_word-2.ensures c.key_word-3.ensures c.first_word-3.ensures c.key_word-4.ensures c.first_word-4.ensures

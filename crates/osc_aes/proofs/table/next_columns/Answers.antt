@@ -1,26 +1,9 @@
+use Rattle.osc_aes.specs.Aes128.{mix_columns, shift_rows, state_of, sub_bytes}
+use Rattle.osc_aes.specs.RoundWords.{block_of_words}
+use Rattle.osc_aes.proofs.WordRounds.{columns_added}
 use Rattle.osc_aes.proofs.table.next_columns.Goals as goal
 
 pub returns : goal.returns
 returns c =
-    rw (
-      c.mixed_word.ensures.row0,
-      c.mixed_word.ensures.row1,
-      c.mixed_word.ensures.row2,
-      c.mixed_word.ensures.row3,
-      c.mixed_word-2.ensures.row0,
-      c.mixed_word-2.ensures.row1,
-      c.mixed_word-2.ensures.row2,
-      c.mixed_word-2.ensures.row3,
-      c.mixed_word-3.ensures.row0,
-      c.mixed_word-3.ensures.row1,
-      c.mixed_word-3.ensures.row2,
-      c.mixed_word-3.ensures.row3,
-      c.mixed_word-4.ensures.row0,
-      c.mixed_word-4.ensures.row1,
-      c.mixed_word-4.ensures.row2,
-      c.mixed_word-4.ensures.row3,
-      c.key_word.ensures,
-      c.key_word-2.ensures,
-      c.key_word-3.ensures,
-      c.key_word-4.ensures,
-    )
+    columns_added c.args.words.now c.args.round (mix_columns (shift_rows (sub_bytes (state_of (block_of_words c.args.columns))))) _ _ _ _ _ _ _ _
+    c.key_word.ensures c.mixed_word.ensures c.key_word-2.ensures c.mixed_word-2.ensures c.key_word-3.ensures c.mixed_word-3.ensures c.key_word-4.ensures c.mixed_word-4.ensures

@@ -1,8 +1,0 @@
-use Rattle.std.proofs.Common.{ℕ, ap, ◌∙◌, arith, bit_and, w32}
-use Rattle.std.specs.Int.{to_be_bytes}
-use Rattle.osc_aes.proofs.Entries.{round_word_0-lone}
-use Rattle.osc_aes.proofs.round_words.substituted_2.Goals as goal
-
-pub returns : goal.returns
-returns c =
-    ap (λ (w : ℕ). to_be_bytes w32 (bit_and w 0x0000ff00)) c.table_0.ensures ∙ round_word_0-lone c.args.byte (omega arith)
