@@ -1,13 +1,14 @@
 -- The blocks of the tag: the first of the additional data, and all in turn.
-use Rattle.std.proofs.Common.{◌≡◌, ℕ, zero, suc, ◌+◌, ◌-◌, ◌/◌, ◌%◌, ◌<◌, min, List, [], ◌∷◌, ◌++◌, length, get_or, take, drop, fold, replicate, bit_xor, refl, ap, ap₂, ◌∙◌, sym, arith, inl, inr, get_or-take, length-append}
+use Rattle.std.proofs.Common.{◌≡◌, ℕ, zero, suc, ◌+◌, ◌-◌, ◌/◌, ◌%◌, ◌<◌, min, List, [], ◌∷◌, ◌++◌, length, get_or, take, drop, fold, map, replicate, bit_xor, refl, ap, ap₂, ◌∙◌, sym, arith, inl, inr, get_or-take, length-append}
 use Rattle.std.proofs.lemmas.Bool.{cases_lt}
 use Rattle.std.proofs.lemmas.List.{get_or_past, drop_min, take_rest, length-take-le, take_all, get_or_append_left, get_or-append_right, get_or-replicate, drop-drop, drop-replicate, length-replicate}
 use Rattle.std.proofs.lemmas.List.Sums.{fold-append}
 use Rattle.std.proofs.lemmas.Slice.{put_mid-paste}
 use borrow.Rule.Slice.PartMut.{put_mid}
+use Rattle.std.specs.List.{range_with_len}
 use Rattle.osc_aes.specs.Aes128.{BlockKeepsItsLength}
-use Rattle.osc_ccm.specs.Ccm.{encoded_aad, encrypted_tag, first_block, flags_of, mac_blocks, mac_of, mac_step, padded_block, padded_blocks, stream_block, two_bytes, xor_bytes}
-use Rattle.osc_ccm.proofs.PaddedBlocks.{is_padded_block, padded_blocks-cons, padded_whole}
+use Rattle.osc_ccm.specs.Ccm.{block_count, encoded_aad, encrypted_tag, first_block, flags_of, mac_blocks, mac_of, mac_step, padded_block, padded_blocks, stream_block, two_bytes, xor_bytes}
+use Rattle.osc_ccm.proofs.PaddedBlocks.{absorb_end, is_padded_block, padded_blocks-cons, padded_whole}
 use Rattle.osc_ccm.proofs.Xor.{is_xor_bytes}
 
 -- additional data that is there, behind its length
@@ -95,7 +96,7 @@ begun_is key nonce aad m first x1 x2 long ef e1 e2 =
     e2 ∙ ap (λ (x : List ℕ). fold step x (padded_blocks (encoded_aad aad))) (e1 ∙ ap (step (replicate 16 0)) (padded_whole first long ∙ ef))
 
 -- all blocks absorbed
-pub mac_is : (key nonce aad m x2 x3 : List ℕ)
+mac_is : (key nonce aad m x2 x3 : List ℕ)
     → x2 ≡ fold (mac_step key) (mac_step key (replicate 16 0) (first_block nonce aad m)) (padded_blocks (encoded_aad aad))
     → x3 ≡ fold (mac_step key) x2 (padded_blocks m) → x3 ≡ mac_of key nonce aad m
 unfolding mac_of
@@ -125,7 +126,11 @@ fronts_added x s tag lx ls lt at =
     let k8 : k < 8 = omega (arith, tx) in
     at k k8 ∙ ap₂ bit_xor (sym (get_or-take 8 x k 0 k8)) (sym (get_or-take 8 s k 0 k8)))
 
--- the tag as it is sent
-pub encrypted_tag_is : (key nonce aad m x s tag : List ℕ) → x ≡ mac_of key nonce aad m → s ≡ stream_block key nonce 0
+-- the tag after the last block, from the state and the block of the key stream that hides it
+pub sent_tag : (key nonce aad m begun x s tag : List ℕ) (i : ℕ) → i ≡ block_count (length m)
+    → begun ≡ fold (mac_step key) (mac_step key (replicate 16 0) (first_block nonce aad m)) (padded_blocks (encoded_aad aad))
+    → x ≡ fold (mac_step key) begun (map (padded_block m) (range_with_len 0 i)) → s ≡ stream_block key nonce 0
     → tag ≡ xor_bytes (take 8 x) (take 8 s) → tag ≡ encrypted_tag key nonce aad m
-encrypted_tag_is key nonce aad m x s tag ex es et = et ∙ ap₂ (λ (a b : List ℕ). xor_bytes (take 8 a) (take 8 b)) ex es
+sent_tag key nonce aad m begun x s tag i ei eb ex es et =
+    et
+    ∙ ap₂ (λ (a b : List ℕ). xor_bytes (take 8 a) (take 8 b)) (mac_is key nonce aad m begun x eb (absorb_end key begun x m i ei ex)) es

@@ -88,36 +88,48 @@ module _ (whole : BlockKeepsItsLength) (key nonce aad : List ℕ) where
       (ap₂ (λ (a b : List ℕ). a ++ b) (take_at front (drop n buf) n lf ∙ ef) (take_all 8 tag (omega arith) ∙ et))
       (sym (drop-drop 8 n (front ++ drop n buf)) ∙ ap (drop 8) (drop_at front (drop n buf) n lf) ∙ drop-drop 8 n buf)
 
-  -- what opening computes: `front` decrypts the front of `buf`, and the buffer is then `front ++ drop n buf`
-  module _ (buf front tag : List ℕ) (n : ℕ) (long : length buf ≡ n + 8) (long_front : length front ≡ n)
-      (ef : front ≡ encrypted key nonce (take n buf))
+  -- what opening computes: front decrypts all of buf but its last 8 bytes, and the buffer is then front with these behind it
+  module _ (buf front tag : List ℕ) (enough : 8 ≤ length buf)
+      (ef : front ≡ encrypted key nonce (take (length buf - 8) buf))
       (et : tag ≡ encrypted_tag key nonce aad front) where
-    -- its front
-    pub front_is : take n (front ++ drop n buf) ≡ front
+    -- the length of the plaintext
+    abbrev n : ℕ
+    n = length buf - 8
+
+    -- the buffer then
+    abbrev now : List ℕ
+    now = front ++ drop n buf
+
+    -- the front is as long as what is decrypted
+    long_front : length front ≡ n
+    long_front = ap (λ (l : List ℕ). length l) ef ∙ length-encrypted (take n buf) ∙ length-take-le n buf (omega arith)
+
+    -- the front of the buffer
+    front_is : take n now ≡ front
     front_is = take_at front (drop n buf) n long_front
 
     -- its back stays
-    pub back_stays : drop n (front ++ drop n buf) ≡ drop n buf
+    pub back_stays : drop n now ≡ drop n buf
     back_stays = drop_at front (drop n buf) n long_front
 
     -- the bytes that are compared with the tag
-    pub received : take (length (front ++ drop n buf) - n) (drop n (front ++ drop n buf)) ≡ drop n buf
-    received = take_rest (front ++ drop n buf) n ∙ back_stays
+    received : take (length now - n) (drop n now) ≡ drop n buf
+    received = take_rest now n ∙ back_stays
 
     -- a right tag: the buffer was the protection of the front
-    pub opens : tag ≡ drop n buf → buf ≡ ccm key nonce aad (take n (front ++ drop n buf))
-    opens hit = protects buf front n ef (sym hit ∙ et) ∙ ap (ccm key nonce aad) (sym front_is)
+    pub opens : tag ≡ take (length now - n) (drop n now) → buf ≡ ccm key nonce aad (take n now)
+    opens hit = protects buf front n ef (sym (hit ∙ received) ∙ et) ∙ ap (ccm key nonce aad) (sym front_is)
 
     -- and of no other message
-    pub opens_only : (m : List ℕ) → buf ≡ ccm key nonce aad m → take n (front ++ drop n buf) ≡ m
-    opens_only m e = front_is ∙ protected buf front m n long ef e
+    pub opens_only : (m : List ℕ) → buf ≡ ccm key nonce aad m → take n now ≡ m
+    opens_only m e = front_is ∙ protected buf front m n (omega arith) ef e
 
     -- a protection has a right tag
-    pub right_tag : (m : List ℕ) → buf ≡ ccm key nonce aad m → tag ≡ drop n buf
-    right_tag m e = et ∙ sym (protected_tag buf front m n long ef e)
+    pub right_tag : (m : List ℕ) → buf ≡ ccm key nonce aad m → tag ≡ take (length now - n) (drop n now)
+    right_tag m e = et ∙ sym (protected_tag buf front m n (omega arith) ef e) ∙ sym received
 
     -- the key stream once more gives the buffer back
-    pub restored : (again : List ℕ) → again ≡ encrypted key nonce (take n (front ++ drop n buf)) → again ++ drop n (front ++ drop n buf) ≡ buf
+    pub restored : (again : List ℕ) → again ≡ encrypted key nonce (take n now) → again ++ drop n now ≡ buf
     restored again ea =
         ap₂ (λ (a b : List ℕ). a ++ b) (ea ∙ ap (encrypted key nonce) front_is ∙ encrypted-twice (take n buf) front ef) back_stays
         ∙ take-append-drop n buf

@@ -2,8 +2,8 @@ use Rattle.std.proofs.Common.{◌≡◌, ◌∙◌, arith, ap, sym, refl, ℕ, L
 use Rattle.std.proofs.lemmas.Slice.{take-put_mid_below}
 use borrow.Rule.Slice.PartMut.{put_mid, same_len_mid}
 use Rattle.osc_ccm.specs.Ccm.{mac_step, stream_block}
-use Rattle.osc_ccm.proofs.Macs.{encrypted_tag_is, mac_is}
-use Rattle.osc_ccm.proofs.PaddedBlocks.{absorb_end, absorb_more, blocks_before}
+use Rattle.osc_ccm.proofs.Macs.{sent_tag}
+use Rattle.osc_ccm.proofs.PaddedBlocks.{absorb_more, blocks_before}
 use Rattle.osc_ccm.proofs.Streams.{encrypted_end, encrypted_more}
 use Rattle.osc_ccm.proofs.message.open_message.Goals as goal
 
@@ -50,11 +50,5 @@ returns-clause-message g c =
 
 pub returns-clause-tag : goal.returns-clause-tag
 returns-clause-tag g c =
-    let key = g.C.BlockCipher.cipher_key c.args.cipher.now in
-    let nonce = c.args.nonce.now in
-    let xs = c.loop-i.message in
-    let begun = c.begin.result.0 in
-    let all = absorb_end key begun c.loop-i.state xs c.loop-i.i (omega arith) c.loop-i.invariant.state in
-    encrypted_tag_is key nonce c.args.aad.now xs c.loop-i.state c.loop-i.stream c.hidden_tag.result
-    (mac_is key nonce c.args.aad.now xs begun c.loop-i.state (c.begin.ensures.state xs (omega arith)) all)
-    (c.loop-i.invariant.last (omega arith)) c.hidden_tag.ensures
+    sent_tag (g.C.BlockCipher.cipher_key c.args.cipher.now) c.args.nonce.now c.args.aad.now c.loop-i.message c.begin.result.0 c.loop-i.state c.loop-i.stream c.hidden_tag.result c.loop-i.i
+    (omega arith) (c.begin.ensures.state c.loop-i.message (omega arith)) c.loop-i.invariant.state (c.loop-i.invariant.last (omega arith)) c.hidden_tag.ensures

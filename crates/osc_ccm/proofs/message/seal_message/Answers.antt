@@ -1,8 +1,8 @@
 use Rattle.std.proofs.Common.{◌∙◌, arith, ap, ℕ, List, bit_xor, get_or, take, drop, ◌*◌, ◌-◌, ◌<◌, length}
 use borrow.Rule.Slice.PartMut.{same_len_mid}
 use Rattle.osc_ccm.specs.Ccm.{mac_step, padded_block}
-use Rattle.osc_ccm.proofs.Macs.{encrypted_tag_is, mac_is}
-use Rattle.osc_ccm.proofs.PaddedBlocks.{absorb_end, absorb_more}
+use Rattle.osc_ccm.proofs.Macs.{sent_tag}
+use Rattle.osc_ccm.proofs.PaddedBlocks.{absorb_more}
 use Rattle.osc_ccm.proofs.Streams.{encrypted_end, encrypted_more, left_is}
 use Rattle.osc_ccm.proofs.message.seal_message.Goals as goal
 
@@ -33,11 +33,5 @@ returns-clause-message g c =
 
 pub returns-clause-tag : goal.returns-clause-tag
 returns-clause-tag g c =
-    let key = g.C.BlockCipher.cipher_key c.args.cipher.now in
-    let nonce = c.args.nonce.now in
-    let xs = c.args.message.now in
-    let begun = c.begin.result.0 in
-    let all = absorb_end key begun c.loop-i.state xs c.loop-i.i (omega arith) c.loop-i.invariant.state in
-    encrypted_tag_is key nonce c.args.aad.now xs c.loop-i.state c.begin.result.1 c.hidden_tag.result
-    (mac_is key nonce c.args.aad.now xs begun c.loop-i.state (c.begin.ensures.state xs (omega arith)) all)
-    c.begin.ensures.stream c.hidden_tag.ensures
+    sent_tag (g.C.BlockCipher.cipher_key c.args.cipher.now) c.args.nonce.now c.args.aad.now c.args.message.now c.begin.result.0 c.loop-i.state c.begin.result.1 c.hidden_tag.result c.loop-i.i
+    (omega arith) (c.begin.ensures.state c.args.message.now (omega arith)) c.loop-i.invariant.state c.begin.ensures.stream c.hidden_tag.ensures

@@ -1,5 +1,5 @@
-use Rattle.std.proofs.Common.{ℕ, List, ◌≡◌, ◌+◌, ◌-◌, true, false, length, refl, ap, arith, ◌∙◌, sym, length-take}
-use Rattle.osc_ccm.proofs.Protections.{length-ccm, opens, opens_only, received, restored, right_tag}
+use Rattle.std.proofs.Common.{ℕ, List, ◌≡◌, true, false, length, refl, ap, arith}
+use Rattle.osc_ccm.proofs.Protections.{length-ccm, opens, opens_only, restored, right_tag}
 use Rattle.osc_ccm.proofs.opening.open.Goals as goal
 
 pub returns-then-buf-lt-TAG_LEN-clause-accepts : goal.returns-then-buf-lt-TAG_LEN-clause-accepts
@@ -14,41 +14,24 @@ returns-then-buf-clause-accepts g c = λ m short e.
 
 pub returns-then-is_same_tag-clause-opened : goal.returns-then-is_same_tag-clause-opened
 returns-then-is_same_tag-clause-opened g c =
-    let whole = c.encrypted_length.ensures in
-    let key = g.C.BlockCipher.cipher_key c.args.cipher.now in
-    let n = length c.args.buf.now - 8 in
-    let long : length c.args.buf.now ≡ n + 8 = omega arith in
-    let front : length c.open_message-tag.new.message ≡ n = omega (arith, length-take n c.args.buf.now) in
-    let there = received whole key c.args.nonce.now c.args.aad.now c.args.buf.now c.open_message-tag.new.message c.open_message-tag.result n long front
-    c.open_message-tag.ensures.message c.open_message-tag.ensures.tag in
-    opens whole key c.args.nonce.now c.args.aad.now c.args.buf.now c.open_message-tag.new.message c.open_message-tag.result n long front
-    c.open_message-tag.ensures.message c.open_message-tag.ensures.tag
-    (c.if-is_same_tag.ensures.0 refl ∙ there)
+    opens c.encrypted_length.ensures (g.C.BlockCipher.cipher_key c.args.cipher.now) c.args.nonce.now c.args.aad.now c.args.buf.now
+    c.open_message-tag.new.message c.open_message-tag.result (omega arith) c.open_message-tag.ensures.message c.open_message-tag.ensures.tag
+    (c.if-is_same_tag.ensures.0 refl)
 
 pub returns-then-is_same_tag-clause-accepts : goal.returns-then-is_same_tag-clause-accepts
 returns-then-is_same_tag-clause-accepts g c = λ m short e.
-    let whole = c.encrypted_length.ensures in
-    let key = g.C.BlockCipher.cipher_key c.args.cipher.now in
-    let n = length c.args.buf.now - 8 in
-    let long : length c.args.buf.now ≡ n + 8 = omega arith in
-    let front : length c.open_message-tag.new.message ≡ n = omega (arith, length-take n c.args.buf.now) in
-    opens_only whole key c.args.nonce.now c.args.aad.now c.args.buf.now c.open_message-tag.new.message c.open_message-tag.result n long front
-    c.open_message-tag.ensures.message c.open_message-tag.ensures.tag m e
+    opens_only c.encrypted_length.ensures (g.C.BlockCipher.cipher_key c.args.cipher.now) c.args.nonce.now c.args.aad.now c.args.buf.now
+    c.open_message-tag.new.message c.open_message-tag.result (omega arith) c.open_message-tag.ensures.message c.open_message-tag.ensures.tag m e
 
 pub returns-then-is_same_tag-clause-bad_tag : goal.returns-then-is_same_tag-clause-bad_tag
 returns-then-is_same_tag-clause-bad_tag g c = (λ e. cc, λ none. absurd (none.2 _ (returns-then-is_same_tag-clause-opened g c)))
 
 pub returns-clause-accepts : goal.returns-clause-accepts
 returns-clause-accepts g c = λ m short e.
-    let whole = c.encrypted_length.ensures in
-    let key = g.C.BlockCipher.cipher_key c.args.cipher.now in
-    let n = length c.args.buf.now - 8 in
-    let long : length c.args.buf.now ≡ n + 8 = omega arith in
-    let front : length c.open_message-tag.new.message ≡ n = omega (arith, length-take n c.args.buf.now) in
-    let there = received whole key c.args.nonce.now c.args.aad.now c.args.buf.now c.open_message-tag.new.message c.open_message-tag.result n long front
-    c.open_message-tag.ensures.message c.open_message-tag.ensures.tag in
-    let hit : false ≡ true = c.if-is_same_tag.ensures.1 (right_tag whole key c.args.nonce.now c.args.aad.now c.args.buf.now c.open_message-tag.new.message c.open_message-tag.result n long front
-    c.open_message-tag.ensures.message c.open_message-tag.ensures.tag m e ∙ sym there) in
+    let hit : false ≡ true = c.if-is_same_tag.ensures.1 (
+    right_tag c.encrypted_length.ensures (g.C.BlockCipher.cipher_key c.args.cipher.now) c.args.nonce.now c.args.aad.now c.args.buf.now
+    c.open_message-tag.new.message c.open_message-tag.result (omega arith) c.open_message-tag.ensures.message c.open_message-tag.ensures.tag m e
+    ) in
     cc
 
 pub returns-clause-bad_tag : goal.returns-clause-bad_tag
@@ -65,10 +48,6 @@ returns-clause-bad_tag g c = (
 
 pub returns-clause-unchanged : goal.returns-clause-unchanged
 returns-clause-unchanged g c =
-    let whole = c.encrypted_length.ensures in
-    let key = g.C.BlockCipher.cipher_key c.args.cipher.now in
-    let n = length c.args.buf.now - 8 in
-    let long : length c.args.buf.now ≡ n + 8 = omega arith in
-    let front : length c.open_message-tag.new.message ≡ n = omega (arith, length-take n c.args.buf.now) in
-    restored whole key c.args.nonce.now c.args.aad.now c.args.buf.now c.open_message-tag.new.message c.open_message-tag.result n long front
-    c.open_message-tag.ensures.message c.open_message-tag.ensures.tag c.add_key_stream.new.message c.add_key_stream.ensures
+    restored c.encrypted_length.ensures (g.C.BlockCipher.cipher_key c.args.cipher.now) c.args.nonce.now c.args.aad.now c.args.buf.now
+    c.open_message-tag.new.message c.open_message-tag.result (omega arith) c.open_message-tag.ensures.message c.open_message-tag.ensures.tag
+    c.add_key_stream.new.message c.add_key_stream.ensures
