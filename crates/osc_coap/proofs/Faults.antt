@@ -30,18 +30,25 @@ never_item : (d : ℕ) (rest : List ℕ) (f : Fault) → ((d : ℕ) (b : ℕ) (b
 never_item d [] f refuse h = h
 never_item d (b ∷ rest) f refuse h = refuse d b rest h
 
+-- what holds of an item's four faults holds of each fault of an item
+of_item : (P : Fault → Type 0) → P Nibble15 → P OptionCut → P NumberTooLarge → P EmptyPayload
+    → (start : ℕ) (bytes : List ℕ) (fault : Fault) (place : ℕ) → HasFaultFrom start bytes fault place → P fault
+of_item P nibble cut large empty start bytes Nibble15 place i = nibble
+of_item P nibble cut large empty start bytes OptionCut place i = cut
+of_item P nibble cut large empty start bytes NumberTooLarge place i = large
+of_item P nibble cut large empty start bytes EmptyPayload place i = empty
+of_item P nibble cut large empty start bytes DatagramTooLong place i = absurd (never_item (last_number 0 i.2.options) i.2.rest DatagramTooLong (λ d b bs x. x) i.2.faulty)
+of_item P nibble cut large empty start bytes Short place i = absurd (never_item (last_number 0 i.2.options) i.2.rest Short (λ d b bs x. x) i.2.faulty)
+of_item P nibble cut large empty start bytes Version place i = absurd (never_item (last_number 0 i.2.options) i.2.rest Version (λ d b bs x. x) i.2.faulty)
+of_item P nibble cut large empty start bytes TokenLength place i = absurd (never_item (last_number 0 i.2.options) i.2.rest TokenLength (λ d b bs x. x) i.2.faulty)
+of_item P nibble cut large empty start bytes EmptyWithRest place i = absurd (never_item (last_number 0 i.2.options) i.2.rest EmptyWithRest (λ d b bs x. x) i.2.faulty)
+of_item P nibble cut large empty start bytes TokenCut place i = absurd (never_item (last_number 0 i.2.options) i.2.rest TokenCut (λ d b bs x. x) i.2.faulty)
+
 -- an item's fault behind a whole token is one of the datagram
 fault_behind_token : (bytes : List ℕ) (fault : Fault) (place : ℕ) → HasToken bytes → HasFaultFrom (4 + token_length_of bytes) bytes fault place → HasFault bytes fault place
-fault_behind_token bytes Nibble15 place h i = (h, i)
-fault_behind_token bytes OptionCut place h i = (h, i)
-fault_behind_token bytes NumberTooLarge place h i = (h, i)
-fault_behind_token bytes EmptyPayload place h i = (h, i)
-fault_behind_token bytes DatagramTooLong place h i = absurd (never_item (last_number 0 i.2.options) i.2.rest DatagramTooLong (λ d b bs x. x) i.2.faulty)
-fault_behind_token bytes Short place h i = absurd (never_item (last_number 0 i.2.options) i.2.rest Short (λ d b bs x. x) i.2.faulty)
-fault_behind_token bytes Version place h i = absurd (never_item (last_number 0 i.2.options) i.2.rest Version (λ d b bs x. x) i.2.faulty)
-fault_behind_token bytes TokenLength place h i = absurd (never_item (last_number 0 i.2.options) i.2.rest TokenLength (λ d b bs x. x) i.2.faulty)
-fault_behind_token bytes EmptyWithRest place h i = absurd (never_item (last_number 0 i.2.options) i.2.rest EmptyWithRest (λ d b bs x. x) i.2.faulty)
-fault_behind_token bytes TokenCut place h i = absurd (never_item (last_number 0 i.2.options) i.2.rest TokenCut (λ d b bs x. x) i.2.faulty)
+fault_behind_token bytes fault place h i =
+    of_item (λ f. HasFaultFrom (4 + token_length_of bytes) bytes f place → HasFault bytes f place)
+    (λ i. (h, i)) (λ i. (h, i)) (λ i. (h, i)) (λ i. (h, i)) (4 + token_length_of bytes) bytes fault place i i
 
 -- an item's fault behind the token's end is one of the datagram, where code 0.00 stands alone
 pub fault_behind_end : (bytes : List ℕ) (end : ℕ) (fault : Fault) (place : ℕ) → HasWholeHead bytes → end ≡ 4 + token_length_of bytes → end ≤ length bytes → (code_of bytes ≡ 0 → length bytes ≡ 4) → HasFaultFrom end bytes fault place → HasFault bytes fault place
@@ -54,13 +61,6 @@ fault_behind_end bytes end fault place head is within alone i =
 
 -- an item's fault behind the code is one of the plaintext
 pub fault_behind_code : (bytes : List ℕ) (fault : Fault) (place : ℕ) → HasCode bytes → HasFaultFrom 1 bytes fault place → HasInnerFault bytes fault place
-fault_behind_code bytes Nibble15 place h i = (h, i)
-fault_behind_code bytes OptionCut place h i = (h, i)
-fault_behind_code bytes NumberTooLarge place h i = (h, i)
-fault_behind_code bytes EmptyPayload place h i = (h, i)
-fault_behind_code bytes DatagramTooLong place h i = absurd (never_item (last_number 0 i.2.options) i.2.rest DatagramTooLong (λ d b bs x. x) i.2.faulty)
-fault_behind_code bytes Short place h i = absurd (never_item (last_number 0 i.2.options) i.2.rest Short (λ d b bs x. x) i.2.faulty)
-fault_behind_code bytes Version place h i = absurd (never_item (last_number 0 i.2.options) i.2.rest Version (λ d b bs x. x) i.2.faulty)
-fault_behind_code bytes TokenLength place h i = absurd (never_item (last_number 0 i.2.options) i.2.rest TokenLength (λ d b bs x. x) i.2.faulty)
-fault_behind_code bytes EmptyWithRest place h i = absurd (never_item (last_number 0 i.2.options) i.2.rest EmptyWithRest (λ d b bs x. x) i.2.faulty)
-fault_behind_code bytes TokenCut place h i = absurd (never_item (last_number 0 i.2.options) i.2.rest TokenCut (λ d b bs x. x) i.2.faulty)
+fault_behind_code bytes fault place h i =
+    of_item (λ f. HasFaultFrom 1 bytes f place → HasInnerFault bytes f place)
+    (λ i. (h, i)) (λ i. (h, i)) (λ i. (h, i)) (λ i. (h, i)) 1 bytes fault place i i

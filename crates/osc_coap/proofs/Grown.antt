@@ -41,7 +41,7 @@ grown draft longer text old buf new len end within is same behind end-is room si
     }
 
 -- an option that was written
-pub option_stands : (w : Writer) (draft : Draft) (old : List ℕ) (number delta : ℕ) (value new : List ℕ) (end : ℕ) → IsHeld w draft old → TakesNow w number (length value) → delta ≡ number - w.number → number ≤ 65535 → AreBytes value
+option_stands : (w : Writer) (draft : Draft) (old : List ℕ) (number delta : ℕ) (value new : List ℕ) (end : ℕ) → IsHeld w draft old → TakesNow w number (length value) → delta ≡ number - w.number → number ≤ 65535 → AreBytes value
     → new ≡ placed w.len (option_text delta value) w.buf.now → end ≡ w.len + option_length delta (length value) → Stands (with_option draft number value) old new end
 option_stands w draft old number delta value new end h t delta_is small are new-is end-is =
     let stage : IsAt Open draft = subst (λ (z : Stage). IsAt z draft) t.stage h.stage in
@@ -60,15 +60,32 @@ option_stands w draft old number delta value new end h t delta_is small are new-
     grown draft (with_option draft number value) text old w.buf.now new w.len end w.within is h.same_room h.behind (omega arith) (omega arith) size new-is
 
 -- the last number then
-pub option_last : (draft : Draft) (number : ℕ) (value : List ℕ) → number ≡ last_number 0 (options_of (with_option draft number value))
+option_last : (draft : Draft) (number : ℕ) (value : List ℕ) → number ≡ last_number 0 (options_of (with_option draft number value))
 option_last draft number value = sym (ap (last_number 0) (options_more draft number value) ∙ last_number-push 0 (options_of draft) number value)
 
 -- what can follow then
-pub option_stage : (s : Stage) (draft : Draft) (number : ℕ) (value : List ℕ) → s ≡ Open → IsAt s draft → IsAt s (with_option draft number value)
+option_stage : (s : Stage) (draft : Draft) (number : ℕ) (value : List ℕ) → s ≡ Open → IsAt s draft → IsAt s (with_option draft number value)
 option_stage s draft number value e h =
     let stage : IsAt Open draft = subst (λ (z : Stage). IsAt z draft) e h in
     let next : IsAt Open (with_option draft number value) = (λ (k : IsEmptyMessage (with_option draft number value)). stage.0 (empty_stays draft number value k), payload_stays draft number value ∙ stage.1) in
     subst (λ (z : Stage). IsAt z (with_option draft number value)) (sym e) next
+
+-- so the writer w' holds the draft with an option more
+pub option_held : (w w' : Writer) (draft : Draft) (old : List ℕ) (number : ℕ) (value : List ℕ)
+    → IsHeld w draft old → TakesNow w number (length value) → number ≤ 65535 → AreBytes value
+    → w'.number ≡ number → w'.stage ≡ w.stage → w'.buf.now ≡ placed w.len (option_text (number - w.number) value) w.buf.now
+    → w'.len ≡ w.len + option_length (number - w.number) (length value) → IsHeld w' (with_option draft number value) old
+option_held w w' draft old number value h t small are number-is stage-is new-is end-is =
+    let stands = option_stands w draft old number (number - w.number) value w'.buf.now w'.len h t refl small are new-is end-is in
+    let stage = option_stage w.stage draft number value t.stage h.stage in
+    record {
+      written = stands.written;
+      size = stands.size;
+      same_room = stands.same_room;
+      behind = stands.behind;
+      number = number-is ∙ option_last draft number value;
+      stage = subst (λ (z : Stage). IsAt z (with_option draft number value)) (sym stage-is) stage;
+    }
 
 -- a payload that was written
 pub payload_stands : (w : Writer) (draft : Draft) (old payload new : List ℕ) (end : ℕ) → IsHeld w draft old → w.stage ≡ Open → payload ≢ [] → AreBytes payload → w.len + (1 + length payload) ≤ length w.buf.now → w.len + (1 + length payload) ≤ 65535

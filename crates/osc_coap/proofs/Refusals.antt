@@ -8,6 +8,7 @@ use Rattle.osc_coap.specs.declared.writer.Stage.{Stage}
 use Rattle.osc_coap.specs.declared.writer.Stage.TheVariants.{Alone, Open, Closed}
 use Rattle.osc_coap.specs.OptionSpelling.{last_number, option_length}
 use Rattle.osc_coap.specs.Writing.{Draft, IsEmptyMessage, options_of, payload_of, length_of, with_option, ComesLate, LacksRoom, HasRoom, IsFirstReason, Reason, write_rank, RefusesOption, TakesOption, RefusesPayload, TakesPayload, with_payload}
+use Rattle.osc_coap.specs.Writer.{Holds}
 use Rattle.osc_coap.specs.Held.{IsHeld, IsAt, TakesNow, RefusesOptionNow, RefusesPayloadNow, limit_of}
 use Rattle.osc_coap.proofs.Drafts.{length_more, length_marked}
 
@@ -152,7 +153,7 @@ open_stage Open draft at filled none = refl
 open_stage Closed draft at filled none = absurd (at.1 none)
 
 -- what can be added the writer takes
-pub option_takes : (w : Writer) (draft : Draft) (old : List ℕ) (number : ℕ) (value : List ℕ) → IsHeld w draft old → TakesOption (length old) draft number value → TakesNow w number (length value)
+option_takes : (w : Writer) (draft : Draft) (old : List ℕ) (number : ℕ) (value : List ℕ) → IsHeld w draft old → TakesOption (length old) draft number value → TakesNow w number (length value)
 option_takes w draft old number value h t =
     let after = t.2 in
     let fits = t.3.1 in
@@ -167,6 +168,12 @@ option_takes w draft old number value h t =
       short = omega arith;
       room = omega arith;
     }
+
+-- the same where some draft is held
+pub takes_now : (w : Writer) (number : ℕ) (value : List ℕ)
+    → ((draft : Draft) × (old : List ℕ) × Holds w draft old × TakesOption (length old) draft number value) → TakesNow w number (length value)
+unfolding Holds
+takes_now w number value held = option_takes w held.0 held.1 number value held.2 held.3
 
 -- what the writer refuses can't be added, for the same first reason
 pub option_refused : (w : Writer) (draft : Draft) (old : List ℕ) (number : ℕ) (value : List ℕ) (e : WriteError) → IsHeld w draft old → RefusesOptionNow w number (length value) e → IsFirstReason (RefusesOption (length old) draft number value) e

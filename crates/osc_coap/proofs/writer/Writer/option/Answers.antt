@@ -1,25 +1,16 @@
-use Rattle.std.proofs.Common.{◌-◌, arith, refl}
+use Rattle.std.proofs.Common.{arith, refl}
 use Rattle.osc_coap.specs.OptionSpelling.{AreBytes}
 use Rattle.osc_coap.specs.Writer.{Holds}
 use Rattle.osc_coap.proofs.Bytes.{bytes_by_place}
-use Rattle.osc_coap.proofs.Grown.{option_stands, option_last, option_stage}
+use Rattle.osc_coap.proofs.Grown.{option_held}
 use Rattle.osc_coap.proofs.Refusals.{option_ok, option_err}
 use Rattle.osc_coap.proofs.writer.Writer.option.Goals as goal
 
 pub returns-clause-taken : goal.returns-clause-taken
 unfolding Holds
 returns-clause-taken c = λ draft old h.
-    let taken = c.in_ok-judge_option.ensures in
     let are : AreBytes c.args.value.now = bytes_by_place c.args.value.now (λ i. let b = c.type_inv.value i in omega (arith, b)) in
-    let stands = option_stands c.args.self.now draft old c.args.number (c.args.number - c.args.self.now.number) c.args.value.now c.put_option-self.new.buf c.put_option-self.result h taken refl (omega arith) are c.put_option-self.ensures.written c.put_option-self.ensures.end in
-    record {
-      written = stands.written;
-      size = stands.size;
-      same_room = stands.same_room;
-      behind = stands.behind;
-      number = option_last draft c.args.number c.args.value.now;
-      stage = option_stage c.args.self.now.stage draft c.args.number c.args.value.now taken.stage h.stage;
-    }
+    option_held c.args.self.now _ draft old c.args.number c.args.value.now h c.in_ok-judge_option.ensures (omega arith) are refl refl c.put_option-self.ensures.written c.put_option-self.ensures.end
 
 pub returns-in_err-judge_option-clause-accepts : goal.returns-in_err-judge_option-clause-accepts
 unfolding Holds
