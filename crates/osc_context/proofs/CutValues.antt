@@ -7,10 +7,10 @@ use Rattle.osc_context.specs.OscoreValue.{OscoreParts, piv_bytes, kid_context_by
 use Rattle.osc_context.specs.OptionRefusal.{front_len, RefusesValue, value_rank, IsFirstValueRefusal}
 use Rattle.osc_context.proofs.FlagBytes.{flag_joined}
 use Rattle.osc_context.proofs.ValueParts.{spelled_value, IsValue}
-use Rattle.osc_context.proofs.FrontLens.{front_of, second_of}
+use Rattle.osc_context.proofs.FrontLens.{front_of, front_spelled, second_of}
 
 -- what a slice pattern leaves behind the first byte
-pub rest_cut : (bytes parts : List ℕ) → take (length bytes - 1) (drop 1 bytes) ≡ parts → drop 1 bytes ≡ parts
+rest_cut : (bytes parts : List ℕ) → take (length bytes - 1) (drop 1 bytes) ≡ parts → drop 1 bytes ≡ parts
 rest_cut bytes parts e = sym (take_all (length bytes - 1) (drop 1 bytes) (omega (arith, length-drop 1 bytes))) ∙ e
 
 -- bytes cut into parts, where none of them is refused but for what stands last
@@ -24,6 +24,23 @@ pub record IsCutUp (context : Option (List ℕ)) (bytes piv tail : List ℕ) : T
   pub len : length piv ≡ get_or bytes 0 0 % 8
   pub no_leading_zero : 1 < length piv → get_or piv 0 0 ≢ 0
   pub present : flag_if_some 16 context ≡ 16 * (get_or bytes 0 0 / 16 % 2)
+
+-- so are bytes whose parts were read, up to the kid
+pub read_cut : (context : Option (List ℕ)) (bytes piv tail : List ℕ) (number : Option ℕ) → 0 < length bytes → length bytes ≤ 255
+    → get_or bytes 0 0 ≢ 0 → get_or bytes 0 0 / 32 ≡ 0 → get_or bytes 0 0 % 8 ≤ 5
+    → take (length bytes - 1) (drop 1 bytes) ≡ piv ++ (kid_context_bytes context ++ tail) → length piv ≡ get_or bytes 0 0 % 8
+    → flag_if_some 16 context ≡ 16 * (get_or bytes 0 0 / 16 % 2) → piv_bytes number ≡ piv → IsCutUp context bytes piv tail
+read_cut context bytes piv tail number some fits written plain few whole len present spelled = record {
+  some = some;
+  fits = fits;
+  written = written;
+  plain = plain;
+  few = few;
+  whole = rest_cut bytes _ whole;
+  len = len;
+  no_leading_zero = front_spelled number piv spelled;
+  present = present;
+}
 
 -- what is cut up is the value that says its parts
 pub value_cut : (p : OscoreParts) (bytes piv tail : List ℕ) → IsCutUp p.kid_context bytes piv tail → IfSome p.piv (λ n. n < 2 ^ 40) → piv_bytes p.piv ≡ piv
