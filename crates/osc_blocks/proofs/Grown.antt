@@ -1,6 +1,6 @@
 -- What a body has come in, after one block more.
 use Rattle.std.proofs.Common.{◌≡◌, ℕ, zero, suc, ◌+◌, ◌*◌, ◌<◌, ◌⊎◌, inl, inr, List, [], ◌∷◌, ◌++◌, length, take, Bool, true, false, refl, sym, ap, subst, ◌∙◌, arith, append_assoc, length-append, add-zero, zero-add}
-use Rattle.std.specs.Prelude.{◌==◌, if◌then◌else◌, Some}
+use Rattle.std.specs.Prelude.{◌==◌, if◌then◌else◌, IsSomeAnd, Some}
 use Rattle.std.proofs.lemmas.Bool.Decides.{when_true, when_false, nat_tests}
 use Rattle.std.proofs.lemmas.List.{append-nil, take_all}
 use Rattle.osc_blocks.specs.declared.body.Stage.{Stage}
@@ -95,6 +95,18 @@ keeps_new most old new p is can pieces k =
     subst (λ (after : Kept). Keeps after (with_piece pieces p)) (sym is) (keeps_after most old p pieces can k)
 
 -- ---- a whole body
+
+-- a body is whole after its last block
+pub whole_after : (old new : Kept) (p : Piece) (pieces : List Piece) → new ≡ kept_after old p → p.block.more ≡ false
+    → Keeps new (with_piece pieces p) → IsSomeAnd (whole_at new.stage new.bytes) (IsInBlocks p.operation 0 (with_piece pieces p))
+whole_after old new p pieces is last k =
+    subst (λ (after : Kept). IsSomeAnd (whole_at after.stage after.bytes) (IsInBlocks p.operation 0 (with_piece pieces p))) (sym is)
+    (after_last p.block.more last (subst (λ (after : Kept). Keeps after (with_piece pieces p)) is k))
+  where
+    after_last : (more : Bool) → more ≡ false → KeepsAt (stage_after more) p.operation (kept_after old p).bytes (with_piece pieces p)
+        → IsSomeAnd (whole_at (stage_after more) (kept_after old p).bytes) (IsInBlocks p.operation 0 (with_piece pieces p))
+    after_last true e k = cc
+    after_last false e k = k
 
 -- bytes of a body that is complete are that body in its pieces
 pub whole_keeps : (stage : Stage) (operation kept bytes : List ℕ) (pieces : List Piece) → KeepsAt stage operation kept pieces

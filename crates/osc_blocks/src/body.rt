@@ -74,18 +74,30 @@ impl<const MOST: usize> Body<MOST> {
             → IsFirstRefusal MOST (kept_of self.old) (piece_of operation.now (parts_of block) payload.now) e → IsErrOf result e }
     {
         self.judge(operation, block, payload)?;
-        // Number 0 drops all bytes, and each other block begins where the bytes end.
+        self.keep(operation, block, payload);
+        if block.more() {
+            Ok(Received::More(block.next()))
+        } else {
+            Ok(Received::Whole)
+        }
+    }
+
+    /// Keeps a block that can be taken. Number 0 drops all bytes, and each other block begins where the bytes end.
+    #[tactic(auto, unfolding(crate::specs::Views::kept_of))]
+    fn keep(&mut self, operation: &[u8], block: Block, payload: &[u8])
+        requires { CanTake MOST (kept_of self.old) (piece_of operation.now (parts_of block) payload.now) }
+        ensures kept { kept_of self.new ≡ kept_after (kept_of self.old) (piece_of operation.now (parts_of block) payload.now) }
+        ensures taken { Takes self.old self.new (piece_of operation.now (parts_of block) payload.now) }
+    {
         self.bytes.truncate(block.place());
         self.bytes.try_extend_from_slice(payload).unwrap();
         self.operation.clear();
         self.operation.try_extend_from_slice(operation).unwrap();
-        if block.more() {
-            self.stage = Stage::Begun;
-            Ok(Received::More(block.next()))
+        self.stage = if block.more() {
+            Stage::Begun
         } else {
-            self.stage = Stage::Complete;
-            Ok(Received::Whole)
-        }
+            Stage::Complete
+        };
     }
 
     /// Returns the body, if its last block was taken and no block after that.
