@@ -34,11 +34,11 @@ outcome_is outcomes.NotResponse NotResponse h = refl
 outcome_is outcomes.UnknownToken UnknownToken h = refl
 outcome_is outcomes.Unprotected Unprotected h = refl
 outcome_is outcomes.Undecodable Undecodable h = refl
+outcome_is (outcomes.Notified opened piv) (Notified received number) h = rw (h.1) (ap (λ (r : Received). codes "notified " ++ response_text number r.number r.message) h.0)
+outcome_is (outcomes.Deliver opened piv) (Deliver received number) h = rw (h.1) (ap (λ (r : Received). codes "deliver " ++ response_text number r.number r.message) h.0)
 outcome_is outcomes.BadTag BadTag h = refl
 outcome_is outcomes.BadInner BadInner h = refl
 outcome_is outcomes.Old Old h = refl
-outcome_is (outcomes.Notified opened piv) (Notified received number) h = rw (h.1) (ap (λ (r : Received). codes "notified " ++ response_text number r.number r.message) h.0)
-outcome_is (outcomes.Deliver opened piv) (Deliver received number) h = rw (h.1) (ap (λ (r : Received). codes "deliver " ++ response_text number r.number r.message) h.0)
 outcome_is x answer h = absurd h
 
 -- a request of the code is one of the lines

@@ -1,5 +1,5 @@
 -- A call under a context has one text.
-use Rattle.std.proofs.Common.{◌≡◌, ℕ, List, [], ◌∷◌, sym, ap, ◌∙◌, ◌⊎◌, inl, inr, Result, Ok, Err, IfOk, subst}
+use Rattle.std.proofs.Common.{◌≡◌, ℕ, List, [], ◌∷◌, sym, ap, ◌∙◌, ◌⊎◌, inl, inr, Option, Result, Ok, Err, IfOk, subst}
 use Rattle.osc_context.specs.Laws.{OneParamsRefusal}
 use Rattle.osc_context.specs.ContextRefusal.{context_error_text}
 use Rattle.osc_context.specs.SecurityContext.{SecurityContext}
@@ -8,6 +8,8 @@ use Rattle.osc_context.specs.declared.parameters.Params.{Params}
 use Rattle.osc_text.specs.Contexts.{InContext, KeyText, Told}
 use Rattle.osc_text.specs.Contexts.InContext.{in_context, no_context}
 use Rattle.osc_text.specs.Lines.{refused_line}
+use Rattle.osc_text.specs.Written.{Writes}
+use Rattle.osc_text.specs.declared.fault.Fault.{Fault}
 
 -- what is told has one text and one status
 abbrev pub TellsOnce : Told → Type 0
@@ -41,3 +43,16 @@ one_key_text s xs ys a b it it_too = (it.0 ∙ sym it_too.0, it.1 ∙ sym it_too
 
 pub key_status : (s : SecurityContext) → TellsStatus (KeyText s)
 key_status s lines n it = inl it.1
+
+-- what was written for one text is what is written for every text that is told
+pub written_once : (told : Told) → TellsOnce told → (old new : Option (List ℕ)) (r : Result ℕ Fault) (xs : List (List ℕ)) (a : ℕ) → told xs a → Writes old new xs r → IfOk r (λ s. s ≡ a)
+    → (ys : List (List ℕ)) (b : ℕ) → told ys b → Writes old new ys r × IfOk r (λ s. s ≡ b)
+written_once told once old new r xs a it w is ys b it_too =
+    let same = once xs ys a b it it_too in
+    (subst (λ (t : List (List ℕ)). Writes old new t r) same.0 w, subst (λ (n : ℕ). IfOk r (λ s. s ≡ n)) same.1 is)
+
+-- the same of a text under a context, with its status
+pub context_once : OneParamsRefusal → (g : Params) (told : Told) → TellsOnce told → TellsStatus told → (old new : Option (List ℕ)) (r : Result ℕ Fault) (xs : List (List ℕ)) (a : ℕ) → InContext g told xs a → Writes old new xs r → IfOk r (λ s. s ≡ a)
+    → ((ys : List (List ℕ)) (b : ℕ) → InContext g told ys b → Writes old new ys r × IfOk r (λ s. s ≡ b)) × IfOk r (λ k. (k ≡ 0) ⊎ (k ≡ 2))
+context_once law g told once status old new r xs a it w is =
+    (written_once (InContext g told) (one_in_context law g told once) old new r xs a it w is, zero_or_two (InContext g told) (status_in_context g told status) xs a r it is)

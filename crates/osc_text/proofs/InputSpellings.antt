@@ -246,17 +246,17 @@ says_numbered n b m bytes says_n says_b = rw (split_at 32 n b (no_space_number _
 
 -- ---- what is read is spelled
 
-take_all : (a : Option ℕ) (b : Option (List ℕ)) (c : Option ℕ) (d : Option (List ℕ)) (e : InputEvent) → take_of a b c d ≡ Some e
+take_all : (a : Option ℕ) (b : Option (List ℕ)) (c : Option ℕ) (d : Option (List ℕ)) (e : InputEvent ℕ) → take_of a b c d ≡ Some e
     → (now : ℕ) × (echo : List ℕ) × (mid : ℕ) × (datagram : List ℕ) × (a ≡ Some now) × (b ≡ Some echo) × (c ≡ Some mid) × (d ≡ Some datagram) × (Take now echo mid datagram ≡ e)
-take_all (Some now) (Some echo) (Some mid) (Some datagram) e h = (now, echo, mid, datagram, refl, refl, refl, refl, ap (λ (o : Option InputEvent). unwrap_or o e) h)
+take_all (Some now) (Some echo) (Some mid) (Some datagram) e h = (now, echo, mid, datagram, refl, refl, refl, refl, ap (λ (o : Option (InputEvent ℕ)). unwrap_or o e) h)
 take_all a b c d e h = cc h
 
-reply_all : (a : Option ℕ) (b : Option Bool) (c : Option ℕ) (d : Option (List ℕ)) (e : InputEvent) → reply_of a b c d ≡ Some e
+reply_all : (a : Option ℕ) (b : Option Bool) (c : Option ℕ) (d : Option (List ℕ)) (e : InputEvent ℕ) → reply_of a b c d ≡ Some e
     → (of : ℕ) × (own : Bool) × (mid : ℕ) × (plain : List ℕ) × (a ≡ Some of) × (b ≡ Some own) × (c ≡ Some mid) × (d ≡ Some plain) × (Reply of own mid plain ≡ e)
-reply_all (Some of) (Some own) (Some mid) (Some text) e h = (of, own, mid, text, refl, refl, refl, refl, ap (λ (o : Option InputEvent). unwrap_or o e) h)
+reply_all (Some of) (Some own) (Some mid) (Some text) e h = (of, own, mid, text, refl, refl, refl, refl, ap (λ (o : Option (InputEvent ℕ)). unwrap_or o e) h)
 reply_all a b c d e h = cc h
 
-take_says : (fields : List ℕ) (e : InputEvent) → take_read fields ≡ Some e → SpellsEvent (codes "take" ++ 32 ∷ fields) e
+take_says : (fields : List ℕ) (e : InputEvent ℕ) → take_read fields ≡ Some e → SpellsEvent (codes "take" ++ 32 ∷ fields) e
 unfolding take_read
 take_says fields e h =
     let p = then_some _ (four_read fields) e h in
@@ -266,7 +266,7 @@ take_says fields e h =
     subst (SpellsEvent (codes "take" ++ 32 ∷ fields)) t.8
     (w.0, w.1, w.2, w.3, ap (λ (r : List ℕ). codes "take" ++ 32 ∷ r) (four_parted fields w p.1), number_says (2 ^ 64) w.0 t.0 t.4, f, message_id_says w.2 t.2 t.6, bytes_say w.3 t.3 t.7)
 
-reply_says : (fields : List ℕ) (e : InputEvent) → reply_read fields ≡ Some e → SpellsEvent (codes "reply" ++ 32 ∷ fields) e
+reply_says : (fields : List ℕ) (e : InputEvent ℕ) → reply_read fields ≡ Some e → SpellsEvent (codes "reply" ++ 32 ∷ fields) e
 unfolding reply_read
 reply_says fields e h =
     let p = then_some _ (four_read fields) e h in
@@ -276,48 +276,41 @@ reply_says fields e h =
     subst (SpellsEvent (codes "reply" ++ 32 ∷ fields)) t.8
     (w.0, w.2, w.3, ap (λ (r : List ℕ). codes "reply" ++ 32 ∷ r) words, number_says (2 ^ 64) w.0 t.0 t.4, message_id_says w.2 t.2 t.6, bytes_say w.3 t.3 t.7)
 
-notify_says : (fields : List ℕ) (e : InputEvent) → option_map (λ t. Notify t.0 t.1) (numbered_read fields) ≡ Some e → SpellsEvent (codes "notify" ++ 32 ∷ fields) e
-notify_says fields e h =
-    let p = map_some (λ t. Notify t.0 t.1) (numbered_read fields) e h in
-    let s = numbered_says fields p.0 p.1 in
-    subst (SpellsEvent (codes "notify" ++ 32 ∷ fields)) p.2 (s.0, s.1, ap (λ (r : List ℕ). codes "notify" ++ 32 ∷ r) s.2, s.3, s.4)
+-- rows with a number alone, and with a number and bytes
+pub number_row : {E : Type 0} (P : List ℕ → E → Type 0) (word fields : List ℕ) (bound : ℕ) (make : ℕ → E) → ((n : ℕ) → SaysBelow bound fields n → P (word ++ 32 ∷ fields) (make n))
+    → (e : E) → option_map make (number_read bound fields) ≡ Some e → P (word ++ 32 ∷ fields) e
+number_row P word fields bound make there e h =
+    let p = map_some make (number_read bound fields) e h in
+    subst (P (word ++ 32 ∷ fields)) p.2 (there p.0 (number_says bound fields p.0 p.1))
 
-drop_says : (fields : List ℕ) (e : InputEvent) → option_map Drop (number_read (2 ^ 64) fields) ≡ Some e → SpellsEvent (codes "drop" ++ 32 ∷ fields) e
-drop_says fields e h =
-    let p = map_some Drop (number_read (2 ^ 64) fields) e h in
-    subst (SpellsEvent (codes "drop" ++ 32 ∷ fields)) p.2 (fields, refl, number_says (2 ^ 64) fields p.0 p.1)
+pub numbered_row : {E : Type 0} (P : List ℕ → E → Type 0) (word fields : List ℕ) (make : ℕ × List ℕ → E) → ((t : ℕ × List ℕ) → SaysNumbered fields t → P (word ++ 32 ∷ fields) (make t))
+    → (e : E) → option_map make (numbered_read fields) ≡ Some e → P (word ++ 32 ∷ fields) e
+numbered_row P word fields make there e h =
+    let p = map_some make (numbered_read fields) e h in
+    subst (P (word ++ 32 ∷ fields)) p.2 (there p.0 (numbered_says fields p.0 p.1))
 
-restart_says : (fields : List ℕ) (e : InputEvent) → option_map Restart (number_read (2 ^ 40) fields) ≡ Some e → SpellsEvent (codes "restart" ++ 32 ∷ fields) e
-restart_says fields e h =
-    let p = map_some Restart (number_read (2 ^ 40) fields) e h in
-    subst (SpellsEvent (codes "restart" ++ 32 ∷ fields)) p.2 (fields, refl, number_says (2 ^ 40) fields p.0 p.1)
+-- a number and bytes behind a word
+pub behind : (word fields : List ℕ) (t : ℕ × List ℕ) → SaysNumbered fields t → (n b : List ℕ) × (word ++ 32 ∷ fields ≡ word ++ 32 ∷ parted (n ∷ b ∷ [])) × SaysBelow (2 ^ 64) n t.0 × SaysBytes b t.1
+behind word fields t (n, b, is, says_n, says_b) = (n, b, ap (λ (r : List ℕ). word ++ 32 ∷ r) is, says_n, says_b)
 
--- a line of the verb that was found
-with_verb : (verb word fields : List ℕ) (e : InputEvent) → bytes_eq verb word ≡ true → SpellsEvent (word ++ 32 ∷ fields) e → SpellsEvent (verb ++ 32 ∷ fields) e
-with_verb verb word fields e is s = subst (λ (v : List ℕ). SpellsEvent (v ++ 32 ∷ fields) e) (sym ((bytes_eq-Decides verb word).0 is)) s
-
-verb_says : (verb fields : List ℕ) (e : InputEvent) → verb_read verb fields ≡ Some e → SpellsEvent (verb ++ 32 ∷ fields) e
-unfolding verb_read
-verb_says verb fields e h = elim (cases_Bool (bytes_eq verb (codes "take"))) [
-  | inl is ↦ with_verb verb (codes "take") fields e is (take_says fields e (sym (cond-true _ _ _ is) ∙ h))
-  | inr a ↦ elim (cases_Bool (bytes_eq verb (codes "reply"))) [
-    | inl is ↦ with_verb verb (codes "reply") fields e is (reply_says fields e (sym (cond-false _ _ _ a ∙ cond-true _ _ _ is) ∙ h))
-    | inr b ↦ elim (cases_Bool (bytes_eq verb (codes "notify"))) [
-      | inl is ↦ with_verb verb (codes "notify") fields e is (notify_says fields e (sym (cond-false _ _ _ a ∙ cond-false _ _ _ b ∙ cond-true _ _ _ is) ∙ h))
-      | inr c ↦ elim (cases_Bool (bytes_eq verb (codes "drop"))) [
-        | inl is ↦ with_verb verb (codes "drop") fields e is (drop_says fields e (sym (cond-false _ _ _ a ∙ cond-false _ _ _ b ∙ cond-false _ _ _ c ∙ cond-true _ _ _ is) ∙ h))
-        | inr d ↦ elim (cases_Bool (bytes_eq verb (codes "restart"))) [
-          | inl is ↦ with_verb verb (codes "restart") fields e is (restart_says fields e (sym (cond-false _ _ _ a ∙ cond-false _ _ _ b ∙ cond-false _ _ _ c ∙ cond-false _ _ _ d ∙ cond-true _ _ _ is) ∙ h))
-          | inr f ↦
-              let bad : None ≡ Some e = sym (cond-false _ _ _ a ∙ cond-false _ _ _ b ∙ cond-false _ _ _ c ∙ cond-false _ _ _ d ∙ cond-false _ _ _ f) ∙ h in
-              cc bad
-        ]
-      ]
-    ]
-  ]
+-- one verb that a line may have, and the other verbs
+pub or_verb : {E : Type 0} (P : List ℕ → E → Type 0) (verb word fields : List ℕ) (a b : Option E) (e : E) → (a ≡ Some e → P (word ++ 32 ∷ fields) e) → (b ≡ Some e → P (verb ++ 32 ∷ fields) e)
+    → (if bytes_eq verb word then a else b) ≡ Some e → P (verb ++ 32 ∷ fields) e
+or_verb P verb word fields a b e here there h = elim (cases_Bool (bytes_eq verb word)) [
+  | inl is ↦ subst (λ (v : List ℕ). P (v ++ 32 ∷ fields) e) (sym ((bytes_eq-Decides verb word).0 is)) (here (sym (cond-true _ _ _ is) ∙ h))
+  | inr other ↦ there (sym (cond-false _ _ _ other) ∙ h)
 ]
 
-pub event_says : (line : List ℕ) (e : InputEvent) → event_read line ≡ Some e → SpellsEvent line e
+verb_says : (verb fields : List ℕ) (e : InputEvent ℕ) → verb_read verb fields ≡ Some e → SpellsEvent (verb ++ 32 ∷ fields) e
+unfolding verb_read
+verb_says verb fields e h =
+    or_verb SpellsEvent verb (codes "take") fields _ _ e (take_says fields e)
+    (or_verb SpellsEvent verb (codes "reply") fields _ _ e (reply_says fields e)
+    (or_verb SpellsEvent verb (codes "notify") fields _ _ e (numbered_row SpellsEvent (codes "notify") fields (λ t. Notify t.0 t.1) (behind (codes "notify") fields) e)
+    (or_verb SpellsEvent verb (codes "drop") fields _ _ e (number_row SpellsEvent (codes "drop") fields (2 ^ 64) Drop (λ n s. (fields, refl, s)) e)
+    (or_verb SpellsEvent verb (codes "restart") fields _ _ e (number_row SpellsEvent (codes "restart") fields (2 ^ 40) Restart (λ n s. (fields, refl, s)) e) (λ bad. cc bad))))) h
+
+pub event_says : (line : List ℕ) (e : InputEvent ℕ) → event_read line ≡ Some e → SpellsEvent line e
 unfolding event_read
 event_says line e h =
     let p = then_some _ (split_once 32 line) e h in
@@ -325,7 +318,7 @@ event_says line e h =
 
 -- ---- what is spelled is read
 
-pub says_event : (line : List ℕ) (e : InputEvent) → SpellsEvent line e → event_read line ≡ Some e
+pub says_event : (line : List ℕ) (e : InputEvent ℕ) → SpellsEvent line e → event_read line ≡ Some e
 unfolding event_read verb_read take_read reply_read
 says_event line (Take now echo mid datagram) (n, x, m, d, is, says_n, says_x, says_m, says_d) =
     rw (
@@ -353,6 +346,11 @@ says_event line (Drop of) (n, is, says_n) = rw (is, split_at 32 (codes "drop") n
 says_event line (Restart next) (n, is, says_n) =
     rw (is, split_at 32 (codes "restart") n (no_space_test (codes "restart") refl), says_number (2 ^ 40) n next says_n) refl
 
+-- a line is read by the words around its first space
+pub event_at : (line : List ℕ) (o : Option (List ℕ × List ℕ)) → o ≡ split_once 32 line → event_read line ≡ option_and_then (λ p. verb_read p.0 p.1) o
+unfolding event_read
+event_at line o h = rw h refl
+
 -- ---- a reader that is the inverse
 
 -- what is read is spelled, and what is spelled is read
@@ -377,7 +375,19 @@ module _ {E : Type 0} (spells : List ℕ → E → Type 0) (read : List ℕ → 
   read_spells seen IsRight line (Ok None) is right = tt
   read_spells seen IsRight line (Err e) is right = tt
 
+  -- where the code read nothing, nothing is spelled
   pub none_spells : {V F : Type 0} (seen : V → E) (line : List ℕ) (r : Result (Option V) F) → IfOk r (λ o. option_map seen o ≡ read line) → IfOk r (λ o. IfNone o (SpellsNone spells line))
   none_spells seen line (Ok (Some v)) is = tt
   none_spells seen line (Ok None) is = λ e s. let bad : None ≡ Some e = is ∙ law.said line e s in cc bad
   none_spells seen line (Err e) is = tt
+
+  -- a line of which nothing is read spells nothing
+  pub no_words : (line : List ℕ) → read line ≡ None → SpellsNone spells line
+  no_words line none e s = let bad : None ≡ Some e = sym none ∙ law.said line e s in cc bad
+
+  -- what the code read of the words around the first space
+  pub words_spell : {V F : Type 0} (seen : V → E) (IsRight : V → Type 0) (line : List ℕ) (o : Option E) (r : Result (Option V) F) → read line ≡ o → IfOk r (λ v. option_map seen v ≡ o) → IfOk r (λ v. IfSome v IsRight)
+      → IfOk r (λ v. IfSome v (SpellsSeen spells seen IsRight line)) × IfOk r (λ v. IfNone v (SpellsNone spells line))
+  words_spell seen IsRight line o r at is right =
+      let there = subst (λ (p : Option E). IfOk r (λ v. option_map seen v ≡ p)) (sym at) is in
+      (read_spells seen IsRight line r there right, none_spells seen line r there)

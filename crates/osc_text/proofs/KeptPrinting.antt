@@ -1,30 +1,25 @@
 -- What came of an end whose numbers are kept is what is printed of it.
-use Rattle.std.proofs.Common.{◌≡◌, ◌⊎◌, ℕ, inl, inr, List, [], ◌∷◌, All, map, Option, Result, Ok, Err, IfOk, refl, subst, arith}
+use Rattle.std.proofs.Common.{◌≡◌, ◌≢◌, ◌⊎◌, ℕ, inl, inr, List, [], ◌∷◌, All, map, Option, Result, Ok, Err, IfOk, refl, subst, arith}
 use Rattle.std.proofs.lemmas.List.{take_all}
 use Rattle.std.proofs.lemmas.List.Elements.{All-head, All-tail}
 use Rattle.osc_context.specs.ContextRefusal.{context_error_text}
-use Rattle.osc_context.specs.SecurityContext.{SecurityContext}
 use Rattle.osc_context.specs.declared.keeper.Keeper as keeper
 use Rattle.osc_context.specs.declared.parameters.Params.{Params}
-use Rattle.osc_text.specs.declared.agreed.Agreed.{Agreed}
+use Rattle.osc_kept_ends.specs.Refusals.{RefusesAt}
+use Rattle.osc_kept_ends.specs.Views.{kept_error_text}
+use Rattle.osc_kept_ends.specs.declared.kept_error.KeptError.{KeptError}
+use Rattle.osc_kept_ends.specs.declared.kept_error.KeptError.TheVariants.{LivesExhausted}
 use Rattle.osc_kept_runs.specs.KeptRuns.{RunOf}
-use Rattle.osc_window.specs.declared.window_size.WindowSize.{WindowSize}
-use Rattle.osc_text.specs.Asking.{places}
-use Rattle.osc_text.specs.Contexts.{agreed_client, agreed_server, InContext, Told}
+use Rattle.osc_text.specs.Contexts.{InContext, Told}
 use Rattle.osc_text.specs.Contexts.InContext.{in_context, no_context}
 use Rattle.osc_text.specs.EntryLines.{entry_line}
 use Rattle.osc_text.specs.InputReading.{Misreads, SpellsNone, SpellsSeen}
-use Rattle.osc_text.specs.InputText.{EventLines, InputText}
+use Rattle.osc_text.specs.InputText.{EventLines, HasBadLineOf, InputText}
 use Rattle.osc_text.specs.Inputs.{IsFirstBadLine, SpellsInput}
-use Rattle.osc_text.specs.KeptAskedEvents.{SpellsKeptAsked}
-use Rattle.osc_text.specs.KeptAsking.{ClientStartText, KeptAskText, KeptAskedLine}
-use Rattle.osc_text.specs.KeptAsking.ClientStartText.{asked, not_started as no_client}
-use Rattle.osc_text.specs.KeptEvents.{SpellsKept}
-use Rattle.osc_text.specs.KeptServing.{KeptLine, KeptServeText, StartText}
-use Rattle.osc_text.specs.KeptServing.StartText.{not_started, served}
-use Rattle.osc_text.specs.KeptText.{FrontText, LineOf, WroteBy}
+use Rattle.osc_text.specs.KeptText.{FrontText, LineOf, StartText, WroteBy}
+use Rattle.osc_text.specs.KeptText.StartText.{not_started, started}
 use Rattle.osc_text.specs.Lines.{refused_line}
-use Rattle.osc_text.specs.Printing.{RunsContext, RunsEvents, RunsInput, WroteAround}
+use Rattle.osc_text.specs.Printing.{BeginsBadly, RunsContext, RunsEvents, RunsInput, WroteAround}
 use Rattle.osc_text.specs.Printing.RunsContext.{derived, refused}
 use Rattle.osc_text.specs.Printing.RunsInput.{misread, ran}
 use Rattle.osc_text.specs.Written.{Writes}
@@ -129,22 +124,32 @@ pub in_context_two : (g : Params) (tells : Told) → ZeroOrTwo tells → ZeroOrT
 in_context_two g tells two lines n (no_context e first text is) = inr is
 in_context_two g tells two lines n (in_context none text) = two lines n text
 
--- ---- servers and clients
+-- ---- an end that begins
 
-input_two : {S E : Type 0} (spells : List ℕ → E → Type 0) (step : S → E → List ℕ → S → Type 0) (s : S) (input : List ℕ) → ZeroOrTwo (InputText spells step s input)
-input_two spells step s input lines n (events, spelled, event_lines, is) = inl is
+module _ {K X S E : Type 0} (k : keeper.Ghosts K) (keeper : K) (Starts : S → Type 0) (contents : X → Option (List ℕ)) (spells : List ℕ → E → Type 0) (step : S → E → List ℕ → S → Type 0) (input : List ℕ) (before after : X) (r : Result ℕ Fault) where
+  -- what is told around the input's text, before and after a context is derived
+  abbrev Under : Type 0
+  Under = WroteAround spells step (StartText k keeper Starts) (BeginsBadly Starts spells input) input X contents before after r
 
-module _ {K : Type 0} (k : keeper.Ghosts K) (keeper : K) (input : List ℕ) where
-  start_two : (c : SecurityContext) (size : WindowSize) → ZeroOrTwo (StartText k c size keeper (λ s. InputText SpellsKept KeptLine s input))
-  start_two c size lines n (not_started e after refuses other text is) = inr is
-  start_two c size lines n (served s starts text) = input_two SpellsKept KeptLine s input lines n text
+  -- an end that started prints what its input says
+  pub begun_told : (s : S) → Starts s → WroteBy contents (InputText spells step s input) (FrontText spells step s input) (IsFirstBadLine spells input) before after r → Under
+  begun_told s starts = start_told contents spells step input before after (StartText k keeper Starts) (BeginsBadly Starts spells input) r s (λ told lines n text. started s starts text) (λ n bad. (s, starts, bad))
 
-  pub serve_two : (g : Agreed) (size : WindowSize) → ZeroOrTwo (KeptServeText k g size keeper input)
-  serve_two g size = in_context_two g.params (StartText k (agreed_server g) size keeper (λ s. InputText SpellsKept KeptLine s input)) (start_two (agreed_server g) size)
+  -- a refused start is printed
+  pub not_begun_told : (e : KeptError) (left : K) → RefusesAt k.loads k.failures keeper e left → e ≢ LivesExhausted → Writes (contents before) (contents after) (refused_line (kept_error_text e) ∷ []) r → IfOk r (λ n. n ≡ 2) → Under
+  not_begun_told e left refuses other = refusal_told contents spells step input before after (StartText k keeper Starts) (BeginsBadly Starts spells input) r (refused_line (kept_error_text e)) (λ told lines n text. not_started e left refuses other text.0 text.1)
 
-  client_start_two : (c : SecurityContext) (life : ℕ) → ZeroOrTwo (ClientStartText k c life keeper (λ s. InputText SpellsKeptAsked (KeptAskedLine places) s input))
-  client_start_two c life lines n (no_client e after refuses other text is) = inr is
-  client_start_two c life lines n (asked s starts text) = input_two SpellsKeptAsked (KeptAskedLine places) s input lines n text
+  -- a context is printed, or its refusal
+  pub end_told : (g : Params) → RunsContext g (contents before) (contents after) r Under
+      → WroteAround spells step (λ told. InContext g (StartText k keeper Starts told)) (HasBadLineOf g Starts spells input) input X contents before after r
+  end_told g = context_told contents spells step input before after g (StartText k keeper Starts) (BeginsBadly Starts spells input) (HasBadLineOf g Starts spells input) r
+      (λ n bad. record { in_context = bad.0; state = bad.1.0; begins = bad.1.1; first_bad = bad.1.2 })
 
-  pub ask_two : (g : Agreed) (life : ℕ) → ZeroOrTwo (KeptAskText k g life keeper input)
-  ask_two g life = in_context_two g.params (ClientStartText k (agreed_client g) life keeper (λ s. InputText SpellsKeptAsked (KeptAskedLine places) s input)) (client_start_two (agreed_client g) life)
+  -- with status 0 or 2
+  pub end_two : (g : Params) → RunsContext g (contents before) (contents after) r Under → IfOk r (λ n. (n ≡ 0) ⊎ (n ≡ 2))
+  end_two g runs = status_told contents (InContext g (StartText k keeper Starts (λ s. InputText spells step s input))) (InContext g (StartText k keeper Starts (λ s. FrontText spells step s input))) (HasBadLineOf g Starts spells input) before after r
+      (in_context_two g (StartText k keeper Starts (λ s. InputText spells step s input)) start_two) (end_told g runs)
+    where
+      start_two : ZeroOrTwo (StartText k keeper Starts (λ s. InputText spells step s input))
+      start_two lines n (not_started e left refuses other text is) = inr is
+      start_two lines n (started s starts (events, spelled, event_lines, is)) = inl is

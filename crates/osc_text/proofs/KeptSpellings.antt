@@ -1,111 +1,68 @@
 -- What a line asks of an end whose numbers are kept is what is read of it.
-use Rattle.std.proofs.Common.{◌≡◌, ℕ, List, codes, Option, Some, refl, sym, ap, subst, ◌∙◌, inl, inr}
-use Rattle.std.specs.Prelude.{bytes_eq, unwrap_or}
-use Rattle.std.proofs.lemmas.Bool.{cases_Bool, cond-true, cond-false}
-use Rattle.std.proofs.lemmas.Slice.Eq.{bytes_eq-Decides}
-use Rattle.osc_text.specs.AskedEvents.{AskedEvent, SpellsAsked}
+use Rattle.std.proofs.Common.{◌≡◌, ◌≢◌, ◌⊎◌, ℕ, List, codes, Option, Some, None, IfSome, option_map, refl, sym, ap, subst, ◌∙◌, inl, inr}
+use Rattle.std.specs.Option.{IfNone}
+use Rattle.osc_text.specs.AskedEvents.{AskedEvent, SpellsAsked, SpellsKeptAsked}
 use Rattle.osc_text.specs.AskedEvents as asked
-use Rattle.osc_text.specs.AskedReading.{asked_read}
-use Rattle.osc_text.specs.InputEvents.{InputEvent, SpellsEvent}
-use Rattle.osc_text.specs.InputEvents as input
-use Rattle.osc_text.specs.InputReading.{split_once}
-use Rattle.osc_text.specs.KeptAskedEvents.{KeptAsked, SpellsKeptAsked}
-use Rattle.osc_text.specs.KeptAskedEvents as kept_asked
-use Rattle.osc_text.specs.KeptEvents.{Drop, KeptEvent, Notify, Reply, Restart, SpellsKept, Take}
-use Rattle.osc_text.specs.KeptReading.{kept_asked_of, kept_asked_read, kept_of, kept_read}
-use Rattle.osc_text.specs.ServedReading.{event_read}
-use Rattle.osc_text.proofs.AskedSpellings.{client_inverse}
-use Rattle.osc_text.proofs.InputSpellings.{IsInverse, server_inverse, then_some}
+use Rattle.osc_text.specs.AskedReading.{kept_asked_of}
+use Rattle.osc_text.specs.InputEvents.{Drop, InputEvent, Notify, Reply, Restart, SpellsEvent, SpellsKept, Take}
+use Rattle.osc_text.specs.InputReading.{SpellsNone, SpellsSeen}
+use Rattle.osc_text.specs.ServedReading.{kept_of}
+use Rattle.osc_text.proofs.InputLines.{OneSpelling}
 
--- ---- servers
+-- the lines of an end whose numbers are kept are those of one whose numbers are given, but for the restart
+pub record Keeps {E F : Type 0} (spells : List ℕ → E → Type 0) (spells_kept : List ℕ → F → Type 0) (keep : E → Option F) : Type 0 where
+  pub kept : (line : List ℕ) (e : E) → spells line e → IfSome (keep e) (spells_kept line)
+  pub given : (line : List ℕ) (f : F) → spells_kept line f → (line ≡ codes "restart") ⊎ ((e : E) × (keep e ≡ Some f) × spells line e)
 
--- a kept event is spelled as the event that it is
-kept_spelled : (line : List ℕ) (x : InputEvent) (e : KeptEvent) → SpellsEvent line x → kept_of x ≡ Some e → SpellsKept line e
-kept_spelled line (input.Take now echo mid datagram) e s h =
-    subst (SpellsKept line) (ap (λ (o : Option KeptEvent). unwrap_or o e) h) s
-kept_spelled line (input.Reply of own mid text) e s h =
-    subst (SpellsKept line) (ap (λ (o : Option KeptEvent). unwrap_or o e) h) s
-kept_spelled line (input.Notify of text) e s h =
-    subst (SpellsKept line) (ap (λ (o : Option KeptEvent). unwrap_or o e) h) s
-kept_spelled line (input.Drop of) e s h =
-    subst (SpellsKept line) (ap (λ (o : Option KeptEvent). unwrap_or o e) h) s
-kept_spelled line (input.Restart next) e s h = cc h
+pub server_keeps : Keeps SpellsEvent SpellsKept kept_of
+server_keeps = record { kept = kept; given = given }
+  where
+    kept : (line : List ℕ) (e : InputEvent ℕ) → SpellsEvent line e → IfSome (kept_of e) (SpellsKept line)
+    kept line (Take now echo mid datagram) s = s
+    kept line (Reply of own mid text) s = s
+    kept line (Notify of text) s = s
+    kept line (Drop of) s = s
+    kept line (Restart next) s = tt
 
-kept_says : (line : List ℕ) (e : KeptEvent) → kept_read line ≡ Some e → SpellsKept line e
-unfolding kept_read
-kept_says line e h = elim (cases_Bool (bytes_eq line (codes "restart"))) [
-  | inl is ↦
-      let same : Some Restart ≡ Some e = sym (cond-true _ _ _ is) ∙ h in
-      subst (SpellsKept line) (ap (λ (o : Option KeptEvent). unwrap_or o e) same) ((bytes_eq-Decides line (codes "restart")).0 is)
-  | inr other ↦
-      let p = then_some kept_of (event_read line) e (sym (cond-false _ _ _ other) ∙ h) in
-      kept_spelled line p.0 e (server_inverse.says line p.0 p.1) p.2
-]
+    given : (line : List ℕ) (f : InputEvent (Unit {0})) → SpellsKept line f → (line ≡ codes "restart") ⊎ ((e : InputEvent ℕ) × (kept_of e ≡ Some f) × SpellsEvent line e)
+    given line (Take now echo mid datagram) s = inr (Take now echo mid datagram, refl, s)
+    given line (Reply of own mid text) s = inr (Reply of own mid text, refl, s)
+    given line (Notify of text) s = inr (Notify of text, refl, s)
+    given line (Drop of) s = inr (Drop of, refl, s)
+    given line (Restart none) s = inl s
 
--- no event of a server is spelled by the one word
-no_event : (x : InputEvent) → event_read (codes "restart") ≡ Some x → ⊥
-unfolding event_read split_once
-no_event x h = cc h
+pub client_keeps : Keeps SpellsAsked SpellsKeptAsked kept_asked_of
+client_keeps = record { kept = kept; given = given }
+  where
+    kept : (line : List ℕ) (e : AskedEvent ℕ) → SpellsAsked line e → IfSome (kept_asked_of e) (SpellsKeptAsked line)
+    kept line (asked.Request now text) s = s
+    kept line (asked.Take now datagram) s = s
+    kept line (asked.Forget token) s = s
+    kept line (asked.Restart next) s = tt
 
-kept_other : (line : List ℕ) (x : InputEvent) → event_read line ≡ Some x → kept_read line ≡ kept_of x
-unfolding kept_read
-kept_other line x h = elim (cases_Bool (bytes_eq line (codes "restart"))) [
-  | inl is ↦ absurd (no_event x (ap event_read (sym ((bytes_eq-Decides line (codes "restart")).0 is)) ∙ h))
-  | inr other ↦ cond-false _ _ _ other ∙ rw h refl
-]
+    given : (line : List ℕ) (f : AskedEvent (Unit {0})) → SpellsKeptAsked line f → (line ≡ codes "restart") ⊎ ((e : AskedEvent ℕ) × (kept_asked_of e ≡ Some f) × SpellsAsked line e)
+    given line (asked.Request now text) s = inr (asked.Request now text, refl, s)
+    given line (asked.Take now datagram) s = inr (asked.Take now datagram, refl, s)
+    given line (asked.Forget token) s = inr (asked.Forget token, refl, s)
+    given line (asked.Restart none) s = inl s
 
-says_kept : (line : List ℕ) (e : KeptEvent) → SpellsKept line e → kept_read line ≡ Some e
-unfolding kept_read
-says_kept line (Take now echo mid datagram) s = kept_other line (input.Take now echo mid datagram) (server_inverse.said line (input.Take now echo mid datagram) s)
-says_kept line (Reply of own mid text) s = kept_other line (input.Reply of own mid text) (server_inverse.said line (input.Reply of own mid text) s)
-says_kept line (Notify of text) s = kept_other line (input.Notify of text) (server_inverse.said line (input.Notify of text) s)
-says_kept line (Drop of) s = kept_other line (input.Drop of) (server_inverse.said line (input.Drop of) s)
-says_kept line Restart s = rw s refl
+module _ {E F : Type 0} (spells : List ℕ → E → Type 0) (spells_kept : List ℕ → F → Type 0) (keep : E → Option F) (law : Keeps spells spells_kept keep) (line : List ℕ) (other : line ≢ codes "restart") where
+  -- a line that spells nothing where the numbers are given spells nothing where they are kept
+  pub none_kept : SpellsNone spells line → SpellsNone spells_kept line
+  none_kept none f s = elim (law.given line f s) [
+    | inl is ↦ other is
+    | inr t ↦ none t.0 t.2
+  ]
 
-pub kept_inverse : IsInverse SpellsKept kept_read
-kept_inverse = record { says = kept_says; said = says_kept }
+  -- what is kept of an event is what its line spells
+  pub kept_spells : {W : Type 0} (seen : W → F) (IsRight : W → Type 0) (e : E) (o : Option W) → spells line e → option_map seen o ≡ keep e → IfSome o IsRight → IfSome o (SpellsSeen spells_kept seen IsRight line)
+  kept_spells seen IsRight e (Some w) s is right = (subst (λ (k : Option F). IfSome k (spells_kept line)) (sym is) (law.kept line e s), right)
+  kept_spells seen IsRight e None s is right = tt
 
--- ---- clients
-
--- a kept event is spelled as the event that it is
-asked_spelled : (line : List ℕ) (x : AskedEvent) (e : KeptAsked) → SpellsAsked line x → kept_asked_of x ≡ Some e → SpellsKeptAsked line e
-asked_spelled line (asked.Request now text) e s h =
-    subst (SpellsKeptAsked line) (ap (λ (o : Option KeptAsked). unwrap_or o e) h) s
-asked_spelled line (asked.Take now datagram) e s h =
-    subst (SpellsKeptAsked line) (ap (λ (o : Option KeptAsked). unwrap_or o e) h) s
-asked_spelled line (asked.Forget token) e s h =
-    subst (SpellsKeptAsked line) (ap (λ (o : Option KeptAsked). unwrap_or o e) h) s
-asked_spelled line (asked.Restart next) e s h = cc h
-
-asked_says : (line : List ℕ) (e : KeptAsked) → kept_asked_read line ≡ Some e → SpellsKeptAsked line e
-unfolding kept_asked_read
-asked_says line e h = elim (cases_Bool (bytes_eq line (codes "restart"))) [
-  | inl is ↦
-      let same : Some kept_asked.Restart ≡ Some e = sym (cond-true _ _ _ is) ∙ h in
-      subst (SpellsKeptAsked line) (ap (λ (o : Option KeptAsked). unwrap_or o e) same) ((bytes_eq-Decides line (codes "restart")).0 is)
-  | inr other ↦
-      let p = then_some kept_asked_of (asked_read line) e (sym (cond-false _ _ _ other) ∙ h) in
-      asked_spelled line p.0 e (client_inverse.says line p.0 p.1) p.2
-]
-
--- no event of a client is spelled by the one word
-none_asked : (x : AskedEvent) → asked_read (codes "restart") ≡ Some x → ⊥
-unfolding asked_read split_once
-none_asked x h = cc h
-
-asked_other : (line : List ℕ) (x : AskedEvent) → asked_read line ≡ Some x → kept_asked_read line ≡ kept_asked_of x
-unfolding kept_asked_read
-asked_other line x h = elim (cases_Bool (bytes_eq line (codes "restart"))) [
-  | inl is ↦ absurd (none_asked x (ap asked_read (sym ((bytes_eq-Decides line (codes "restart")).0 is)) ∙ h))
-  | inr other ↦ cond-false _ _ _ other ∙ rw h refl
-]
-
-says_asked : (line : List ℕ) (e : KeptAsked) → SpellsKeptAsked line e → kept_asked_read line ≡ Some e
-unfolding kept_asked_read
-says_asked line (kept_asked.Request now text) s = asked_other line (asked.Request now text) (client_inverse.said line (asked.Request now text) s)
-says_asked line (kept_asked.Take now datagram) s = asked_other line (asked.Take now datagram) (client_inverse.said line (asked.Take now datagram) s)
-says_asked line (kept_asked.Forget token) s = asked_other line (asked.Forget token) (client_inverse.said line (asked.Forget token) s)
-says_asked line kept_asked.Restart s = rw s refl
-
-pub kept_asked_inverse : IsInverse SpellsKeptAsked kept_asked_read
-kept_asked_inverse = record { says = asked_says; said = says_asked }
+  -- and where nothing is kept of it, its line spells nothing
+  pub kept_refuses : OneSpelling spells → {W : Type 0} (seen : W → F) (e : E) (o : Option W) → spells line e → option_map seen o ≡ keep e → IfNone o (SpellsNone spells_kept line)
+  kept_refuses once seen e (Some w) s is = tt
+  kept_refuses once seen e None s is = λ f t. elim (law.given line f t) [
+    | inl r ↦ other r
+    | inr u ↦ let bad : None ≡ Some f = is ∙ ap keep (once line e u.0 s u.2) ∙ u.1 in cc bad
+  ]

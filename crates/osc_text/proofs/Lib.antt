@@ -11,6 +11,7 @@ pub mod InputTexts
 pub mod KeptSpellings
 pub mod KeptPrinting
 pub mod LogLines
+pub mod MadeLines
 pub mod NumberWords
 pub mod ProtectTexts
 pub mod ServerSteps

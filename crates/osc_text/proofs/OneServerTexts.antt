@@ -91,7 +91,7 @@ module _ (law : OneServerAnswer) (one : DatagramIsOneMessage) (one_fault : Datag
   one_restart_line h k l next m n all (not_restarted e a b) (not_restarted f c d) = (b ∙ ap line_of (one_entry h k l _ (NotRestarted e) (NotRestarted f) all a c) ∙ sym d, one_history h k l _ (NotRestarted e) (NotRestarted f) all a c)
 
   -- an event has one line, one history and one list of tickets
-  one_event_line : (h k l : History) (ts us vs : List (Option TicketValues)) (e : InputEvent) (m n : List ℕ) → AllAnswers h
+  one_event_line : (h k l : History) (ts us vs : List (Option TicketValues)) (e : InputEvent ℕ) (m n : List ℕ) → AllAnswers h
       → EventLine h ts e m k us → EventLine h ts e n l vs → (m ≡ n) × (k ≡ l) × (us ≡ vs)
   one_event_line h k l ts us vs (input.Take now echo mid d) m n all (x, r, goes, after, text) (y, s, goes_too, after_too, text_too) =
       let same = one_entry h k l (Datagram now echo mid d) (Took x r) (Took y s) all goes goes_too in (
@@ -121,7 +121,7 @@ module _ (law : OneServerAnswer) (one : DatagramIsOneMessage) (one_fault : Datag
   answered_on h k ts us of event left plain m all (refused t p e at is goes a b) = all_on h k _ _ all goes
 
   -- all entries are answers afterwards too
-  event_on : (h k : History) (ts us : List (Option TicketValues)) (e : InputEvent) (m : List ℕ) → AllAnswers h → EventLine h ts e m k us → AllAnswers k
+  event_on : (h k : History) (ts us : List (Option TicketValues)) (e : InputEvent ℕ) (m : List ℕ) → AllAnswers h → EventLine h ts e m k us → AllAnswers k
   event_on h k ts us (input.Take now echo mid d) m all (x, r, goes, after, text) = all_on h k _ _ all goes
   event_on h k ts us (input.Reply of own mid plain) m all (xs, line, after) = answered_on h k ts xs of (λ t p. Reply t (asks_own t own) mid p (reply_room plain)) (slice_set ts of None) plain m all line
   event_on h k ts us (input.Notify of plain) m all (line, after) = answered_on h k ts ts of (λ t p. Notify t p (reply_room plain)) ts plain m all line

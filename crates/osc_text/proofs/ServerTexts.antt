@@ -12,13 +12,16 @@ use Rattle.osc_text.specs.InputEvents.{SpellsEvent}
 use Rattle.osc_text.specs.InputText.{InputText}
 use Rattle.osc_text.specs.Inputs.{IsFirstBadLine}
 use Rattle.osc_text.specs.Lines.{refused_line}
-use Rattle.osc_text.specs.Printing.{Prints}
+use Rattle.osc_text.specs.Printing.{BeginsBadly, Prints}
 use Rattle.osc_text.specs.Serving.{ServerLine, ServerText}
 use Rattle.osc_text.specs.Serving.ServerText.{not_started as refused, served}
-use Rattle.osc_text.specs.Starting.{StartsBadly}
 use Rattle.osc_text.specs.Written.{Writes}
 use Rattle.osc_text.specs.declared.fault.Fault.{Fault}
 use Rattle.osc_text.proofs.InputTexts.{Never, Refuses, prints_as, refusal_prints}
+
+-- the context starts, and the line with this number is the first bad one
+abbrev StartsBadly : SecurityContext → Start → WindowSize → List ℕ → ℕ → Type 0
+StartsBadly s start size = BeginsBadly (λ i. ServerAnswer Begin (Add s start size) (Added i)) SpellsEvent
 
 -- the lines of a refused start
 abbrev refusal_lines : Entry → List (List ℕ)

@@ -39,7 +39,7 @@ pub data RequestLine (h : History) (now : ℕ) (plain line : List ℕ) (k : Hist
       → line ≡ not_done_line (request_error_text e) → RequestLine h now plain line k
 
 -- an event and the line of its entry, which is the client's answer (RFC 8613, 8.1 and 8.4)
-abbrev pub ClientLine : History → AskedEvent → List ℕ → History → Type 0
+abbrev pub ClientLine : History → AskedEvent ℕ → List ℕ → History → Type 0
 ClientLine h (asked.Request now plain) line k = RequestLine h now plain line k
 ClientLine h (asked.Take now d) line k = (answer : Answer) × GoesOn places h (Datagram now d) (Took answer) k × (line ≡ answer_line answer)
 ClientLine h (asked.Forget token) line k = (was_pending : Bool) × GoesOn places h (Forget token) (Forgot was_pending) k × (line ≡ forgot_line was_pending)

@@ -18,11 +18,11 @@ answer_text NotResponse = codes "not-response"
 answer_text UnknownToken = codes "unknown-token"
 answer_text Unprotected = codes "unprotected"
 answer_text Undecodable = codes "undecodable"
+answer_text (Notified received number) = codes "notified " ++ response_text number received.number received.message
+answer_text (Deliver received number) = codes "deliver " ++ response_text number received.number received.message
 answer_text BadTag = codes "bad-tag"
 answer_text BadInner = codes "bad-inner"
 answer_text Old = codes "old"
-answer_text (Notified received number) = codes "notified " ++ response_text number received.number received.message
-answer_text (Deliver received number) = codes "deliver " ++ response_text number received.number received.message
 
 -- the line for the answer to a datagram (own rule)
 abbrev pub answer_line : Answer → List ℕ

@@ -17,11 +17,11 @@ outcome_text outcomes.NotResponse = codes "not-response"
 outcome_text outcomes.UnknownToken = codes "unknown-token"
 outcome_text outcomes.Unprotected = codes "unprotected"
 outcome_text outcomes.Undecodable = codes "undecodable"
+outcome_text (outcomes.Notified opened number) = codes "notified " ++ response_text (number_of number) (opened_number opened) (message_of opened)
+outcome_text (outcomes.Deliver opened number) = codes "deliver " ++ response_text (number_of number) (opened_number opened) (message_of opened)
 outcome_text outcomes.BadTag = codes "bad-tag"
 outcome_text outcomes.BadInner = codes "bad-inner"
 outcome_text outcomes.Old = codes "old"
-outcome_text (outcomes.Notified opened number) = codes "notified " ++ response_text (number_of number) (opened_number opened) (message_of opened)
-outcome_text (outcomes.Deliver opened number) = codes "deliver " ++ response_text (number_of number) (opened_number opened) (message_of opened)
 
 -- an entry, as it prints (how the code is seen)
 abbrev pub asked_text : ClientEntry → List ℕ

@@ -1,16 +1,17 @@
--- To be believed: which lines ask a server for what (own rule). Lines and words are lists of characters.
+-- To be believed: which lines ask a server for what (own rule). Lines and words are lists of characters. N is what a restart says: the next
+-- Sender Sequence Number, or nothing where the numbers are kept.
 use Rattle.std.specs.Prelude.{◌≡◌, ℕ, ◌<◌, ◌^◌, Bool, true, false, List, [], ◌∷◌, length, codes}
 use Rattle.std.specs.Int.{to_be_bytes, w16}
 use Rattle.osc_text.specs.Hex.{SpellsBytes}
-use Rattle.osc_text.specs.Inputs.{SaysBelow, SaysBytes, parted}
+use Rattle.osc_text.specs.Inputs.{RestartsAlone, RestartsAt, SaysBelow, SaysBytes, parted}
 
 -- what a line asks of a server: to take a datagram, to answer or to notify the request of an event, to drop the ticket of an event, or to begin a new life of the context (own rule)
-pub data InputEvent : Type 0 where
-  Take : (now : ℕ) (echo : List ℕ) (mid : ℕ) (datagram : List ℕ) → InputEvent
-  Reply : (of : ℕ) (own : Bool) (mid : ℕ) (plain : List ℕ) → InputEvent
-  Notify : (of : ℕ) (plain : List ℕ) → InputEvent
-  Drop : (of : ℕ) → InputEvent
-  Restart : (next : ℕ) → InputEvent
+pub data InputEvent (N : Type 0) : Type 0 where
+  Take : (now : ℕ) (echo : List ℕ) (mid : ℕ) (datagram : List ℕ) → InputEvent N
+  Reply : (of : ℕ) (own : Bool) (mid : ℕ) (plain : List ℕ) → InputEvent N
+  Notify : (of : ℕ) (plain : List ℕ) → InputEvent N
+  Drop : (of : ℕ) → InputEvent N
+  Restart : (next : N) → InputEvent N
 
 -- the word says this Message ID: its two bytes in hex, the high one first (own rule)
 abbrev pub SaysMessageId : List ℕ → ℕ → Type 0
@@ -25,17 +26,24 @@ abbrev pub own_word : Bool → List ℕ
 own_word true = codes "own"
 own_word false = codes "shared"
 
--- the line spells this event (own rule: moments and the indices of answered events are below 2 ^ 64, Sender Sequence Numbers below 2 ^ 40)
-abbrev pub SpellsEvent : List ℕ → InputEvent → Type 0
-SpellsEvent line (Take now echo mid datagram) =
+-- the line spells this event, where restarts says which line is a restart (own rule: moments and the indices of answered events are below 2 ^ 64)
+abbrev pub SpellsForm : {N : Type 0} → (List ℕ → N → Type 0) → List ℕ → InputEvent N → Type 0
+SpellsForm restarts line (Take now echo mid datagram) =
     (n e m d : List ℕ) × (line ≡ parted (codes "take" ∷ n ∷ e ∷ m ∷ d ∷ []))
     × SaysBelow (2 ^ 64) n now × SaysEcho e echo × SaysMessageId m mid × SaysBytes d datagram
-SpellsEvent line (Reply of own mid plain) =
+SpellsForm restarts line (Reply of own mid plain) =
     (n m p : List ℕ) × (line ≡ parted (codes "reply" ∷ n ∷ own_word own ∷ m ∷ p ∷ []))
     × SaysBelow (2 ^ 64) n of × SaysMessageId m mid × SaysBytes p plain
-SpellsEvent line (Notify of plain) =
+SpellsForm restarts line (Notify of plain) =
     (n p : List ℕ) × (line ≡ parted (codes "notify" ∷ n ∷ p ∷ [])) × SaysBelow (2 ^ 64) n of × SaysBytes p plain
-SpellsEvent line (Drop of) =
+SpellsForm restarts line (Drop of) =
     (n : List ℕ) × (line ≡ parted (codes "drop" ∷ n ∷ [])) × SaysBelow (2 ^ 64) n of
-SpellsEvent line (Restart next) =
-    (n : List ℕ) × (line ≡ parted (codes "restart" ∷ n ∷ [])) × SaysBelow (2 ^ 40) n next
+SpellsForm restarts line (Restart next) = restarts line next
+
+-- the line spells this event of a server (own rule)
+abbrev pub SpellsEvent : List ℕ → InputEvent ℕ → Type 0
+SpellsEvent = SpellsForm RestartsAt
+
+-- the line spells this event of a server whose numbers are kept (own rule)
+abbrev pub SpellsKept : List ℕ → InputEvent (Unit {0}) → Type 0
+SpellsKept = SpellsForm RestartsAlone

@@ -1,6 +1,6 @@
 -- To be believed: what the lines of an input are, whatever they ask for (own rule). Inputs, lines and words are lists of
 -- characters; spells says which line spells which event.
-use Rattle.std.specs.Prelude.{◌≡◌, ◌≢◌, ◌⊎◌, ℕ, ◌+◌, ◌<◌, List, [], ◌∷◌, ◌++◌, All, length, codes}
+use Rattle.std.specs.Prelude.{◌≡◌, ◌≢◌, ◌⊎◌, ℕ, ◌+◌, ◌<◌, ◌^◌, List, [], ◌∷◌, ◌++◌, All, length, codes}
 use Rattle.osc_text.specs.Hex.{SpellsBytes}
 use Rattle.osc_text.specs.Numbers.{IsDigitWord, number_said}
 
@@ -18,6 +18,14 @@ SaysBelow bound word n = IsDigitWord word × (n ≡ number_said word) × (n < bo
 abbrev pub SaysBytes : List ℕ → List ℕ → Type 0
 SaysBytes word [] = word ≡ codes "-"
 SaysBytes word (b ∷ bytes) = SpellsBytes word (b ∷ bytes)
+
+-- the line begins anew at this Sender Sequence Number, which is below 2 ^ 40 (own rule)
+abbrev pub RestartsAt : List ℕ → ℕ → Type 0
+RestartsAt line next = (n : List ℕ) × (line ≡ parted (codes "restart" ∷ n ∷ [])) × SaysBelow (2 ^ 40) n next
+
+-- the line begins anew where the numbers are kept: it is one word, and says no number (own rule)
+abbrev pub RestartsAlone : List ℕ → Unit {0} → Type 0
+RestartsAlone line none = line ≡ codes "restart"
 
 -- the input is these lines: a newline ends each line, but the last line, if it isn't empty, may end with the input instead (own rule)
 abbrev pub AreLines : List (List ℕ) → List ℕ → Type 0

@@ -1,11 +1,17 @@
 -- To be believed: what is printed for an end whose numbers are kept, whatever its lines ask for (own rule). What a keeper returns is its own matter, so
 -- a line is told by the run's step that it stands for. old and new are the writer before and after, contents is what a writer tells about its bytes.
-use Rattle.std.specs.Prelude.{◌≡◌, ◌⊎◌, ℕ, List, Option, Result, Ok, Err, take}
+use Rattle.std.specs.Prelude.{◌≡◌, ◌≢◌, ◌⊎◌, ℕ, List, [], ◌∷◌, Option, Result, Ok, Err, take}
 use Rattle.std.specs.Io.KnownBytes.{Appends}
+use Rattle.osc_context.specs.declared.keeper.Keeper as keeper
+use Rattle.osc_kept_ends.specs.Refusals.{RefusesAt}
+use Rattle.osc_kept_ends.specs.Views.{kept_error_text}
+use Rattle.osc_kept_ends.specs.declared.kept_error.KeptError.{KeptError}
+use Rattle.osc_kept_ends.specs.declared.kept_error.KeptError.TheVariants.{LivesExhausted}
 use Rattle.osc_text.specs.Contexts.{Told}
 use Rattle.osc_text.specs.EntryLines.{entry_line}
 use Rattle.osc_text.specs.InputText.{EventLines}
 use Rattle.osc_text.specs.Inputs.{SpellsInput}
+use Rattle.osc_text.specs.Lines.{refused_line}
 use Rattle.osc_text.specs.Written.{AppendsFront, text_of}
 use Rattle.osc_text.specs.declared.fault.Fault.{Fault}
 use Rattle.osc_text.specs.declared.fault.Fault.TheVariants.{Line, Memory, Write}
@@ -14,6 +20,12 @@ use Rattle.osc_text.specs.declared.fault.Fault.TheVariants.{Line, Memory, Write}
 abbrev pub LineOf : {S V X E : Type 0} → (S → V → X → S → Type 0) → (V → E) → (V → Type 0) → (X → List ℕ) → S → E → List ℕ → S → Type 0
 LineOf {V = V} {X = X} Step seen IsRight text s event line t =
     (v : V) × (x : X) × (seen v ≡ event) × IsRight v × Step s v x t × (line ≡ entry_line (text x))
+
+-- what is printed under a context: the line of a refused start, or what is told of an end that started; k says what the keeper tells (RFC 8613, 7.2.1 and B.1)
+pub data StartText {K S : Type 0} (k : keeper.Ghosts K) (keeper : K) (Starts : S → Type 0) (told : S → Told) (lines : List (List ℕ)) (status : ℕ) : Type 0 where
+  not_started : (e : KeptError) (after : K) → RefusesAt k.loads k.failures keeper e after → e ≢ LivesExhausted → lines ≡ refused_line (kept_error_text e) ∷ [] → status ≡ 2
+      → StartText k keeper Starts told lines status
+  started : (s : S) → Starts s → told s lines status → StartText k keeper Starts told lines status
 
 -- the lines of the first n events of the input (own rule)
 abbrev pub FrontText : {S E : Type 0} → (List ℕ → E → Type 0) → (S → E → List ℕ → S → Type 0) → S → List ℕ → Told

@@ -12,12 +12,10 @@ pub mod Inputs
 pub mod InputText
 pub mod EntryLines
 pub mod InputEvents
-pub mod KeptEvents
 pub mod ServerLines
 pub mod ServerLog
 pub mod Serving
 pub mod AskedEvents
-pub mod KeptAskedEvents
 pub mod ClientLines
 pub mod ClientLog
 pub mod Asking
@@ -31,9 +29,6 @@ pub mod KeptSeen
 -- for the proofs
 pub mod AskedReading
 pub mod InputReading
-pub mod KeptReading
-pub mod KeptStarting
 pub mod Outcomes
 pub mod Printing
 pub mod ServedReading
-pub mod Starting

@@ -7,7 +7,7 @@ use Rattle.osc_context.specs.declared.parameters.Params.{Params}
 use Rattle.osc_text.specs.Contexts.{Told}
 use Rattle.osc_text.specs.InputReading.{Misreads, lines_of}
 use Rattle.osc_text.specs.InputText.{InputText, RefusesLine}
-use Rattle.osc_text.specs.Inputs.{SpellEvents}
+use Rattle.osc_text.specs.Inputs.{IsFirstBadLine, SpellEvents}
 use Rattle.osc_text.specs.KeptText.{FrontText, WroteBy}
 use Rattle.osc_text.specs.Lines.{refused_line}
 use Rattle.osc_text.specs.Written.{Writes}
@@ -31,6 +31,10 @@ Promised = (X : Type 0) → (X → Option (List ℕ)) → X → X → Result ℕ
 -- what a call wrote for an input, with what is told around the input's text (how the code is seen)
 abbrev pub WroteAround : {S E : Type 0} → (List ℕ → E → Type 0) → (S → E → List ℕ → S → Type 0) → ((S → Told) → Told) → (ℕ → Type 0) → List ℕ → Promised
 WroteAround spells step around HasBad input X contents = WroteBy contents (around (λ s. InputText spells step s input)) (around (λ s. FrontText spells step s input)) HasBad
+
+-- an end begins in some state, and the line with this number is the first bad one (how the code is seen)
+abbrev pub BeginsBadly : {S E : Type 0} → (S → Type 0) → (List ℕ → E → Type 0) → List ℕ → ℕ → Type 0
+BeginsBadly {S} Begins spells input n = (s : S) × Begins s × IsFirstBadLine spells input n
 
 -- the lines of the first n of these events are written, and at Ok that is all of them (how the code is seen)
 pub record RunsEvents {V : Type 0} (AreLinesOf : List V → List (List ℕ) → Type 0) (all : List V) (old new : Option (List ℕ)) (r : Result ℕ Fault) : Type 0 where

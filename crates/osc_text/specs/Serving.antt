@@ -5,8 +5,6 @@ use Rattle.osc_coap.specs.Datagram.{Parts, IsDatagram}
 use Rattle.osc_coap.specs.Fault.{HasFault}
 use Rattle.osc_coap.specs.declared.format_error.Fault.{Fault as MessageFault}
 use Rattle.osc_context.specs.SecurityContext.{SecurityContext}
-use Rattle.osc_context.specs.ContextRefusal.{RefusesParams}
-use Rattle.osc_context.specs.declared.context_error.ContextError.{ContextError}
 use Rattle.osc_text.specs.declared.agreed.Agreed.{Agreed}
 use Rattle.osc_window.specs.declared.window_size.WindowSize.{WindowSize}
 use Rattle.osc_endpoint.specs.ServerAnswer.{ServerAnswer}
@@ -24,8 +22,7 @@ use Rattle.osc_text.specs.Contexts.{agreed_server, InContext, Told}
 use Rattle.osc_text.specs.EntryLines.{bad_plain_line, not_done_line, restarted_line}
 use Rattle.osc_text.specs.InputEvents.{InputEvent, SpellsEvent}
 use Rattle.osc_text.specs.InputEvents as input
-use Rattle.osc_text.specs.InputText.{InputText}
-use Rattle.osc_text.specs.Inputs.{IsFirstBadLine}
+use Rattle.osc_text.specs.InputText.{HasBadLineOf, InputText}
 use Rattle.osc_text.specs.Lines.{refused_line}
 use Rattle.osc_text.specs.ServerLines.{took_line, replied_line, no_ticket_line, dropped_line}
 use Rattle.osc_text.specs.declared.serving.Serving.{Serving}
@@ -63,7 +60,7 @@ pub data RestartLine (h : History) (next : ℕ) (line : List ℕ) (k : History) 
   refused : (e : RestartError) → GoesOn h (Restart 0 next) (NotRestarted e) k → line ≡ not_done_line (restart_error_text e) → RestartLine h next line k
 
 -- an event and the line of its entry, which is the server's answer (RFC 8613, 7.4, 8.2, 8.3 and 8.3.1)
-abbrev pub EventLine : History → List (Option TicketValues) → InputEvent → List ℕ → History → List (Option TicketValues) → Type 0
+abbrev pub EventLine : History → List (Option TicketValues) → InputEvent ℕ → List ℕ → History → List (Option TicketValues) → Type 0
 EventLine h ts (input.Take now echo mid d) line k us =
     (answer : Answer) × (reply : List ℕ) × GoesOn h (Datagram now echo mid d) (Took answer reply) k
     × (us ≡ ts ++ ticket_of answer ∷ []) × (line ≡ took_line answer reply)
@@ -75,7 +72,7 @@ EventLine h ts (input.Drop of) line k us =
 EventLine h ts (input.Restart next) line k us = RestartLine h next line k × (us ≡ ts ++ None ∷ [])
 
 -- the same, with the history and the tickets as one state (RFC 8613, 7.4, 8.2, 8.3 and 8.3.1)
-abbrev pub ServerLine : History × List (Option TicketValues) → InputEvent → List ℕ → History × List (Option TicketValues) → Type 0
+abbrev pub ServerLine : History × List (Option TicketValues) → InputEvent ℕ → List ℕ → History × List (Option TicketValues) → Type 0
 ServerLine before event line after = EventLine before.0 before.1 event line after.0 after.1
 
 -- how the context begins: restarted, or fresh (RFC 8613, B.1)
@@ -93,8 +90,5 @@ abbrev pub ServeText : Agreed → Serving → List ℕ → Told
 ServeText g serving bytes = InContext g.params (ServerText (agreed_server g) (start_of serving) serving.window bytes)
 
 -- the context is derived and starts, and the line with this number, counted from 1, is the first that spells no event (own rule)
-pub record HasBadLine (g : Agreed) (serving : Serving) (bytes : List ℕ) (number : ℕ) : Type 0 where
-  pub in_context : (e : ContextError) → ¬ RefusesParams g.params e
-  pub index : ℕ
-  pub starts : ServerAnswer Begin (Add (agreed_server g) (start_of serving) serving.window) (Added index)
-  pub first_bad : IsFirstBadLine SpellsEvent bytes number
+abbrev pub HasBadLine : Agreed → Serving → List ℕ → ℕ → Type 0
+HasBadLine g serving = HasBadLineOf g.params (λ index. ServerAnswer Begin (Add (agreed_server g) (start_of serving) serving.window) (Added index)) SpellsEvent

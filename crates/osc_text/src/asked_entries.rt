@@ -7,7 +7,7 @@ ghost use Rattle.osc_text.specs.ClientLines.{response_text, sent_text};
 ghost use Rattle.osc_text.specs.ClientLog.{asked_text, outcome_text};
 
 use crate::entry_lines::{LogEntry, fault_text, message_text};
-use crate::lines::{bytes_text, number_text};
+use crate::lines::{bytes_text, named, number_text, refused_text};
 use osc_context::Piv;
 use osc_endpoint::{ClientEntry, ClientOutcome};
 use osc_protect::Opened;
@@ -29,10 +29,7 @@ fn outcome_text(alloc: Global, outcome: &ClientOutcome<'_>) -> Result<String, Al
     ensures { IfOk result (λ text. string_bytes text ≡ outcome_text outcome.now) }
 {
     match outcome {
-        ClientOutcome::Malformed(error) => {
-            let fault = fault_text(alloc, *error)?;
-            format!(in alloc; "malformed {fault}")
-        }
+        ClientOutcome::Malformed(error) => named(alloc, "malformed", fault_text(alloc, *error)),
         ClientOutcome::NotResponse => String::from_str(alloc, "not-response"),
         ClientOutcome::UnknownToken => String::from_str(alloc, "unknown-token"),
         ClientOutcome::Unprotected => String::from_str(alloc, "unprotected"),
@@ -41,12 +38,10 @@ fn outcome_text(alloc: Global, outcome: &ClientOutcome<'_>) -> Result<String, Al
         ClientOutcome::BadInner => String::from_str(alloc, "bad-inner"),
         ClientOutcome::Old => String::from_str(alloc, "old"),
         ClientOutcome::Notified(opened, number) => {
-            let response = response_text(alloc, opened, *number)?;
-            format!(in alloc; "notified {response}")
+            named(alloc, "notified", response_text(alloc, opened, *number))
         }
         ClientOutcome::Deliver(opened, number) => {
-            let response = response_text(alloc, opened, *number)?;
-            format!(in alloc; "deliver {response}")
+            named(alloc, "deliver", response_text(alloc, opened, *number))
         }
     }
 }
@@ -60,28 +55,18 @@ fn sent_text(alloc: Global, number: Piv, datagram: &[u8]) -> Result<String, Allo
     format!(in alloc; "sent {number} {bytes}")
 }
 
-/// Returns an entry as it prints.
-fn entry_text(alloc: Global, entry: &ClientEntry<'_>) -> Result<String, AllocError>
-    ensures { IfOk result (λ text. string_bytes text ≡ asked_text entry.now) }
-{
-    match entry {
-        ClientEntry::Sent { number, datagram } => sent_text(alloc, *number, datagram),
-        ClientEntry::NotSent(refusal) => format!(in alloc; "refused: {refusal}"),
-        ClientEntry::BadPlain(error) => {
-            let fault = fault_text(alloc, *error)?;
-            format!(in alloc; "bad-plain {fault}")
-        }
-        ClientEntry::Took(outcome) => outcome_text(alloc, outcome),
-        ClientEntry::Forgot(true) => String::from_str(alloc, "forgotten"),
-        ClientEntry::Forgot(false) => String::from_str(alloc, "not-pending"),
-        ClientEntry::Restarted => String::from_str(alloc, "restarted"),
-    }
-}
-
 impl LogEntry for ClientEntry<'_> {
     ghost text_of = { asked_text };
 
     fn text(&self, alloc: Global) -> Result<String, AllocError> {
-        entry_text(alloc, self)
+        match self {
+            ClientEntry::Sent { number, datagram } => sent_text(alloc, *number, datagram),
+            ClientEntry::NotSent(refusal) => refused_text(alloc, *refusal),
+            ClientEntry::BadPlain(error) => named(alloc, "bad-plain", fault_text(alloc, *error)),
+            ClientEntry::Took(outcome) => outcome_text(alloc, outcome),
+            ClientEntry::Forgot(true) => String::from_str(alloc, "forgotten"),
+            ClientEntry::Forgot(false) => String::from_str(alloc, "not-pending"),
+            ClientEntry::Restarted => String::from_str(alloc, "restarted"),
+        }
     }
 }

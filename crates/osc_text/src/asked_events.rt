@@ -2,7 +2,7 @@
 
 ghost use Rattle.std.specs.Prelude.{◌≡◌, ◌^◌, IfOk, IfSome, option_map};
 ghost use Rattle.osc_text.specs.AskedEvents.{Forget, Request, Restart, SpellsAsked, Take};
-ghost use Rattle.osc_text.specs.AskedReading.{HasRoom, SpellsClient, asked_read, asked_seen, asked_verb_read};
+ghost use Rattle.osc_text.specs.AskedReading.{HasRoom, SpellsClient, asked_seen, asked_verb_read};
 ghost use Rattle.osc_text.specs.InputReading.{SpellsNone, bytes_read, number_read, numbered_read};
 
 use crate::input_lines::LineEvent;
@@ -64,29 +64,15 @@ fn read_fields(alloc: Global, verb: &[u8], fields: &[u8]) -> Result<Option<Clien
     ensures room { IfOk result (λ event. IfSome event HasRoom) }
 {
     if verb == b"request".as_slice() {
-        return read_request(alloc, fields);
-    }
-    if verb == b"take".as_slice() {
-        return read_take(alloc, fields);
-    }
-    if verb == b"forget".as_slice() {
-        return read_forget(alloc, fields);
-    }
-    if verb == b"restart".as_slice() {
-        return Ok(read_restart(fields));
-    }
-    Ok(None)
-}
-
-/// Reads the event of a line, if the line spells one.
-#[tactic(auto, unfolding(crate::specs::AskedReading::asked_read))]
-pub(crate) fn read_event(alloc: Global, line: &[u8]) -> Result<Option<ClientEvent>, AllocError>
-    ensures seen { IfOk result (λ event. option_map asked_seen event ≡ asked_read line.now) }
-    ensures room { IfOk result (λ event. IfSome event HasRoom) }
-{
-    match split_once(line, b' ') {
-        Some((verb, fields)) => read_fields(alloc, verb, fields),
-        None => Ok(None),
+        read_request(alloc, fields)
+    } else if verb == b"take".as_slice() {
+        read_take(alloc, fields)
+    } else if verb == b"forget".as_slice() {
+        read_forget(alloc, fields)
+    } else if verb == b"restart".as_slice() {
+        Ok(read_restart(fields))
+    } else {
+        Ok(None)
     }
 }
 
@@ -96,6 +82,9 @@ impl LineEvent for ClientEvent {
     ghost is_bad = { SpellsNone SpellsAsked };
 
     fn from_line(alloc: Global, line: &[u8]) -> Result<Option<ClientEvent>, AllocError> {
-        read_event(alloc, line)
+        match split_once(line, b' ') {
+            Some((verb, fields)) => read_fields(alloc, verb, fields),
+            None => Ok(None),
+        }
     }
 }

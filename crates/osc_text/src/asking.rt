@@ -6,7 +6,7 @@ ghost use Rattle.osc_client.specs.Agrees.{ClientAgrees};
 ghost use Rattle.osc_client.specs.ClientHistory.{History, New};
 
 use crate::agreed::Agreed;
-use crate::ends::{Beginning, End, write_input, write_run};
+use crate::ends::{Beginning, Done, End, write_input, write_run};
 use crate::entry_lines::write_log;
 use crate::fault::Fault;
 use osc_coap::one_datagram;
@@ -64,13 +64,7 @@ impl Beginning for Asking {
     ghost promised = { λ asking client server input X contents.
         Prints contents (InputText SpellsAsked ClientLine (New client (number_of asking.next) asking.life_ms) input) (IsFirstBadLine SpellsAsked input) };
 
-    fn write_under<W: Write>(
-        self,
-        alloc: Global,
-        context: Context,
-        input: &[u8],
-        out: &mut W,
-    ) -> Result<u8, Fault> {
+    fn begin<W: Write>(self, alloc: Global, context: Context, input: &[u8], out: &mut W) -> Done {
         // For the proof alone.
         one_client_answer();
         one_datagram();
@@ -85,12 +79,7 @@ impl End for Client<16> {
     ghost are_lines_of = { λ client events lines. (h : History) → ClientAgrees client h → All HasRoom events
         → EventLines ClientLine h (map asked_seen events) lines };
 
-    fn write_events<W: Write>(
-        &mut self,
-        alloc: Global,
-        events: &mut [ClientEvent],
-        out: &mut W,
-    ) -> Result<u8, Fault> {
+    fn print<W: Write>(&mut self, alloc: Global, events: &mut [Self::Event], out: &mut W) -> Done {
         let mut log = Vec::new(alloc);
         let ran = run_client(alloc, self, events, &mut log);
         write_log(alloc, log.as_slice(), ran, out)

@@ -15,19 +15,16 @@ use osc_context::{Context, one_context_refusal};
 use std::alloc::Global;
 use std::io::Write;
 
+/// The status of what was printed, or why it ended before.
+pub(crate) type Done = Result<u8, Fault>;
+
 /// How an end begins under a context.
 pub(crate) trait Beginning: Drop {
     // What is promised of a call over an input, given the context as a client's and as a server's.
     ghost promised: { Self → SecurityContext → SecurityContext → List ℕ → Promised };
 
     /// Writes what the end prints under a context, or the refusal of its start.
-    fn write_under<W: Write>(
-        self,
-        alloc: Global,
-        context: Context,
-        input: &[u8],
-        out: &mut W,
-    ) -> Result<u8, Fault>
+    fn begin<W: Write>(self, alloc: Global, context: Context, input: &[u8], out: &mut W) -> Done
         ensures { promised self (as_client context) (as_server context) input.now W W.contents out.old out.new result };
 }
 
@@ -40,12 +37,7 @@ pub(crate) trait End {
 
     /// Runs over events, and writes the lines of their entries. If there is no memory left for an entry, writes the lines of the entries
     /// before it.
-    fn write_events<W: Write>(
-        &mut self,
-        alloc: Global,
-        events: &mut [Self::Event],
-        out: &mut W,
-    ) -> Result<u8, Fault>
+    fn print<W: Write>(&mut self, alloc: Global, events: &mut [Self::Event], out: &mut W) -> Done
         ensures { RunsEvents (are_lines_of self.old) events.old (W.contents out.old) (W.contents out.new) result };
 }
 
@@ -63,7 +55,7 @@ pub(crate) fn write_run<B: Beginning, W: Write>(
     // For the proof alone.
     one_context_refusal();
     match agreed.derive() {
-        Ok(context) => beginning.write_under(alloc, context, input, out),
+        Ok(context) => beginning.begin(alloc, context, input, out),
         Err(refusal) => put_refused(alloc, refusal, out),
     }
 }
@@ -78,5 +70,5 @@ pub(crate) fn write_input<E: End, W: Write>(
     ensures { RunsInput W.contents E.Event.spells E.Event.is_bad (E.are_lines_of end.old) input.now out.old out.new result }
 {
     let mut events = read_events(alloc, input)?;
-    end.write_events(alloc, events.as_mut_slice(), out)
+    end.print(alloc, events.as_mut_slice(), out)
 }

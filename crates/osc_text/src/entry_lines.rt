@@ -7,7 +7,7 @@ ghost use Rattle.osc_text.specs.EntryLines.{entry_line, fault_text, message_text
 ghost use Rattle.osc_text.specs.Written.{Writes};
 
 use crate::fault::Fault;
-use crate::lines::{bytes_text, code_text};
+use crate::lines::{bytes_text, code_text, named, put_line};
 use osc_coap::{FormatError, Options};
 use osc_protect::Opened;
 use std::alloc::{AllocError, Global};
@@ -73,18 +73,19 @@ pub(crate) fn message_text(alloc: Global, opened: &Opened<'_>) -> Result<String,
 {
     let code = code_text(alloc, opened.code)?;
     let options = options_text(alloc, opened.inner())?;
-    let payload = bytes_text(alloc, opened.payload)?;
-    format!(in alloc; "{code} {options} {payload}")
+    let payload = bytes_text(alloc, opened.payload);
+    named(
+        alloc,
+        code.as_str(),
+        named(alloc, options.as_str(), payload),
+    )
 }
 
 /// Writes the line of an entry.
 fn put_entry<L: LogEntry, W: Write>(alloc: Global, entry: &L, out: &mut W) -> Result<(), Fault>
     ensures { Writes (W.contents out.old) (W.contents out.new) (entry_line (L.text_of entry.now) ∷ []) result }
 {
-    let text = entry.text(alloc)?;
-    let line = format!(in alloc; "{text}\n")?;
-    out.write_all(line.as_bytes())?;
-    Ok(())
+    put_line(alloc, entry.text(alloc), out)
 }
 
 /// Writes the line of each entry, in order.

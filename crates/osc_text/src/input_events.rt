@@ -3,7 +3,7 @@
 ghost use Rattle.std.specs.Prelude.{◌≡◌, ◌^◌, IfOk, IfSome, option_map};
 ghost use Rattle.osc_text.specs.InputEvents.{Drop, Notify, Restart, SpellsEvent};
 ghost use Rattle.osc_text.specs.InputReading.{SpellsNone, number_read, numbered_read};
-ghost use Rattle.osc_text.specs.ServedReading.{IsOfRun, SpellsServed, event_read, event_seen, reply_read, take_read, verb_read};
+ghost use Rattle.osc_text.specs.ServedReading.{IsOfRun, SpellsServed, event_seen, reply_read, take_read, verb_read};
 
 use crate::input_lines::LineEvent;
 use crate::input_words::{
@@ -129,24 +129,15 @@ fn read_fields(alloc: Global, verb: &[u8], fields: &[u8]) -> Result<Option<Serve
     Ok(None)
 }
 
-/// Reads the event of a line, if the line spells one.
-#[tactic(auto, unfolding(crate::specs::ServedReading::event_read))]
-pub(crate) fn read_event(alloc: Global, line: &[u8]) -> Result<Option<ServerEvent>, AllocError>
-    ensures seen { IfOk result (λ event. option_map event_seen event ≡ event_read line.now) }
-    ensures room { IfOk result (λ event. IfSome event IsOfRun) }
-{
-    match split_once(line, b' ') {
-        Some((verb, fields)) => read_fields(alloc, verb, fields),
-        None => Ok(None),
-    }
-}
-
 impl LineEvent for ServerEvent {
     ghost spells = { SpellsServed };
 
     ghost is_bad = { SpellsNone SpellsEvent };
 
     fn from_line(alloc: Global, line: &[u8]) -> Result<Option<ServerEvent>, AllocError> {
-        read_event(alloc, line)
+        match split_once(line, b' ') {
+            Some((verb, fields)) => read_fields(alloc, verb, fields),
+            None => Ok(None),
+        }
     }
 }

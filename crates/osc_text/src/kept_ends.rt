@@ -11,17 +11,16 @@ ghost use Rattle.osc_kept_ends.specs.Numbering.{upcoming};
 ghost use Rattle.osc_kept_ends.specs.Owning.{own_in};
 ghost use Rattle.osc_text.specs.Asking.{places};
 ghost use Rattle.osc_text.specs.InputText.{EventLines};
-ghost use Rattle.osc_text.specs.KeptAskedEvents.{SpellsKeptAsked};
-ghost use Rattle.osc_text.specs.KeptAsking.{ClientStartText, HasBadKeptAskedLine, KeptAskFront, KeptAskText, KeptAskedLine};
-ghost use Rattle.osc_text.specs.KeptEvents.{SpellsKept};
+ghost use Rattle.osc_text.specs.AskedEvents.{SpellsKeptAsked};
+ghost use Rattle.osc_text.specs.KeptAsking.{HasBadKeptAskedLine, KeptAskFront, KeptAskText, KeptAskedLine, StartsClient};
+ghost use Rattle.osc_text.specs.InputEvents.{SpellsKept};
 ghost use Rattle.osc_text.specs.KeptSeen.{IsRoomy, IsRoomyAsked, kept_asked_seen, kept_seen};
-ghost use Rattle.osc_text.specs.KeptServing.{HasBadKeptLine, KeptLine, KeptServeFront, KeptServeText, StartText};
-ghost use Rattle.osc_text.specs.KeptStarting.{StartsClientBadly, StartsKeptBadly};
-ghost use Rattle.osc_text.specs.KeptText.{WroteBy};
-ghost use Rattle.osc_text.specs.Printing.{WroteAround};
+ghost use Rattle.osc_text.specs.KeptServing.{HasBadKeptLine, KeptLine, KeptServeFront, KeptServeText, Starts};
+ghost use Rattle.osc_text.specs.KeptText.{StartText, WroteBy};
+ghost use Rattle.osc_text.specs.Printing.{BeginsBadly, WroteAround};
 
 use crate::agreed::Agreed;
-use crate::ends::{Beginning, End, write_input, write_run};
+use crate::ends::{Beginning, Done, End, write_input, write_run};
 use crate::entry_lines::write_log;
 use crate::fault::Fault;
 use crate::lines::put_refused;
@@ -60,15 +59,10 @@ pub fn serve_kept_text<K: Keeper + Drop, W: Write>(
 
 impl<K: Keeper + Drop> Beginning for Kept<K, WindowSize> {
     ghost promised = { λ kept client server input. WroteAround SpellsKept KeptLine
-        (StartText K.Keeper server kept.1 kept.0) (StartsKeptBadly K.Keeper server kept.1 kept.0 input) input };
+        (StartText K.Keeper kept.0 (Starts K.Keeper server kept.1 kept.0))
+        (BeginsBadly (Starts K.Keeper server kept.1 kept.0) SpellsKept input) input };
 
-    fn write_under<W: Write>(
-        self,
-        alloc: Global,
-        context: Context,
-        input: &[u8],
-        out: &mut W,
-    ) -> Result<u8, Fault> {
+    fn begin<W: Write>(self, alloc: Global, context: Context, input: &[u8], out: &mut W) -> Done {
         let Kept(keeper, window) = self;
         match KeptServer::start(context, keeper, window) {
             Ok(mut server) => write_input(alloc, &mut server, input, out),
@@ -83,12 +77,7 @@ impl<K: Keeper + Drop> End for KeptServer<K> {
     ghost are_lines_of = { λ server events lines. (h : ServerHistory) → IsKeptServer server.server (upcoming (own_in server.source)) h
         → All IsRoomy events → EventLines KeptLine (server_state h server.source []) (map kept_seen events) lines };
 
-    fn write_events<W: Write>(
-        &mut self,
-        alloc: Global,
-        events: &mut [KeptServerEvent],
-        out: &mut W,
-    ) -> Result<u8, Fault> {
+    fn print<W: Write>(&mut self, alloc: Global, events: &mut [Self::Event], out: &mut W) -> Done {
         let mut log = Vec::new(alloc);
         let ran = run_kept_server(alloc, self, events, &mut log);
         write_log(alloc, log.as_slice(), ran, out)
@@ -125,15 +114,10 @@ fn is_of_a_size<T>(value: &T) -> bool
 
 impl<K: Keeper + Drop> Beginning for Kept<K, u64> {
     ghost promised = { λ kept client server input. WroteAround SpellsKeptAsked (KeptAskedLine places)
-        (ClientStartText K.Keeper client kept.1 kept.0) (StartsClientBadly K.Keeper client kept.1 kept.0 input) input };
+        (StartText K.Keeper kept.0 (StartsClient K.Keeper client kept.1 kept.0))
+        (BeginsBadly (StartsClient K.Keeper client kept.1 kept.0) SpellsKeptAsked input) input };
 
-    fn write_under<W: Write>(
-        self,
-        alloc: Global,
-        context: Context,
-        input: &[u8],
-        out: &mut W,
-    ) -> Result<u8, Fault> {
+    fn begin<W: Write>(self, alloc: Global, context: Context, input: &[u8], out: &mut W) -> Done {
         // No type is larger, so this isn't a branch in the program. It tells the proof that a client over this keeper fits.
         let none: Option<ManuallyDrop<KeptClient<K, 16>>> = None;
         if !is_of_a_size(&none) {
@@ -153,12 +137,7 @@ impl<K: Keeper + Drop, const N: usize> End for KeptClient<K, N> {
     ghost are_lines_of = { λ client events lines. (h : ClientHistory) → IsKeptClient client.client (upcoming (own_in client.source)) h
         → All IsRoomyAsked events → EventLines (KeptAskedLine N) (client_state h client.source) (map kept_asked_seen events) lines };
 
-    fn write_events<W: Write>(
-        &mut self,
-        alloc: Global,
-        events: &mut [KeptClientEvent],
-        out: &mut W,
-    ) -> Result<u8, Fault> {
+    fn print<W: Write>(&mut self, alloc: Global, events: &mut [Self::Event], out: &mut W) -> Done {
         let mut log = Vec::new(alloc);
         let ran = run_kept_client(alloc, self, events, &mut log);
         write_log(alloc, log.as_slice(), ran, out)

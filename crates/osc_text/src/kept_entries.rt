@@ -4,6 +4,7 @@ ghost use Rattle.std.specs.Prelude.{◌≡◌, IfOk, string_bytes};
 ghost use Rattle.osc_text.specs.KeptLog.{kept_asked_text, kept_text, restart_text};
 
 use crate::entry_lines::LogEntry;
+use crate::lines::refused_text;
 use osc_kept_ends::KeptError;
 use osc_kept_runs::{KeptClientEntry, KeptServerEntry};
 use std::alloc::{AllocError, Global};
@@ -14,7 +15,7 @@ fn restart_text(alloc: Global, restarted: Result<(), KeptError>) -> Result<Strin
 {
     match restarted {
         Ok(()) => String::from_str(alloc, "restarted"),
-        Err(refusal) => format!(in alloc; "refused: {refusal}"),
+        Err(refusal) => refused_text(alloc, refusal),
     }
 }
 

@@ -1,16 +1,14 @@
 //! Reads the lines of an input as events of an end whose numbers are kept.
 
-ghost use Rattle.std.specs.Prelude.{◌≡◌, IfOk, IfSome, option_map};
-ghost use Rattle.osc_text.specs.AskedReading.{HasRoom, asked_seen};
+ghost use Rattle.std.specs.Prelude.{◌≡◌, IfSome, option_map};
+ghost use Rattle.osc_text.specs.AskedEvents.{SpellsKeptAsked};
+ghost use Rattle.osc_text.specs.AskedReading.{HasRoom, SpellsKeptClient, asked_seen, kept_asked_of};
+ghost use Rattle.osc_text.specs.InputEvents.{SpellsKept};
 ghost use Rattle.osc_text.specs.InputReading.{SpellsNone};
-ghost use Rattle.osc_text.specs.KeptAskedEvents.{SpellsKeptAsked};
-ghost use Rattle.osc_text.specs.KeptEvents.{SpellsKept};
-ghost use Rattle.osc_text.specs.KeptReading.{SpellsKeptClient, SpellsKeptServed, kept_asked_of, kept_asked_read, kept_of, kept_read};
 ghost use Rattle.osc_text.specs.KeptSeen.{IsRoomy, IsRoomyAsked, kept_asked_seen, kept_seen};
-ghost use Rattle.osc_text.specs.ServedReading.{IsOfRun, event_seen};
+ghost use Rattle.osc_text.specs.ServedReading.{IsOfRun, SpellsKeptServed, event_seen, kept_of};
 
 use crate::input_lines::LineEvent;
-use crate::{asked_events, input_events};
 use osc_endpoint::{ClientEvent, ServerEvent};
 use osc_kept_runs::{KeptClientEvent, KeptServerEvent};
 use std::alloc::{AllocError, Global};
@@ -32,28 +30,19 @@ fn kept_event(event: ServerEvent) -> Option<KeptServerEvent>
     }
 }
 
-/// Reads the event of a line, if the line spells one.
-#[tactic(auto, unfolding(crate::specs::KeptReading::kept_read))]
-fn read_kept(alloc: Global, line: &[u8]) -> Result<Option<KeptServerEvent>, AllocError>
-    ensures seen { IfOk result (λ event. option_map kept_seen event ≡ kept_read line.now) }
-    ensures room { IfOk result (λ event. IfSome event IsRoomy) }
-{
-    if line == RESTART {
-        return Ok(Some(KeptServerEvent::Restart));
-    }
-    match input_events::read_event(alloc, line)? {
-        Some(event) => Ok(kept_event(event)),
-        None => Ok(None),
-    }
-}
-
 impl LineEvent for KeptServerEvent {
     ghost spells = { SpellsKeptServed };
 
     ghost is_bad = { SpellsNone SpellsKept };
 
     fn from_line(alloc: Global, line: &[u8]) -> Result<Option<KeptServerEvent>, AllocError> {
-        read_kept(alloc, line)
+        if line == RESTART {
+            return Ok(Some(KeptServerEvent::Restart));
+        }
+        match ServerEvent::from_line(alloc, line)? {
+            Some(event) => Ok(kept_event(event)),
+            None => Ok(None),
+        }
     }
 }
 
@@ -72,27 +61,18 @@ fn kept_asked(event: ClientEvent) -> Option<KeptClientEvent>
     }
 }
 
-/// Reads the event of a line, if the line spells one.
-#[tactic(auto, unfolding(crate::specs::KeptReading::kept_asked_read))]
-fn read_kept_asked(alloc: Global, line: &[u8]) -> Result<Option<KeptClientEvent>, AllocError>
-    ensures seen { IfOk result (λ event. option_map kept_asked_seen event ≡ kept_asked_read line.now) }
-    ensures room { IfOk result (λ event. IfSome event IsRoomyAsked) }
-{
-    if line == RESTART {
-        return Ok(Some(KeptClientEvent::Restart));
-    }
-    match asked_events::read_event(alloc, line)? {
-        Some(event) => Ok(kept_asked(event)),
-        None => Ok(None),
-    }
-}
-
 impl LineEvent for KeptClientEvent {
     ghost spells = { SpellsKeptClient };
 
     ghost is_bad = { SpellsNone SpellsKeptAsked };
 
     fn from_line(alloc: Global, line: &[u8]) -> Result<Option<KeptClientEvent>, AllocError> {
-        read_kept_asked(alloc, line)
+        if line == RESTART {
+            return Ok(Some(KeptClientEvent::Restart));
+        }
+        match ClientEvent::from_line(alloc, line)? {
+            Some(event) => Ok(kept_asked(event)),
+            None => Ok(None),
+        }
     }
 }

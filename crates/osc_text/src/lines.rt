@@ -1,10 +1,12 @@
 //! How values print: each line is built completely, and then written.
 
-ghost use Rattle.std.specs.Prelude.{◌≡◌, ◌∷◌, [], IfOk, IfSome, string_bytes, map, option_map, codes};
+ghost use Rattle.std.specs.Fmt.{decimal};
+ghost use Rattle.std.specs.Prelude.{◌≡◌, ◌∷◌, ◌++◌, [], ℕ, List, IfErr, IfOk, IfSome, IsOkAnd, string_bytes, map, option_map, codes};
 ghost use Rattle.osc_coap.specs.Views.{options_left};
 ghost use Rattle.osc_context.specs.Views.{number_of};
 ghost use Rattle.osc_protect.specs.Views.{message_of, shown};
-ghost use Rattle.osc_text.specs.Lines.{bytes_text, kind_text, code_text, number_text, text_line, hex_line, bytes_line, kind_line, message_id_line, code_line, head_lines, number_line, part_lines, option_line, refused_line};
+ghost use Rattle.osc_text.specs.EntryLines.{entry_line};
+ghost use Rattle.osc_text.specs.Lines.{bytes_text, kind_text, code_text, number_text, hex_line, bytes_line, kind_line, message_id_line, code_line, head_lines, number_line, part_lines, option_line, refused_line};
 ghost use Rattle.osc_text.specs.Opening.{opened_lines};
 ghost use Rattle.osc_text.specs.Outcomes.{seen};
 ghost use Rattle.osc_text.specs.Written.{Writes};
@@ -62,16 +64,39 @@ pub(crate) fn number_text(alloc: Global, number: Option<Piv>) -> Result<String, 
     }
 }
 
-/// Writes the line with a name and a text.
-pub(crate) fn put_text<W: Write>(
+/// Returns a word and a text, with one space between them.
+pub(crate) fn named(
     alloc: Global,
-    name: &str,
-    text: &str,
+    word: &str,
+    text: Result<String, AllocError>,
+) -> Result<String, AllocError>
+    ensures { IfOk result (λ whole. IsOkAnd text (λ t. string_bytes whole ≡ word.now ++ (codes " " ++ string_bytes t))) }
+{
+    let text = text?;
+    format!(in alloc; "{word} {text}")
+}
+
+/// Returns the text of a refusal behind the word that says that there is one.
+pub(crate) fn refused_text<D: Display + Drop>(
+    alloc: Global,
+    refusal: D,
+) -> Result<String, AllocError>
+    ensures { IfSome (D.output refusal) (λ name. IfOk result (λ text. string_bytes text ≡ codes "refused: " ++ name)) }
+{
+    format!(in alloc; "refused: {refusal}")
+}
+
+/// Writes a text and a newline. If there was no memory for the text, writes nothing.
+pub(crate) fn put_line<W: Write>(
+    alloc: Global,
+    text: Result<String, AllocError>,
     out: &mut W,
 ) -> Result<(), Fault>
-    ensures { Writes (W.contents out.old) (W.contents out.new) (text_line name.now text.now ∷ []) result }
+    ensures written { IfOk text (λ t. Writes (W.contents out.old) (W.contents out.new) (entry_line (string_bytes t) ∷ []) result) }
+    ensures failed { IfErr text (λ e. (lines : List (List ℕ)) → Writes (W.contents out.old) (W.contents out.new) lines result) }
 {
-    let line = format!(in alloc; "{name} {text}\n")?;
+    let text = text?;
+    let line = format!(in alloc; "{text}\n")?;
     out.write_all(line.as_bytes())?;
     Ok(())
 }
@@ -80,10 +105,7 @@ pub(crate) fn put_text<W: Write>(
 pub(crate) fn put_hex<W: Write>(alloc: Global, bytes: &[u8], out: &mut W) -> Result<(), Fault>
     ensures { Writes (W.contents out.old) (W.contents out.new) (hex_line bytes.now ∷ []) result }
 {
-    let text = bytes_text(alloc, bytes)?;
-    let line = format!(in alloc; "{text}\n")?;
-    out.write_all(line.as_bytes())?;
-    Ok(())
+    put_line(alloc, bytes_text(alloc, bytes), out)
 }
 
 /// Writes the line with a name and bytes in hex.
@@ -95,8 +117,7 @@ pub(crate) fn put_bytes<W: Write>(
 ) -> Result<(), Fault>
     ensures { Writes (W.contents out.old) (W.contents out.new) (bytes_line name.now bytes.now ∷ []) result }
 {
-    let text = bytes_text(alloc, bytes)?;
-    put_text(alloc, name, text.as_str(), out)
+    put_line(alloc, named(alloc, name, bytes_text(alloc, bytes)), out)
 }
 
 /// Writes the line with a name and bytes in hex, if the part is there.
@@ -117,7 +138,8 @@ pub(crate) fn put_part<W: Write>(
 fn put_kind<W: Write>(alloc: Global, kind: Kind, out: &mut W) -> Result<(), Fault>
     ensures { Writes (W.contents out.old) (W.contents out.new) (kind_line kind ∷ []) result }
 {
-    put_text(alloc, "kind", kind_text(kind), out)
+    let text = String::from_str(alloc, kind_text(kind));
+    put_line(alloc, named(alloc, "kind", text), out)
 }
 
 fn put_message_id<W: Write>(alloc: Global, message_id: u16, out: &mut W) -> Result<(), Fault>
@@ -135,8 +157,7 @@ fn put_token<W: Write>(alloc: Global, token: &Token, out: &mut W) -> Result<(), 
 fn put_code<W: Write>(alloc: Global, code: u8, out: &mut W) -> Result<(), Fault>
     ensures { Writes (W.contents out.old) (W.contents out.new) (code_line code ∷ []) result }
 {
-    let text = code_text(alloc, code)?;
-    put_text(alloc, "code", text.as_str(), out)
+    put_line(alloc, named(alloc, "code", code_text(alloc, code)), out)
 }
 
 /// Writes the lines with the head, the token and the code.
@@ -159,16 +180,29 @@ pub(crate) fn put_head<W: Write>(
 fn put_number<W: Write>(alloc: Global, number: Option<Piv>, out: &mut W) -> Result<(), Fault>
     ensures { Writes (W.contents out.old) (W.contents out.new) (number_line (option_map number_of number) ∷ []) result }
 {
-    let text = number_text(alloc, number)?;
-    put_text(alloc, "number", text.as_str(), out)
+    put_line(
+        alloc,
+        named(alloc, "number", number_text(alloc, number)),
+        out,
+    )
+}
+
+/// Returns the text of an option: its number and its value.
+fn option_text(alloc: Global, number: u16, value: &[u8]) -> Result<String, AllocError>
+    ensures { IfOk result (λ text. string_bytes text ≡ decimal number ++ (codes " " ++ bytes_text value.now)) }
+{
+    let value = bytes_text(alloc, value)?;
+    format!(in alloc; "{number} {value}")
 }
 
 fn put_option<W: Write>(alloc: Global, number: u16, value: &[u8], out: &mut W) -> Result<(), Fault>
     ensures { Writes (W.contents out.old) (W.contents out.new) (option_line (number, value.now) ∷ []) result }
 {
-    let value = bytes_text(alloc, value)?;
-    let text = format!(in alloc; "{number} {value}")?;
-    put_text(alloc, "option", text.as_str(), out)
+    put_line(
+        alloc,
+        named(alloc, "option", option_text(alloc, number, value)),
+        out,
+    )
 }
 
 /// Writes a line for each option, in order.
@@ -225,7 +259,6 @@ pub(crate) fn put_refused<D: Display + Drop, W: Write>(
         (λ text. Writes (W.contents out.old) (W.contents out.new) (refused_line text ∷ []) result) }
     ensures status { IfOk result (λ s. s ≡ 2) }
 {
-    let text = format!(in alloc; "{refusal}")?;
-    put_text(alloc, "refused:", text.as_str(), out)?;
+    put_line(alloc, refused_text(alloc, refusal), out)?;
     Ok(2)
 }

@@ -1,6 +1,6 @@
 //! How OSCORE options print.
 
-ghost use Rattle.std.specs.Prelude.{◌≡◌, ℕ, List, [], ◌∷◌, IfOk, string_bytes, option_map};
+ghost use Rattle.std.specs.Prelude.{◌≡◌, ℕ, List, [], ◌∷◌, IfOk, codes, string_bytes, option_map};
 ghost use Rattle.std.specs.Option.{option_copied};
 ghost use Rattle.osc_coap.specs.OptionNumbers.{oscore};
 ghost use Rattle.osc_coap.specs.Search.{values_at};
@@ -8,14 +8,14 @@ ghost use Rattle.osc_coap.specs.Views.{options_left};
 ghost use Rattle.osc_context.specs.PartialIv.{partial_iv_of};
 ghost use Rattle.osc_context.specs.Views.{number_of, oscore_parts_of};
 ghost use Rattle.osc_text.specs.Explanation.{ValueLine, ValueLines};
-ghost use Rattle.osc_text.specs.Lines.{optional_text, oscore_line, oscore_fault_line};
+ghost use Rattle.osc_text.specs.Lines.{optional_text, oscore_line, text_line};
 ghost use Rattle.osc_text.specs.Written.{Writes};
 
 use crate::fault::Fault;
-use crate::lines::{bytes_text, put_text};
+use crate::lines::{bytes_text, named, put_line};
 use osc_coap::Options;
 use osc_coap::option_numbers::OSCORE;
-use osc_context::{OptionError, OscoreOption, Piv};
+use osc_context::{OscoreOption, Piv};
 use std::alloc::{AllocError, Global};
 use std::io::Write;
 
@@ -39,23 +39,24 @@ fn piv_text(alloc: Global, piv: Option<Piv>) -> Result<String, AllocError>
     }
 }
 
-/// Writes the line with what an OSCORE option says.
-fn put_said<W: Write>(alloc: Global, said: OscoreOption<'_>, out: &mut W) -> Result<(), Fault>
-    ensures { Writes (W.contents out.old) (W.contents out.new) (oscore_line (oscore_parts_of said.entry) ∷ []) result }
+/// Returns what an OSCORE option says: Partial IV, kid context and kid.
+fn said_text(alloc: Global, said: OscoreOption<'_>) -> Result<String, AllocError>
+    ensures { IfOk result (λ text. text_line (codes "oscore") (string_bytes text) ≡ oscore_line (oscore_parts_of said.entry)) }
 {
-    let piv = piv_text(alloc, said.piv)?;
-    let context = optional_text(alloc, said.kid_context)?;
-    let kid = optional_text(alloc, said.kid)?;
-    let text = format!(in alloc; "piv {piv} context {context} kid {kid}")?;
-    put_text(alloc, "oscore", text.as_str(), out)
+    let piv = named(alloc, "piv", piv_text(alloc, said.piv))?;
+    let context = named(alloc, "context", optional_text(alloc, said.kid_context))?;
+    let kid = named(alloc, "kid", optional_text(alloc, said.kid));
+    named(alloc, piv.as_str(), named(alloc, context.as_str(), kid))
 }
 
-/// Writes the line for a refused OSCORE option.
-fn put_value_fault<W: Write>(alloc: Global, refusal: OptionError, out: &mut W) -> Result<(), Fault>
-    ensures { Writes (W.contents out.old) (W.contents out.new) (oscore_fault_line refusal ∷ []) result }
+/// Returns what the value of an OSCORE option says, or why it is refused.
+fn value_text(alloc: Global, value: &[u8]) -> Result<String, AllocError>
+    ensures { IfOk result (λ text. (line : List ℕ) → ValueLine value.now line → line ≡ text_line (codes "oscore") (string_bytes text)) }
 {
-    let text = format!(in alloc; "fault {refusal}")?;
-    put_text(alloc, "oscore", text.as_str(), out)
+    match OscoreOption::read(value) {
+        Ok(said) => said_text(alloc, said),
+        Err(refusal) => format!(in alloc; "fault {refusal}"),
+    }
 }
 
 /// Writes the line for the value of an OSCORE option.
@@ -63,10 +64,7 @@ fn put_value<W: Write>(alloc: Global, value: &[u8], out: &mut W) -> Result<(), F
     ensures { (line : List ℕ) → ValueLine value.now line
         → Writes (W.contents out.old) (W.contents out.new) (line ∷ []) result }
 {
-    match OscoreOption::read(value) {
-        Ok(said) => put_said(alloc, said, out),
-        Err(refusal) => put_value_fault(alloc, refusal, out),
-    }
+    put_line(alloc, named(alloc, "oscore", value_text(alloc, value)), out)
 }
 
 /// Writes the line for an option, if it is an OSCORE option.

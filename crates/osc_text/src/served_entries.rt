@@ -7,22 +7,11 @@ ghost use Rattle.osc_text.specs.ServerLines.{delivery_text, reply_text};
 ghost use Rattle.osc_text.specs.ServerLog.{entry_text, seen_text};
 
 use crate::entry_lines::{LogEntry, fault_text, message_text};
-use crate::lines::bytes_text;
+use crate::lines::{bytes_text, named, refused_text};
 use osc_context::Piv;
 use osc_endpoint::{Seen, ServerEntry};
 use osc_protect::Opened;
 use std::alloc::{AllocError, Global};
-
-/// Returns the text of a reply after its entry: one space and the bytes, or nothing if there is no reply.
-fn reply_text(alloc: Global, reply: &[u8]) -> Result<String, AllocError>
-    ensures { IfOk result (λ text. string_bytes text ≡ reply_text reply.now) }
-{
-    if reply.is_empty() {
-        return Ok(String::new(alloc));
-    }
-    let text = bytes_text(alloc, reply)?;
-    format!(in alloc; " {text}")
-}
 
 /// Returns the text of a delivery: context, number, code, options and payload.
 fn delivery_text(
@@ -43,10 +32,7 @@ fn seen_text(alloc: Global, seen: &Seen<'_>) -> Result<String, AllocError>
     ensures { IfOk result (λ text. string_bytes text ≡ seen_text seen.now) }
 {
     match seen {
-        Seen::Malformed(error) => {
-            let fault = fault_text(alloc, *error)?;
-            format!(in alloc; "malformed {fault}")
-        }
+        Seen::Malformed(error) => named(alloc, "malformed", fault_text(alloc, *error)),
         Seen::NotRequest => String::from_str(alloc, "not-request"),
         Seen::Plain => String::from_str(alloc, "plain"),
         Seen::Undecodable => String::from_str(alloc, "undecodable"),
@@ -54,10 +40,7 @@ fn seen_text(alloc: Global, seen: &Seen<'_>) -> Result<String, AllocError>
         Seen::Replay => String::from_str(alloc, "replay"),
         Seen::BadTag => String::from_str(alloc, "bad-tag"),
         Seen::BadInner => String::from_str(alloc, "bad-inner"),
-        Seen::Challenge { echo, .. } => {
-            let echo = bytes_text(alloc, echo)?;
-            format!(in alloc; "challenge {echo}")
-        }
+        Seen::Challenge { echo, .. } => named(alloc, "challenge", bytes_text(alloc, echo)),
         Seen::SequenceExhausted => String::from_str(alloc, "exhausted"),
         Seen::KeeperFailed => String::from_str(alloc, "keeper-failed"),
         Seen::Deliver {
@@ -68,42 +51,31 @@ fn seen_text(alloc: Global, seen: &Seen<'_>) -> Result<String, AllocError>
     }
 }
 
-/// Returns the text for what the server made of a datagram, and for the reply.
+/// Returns the text for what the server made of a datagram, and for the reply, if there is one.
 fn took_text(alloc: Global, seen: &Seen<'_>, reply: &[u8]) -> Result<String, AllocError>
     ensures { IfOk result (λ text. string_bytes text ≡ seen_text seen.now ++ reply_text reply.now) }
 {
-    let seen = seen_text(alloc, seen)?;
-    let reply = reply_text(alloc, reply)?;
-    format!(in alloc; "{seen}{reply}")
-}
-
-/// Returns an entry as it prints.
-fn entry_text(alloc: Global, entry: &ServerEntry<'_>) -> Result<String, AllocError>
-    ensures { IfOk result (λ text. string_bytes text ≡ entry_text entry.now) }
-{
-    match entry {
-        ServerEntry::Took { seen, reply } => took_text(alloc, seen, reply),
-        ServerEntry::Replied(Ok(bytes)) => {
-            let text = bytes_text(alloc, bytes)?;
-            format!(in alloc; "replied {text}")
-        }
-        ServerEntry::Replied(Err(refusal)) => format!(in alloc; "refused: {refusal}"),
-        ServerEntry::NoTicket => String::from_str(alloc, "no-ticket"),
-        ServerEntry::BadPlain(error) => {
-            let fault = fault_text(alloc, *error)?;
-            format!(in alloc; "bad-plain {fault}")
-        }
-        ServerEntry::Dropped(true) => String::from_str(alloc, "dropped"),
-        ServerEntry::Dropped(false) => String::from_str(alloc, "no-ticket"),
-        ServerEntry::Restarted(Ok(())) => String::from_str(alloc, "restarted"),
-        ServerEntry::Restarted(Err(refusal)) => format!(in alloc; "refused: {refusal}"),
+    if reply.is_empty() {
+        return seen_text(alloc, seen);
     }
+    let seen = seen_text(alloc, seen)?;
+    named(alloc, seen.as_str(), bytes_text(alloc, reply))
 }
 
 impl LogEntry for ServerEntry<'_> {
     ghost text_of = { entry_text };
 
     fn text(&self, alloc: Global) -> Result<String, AllocError> {
-        entry_text(alloc, self)
+        match self {
+            ServerEntry::Took { seen, reply } => took_text(alloc, seen, reply),
+            ServerEntry::Replied(Ok(bytes)) => named(alloc, "replied", bytes_text(alloc, bytes)),
+            ServerEntry::Replied(Err(refusal)) => refused_text(alloc, *refusal),
+            ServerEntry::NoTicket => String::from_str(alloc, "no-ticket"),
+            ServerEntry::BadPlain(error) => named(alloc, "bad-plain", fault_text(alloc, *error)),
+            ServerEntry::Dropped(true) => String::from_str(alloc, "dropped"),
+            ServerEntry::Dropped(false) => String::from_str(alloc, "no-ticket"),
+            ServerEntry::Restarted(Ok(())) => String::from_str(alloc, "restarted"),
+            ServerEntry::Restarted(Err(refusal)) => refused_text(alloc, *refusal),
+        }
     }
 }

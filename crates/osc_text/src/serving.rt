@@ -5,7 +5,7 @@ ghost use Rattle.osc_endpoint.specs.Agrees.{Agrees};
 ghost use Rattle.osc_life.specs.ServerHistory.{History};
 
 use crate::agreed::Agreed;
-use crate::ends::{Beginning, End, write_input, write_run};
+use crate::ends::{Beginning, Done, End, write_input, write_run};
 use crate::entry_lines::write_log;
 use crate::fault::Fault;
 use crate::lines::put_refused;
@@ -29,10 +29,12 @@ pub struct Serving {
 }
 
 ghost use Rattle.osc_text.specs.InputText.{EventLines, RefusesLine};
-ghost use Rattle.osc_text.specs.Printing.{Prints};
+ghost use Rattle.osc_endpoint.specs.ServerAnswer.{ServerAnswer};
+ghost use Rattle.osc_life.specs.ServerHistory.{Add, Added, Begin};
+ghost use Rattle.osc_text.specs.InputEvents.{SpellsEvent};
+ghost use Rattle.osc_text.specs.Printing.{BeginsBadly, Prints};
 ghost use Rattle.osc_text.specs.ServedReading.{IsOfRun, event_seen};
 ghost use Rattle.osc_text.specs.Serving.{HasBadLine, ServeText, ServerLine, ServerText, start_of};
-ghost use Rattle.osc_text.specs.Starting.{StartsBadly};
 ghost use Rattle.osc_text.specs.Written.{Writes};
 ghost use Rattle.osc_text.specs.declared.fault.Fault.TheVariants.{Line};
 
@@ -77,15 +79,10 @@ pub fn serve_text<W: Write>(
 
 impl Beginning for Serving {
     ghost promised = { λ serving client server input X contents.
-        Prints contents (ServerText server (start_of serving) serving.window input) (StartsBadly server (start_of serving) serving.window input) };
+        Prints contents (ServerText server (start_of serving) serving.window input)
+        (BeginsBadly (λ i. ServerAnswer Begin (Add server (start_of serving) serving.window) (Added i)) SpellsEvent input) };
 
-    fn write_under<W: Write>(
-        self,
-        alloc: Global,
-        context: Context,
-        input: &[u8],
-        out: &mut W,
-    ) -> Result<u8, Fault> {
+    fn begin<W: Write>(self, alloc: Global, context: Context, input: &[u8], out: &mut W) -> Done {
         // For the proof alone.
         one_server_answer();
         one_datagram();
@@ -103,12 +100,7 @@ impl End for Server {
     ghost are_lines_of = { λ server events lines. (h : History) → Agrees server h → All IsOfRun events
         → EventLines ServerLine (h, []) (map event_seen events) lines };
 
-    fn write_events<W: Write>(
-        &mut self,
-        alloc: Global,
-        events: &mut [ServerEvent],
-        out: &mut W,
-    ) -> Result<u8, Fault> {
+    fn print<W: Write>(&mut self, alloc: Global, events: &mut [Self::Event], out: &mut W) -> Done {
         let mut log = Vec::new(alloc);
         let ran = run_server(alloc, self, events, &mut log);
         write_log(alloc, log.as_slice(), ran, out)

@@ -13,4 +13,4 @@ pub returns : goal.returns
 returns g c =
     let lines = g.E.End.are_lines_of c.args.end.now in
     ran c.in_ok-events.events.items c.in_ok-events.ensures.read
-    (subst (λ (es : List g.row.E-Event.Denot). RunsEvents lines es (g.W.Write.contents c.args.out.now) (g.W.Write.contents c.write_events.new.out) c.write_events.result) c.as_mut_slice.ensures.value c.write_events.ensures)
+    (subst (λ (es : List g.row.E-Event.Denot). RunsEvents lines es (g.W.Write.contents c.args.out.now) (g.W.Write.contents c.print.new.out) c.print.result) c.as_mut_slice.ensures.value c.print.ensures)

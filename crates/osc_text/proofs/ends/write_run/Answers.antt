@@ -3,7 +3,7 @@ use Rattle.osc_text.specs.Printing.RunsContext.{derived, refused}
 use Rattle.osc_text.proofs.ends.write_run.Goals as goal
 
 pub returns-in-Ok : goal.returns-in-Ok
-returns-in-Ok g c = derived (c.in-Ok.ensures.accepted refl) (rw (← c.in-Ok.ensures.client, ← c.in-Ok.ensures.server) c.write_under.ensures)
+returns-in-Ok g c = derived (c.in-Ok.ensures.accepted refl) (rw (← c.in-Ok.ensures.client, ← c.in-Ok.ensures.server) c.begin.ensures)
 
 pub returns-in-Err : goal.returns-in-Err
 returns-in-Err g c =

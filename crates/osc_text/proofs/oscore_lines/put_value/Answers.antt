@@ -1,12 +1,10 @@
-use Rattle.osc_text.proofs.ExplainTexts.{said_line, fault_line, writes_line}
+use Rattle.std.proofs.Common.{◌≡◌, ℕ, List, codes, string_bytes}
+use Rattle.osc_text.specs.Explanation.{ValueLine}
+use Rattle.osc_text.specs.Lines.{text_line}
+use Rattle.osc_text.proofs.MadeLines.{behind_line, then_ok}
 use Rattle.osc_text.proofs.oscore_lines.put_value.Goals as goal
 
-pub returns-in-Ok : goal.returns-in-Ok
-returns-in-Ok g c = λ line is_line.
-    let same = said_line c.args.value.now line c.in-Ok.said c.in-Ok.ensures.accepts (λ e first. let h = c.in-Ok.ensures.refuses e first in cc h) is_line in
-    writes_line _ _ line _ c.put_said.result same c.put_said.ensures
-
-pub returns-in-Err : goal.returns-in-Err
-returns-in-Err g c = λ line is_line.
-    let same = fault_line c.args.value.now line c.in-Err.refusal c.in-Err.ensures.accepts (λ e first. let h = c.in-Err.ensures.refuses e first in cc h) is_line in
-    writes_line _ _ line _ c.put_value_fault.result same c.put_value_fault.ensures
+pub returns : goal.returns
+returns g c = λ line is_line.
+    behind_line string_bytes _ _ _ c.put_line.result c.put_line.ensures.written c.put_line.ensures.failed (codes "oscore") line c.value_text.result c.named.ensures
+    (then_ok c.value_text.result (λ t. (l : List ℕ) → ValueLine c.args.value.now l → l ≡ text_line (codes "oscore") (string_bytes t)) (λ t. line ≡ text_line (codes "oscore") (string_bytes t)) c.value_text.ensures (λ t told. told line is_line))

@@ -1,11 +1,15 @@
+use Rattle.std.proofs.Common.{None, Some}
 use Rattle.osc_text.specs.AskedEvents.{SpellsAsked}
 use Rattle.osc_text.specs.AskedReading.{HasRoom, asked_read, asked_seen}
-use Rattle.osc_text.proofs.AskedSpellings.{client_inverse}
-use Rattle.osc_text.proofs.InputSpellings.{none_spells, read_spells}
+use Rattle.osc_text.proofs.InputSpellings.{no_words, words_spell}
+use Rattle.osc_text.proofs.AskedSpellings.{asked_at, client_inverse}
 use Rattle.osc_text.proofs.asked_events.ClientEventLineEvent.from_line.Goals as goal
 
-pub returns-clause-read : goal.returns-clause-read
-returns-clause-read c = read_spells SpellsAsked asked_read client_inverse asked_seen HasRoom c.args.line.now c.read_event.result c.read_event.ensures.seen c.read_event.ensures.room
+pub returns-in-Some : goal.returns-in-Some
+returns-in-Some c =
+    let is = asked_at c.args.line.now (Some (c.in-Some.verb.now, c.in-Some.fields.now)) c.in-Some.ensures in
+    let s = words_spell SpellsAsked asked_read client_inverse asked_seen HasRoom c.args.line.now _ c.read_fields.result is c.read_fields.ensures.seen c.read_fields.ensures.room in
+    record { read = s.0; refused = s.1 }
 
-pub returns-clause-refused : goal.returns-clause-refused
-returns-clause-refused c = none_spells SpellsAsked asked_read client_inverse asked_seen c.args.line.now c.read_event.result c.read_event.ensures.seen
+pub returns-in-None : goal.returns-in-None
+returns-in-None c = record { read = tt; refused = no_words SpellsAsked asked_read client_inverse c.args.line.now (asked_at c.args.line.now None c.in-None.ensures) }

@@ -1,10 +1,17 @@
+use Rattle.std.proofs.Common.{None, Some}
 use Rattle.osc_text.specs.InputEvents.{SpellsEvent}
 use Rattle.osc_text.specs.ServedReading.{IsOfRun, event_read, event_seen}
-use Rattle.osc_text.proofs.InputSpellings.{none_spells, read_spells, server_inverse}
+use Rattle.osc_text.proofs.InputSpellings.{event_at, no_words, server_inverse, words_spell}
 use Rattle.osc_text.proofs.input_events.ServerEventLineEvent.from_line.Goals as goal
 
-pub returns-clause-read : goal.returns-clause-read
-returns-clause-read c = read_spells SpellsEvent event_read server_inverse event_seen IsOfRun c.args.line.now c.read_event.result c.read_event.ensures.seen c.read_event.ensures.room
+pub returns-in-Some : goal.returns-in-Some
+returns-in-Some c =
+    let line = c.args.line.now in
+    let words = Some (c.in-Some.verb.now, c.in-Some.fields.now) in
+    let s = words_spell SpellsEvent event_read server_inverse event_seen IsOfRun line _ c.read_fields.result (event_at line words c.in-Some.ensures) c.read_fields.ensures.seen c.read_fields.ensures.room in
+    record { read = s.0; refused = s.1 }
 
-pub returns-clause-refused : goal.returns-clause-refused
-returns-clause-refused c = none_spells SpellsEvent event_read server_inverse event_seen c.args.line.now c.read_event.result c.read_event.ensures.seen
+pub returns-in-None : goal.returns-in-None
+returns-in-None c =
+    let line = c.args.line.now in
+    record { read = tt; refused = no_words SpellsEvent event_read server_inverse line (event_at line None c.in-None.ensures) }

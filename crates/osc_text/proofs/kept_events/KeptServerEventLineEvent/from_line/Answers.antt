@@ -1,12 +1,18 @@
-use Rattle.osc_text.specs.KeptEvents.{SpellsKept}
-use Rattle.osc_text.specs.KeptReading.{kept_read}
-use Rattle.osc_text.specs.KeptSeen.{IsRoomy, kept_seen}
-use Rattle.osc_text.proofs.InputSpellings.{none_spells, read_spells}
-use Rattle.osc_text.proofs.KeptSpellings.{kept_inverse}
+use Rattle.std.proofs.Common.{◌≢◌, codes, rules}
+use Rattle.osc_text.specs.InputEvents.{SpellsEvent, SpellsKept}
+use Rattle.osc_text.specs.KeptSeen.{kept_seen}
+use Rattle.osc_text.specs.ServedReading.{event_read, event_seen, kept_of}
+use Rattle.osc_text.proofs.InputSpellings.{one_spelling, server_inverse}
+use Rattle.osc_text.proofs.KeptSpellings.{kept_refuses, none_kept, server_keeps}
 use Rattle.osc_text.proofs.kept_events.KeptServerEventLineEvent.from_line.Goals as goal
 
-pub returns-clause-read : goal.returns-clause-read
-returns-clause-read c = read_spells SpellsKept kept_read kept_inverse kept_seen IsRoomy c.args.line.now c.read_kept.result c.read_kept.ensures.seen c.read_kept.ensures.room
+pub returns-in-Some-clause-refused : goal.returns-in-Some-clause-refused
+returns-in-Some-clause-refused c =
+    let other : c.args.line.now ≢ codes "restart" = search rules in
+    let s = rw c.in-Some.is at c.in_ok-event.ensures.read in
+    kept_refuses SpellsEvent SpellsKept kept_of server_keeps c.args.line.now other (one_spelling SpellsEvent event_read server_inverse) kept_seen (event_seen c.in-Some.event) c.kept_event.result s.0 c.kept_event.ensures.seen
 
-pub returns-clause-refused : goal.returns-clause-refused
-returns-clause-refused c = none_spells SpellsKept kept_read kept_inverse kept_seen c.args.line.now c.read_kept.result c.read_kept.ensures.seen
+pub returns-in-None-clause-refused : goal.returns-in-None-clause-refused
+returns-in-None-clause-refused c =
+    let other : c.args.line.now ≢ codes "restart" = search rules in
+    none_kept SpellsEvent SpellsKept kept_of server_keeps c.args.line.now other (rw c.in-None.is at c.in_ok-event.ensures.refused)

@@ -8,7 +8,7 @@ use Rattle.osc_text.proofs.AskedSpellings.{client_inverse}
 use Rattle.osc_text.proofs.ClientSteps.{one_client_line}
 use Rattle.osc_text.proofs.InputSpellings.{one_spelling}
 use Rattle.osc_text.proofs.InputTexts.{input_prints}
-use Rattle.osc_text.proofs.asking.AskingBeginning.write_under.Goals as goal
+use Rattle.osc_text.proofs.asking.AskingBeginning.begin.Goals as goal
 
 pub returns : goal.returns
 returns g c =

@@ -2,7 +2,7 @@ use Rattle.std.proofs.Common.{[], map, vec_len}
 use Rattle.osc_text.specs.ServerLog.{log_line}
 use Rattle.osc_text.proofs.ServerSteps.{run_is}
 use Rattle.osc_text.proofs.LogLines.{ran_whole}
-use Rattle.osc_text.proofs.serving.ServerEnd.write_events.Goals as goal
+use Rattle.osc_text.proofs.serving.ServerEnd.print.Goals as goal
 
 pub returns : goal.returns
 returns g c =

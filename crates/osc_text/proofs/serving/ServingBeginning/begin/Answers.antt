@@ -12,7 +12,7 @@ use Rattle.osc_text.proofs.InputSpellings.{one_spelling, server_inverse}
 use Rattle.osc_text.proofs.InputTexts.{input_prints}
 use Rattle.osc_text.proofs.OneServerTexts.{one_server_line}
 use Rattle.osc_text.proofs.ServerTexts.{no_start_prints, start_prints}
-use Rattle.osc_text.proofs.serving.ServingBeginning.write_under.Goals as goal
+use Rattle.osc_text.proofs.serving.ServingBeginning.begin.Goals as goal
 
 pub returns-in-Ok : goal.returns-in-Ok
 returns-in-Ok g c =

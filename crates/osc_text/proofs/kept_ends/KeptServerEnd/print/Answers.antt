@@ -5,7 +5,7 @@ use Rattle.osc_text.specs.KeptLog.{kept_text}
 use Rattle.osc_text.specs.KeptSeen.{IsRoomy, kept_seen}
 use Rattle.osc_text.proofs.KeptPrinting.{run_is}
 use Rattle.osc_text.proofs.LogLines.{ran_whole}
-use Rattle.osc_text.proofs.kept_ends.KeptServerEnd.write_events.Goals as goal
+use Rattle.osc_text.proofs.kept_ends.KeptServerEnd.print.Goals as goal
 
 pub returns : goal.returns
 returns g c =
