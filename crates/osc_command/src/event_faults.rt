@@ -1,5 +1,6 @@
 //! What is wrong with a line of input that isn't an event, in one line.
 
+use self::Field::{Datagram, Echo, Event, Mid, Next, Now, Own, Plain, Token};
 use osc_text::{read_decimal, read_number};
 use std::alloc::{AllocError, Global};
 use std::str;
@@ -18,11 +19,7 @@ pub(crate) enum Field {
 }
 
 /// An event's first word, the fields that follow it, and their names.
-pub(crate) struct Form {
-    word: &'static str,
-    fields: &'static [Field],
-    names: &'static str,
-}
+pub(crate) struct Form(&'static str, &'static [Field], &'static str);
 
 /// The events of an end, and the words that begin their lines.
 #[derive(Clone, Copy)]
@@ -31,59 +28,25 @@ pub(crate) struct Forms {
     words: &'static str,
 }
 
-const TAKE: Form = Form {
-    word: "take",
-    fields: &[Field::Now, Field::Echo, Field::Mid, Field::Datagram],
-    names: "followed by NOW ECHO MID DATAGRAM",
-};
+#[rattlefmt::skip]
+const TAKE: Form = Form("take", &[Now, Echo, Mid, Datagram], "followed by NOW ECHO MID DATAGRAM");
 
-const REPLY: Form = Form {
-    word: "reply",
-    fields: &[Field::Event, Field::Own, Field::Mid, Field::Plain],
-    names: "followed by EVENT own|shared MID PLAIN",
-};
+#[rattlefmt::skip]
+const REPLY: Form = Form("reply", &[Event, Own, Mid, Plain], "followed by EVENT own|shared MID PLAIN");
 
-const NOTIFY: Form = Form {
-    word: "notify",
-    fields: &[Field::Event, Field::Plain],
-    names: "followed by EVENT PLAIN",
-};
+const NOTIFY: Form = Form("notify", &[Event, Plain], "followed by EVENT PLAIN");
 
-const DROP: Form = Form {
-    word: "drop",
-    fields: &[Field::Event],
-    names: "followed by EVENT",
-};
+const DROP: Form = Form("drop", &[Event], "followed by EVENT");
 
-const REQUEST: Form = Form {
-    word: "request",
-    fields: &[Field::Now, Field::Plain],
-    names: "followed by NOW PLAIN",
-};
+const REQUEST: Form = Form("request", &[Now, Plain], "followed by NOW PLAIN");
 
-const TAKE_RESPONSE: Form = Form {
-    word: "take",
-    fields: &[Field::Now, Field::Datagram],
-    names: "followed by NOW DATAGRAM",
-};
+const TAKE_RESPONSE: Form = Form("take", &[Now, Datagram], "followed by NOW DATAGRAM");
 
-const FORGET: Form = Form {
-    word: "forget",
-    fields: &[Field::Token],
-    names: "followed by TOKEN",
-};
+const FORGET: Form = Form("forget", &[Token], "followed by TOKEN");
 
-const RESTART: Form = Form {
-    word: "restart",
-    fields: &[Field::Next],
-    names: "followed by NEXT",
-};
+const RESTART: Form = Form("restart", &[Next], "followed by NEXT");
 
-const RESTART_ALONE: Form = Form {
-    word: "restart",
-    fields: &[],
-    names: "followed by nothing with --numbers",
-};
+const RESTART_ALONE: Form = Form("restart", &[], "followed by nothing with --numbers");
 
 const SERVER_WORDS: &str = "take, reply, notify, drop and restart";
 
@@ -172,7 +135,7 @@ fn spelling_fault(line: &str) -> Option<&'static str> {
 /// Returns what the first wrong field of an event must be.
 fn field_fault(form: &Form, line: &str) -> Option<&'static str> {
     let mut words = line.split(' ').skip(1);
-    for field in form.fields {
+    for field in form.1 {
         match words.next() {
             Some(word) if field.takes(word) => {}
             _ => return Some(field.rule()),
@@ -183,48 +146,54 @@ fn field_fault(form: &Form, line: &str) -> Option<&'static str> {
 
 /// Returns whether a line begins with the word of a form.
 fn begins(form: &Form, line: &str) -> bool {
-    line.split(' ').next() == Some(form.word)
+    line.split(' ').next() == Some(form.0)
 }
 
-/// Returns what is wrong with the line of this number, counted from 1.
-fn line_fault(
-    alloc: Global,
-    number: usize,
-    forms: Forms,
-    line: &str,
-) -> Result<String, AllocError> {
+/// Returns what is wrong with a line.
+fn line_fault(alloc: Global, forms: Forms, line: &str) -> Result<String, AllocError> {
     if let Some(fault) = spelling_fault(line) {
-        return format!(in alloc; "line {number}: {fault}");
+        return String::from_str(alloc, fault);
     }
     let Some(form) = forms.forms.iter().find(|form| begins(form, line)) else {
-        return not_an_event(alloc, number, forms);
+        return not_an_event(alloc, forms);
     };
-    if line.split(' ').count() != form.fields.len() + 1 {
-        return format!(in alloc; "line {number}: {} is {}", form.word, form.names);
+    if line.split(' ').count() != form.1.len() + 1 {
+        return format!(in alloc; "{} is {}", form.0, form.2);
     }
     match field_fault(form, line) {
-        Some(rule) => format!(in alloc; "line {number}: {rule}"),
-        None => not_an_event(alloc, number, forms),
+        Some(rule) => String::from_str(alloc, rule),
+        None => not_an_event(alloc, forms),
     }
 }
 
 /// Returns the fault that names the words which begin an event, for when nothing better can be said.
-fn not_an_event(alloc: Global, number: usize, forms: Forms) -> Result<String, AllocError> {
-    format!(in alloc; "line {number}: not an event: {} are", forms.words)
+fn not_an_event(alloc: Global, forms: Forms) -> Result<String, AllocError> {
+    format!(in alloc; "not an event: {} are", forms.words)
 }
 
-/// Returns what is wrong with the line of an input that has this number, counted from 1. The text is one line.
-pub(crate) fn event_fault(
+/// Returns what is wrong with the line of an input that has this number, counted from 1.
+fn numbered_fault(
     alloc: Global,
     number: usize,
     forms: Forms,
     input: &[u8],
 ) -> Result<String, AllocError> {
     let Ok(text) = str::from_utf8(input) else {
-        return not_an_event(alloc, number, forms);
+        return not_an_event(alloc, forms);
     };
     match text.split('\n').nth(number.saturating_sub(1)) {
-        Some(line) => line_fault(alloc, number, forms, line),
-        None => not_an_event(alloc, number, forms),
+        Some(line) => line_fault(alloc, forms, line),
+        None => not_an_event(alloc, forms),
     }
+}
+
+/// Returns what is wrong with the line of an input that has this number, counted from 1, and the number. The text is one line.
+pub(crate) fn event_fault(
+    alloc: Global,
+    number: usize,
+    forms: Forms,
+    input: &[u8],
+) -> Result<String, AllocError> {
+    let fault = numbered_fault(alloc, number, forms, input)?;
+    format!(in alloc; "line {number}: {fault}")
 }

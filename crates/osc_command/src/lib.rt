@@ -6,6 +6,7 @@
 //! ```
 #![tactic(auto)]
 
+mod calls;
 mod context_words;
 mod event_faults;
 mod fault_text;

@@ -7,7 +7,7 @@ use crate::context_words::ContextWords;
 use crate::event_faults::{Forms, event_fault};
 use crate::fault_text::{put_fault, put_help, usage_text};
 use crate::quoting::quoted_words;
-use crate::run_words::{Beginning, read_beginning, read_input};
+use crate::run_words::{Beginning, KeptBeginning, read_beginning, read_input};
 use crate::words::{input_fault, optional_number, read_words, required_bytes};
 use clap::error::ErrorKind;
 use clap::{ArgMatches, Error};
@@ -19,14 +19,6 @@ use osc_text::{
 };
 use std::alloc::Global;
 use std::io::{Read, Write};
-
-/// Does what `derive` asks for.
-fn run_derive<W: Write>(alloc: Global, matches: &ArgMatches<'_>, out: &mut W) -> Result<u8, Fault>
-    ensures { IfOk result (λ s. (s ≡ 0) ⊎ (s ≡ 2)) }
-{
-    let context = ContextWords::read(alloc, matches)?;
-    derive_text(alloc, context.agreed(), out)
-}
 
 /// Returns the request of this number, as the words name it.
 fn named_request(matches: &ArgMatches<'_>, number: Piv) -> RequestRef {
@@ -59,24 +51,28 @@ fn read_sealing(matches: &ArgMatches<'_>) -> Result<Sealing, Fault> {
     }
 }
 
-/// Does what `open` asks for.
-fn run_open<W: Write>(alloc: Global, matches: &ArgMatches<'_>, out: &mut W) -> Result<u8, Fault>
-    ensures { IfOk result (λ s. (s ≡ 0) ⊎ (s ≡ 2)) }
-{
-    let context = ContextWords::read(alloc, matches)?;
-    let what = read_opening(matches)?;
-    let mut datagram = required_bytes(alloc, matches, "datagram", "DATAGRAM")?;
-    open_text(alloc, context.agreed(), what, datagram.as_mut_slice(), out)
+/// What a call does with its datagram, under a context.
+#[derive(Clone, Copy)]
+enum What {
+    Open(Opening),
+    Protect(Sealing),
 }
 
-/// Does what `protect` asks for.
-fn run_protect<W: Write>(alloc: Global, matches: &ArgMatches<'_>, out: &mut W) -> Result<u8, Fault>
+/// Opens or seals the datagram of a call.
+fn run_datagram<W: Write>(
+    alloc: Global,
+    agreed: Agreed<'_>,
+    what: What,
+    matches: &ArgMatches<'_>,
+    out: &mut W,
+) -> Result<u8, Fault>
     ensures { IfOk result (λ s. (s ≡ 0) ⊎ (s ≡ 2)) }
 {
-    let context = ContextWords::read(alloc, matches)?;
-    let what = read_sealing(matches)?;
-    let plain = required_bytes(alloc, matches, "datagram", "DATAGRAM")?;
-    protect_text(alloc, context.agreed(), what, plain.as_slice(), out)
+    let mut datagram = required_bytes(alloc, matches, "datagram", "DATAGRAM")?;
+    match what {
+        What::Open(opening) => open_text(alloc, agreed, opening, datagram.as_mut_slice(), out),
+        What::Protect(sealing) => protect_text(alloc, agreed, sealing, datagram.as_slice(), out),
+    }
 }
 
 /// Does what `explain` asks for.
@@ -97,6 +93,27 @@ fn told(alloc: Global, done: Result<u8, Fault>, forms: Forms, input: &[u8]) -> R
     }
 }
 
+/// Runs an end whose numbers are kept over an input.
+fn run_kept<W: Write, K: Keeper + Drop>(
+    alloc: Global,
+    beginning: KeptBeginning,
+    keeper: K,
+    agreed: Agreed<'_>,
+    input: &[u8],
+    out: &mut W,
+) -> Result<u8, Fault>
+    ensures { IfOk result (λ s. (s ≡ 0) ⊎ (s ≡ 2)) }
+{
+    match beginning {
+        KeptBeginning::Server(window) => {
+            serve_kept_text(alloc, agreed, keeper, window, input, out)
+        }
+        KeptBeginning::Client(life_ms) => {
+            ask_kept_text(alloc, agreed, keeper, life_ms, input, out)
+        }
+    }
+}
+
 /// Runs an end over an input. The keeper of the file is made only for an end whose numbers are kept.
 fn run_end<W: Write, K: Keeper + Drop, F: FnOnce(&str) -> K + Drop>(
     alloc: Global,
@@ -112,19 +129,15 @@ fn run_end<W: Write, K: Keeper + Drop, F: FnOnce(&str) -> K + Drop>(
 {
     match beginning {
         Beginning::Server(serving) => serve_text(alloc, agreed, serving, input, out),
-        Beginning::KeptServer(window) => {
-            serve_kept_text(alloc, agreed, make(file), window, input, out)
-        }
         Beginning::Client(asking) => ask_text(alloc, agreed, asking, input, out),
-        Beginning::KeptClient(life_ms) => {
-            ask_kept_text(alloc, agreed, make(file), life_ms, input, out)
-        }
+        Beginning::Kept(kept) => run_kept(alloc, kept, make(file), agreed, input, out),
     }
 }
 
-/// Does what `run` asks for. If the words name a file, the end's numbers are kept in it. Reads the whole input first.
+/// Does what `run` asks for, under a context. If the words name a file, the end's numbers are kept in it. Reads the whole input first.
 fn run_role<R: Read, W: Write, K: Keeper + Drop, F: FnOnce(&str) -> K + Drop>(
     alloc: Global,
+    agreed: Agreed<'_>,
     matches: &ArgMatches<'_>,
     input: &mut R,
     out: &mut W,
@@ -133,14 +146,53 @@ fn run_role<R: Read, W: Write, K: Keeper + Drop, F: FnOnce(&str) -> K + Drop>(
     requires { F.IsAlwaysCallable make }
     ensures { IfOk result (λ s. (s ≡ 0) ⊎ (s ≡ 2)) }
 {
-    let context = ContextWords::read(alloc, matches)?;
     let beginning = read_beginning(matches)?;
-    let forms = beginning.forms();
     let bytes = read_input(alloc, input)?;
     let input = bytes.as_slice();
     let file = matches.get_str("numbers").unwrap_or("");
-    let done = run_end(alloc, context.agreed(), beginning, file, make, input, out);
-    told(alloc, done, forms, input)
+    let done = run_end(alloc, agreed, beginning, file, make, input, out);
+    told(alloc, done, beginning.forms(), input)
+}
+
+/// Does what a call with this name asks for, under a context.
+fn run_under<W: Write>(
+    alloc: Global,
+    agreed: Agreed<'_>,
+    name: &str,
+    matches: &ArgMatches<'_>,
+    out: &mut W,
+) -> Result<u8, Fault>
+    ensures { IfOk result (λ s. (s ≡ 0) ⊎ (s ≡ 2)) }
+{
+    match name {
+        "derive" => derive_text(alloc, agreed, out),
+        "open" => {
+            let what = What::Open(read_opening(matches)?);
+            run_datagram(alloc, agreed, what, matches, out)
+        }
+        "protect" => {
+            let what = What::Protect(read_sealing(matches)?);
+            run_datagram(alloc, agreed, what, matches, out)
+        }
+        // There is no other call. clap answers `help` by itself.
+        _ => Err(input_fault("the call", Wrong::Unknown)),
+    }
+}
+
+/// Does what a call over one datagram, or over none, asks for.
+fn run_once<W: Write>(
+    alloc: Global,
+    name: &str,
+    matches: &ArgMatches<'_>,
+    out: &mut W,
+) -> Result<u8, Fault>
+    ensures { IfOk result (λ s. (s ≡ 0) ⊎ (s ≡ 2)) }
+{
+    if name == "explain" {
+        return run_explain(alloc, matches, out);
+    }
+    let context = ContextWords::read(alloc, matches)?;
+    run_under(alloc, context.agreed(), name, matches, out)
 }
 
 /// Does what a call asks for, depending on its name.
@@ -156,13 +208,11 @@ fn run_called<R: Read, W: Write, K: Keeper + Drop, F: FnOnce(&str) -> K + Drop>(
     ensures { IfOk result (λ s. (s ≡ 0) ⊎ (s ≡ 2)) }
 {
     match matches.subcommand() {
-        Some(("derive", inner)) => run_derive(alloc, inner, out),
-        Some(("open", inner)) => run_open(alloc, inner, out),
-        Some(("protect", inner)) => run_protect(alloc, inner, out),
-        Some(("explain", inner)) => run_explain(alloc, inner, out),
-        Some(("run", inner)) => run_role(alloc, inner, input, out, make),
-        // There is no other call. clap answers `help` by itself.
-        Some(_) => Err(input_fault("the call", Wrong::Unknown)),
+        Some(("run", inner)) => {
+            let context = ContextWords::read(alloc, inner)?;
+            run_role(alloc, context.agreed(), inner, input, out, make)
+        }
+        Some((name, inner)) => run_once(alloc, name, inner, out),
         None => unreachable!(),
     }
 }

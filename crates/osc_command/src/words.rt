@@ -4,7 +4,7 @@ ghost use Rattle.std.specs.Prelude.{◌≡◌, IfOk, false, true};
 ghost use Rattle.clap.specs.Matches.{has_subcommand};
 ghost use Rattle.osc_command.specs.Calls.{IsLocal, NeedsSubcommand};
 
-use crate::run_words::run_command;
+use crate::calls::{ABOUT, CALLS, Call, EXAMPLE, Takes, Word};
 use clap::{Arg, ArgAction, ArgMatches, Command, Error};
 use osc_context::Piv;
 use osc_text::{Fault, HexError, Wrong, read_hex, read_number};
@@ -12,180 +12,86 @@ use std::alloc::{AllocError, Global};
 
 const VERSION: &str = "0.1.0";
 
-const ABOUT: &str = "oscore 0.1.0: OSCORE (RFC 8613) for CoAP. Protects, opens and explains
-datagrams, and runs servers and clients.";
-
-const EXAMPLE: &str = "Example:
-  oscore open --secret 0102030405060708090a0b0c0d0e0f10 \\
-    --salt 9e7ca92223786340 --sender 01 \\
-    44025d1f00003974396c6f63616c686f7374620914ff612f1092f1776f1c1668b3825e";
-
-const ABOUT_DERIVE: &str = "Prints the keys and the Common IV of a context.";
-
-const EXAMPLE_DERIVE: &str = "Example:
-  oscore derive --secret 0102030405060708090a0b0c0d0e0f10 \\
-    --salt 9e7ca92223786340 --recipient 01";
-
-const ABOUT_OPEN: &str = "Opens a protected request or response, and prints its parts.";
-
-const ABOUT_PROTECT: &str = "Protects a plain request or response, and prints it in hex.";
-
-const EXAMPLE_PROTECT: &str =
-    "A request needs --sequence, a number that was never used. A response needs
---request, and --sequence only where it is to have a Partial IV of its own.
-
-Example:
-  oscore protect --secret 0102030405060708090a0b0c0d0e0f10 \\
-    --salt 9e7ca92223786340 --recipient 01 --sequence 20 \\
-    44015d1f00003974396c6f63616c686f737483747631";
-
-const HELP_SECRET: &str = "The Master Secret, 1 to 64 bytes";
-
-const HELP_SALT: &str = "The Master Salt, 0 to 64 bytes [default: empty]";
-
-const HELP_SENDER: &str = "This end's identifier, 0 to 7 bytes [default: empty]";
-
-const HELP_RECIPIENT: &str = "The other end's, 0 to 7 bytes [default: empty]";
-
-const HELP_ID_CONTEXT: &str = "The ID Context, 1 to 32 bytes [optional]";
-
-const HELP_SEQUENCE: &str = "The Sender Sequence Number to use, below 2^40 [optional]";
-
-const HELP_REQUEST: &str = "Of a response: the number of its request [optional]";
-
-const HELP_REGISTERS: &str = "Its request registers an observation (RFC 7641)";
-
-const ABOUT_EXPLAIN: &str = "Prints what a datagram shows without a key.";
-
-const HELP_ALLOW: &str = "What may also pass; both ends need the same [default: none]";
-
-/// What a context may take part in, by the names that `--allow` knows.
-const FEATURES: &[&str] = &["blocks", "observe"];
-
-const EXAMPLE_EXPLAIN: &str = "Example:
-  oscore explain \\
-    44025d1f00003974396c6f63616c686f7374620914ff612f1092f1776f1c1668b3825e";
-
-/// Returns an option with one value, which the help calls `value`.
-pub(crate) fn value_option<'a>(
-    alloc: Global,
-    name: &'a str,
-    value: &'a str,
-    help: &'a str,
-) -> Arg<'a>
+/// Returns the option of this name, as the help shows it.
+fn option_of<'a>(alloc: Global, word: &'a Word) -> Arg<'a>
     ensures { result.global ≡ false }
 {
-    Arg::new(alloc, name)
-        .long(name)
-        .value_name(value)
+    Arg::new(alloc, word.0).long(word.0).help(word.3)
+}
+
+/// Returns the option with one value.
+fn valued<'a>(alloc: Global, word: &'a Word) -> Arg<'a>
+    ensures { result.global ≡ false }
+{
+    option_of(alloc, word)
+        .value_name(word.1)
         .action(ArgAction::Set)
-        .help(help)
 }
 
-/// Returns an option with one value, which is one of `choices`.
-pub(crate) fn choice_option<'a>(
-    alloc: Global,
-    name: &'a str,
-    value: &'a str,
-    choices: &'a [&'a str],
-    help: &'a str,
-) -> Arg<'a>
+/// Returns the option whose value is one of `choices`.
+fn choice<'a>(alloc: Global, word: &'a Word, choices: &'a [&'a str]) -> Arg<'a>
     ensures { result.global ≡ false }
 {
-    value_option(alloc, name, value, help).value_parser(choices)
+    valued(alloc, word).value_parser(choices)
 }
 
-/// Returns an option with one value, a word of hex.
-fn hex_option<'a>(alloc: Global, name: &'a str, help: &'a str) -> Arg<'a>
-    ensures { result.global ≡ false }
-{
-    value_option(alloc, name, "HEX", help)
-}
-
-/// Returns the option without a value that tells more about the request which a response answers.
-fn registers_flag<'a>(alloc: Global) -> Result<Arg<'a>, AllocError>
+/// Returns an option or a word, as the parser takes it.
+fn arg_of<'a>(alloc: Global, word: &'a Word) -> Result<Arg<'a>, AllocError>
     ensures { IfOk result (λ arg. arg.global ≡ false) }
 {
-    Arg::new(alloc, "registers")
-        .long("registers")
-        .action(ArgAction::SetTrue)
-        .help(HELP_REGISTERS)
-        .requires_arg("request")
+    match word.2 {
+        Takes::Alone => Ok(
+            Arg::new(alloc, word.0)
+                .value_name(word.1)
+                .required(true)
+                .help(word.3),
+        ),
+        Takes::Nothing => Ok(option_of(alloc, word).action(ArgAction::SetTrue)),
+        Takes::NothingBeside(other) => option_of(alloc, word)
+            .action(ArgAction::SetTrue)
+            .requires_arg(other),
+        Takes::Value => Ok(valued(alloc, word)),
+        Takes::Required => Ok(valued(alloc, word).required(true)),
+        Takes::Default(value) => Ok(valued(alloc, word).default_value(value)),
+        Takes::ValueFor(first, second) => valued(alloc, word)
+            .conflicts_with(first)?
+            .conflicts_with(second),
+        Takes::OneOf(choices) => Ok(choice(alloc, word, choices)),
+        Takes::RequiredOneOf(choices) => Ok(choice(alloc, word, choices).required(true)),
+        Takes::AnyOf(choices) => Ok(choice(alloc, word, choices).action(ArgAction::Append)),
+    }
 }
 
-/// Returns the argument for the one word that is the datagram.
-fn datagram_word<'a>(alloc: Global) -> Arg<'a>
-    ensures { result.global ≡ false }
-{
-    Arg::new(alloc, "datagram")
-        .value_name("DATAGRAM")
-        .required(true)
-        .help("The datagram, in hex")
-}
-
-/// Adds the options of a context to a command. This end is the sender. What the context takes part in may be given more than once.
-pub(crate) fn with_context<'a>(
+/// Adds options and words to a command, in order.
+fn with_words<'a>(
     command: Command<'a>,
     alloc: Global,
+    words: &'a [Word],
 ) -> Result<Command<'a>, AllocError>
     requires { IsLocal command }
     ensures { IfOk result IsLocal }
 {
-    command
-        .arg(hex_option(alloc, "secret", HELP_SECRET).required(true))?
-        .arg(hex_option(alloc, "salt", HELP_SALT))?
-        .arg(hex_option(alloc, "sender", HELP_SENDER))?
-        .arg(hex_option(alloc, "recipient", HELP_RECIPIENT))?
-        .arg(hex_option(alloc, "id-context", HELP_ID_CONTEXT))?
-        .arg(choice_option(alloc, "allow", "WHAT", FEATURES, HELP_ALLOW).action(ArgAction::Append))
+    let mut command = command;
+    for word in words {
+        command = command.arg(arg_of(alloc, word)?)?;
+    }
+    Ok(command)
 }
 
-/// Adds the options of a response to a command: they tell of its request.
-fn with_request<'a>(command: Command<'a>, alloc: Global) -> Result<Command<'a>, AllocError>
-    requires { IsLocal command }
+/// Returns a call, with its options and words.
+fn call_of<'a>(alloc: Global, call: &'a Call) -> Result<Command<'a>, AllocError>
     ensures { IfOk result IsLocal }
 {
-    command
-        .arg(value_option(alloc, "request", "M", HELP_REQUEST))?
-        .arg(registers_flag(alloc)?)
+    let command = Command::new(alloc, call.0).about(call.1).after_help(call.2);
+    with_words(with_words(command, alloc, call.3)?, alloc, call.4)
 }
 
-fn derive_command<'a>(alloc: Global) -> Result<Command<'a>, AllocError>
+/// Returns the command without its calls.
+fn without_calls<'a>(alloc: Global) -> Result<Command<'a>, AllocError>
     ensures { IfOk result IsLocal }
 {
-    let command = Command::new(alloc, "derive")
-        .about(ABOUT_DERIVE)
-        .after_help(EXAMPLE_DERIVE);
-    with_context(command, alloc)
-}
-
-fn open_command<'a>(alloc: Global) -> Result<Command<'a>, AllocError>
-    ensures { IfOk result IsLocal }
-{
-    let command = Command::new(alloc, "open")
-        .about(ABOUT_OPEN)
-        .after_help(EXAMPLE);
-    with_request(with_context(command, alloc)?, alloc)?.arg(datagram_word(alloc))
-}
-
-fn protect_command<'a>(alloc: Global) -> Result<Command<'a>, AllocError>
-    ensures { IfOk result IsLocal }
-{
-    let command = Command::new(alloc, "protect")
-        .about(ABOUT_PROTECT)
-        .after_help(EXAMPLE_PROTECT);
-    with_request(with_context(command, alloc)?, alloc)?
-        .arg(value_option(alloc, "sequence", "N", HELP_SEQUENCE))?
-        .arg(datagram_word(alloc))
-}
-
-fn explain_command<'a>(alloc: Global) -> Result<Command<'a>, AllocError>
-    ensures { IfOk result IsLocal }
-{
-    Command::new(alloc, "explain")
-        .about(ABOUT_EXPLAIN)
-        .after_help(EXAMPLE_EXPLAIN)
-        .arg(datagram_word(alloc))
+    let command = Command::new(alloc, "oscore").bin_name("oscore")?;
+    Ok(command.version(VERSION).about(ABOUT).after_help(EXAMPLE))
 }
 
 /// Returns everything that the words of a call can ask for.
@@ -193,16 +99,11 @@ fn program<'a>(alloc: Global) -> Result<Command<'a>, AllocError>
     ensures local { IfOk result IsLocal }
     ensures required { IfOk result NeedsSubcommand }
 {
-    let command = Command::new(alloc, "oscore")
-        .bin_name("oscore")?
-        .version(VERSION)
-        .about(ABOUT)
-        .after_help(EXAMPLE)
-        .subcommand(derive_command(alloc)?)?
-        .subcommand(open_command(alloc)?)?
-        .subcommand(protect_command(alloc)?)?
-        .subcommand(explain_command(alloc)?)?
-        .subcommand(run_command(alloc)?)?;
+    let bare = without_calls(alloc)?;
+    let mut command = bare;
+    for call in CALLS {
+        command = command.subcommand(call_of(alloc, call)?)?;
+    }
     Ok(command.subcommand_required(true))
 }
 

@@ -1,6 +1,0 @@
-use Rattle.std.proofs.Common.{◌∙◌}
-use Rattle.osc_command.proofs.LocalCommands.{global_of}
-use Rattle.osc_command.proofs.words.datagram_word.Goals as goal
-
-pub returns : goal.returns
-returns c = global_of c.help.ensures ∙ global_of c.required.ensures ∙ global_of c.value_name.ensures ∙ c.new.ensures.optional.1

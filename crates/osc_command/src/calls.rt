@@ -1,0 +1,153 @@
+//! The calls of the command, with their options and words, as its help shows them.
+
+/// What an option takes, and what goes with it.
+#[derive(Clone, Copy)]
+pub(crate) enum Takes {
+    /// It is no option, but a word that stands alone. The call needs it.
+    Alone,
+    /// Nothing.
+    Nothing,
+    /// Nothing, and it needs this option beside it.
+    NothingBeside(&'static str),
+    /// One value.
+    Value,
+    /// One value, and the call needs it.
+    Required,
+    /// One value, which is this one where it isn't given.
+    Default(&'static str),
+    /// One value, in place of these two options.
+    ValueFor(&'static str, &'static str),
+    /// One of these values.
+    OneOf(&'static [&'static str]),
+    /// One of these values, and the call needs it.
+    RequiredOneOf(&'static [&'static str]),
+    /// One of these values, and it may be given more than once.
+    AnyOf(&'static [&'static str]),
+}
+
+/// An option, or a word that stands alone: its name, what the help calls its value, what it takes, and its help.
+pub(crate) struct Word(
+    pub(crate) &'static str,
+    pub(crate) &'static str,
+    pub(crate) Takes,
+    pub(crate) &'static str,
+);
+
+/// A call: its name, what it does, an example, the options of the context that it derives, and its other options and words.
+pub(crate) struct Call(
+    pub(crate) &'static str,
+    pub(crate) &'static str,
+    pub(crate) &'static str,
+    pub(crate) &'static [Word],
+    pub(crate) &'static [Word],
+);
+
+pub(crate) const ABOUT: &str =
+    "oscore 0.1.0: OSCORE (RFC 8613) for CoAP. Protects, opens and explains
+datagrams, and runs servers and clients.";
+
+pub(crate) const EXAMPLE: &str = "Example:
+  oscore open --secret 0102030405060708090a0b0c0d0e0f10 \\
+    --salt 9e7ca92223786340 --sender 01 \\
+    44025d1f00003974396c6f63616c686f7374620914ff612f1092f1776f1c1668b3825e";
+
+const EXAMPLE_DERIVE: &str = "Example:
+  oscore derive --secret 0102030405060708090a0b0c0d0e0f10 \\
+    --salt 9e7ca92223786340 --recipient 01";
+
+const EXAMPLE_PROTECT: &str =
+    "A request needs --sequence, a number that was never used. A response needs
+--request, and --sequence only where it is to have a Partial IV of its own.
+
+Example:
+  oscore protect --secret 0102030405060708090a0b0c0d0e0f10 \\
+    --salt 9e7ca92223786340 --recipient 01 --sequence 20 \\
+    44015d1f00003974396c6f63616c686f737483747631";
+
+const EXAMPLE_EXPLAIN: &str = "Example:
+  oscore explain \\
+    44025d1f00003974396c6f63616c686f7374620914ff612f1092f1776f1c1668b3825e";
+
+const EXAMPLE_RUN: &str =
+    "Prints what each event came to, one a line. Of a server alone are --restarted
+and --window, of a client alone --life.
+
+Events of a server, one a line; bytes are hex, and - for none:
+  take NOW ECHO MID DATAGRAM        a datagram comes at NOW, in milliseconds;
+                                    ECHO (8 bytes) and MID (2) are drawn anew
+  reply EVENT own|shared MID PLAIN  the answer to the request of an event,
+                                    which is counted from 0
+  notify EVENT PLAIN                a notification to the request of an event,
+                                    with --allow observe
+  drop EVENT                        the request of an event is answered no more
+  restart NEXT                      a new life, with NEXT as its next Sender
+                                    Sequence Number
+
+Events of a client:
+  request NOW PLAIN                 a request is sent
+  take NOW DATAGRAM                 a datagram comes
+  forget TOKEN                      no response to that request is waited for
+  restart NEXT                      none is pending, and NEXT is the next number
+
+With --numbers FILE, made where it is missing, the line is restart alone.
+
+Examples:
+  D=44025d1f00003974396c6f63616c686f7374620914ff612f1092f1776f1c1668b3825e
+  R=64455d1f00003974ff48656c6c6f20576f726c6421
+  printf '%s\\n' \"take 1000 0102030405060708 0001 $D\" \\
+    \"take 1001 0102030405060708 0001 $D\" \"reply 0 shared 0001 $R\" |
+    oscore run --role server --secret 0102030405060708090a0b0c0d0e0f10 \\
+      --salt 9e7ca92223786340 --sender 01
+
+  Q=44015d1f00003974396c6f63616c686f737483747631
+  A=64445d1f0000397490ffdbaad1e9a7e7b2a813d3c31524378303cdafae119106
+  printf '%s\\n' \"request 0 $Q\" \"take 1 $A\" \"forget 00003974\" |
+    oscore run --role client --secret 0102030405060708090a0b0c0d0e0f10 \\
+      --salt 9e7ca92223786340 --recipient 01 --sequence 20";
+
+/// The options of a context. This end is the sender. What the context takes part in may be given more than once.
+#[rattlefmt::skip]
+const CONTEXT: &[Word] = &[
+    Word("secret", "HEX", Takes::Required, "The Master Secret, 1 to 64 bytes"),
+    Word("salt", "HEX", Takes::Value, "The Master Salt, 0 to 64 bytes [default: empty]"),
+    Word("sender", "HEX", Takes::Value, "This end's identifier, 0 to 7 bytes [default: empty]"),
+    Word("recipient", "HEX", Takes::Value, "The other end's, 0 to 7 bytes [default: empty]"),
+    Word("id-context", "HEX", Takes::Value, "The ID Context, 1 to 32 bytes [optional]"),
+    Word("allow", "WHAT", Takes::AnyOf(&["blocks", "observe"]), "What may also pass; both ends need the same [default: none]"),
+];
+
+/// The option for the number of the request that a response answers.
+#[rattlefmt::skip]
+const REQUEST: Word = Word("request", "M", Takes::Value, "Of a response: the number of its request [optional]");
+
+/// The option that tells more about that request.
+#[rattlefmt::skip]
+const REGISTERS: Word = Word("registers", "", Takes::NothingBeside("request"), "Its request registers an observation (RFC 7641)");
+
+/// The word that is the datagram.
+#[rattlefmt::skip]
+const DATAGRAM: Word = Word("datagram", "DATAGRAM", Takes::Alone, "The datagram, in hex");
+
+#[rattlefmt::skip]
+const SEQUENCE: Word = Word("sequence", "N", Takes::Value, "The Sender Sequence Number to use, below 2^40 [optional]");
+
+/// The options of a run. The file of `--numbers` says how the end begins.
+#[rattlefmt::skip]
+const RUN: &[Word] = &[
+    Word("role", "ROLE", Takes::RequiredOneOf(&["server", "client"]), "What this end is"),
+    Word("sequence", "N", Takes::Default("0"), "The next Sender Sequence Number, below 2^40"),
+    Word("restarted", "", Takes::Nothing, "Requests may have come to it in an earlier life"),
+    Word("numbers", "FILE", Takes::ValueFor("sequence", "restarted"), "The file that keeps the Sender Sequence Numbers [optional]"),
+    Word("window", "SIZE", Takes::OneOf(&["32", "64"]), "Window size [default: 32]"),
+    Word("life", "MS", Takes::Value, "How many ms a request is pending [default: 60000]"),
+];
+
+/// All calls, as the help lists them.
+#[rattlefmt::skip]
+pub(crate) const CALLS: &[Call] = &[
+    Call("derive", "Prints the keys and the Common IV of a context.", EXAMPLE_DERIVE, CONTEXT, &[]),
+    Call("open", "Opens a protected request or response, and prints its parts.", EXAMPLE, CONTEXT, &[REQUEST, REGISTERS, DATAGRAM]),
+    Call("protect", "Protects a plain request or response, and prints it in hex.", EXAMPLE_PROTECT, CONTEXT, &[REQUEST, REGISTERS, SEQUENCE, DATAGRAM]),
+    Call("explain", "Prints what a datagram shows without a key.", EXAMPLE_EXPLAIN, &[], &[DATAGRAM]),
+    Call("run", "Runs a server or a client over the events on standard input.", EXAMPLE_RUN, CONTEXT, RUN),
+];
