@@ -65,8 +65,3 @@ so_far_done old now whole s = subst (λ (t : List (List ℕ)). Appends old now (
 pub so_far_writes : (old now new : Option (List ℕ)) (whole rest : List (List ℕ)) (r : Result (Unit {0}) Fault) → SoFar old now whole rest → Writes now new rest r → Writes old new whole r
 so_far_writes old now new whole rest (Ok x) s w = let t = so_far_more old now new whole rest [] (subst (SoFar old now whole) (sym (append-nil rest)) s) w in so_far_done old new whole t
 so_far_writes old now new whole rest (Err e) s w = so_far_error old now new whole rest [] e (subst (SoFar old now whole) (sym (append-nil rest)) s) w
-
--- a text that could not be made: nothing is written of its lines
-pub none_written : (text : Option (List ℕ)) (lines : List ℕ → List (List ℕ)) (old : Option (List ℕ)) → IfSome text (λ t. Stops old old (lines t) Memory)
-none_written None lines old = tt
-none_written (Some t) lines old = (0, Appends-nil old)

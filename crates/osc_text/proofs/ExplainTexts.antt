@@ -28,20 +28,6 @@ use Rattle.osc_text.proofs.Appending.{SoFar, so_far_more, so_far_error}
 
 -- ---- the line of a value
 
--- of a value that was read it is the line of what that says
-pub said_line : (value line : List ℕ) (o : OscoreOption) → ((v : OscoreParts) → IsOscoreValue v value → oscore_parts_of o ≡ v) → ((e : OptionError) → IsFirstValueRefusal value e → ⊥) → ValueLine value line → line ≡ oscore_line (oscore_parts_of o)
-said_line value line o one none (says v is_v text) = text ∙ ap oscore_line (sym (one v is_v))
-said_line value line o one none (faulty e first text) = absurd (none e first)
-
--- of a value that was refused it is the line of the reason
-pub fault_line : (value line : List ℕ) (f : OptionError) → ((v : OscoreParts) → IsOscoreValue v value → ⊥) → ((e : OptionError) → IsFirstValueRefusal value e → f ≡ e) → ValueLine value line → line ≡ oscore_fault_line f
-fault_line value line f none one (says v is_v text) = absurd (none v is_v)
-fault_line value line f none one (faulty e first text) = text ∙ ap oscore_fault_line (sym (one e first))
-
--- what is written of a line is written of an equal one
-pub writes_line : (old new : Option (List ℕ)) (line same : List ℕ) (r : Result (Unit {0}) Fault) → line ≡ same → Writes old new (same ∷ []) r → Writes old new (line ∷ []) r
-writes_line old new line same r e w = subst (λ (t : List ℕ). Writes old new (t ∷ []) r) (sym e) w
-
 -- ---- the lines of values
 
 -- what writes the line of a value writes the lines of that value alone
