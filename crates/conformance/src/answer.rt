@@ -35,6 +35,20 @@ impl Answer {
         }
     }
 
+    /// Returns the first answer that is other than the wanted one, if there is one.
+    pub(crate) fn other_than(&self, wanted: &str) -> Option<&str> {
+        for earlier in &self.earlier {
+            if earlier.as_str() != wanted {
+                return Some(earlier.as_str());
+            }
+        }
+        if self.text.as_str() == wanted {
+            None
+        } else {
+            Some(self.text.as_str())
+        }
+    }
+
     /// Appends to the last word.
     pub(crate) fn push(&mut self, text: &str) {
         if self.text.push_str(text).is_err() {

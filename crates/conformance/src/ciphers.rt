@@ -10,6 +10,7 @@ use osc_hkdf::{expand, extract, hmac_sha256};
 
 /// Encrypts a block alone, and as either one of two.
 fn encrypted<C: BlockCipher>(cipher: &C, fields: &Fields<'_>, answer: &mut Answer) {
+    fields.count(2);
     let mut block = fields.array::<16>(1);
     cipher.encrypt(&mut block);
     answer.bytes(&block);
@@ -21,16 +22,6 @@ fn encrypted<C: BlockCipher>(cipher: &C, fields: &Fields<'_>, answer: &mut Answe
     let mut second = fields.array::<16>(1);
     cipher.encrypt_two(&mut [0u8; 16], &mut second);
     answer.bytes(&second);
-}
-
-pub(crate) fn aes128(fields: &Fields<'_>, answer: &mut Answer) {
-    fields.count(2);
-    let key = fields.array::<16>(0);
-    encrypted(&PlainAes::new(&key), fields, answer);
-    answer.again();
-    encrypted(&TableAes::new(&key), fields, answer);
-    answer.again();
-    encrypted(&PlaneAes::new(&key), fields, answer);
 }
 
 /// Returns the additional data, at most as much as CCM takes.
@@ -46,6 +37,7 @@ fn additional_data<'f>(fields: &'f Fields<'_>) -> &'f [u8]
 }
 
 fn sealed<C: BlockCipher>(cipher: &C, fields: &Fields<'_>, answer: &mut Answer) {
+    fields.count(5);
     let nonce = fields.array::<13>(1);
     let aad = additional_data(fields);
     let mut buf = fields.copy(3);
@@ -60,17 +52,8 @@ fn sealed<C: BlockCipher>(cipher: &C, fields: &Fields<'_>, answer: &mut Answer) 
     answer.left(fields.bytes(3), buf.as_slice());
 }
 
-pub(crate) fn ccm_seal(fields: &Fields<'_>, answer: &mut Answer) {
-    fields.count(5);
-    let key = fields.array::<16>(0);
-    sealed(&PlainAes::new(&key), fields, answer);
-    answer.again();
-    sealed(&TableAes::new(&key), fields, answer);
-    answer.again();
-    sealed(&PlaneAes::new(&key), fields, answer);
-}
-
 fn opened<C: BlockCipher>(cipher: &C, fields: &Fields<'_>, answer: &mut Answer) {
+    fields.count(4);
     let nonce = fields.array::<13>(1);
     let aad = additional_data(fields);
     let mut buf = fields.copy(3);
@@ -81,14 +64,23 @@ fn opened<C: BlockCipher>(cipher: &C, fields: &Fields<'_>, answer: &mut Answer) 
     answer.left(fields.bytes(3), buf.as_slice());
 }
 
-pub(crate) fn ccm_open(fields: &Fields<'_>, answer: &mut Answer) {
-    fields.count(4);
+/// Makes a call with one of the ciphers.
+fn with<C: BlockCipher>(cipher: &C, verb: &str, fields: &Fields<'_>, answer: &mut Answer) {
+    match verb {
+        "aes128" => encrypted(cipher, fields, answer),
+        "ccm-seal" => sealed(cipher, fields, answer),
+        _ => opened(cipher, fields, answer),
+    }
+}
+
+/// Makes a call of osc_aes or osc_ccm with each of the three ciphers.
+pub(crate) fn with_all(verb: &str, fields: &Fields<'_>, answer: &mut Answer) {
     let key = fields.array::<16>(0);
-    opened(&PlainAes::new(&key), fields, answer);
+    with(&PlainAes::new(&key), verb, fields, answer);
     answer.again();
-    opened(&TableAes::new(&key), fields, answer);
+    with(&TableAes::new(&key), verb, fields, answer);
     answer.again();
-    opened(&PlaneAes::new(&key), fields, answer);
+    with(&PlaneAes::new(&key), verb, fields, answer);
 }
 
 /// Computes the code of a message that comes in three parts.

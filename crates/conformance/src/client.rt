@@ -1,15 +1,18 @@
 //! Rows of clients.
 
+ghost use Rattle.std.specs.Prelude.{◌≡◌, ◌≤◌, []};
+
 use crate::answer::Answer;
 use crate::client_calls::make;
 use crate::client_entry::show;
 use crate::client_events::{event_of, show_left};
-use crate::ends::{End, Left, in_all_ways, in_both_ways};
-use crate::steps::{Step, Way};
+use crate::ends::{Begins, End, Left, in_all_ways, in_both_ways};
+use crate::steps::{Step, Way, are_events};
 use osc_context::{Context, Piv};
-use osc_endpoint::{Client, ClientEvent, run_client, run_client_on};
+use osc_endpoint::{Client, ClientEntry, ClientEvent, run_client, run_client_on};
 use osc_handle::{ClientHandle, ContextHandle};
 use osc_kept_handle::KeptClientHandle;
+use std::alloc::{AllocError, Global};
 
 /// Reads `new CONTEXT ROOM NEXT LIFE`: the context, the next number, and how long a request is pending.
 fn read_new(step: &Step<'_>) -> Option<(Context, Piv, u64)> {
@@ -22,34 +25,54 @@ fn read_new(step: &Step<'_>) -> Option<(Context, Piv, u64)> {
     Some((context, fields.sequence_number(2), fields.number(3)))
 }
 
-impl<const N: usize> End for Client<N> {
+/// Makes events by one of the two runs.
+fn log_events<'e, const N: usize>(
+    client: &mut Client<N>,
+    events: &'e mut [ClientEvent],
+    way: Way,
+    alloc: Global,
+    log: &mut Vec<ClientEntry<'e>>,
+) -> Result<(), AllocError>
+    requires { log.old.items ≡ [] }
+{
+    if way == Way::ByRun {
+        return run_client(alloc, client, events, log);
+    }
+    let mut rest = events;
+    run_client_on(alloc, client, &mut rest, log)
+}
+
+/// Makes events by one of the two runs, and shows the log.
+fn run<const N: usize>(
+    client: &mut Client<N>,
+    events: &mut [ClientEvent],
+    way: Way,
+    answer: &mut Answer,
+) -> Result<(), AllocError> {
+    let mut log = Vec::new(answer.alloc);
+    log_events(client, events, way, answer.alloc, &mut log)?;
+    for entry in &log {
+        show(entry, answer);
+        answer.word(";");
+    }
+    Ok(())
+}
+
+impl<const N: usize> Begins for Client<N> {
     fn begin(first: &Step<'_>, _answer: &mut Answer) -> Option<Client<N>> {
         let (context, next, life) = read_new(first)?;
         Some(Client::new(context, next, life))
     }
+}
 
-    fn made_by_begin() -> usize {
-        1
-    }
-
+impl<const N: usize> End for Client<N> {
     fn make(&mut self, steps: &[Step<'_>], way: Way, answer: &mut Answer) -> Left {
         if way.calls(steps) {
             return Ok(Some(make(self, steps, way, answer)));
         }
-        let events = steps.iter().filter_map(|step| event_of(step));
+        let events = steps.iter().filter_map(event_of);
         let mut events: Vec<ClientEvent> = events.collect(answer.alloc)?;
-        let (alloc, mut log) = (answer.alloc, Vec::new(answer.alloc));
-        if way == Way::ByRun {
-            run_client(alloc, self, &mut events, &mut log)?;
-        } else {
-            let mut rest = events.as_mut_slice();
-            run_client_on(alloc, self, &mut rest, &mut log)?;
-        }
-        for entry in &log {
-            show(entry, answer);
-            answer.word(";");
-        }
-        drop(log);
+        run(self, &mut events, way, answer)?;
         let mut left = Answer::new(answer.alloc);
         for (step, event) in steps.iter().zip(events.iter()) {
             show_left(step, event, &mut left);
@@ -58,18 +81,20 @@ impl<const N: usize> End for Client<N> {
     }
 }
 
-impl End for ClientHandle {
+impl Begins for ClientHandle {
     fn begin(first: &Step<'_>, _answer: &mut Answer) -> Option<ClientHandle> {
         let (context, next, life) = read_new(first)?;
         ClientHandle::begin(&ContextHandle::of(&context), next, life)
     }
+}
 
+impl End for ClientHandle {
     fn make(&mut self, steps: &[Step<'_>], way: Way, answer: &mut Answer) -> Left {
         Ok(Some(make(self, steps, way, answer)))
     }
 }
 
-impl End for KeptClientHandle {
+impl Begins for KeptClientHandle {
     /// Begins with `begin CONTEXT LOADED LIFE`.
     fn begin(first: &Step<'_>, answer: &mut Answer) -> Option<KeptClientHandle> {
         let fields = &first.fields;
@@ -78,7 +103,9 @@ impl End for KeptClientHandle {
         answer.word("begun ;");
         KeptClientHandle::begin(&context, fields.sequence_number(1), fields.number(2))
     }
+}
 
+impl End for KeptClientHandle {
     fn make(&mut self, steps: &[Step<'_>], way: Way, answer: &mut Answer) -> Left {
         make(self, steps, way, answer);
         answer.is_whole = answer.is_whole && self.is_whole();
@@ -93,23 +120,27 @@ fn has_room_of_bytes(room: u64, steps: &[Step<'_>]) -> bool {
     room == 8 || requests as u64 <= room.min(8)
 }
 
+/// Makes a row's steps over a client that has room for N pending requests.
+fn over_room<const N: usize>(first: &Step<'_>, steps: &[Step<'_>], answer: &mut Answer)
+    requires { N ≤ 16 }
+{
+    in_all_ways::<Client<N>>(first, steps, answer);
+}
+
 /// Makes a row's steps over a client with the room that the first step says. If all of them are events, and the bytes of a client answer
 /// as this room does, makes them over those bytes too.
-pub(crate) fn over_all(steps: &[Step<'_>], answer: &mut Answer) {
-    let Some(first) = steps.first() else {
-        return;
-    };
+pub(crate) fn over_all(first: &Step<'_>, steps: &[Step<'_>], answer: &mut Answer) {
     match first.fields.word(1) {
-        "0" => in_all_ways::<Client<0>>(steps, answer),
-        "1" => in_all_ways::<Client<1>>(steps, answer),
-        "2" => in_all_ways::<Client<2>>(steps, answer),
-        "8" => in_all_ways::<Client<8>>(steps, answer),
-        "16" => in_all_ways::<Client<16>>(steps, answer),
+        "0" => over_room::<0>(first, steps, answer),
+        "1" => over_room::<1>(first, steps, answer),
+        "2" => over_room::<2>(first, steps, answer),
+        "8" => over_room::<8>(first, steps, answer),
+        "16" => over_room::<16>(first, steps, answer),
         _ => first.fields.refuse(),
     }
     let room = first.fields.number(1);
-    if steps.iter().all(|step| step.is_event()) && has_room_of_bytes(room, steps) {
+    if are_events(steps) && has_room_of_bytes(room, steps) {
         answer.again();
-        in_both_ways::<ClientHandle>(steps, answer);
+        in_both_ways::<ClientHandle>(first, steps, answer);
     }
 }

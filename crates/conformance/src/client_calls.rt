@@ -71,6 +71,29 @@ fn call<'a, C: ClientEnd>(
     }
 }
 
+/// Makes a step of a client.
+fn make_step<C: ClientEnd>(
+    client: &mut C,
+    step: &Step<'_>,
+    way: Way,
+    answer: &mut Answer,
+    left: &mut Answer,
+) {
+    let Some(mut event) = event_of(step) else {
+        let made = if step.verb == "advance" {
+            client.advance(step.fields.number(0)).map(|()| "advanced")
+        } else {
+            client.other(step)
+        };
+        return show_word(made, answer);
+    };
+    match call(client, &mut event, way) {
+        Ok(entry) => show(&entry, answer),
+        Err(refusal) => refusal.show(answer),
+    }
+    show_left(step, &event, left);
+}
+
 /// Makes steps of a client, one call each, and returns what they leave.
 pub(crate) fn make<C: ClientEnd>(
     client: &mut C,
@@ -80,20 +103,7 @@ pub(crate) fn make<C: ClientEnd>(
 ) -> Answer {
     let mut left = Answer::new(answer.alloc);
     for step in steps {
-        match event_of(step) {
-            Some(mut event) => {
-                match call(client, &mut event, way) {
-                    Ok(entry) => show(&entry, answer),
-                    Err(refusal) => refusal.show(answer),
-                }
-                show_left(step, &event, &mut left);
-            }
-            None if step.verb == "advance" => {
-                let advanced = client.advance(step.fields.number(0));
-                show_word(advanced.map(|()| "advanced"), answer);
-            }
-            None => show_word(client.other(step), answer),
-        }
+        make_step(client, step, way, answer, &mut left);
         answer.word(";");
     }
     left

@@ -4,30 +4,32 @@ use crate::answer::Answer;
 use crate::protection::show_opened;
 use osc_endpoint::{ClientEntry, ClientOutcome};
 
+/// Returns the word for what the client made of a datagram.
+fn word_of(outcome: &ClientOutcome<'_>) -> &'static str {
+    match outcome {
+        ClientOutcome::Malformed(_) => "malformed",
+        ClientOutcome::NotResponse => "not-response",
+        ClientOutcome::UnknownToken => "unknown-token",
+        ClientOutcome::Unprotected => "unprotected",
+        ClientOutcome::Undecodable => "undecodable",
+        ClientOutcome::BadTag => "bad-tag",
+        ClientOutcome::BadInner => "bad-inner",
+        ClientOutcome::Old => "old",
+        ClientOutcome::Notified(..) => "notified",
+        ClientOutcome::Deliver(..) => "deliver",
+    }
+}
+
 /// Shows what the client made of a datagram.
 fn show_outcome(outcome: &ClientOutcome<'_>, answer: &mut Answer) {
+    answer.word(word_of(outcome));
     match outcome {
-        ClientOutcome::Malformed(fault) => {
-            answer.word("malformed");
-            answer.print(*fault);
-        }
-        ClientOutcome::NotResponse => answer.word("not-response"),
-        ClientOutcome::UnknownToken => answer.word("unknown-token"),
-        ClientOutcome::Unprotected => answer.word("unprotected"),
-        ClientOutcome::Undecodable => answer.word("undecodable"),
-        ClientOutcome::BadTag => answer.word("bad-tag"),
-        ClientOutcome::BadInner => answer.word("bad-inner"),
-        ClientOutcome::Old => answer.word("old"),
-        ClientOutcome::Notified(opened, number) => {
-            answer.word("notified");
+        ClientOutcome::Malformed(fault) => answer.print(*fault),
+        ClientOutcome::Notified(opened, number) | ClientOutcome::Deliver(opened, number) => {
             answer.print(number.number());
             show_opened(opened, answer);
         }
-        ClientOutcome::Deliver(opened, number) => {
-            answer.word("deliver");
-            answer.print(number.number());
-            show_opened(opened, answer);
-        }
+        _ => {}
     }
 }
 

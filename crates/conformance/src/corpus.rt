@@ -84,15 +84,10 @@ impl<'t> Corpus<'t> {
         if !answer.is_whole {
             return self.differs(rt, row.name, " can't be read");
         }
-        for earlier in &answer.earlier {
-            if earlier.as_str() != row.wanted {
-                return self.differs(rt, line, earlier.as_str());
-            }
+        match answer.other_than(row.wanted) {
+            Some(came) => self.differs(rt, line, came),
+            None => Ok(()),
         }
-        if answer.text.as_str() != row.wanted {
-            return self.differs(rt, line, answer.text.as_str());
-        }
-        Ok(())
     }
 
     /// Returns the answer of a row's call.

@@ -12,52 +12,43 @@ use std::alloc::AllocError;
 /// What the steps of a row left, if the row shows it.
 pub(crate) type Left = Result<Option<Answer>, AllocError>;
 
-/// An end that a row begins.
+/// An end that a row begins or starts.
 pub(crate) trait End: Drop + Sized {
-    /// Begins the end with the first step of a row. An end over a keeper is started instead.
-    fn begin(_first: &Step<'_>, _answer: &mut Answer) -> Option<Self> {
-        None
-    }
-
-    /// Returns how many steps of a row are made by its beginning.
-    fn made_by_begin() -> usize {
-        1
-    }
-
-    /// Makes steps in one way.
+    /// Makes steps of a row in one way.
     fn make(&mut self, steps: &[Step<'_>], way: Way, answer: &mut Answer) -> Left;
 }
 
-/// Makes a row's steps over an end of one kind, in one way.
-fn in_a_way<E: End>(steps: &[Step<'_>], way: Way, answer: &mut Answer) {
-    let Some(first) = steps.first() else {
-        return;
-    };
+/// An end that the first step of a row begins.
+pub(crate) trait Begins: End {
+    fn begin(first: &Step<'_>, answer: &mut Answer) -> Option<Self>;
+}
+
+/// Begins an end of one kind, and makes steps over it in one way.
+fn in_a_way<E: Begins>(first: &Step<'_>, steps: &[Step<'_>], way: Way, answer: &mut Answer) {
     let Some(mut end) = E::begin(first, answer) else {
         return first.fields.refuse();
     };
-    let rest = steps.get(E::made_by_begin()..).unwrap_or(&[]);
-    match end.make(rest, way, answer) {
+    match end.make(steps, way, answer) {
         Ok(Some(left)) => answer.leave(&left),
         Ok(None) => {}
         Err(_) => answer.is_whole = false,
     }
 }
 
-/// Makes a row's steps over an end of one kind, by `take` and by its halves.
-pub(crate) fn in_both_ways<E: End>(steps: &[Step<'_>], answer: &mut Answer) {
-    in_a_way::<E>(steps, Way::ByTake, answer);
+/// Makes steps over an end of one kind, by `take` and by its halves.
+pub(crate) fn in_both_ways<E: Begins>(first: &Step<'_>, steps: &[Step<'_>], answer: &mut Answer) {
+    in_a_way::<E>(first, steps, Way::ByTake, answer);
     answer.again();
-    in_a_way::<E>(steps, Way::ByHalves, answer);
+    in_a_way::<E>(first, steps, Way::ByHalves, answer);
 }
 
-/// Makes a row's steps in these ways, and by both runs.
-pub(crate) fn in_all_ways<E: End>(steps: &[Step<'_>], answer: &mut Answer) {
-    in_both_ways::<E>(steps, answer);
+/// Makes steps in these ways, and by both runs.
+pub(crate) fn in_all_ways<E: Begins>(first: &Step<'_>, steps: &[Step<'_>], answer: &mut Answer) {
+    in_both_ways::<E>(first, steps, answer);
     answer.again();
-    in_a_way::<E>(steps, Way::ByRun, answer);
+    in_a_way::<E>(first, steps, Way::ByRun, answer);
     answer.again();
-    in_a_way::<E>(steps, Way::ByRunOn, answer);
+    in_a_way::<E>(first, steps, Way::ByRunOn, answer);
 }
 
 /// Makes the calls of a row's steps.
@@ -68,17 +59,20 @@ pub(crate) fn make<'t>(
     answer: &mut Answer,
 ) {
     let steps = steps_of(text, contexts, answer);
+    let Some((first, rest)) = steps.split_first() else {
+        return;
+    };
     match verb {
-        "server" => server::over_all(&steps, answer),
-        "server-bytes" => server::over_bytes(&steps, answer),
-        "client" => client::over_all(&steps, answer),
+        "server" => server::over_all(first, rest, &steps, answer),
+        "server-bytes" => server::over_bytes(first, rest, &steps, answer),
+        "client" => client::over_all(first, rest, answer),
         "kept-server" => kept::over_all::<KeptServer<Memory<'_>>>(&steps, answer),
         "kept-client" => kept::over_all::<KeptClient<Memory<'_>, 2>>(&steps, answer),
-        "kept-server-bytes" => in_both_ways::<KeptServerHandle>(&steps, answer),
-        "kept-client-bytes" => in_both_ways::<KeptClientHandle>(&steps, answer),
+        "kept-server-bytes" => in_both_ways::<KeptServerHandle>(first, rest, answer),
+        "kept-client-bytes" => in_both_ways::<KeptClientHandle>(first, rest, answer),
         _ => answer.is_whole = false,
     }
-    if steps.iter().any(|step| step.fields.is_bad()) {
-        answer.is_whole = false;
+    for step in &steps {
+        answer.is_whole = answer.is_whole && !step.fields.is_bad();
     }
 }

@@ -1,5 +1,7 @@
 //! Rows of ends over a keeper in memory, from one start to the next.
 
+ghost use Rattle.std.specs.Prelude.{◌≡◌, []};
+
 use crate::answer::Answer;
 use crate::client_events::kept_client_event;
 use crate::ends::{End, Left};
@@ -14,6 +16,7 @@ use osc_kept::{
     KeptClient, KeptClientEntry, KeptClientEvent, KeptError, KeptServer, KeptServerEntry,
     KeptServerEvent, run_kept_client, run_kept_client_on, run_kept_server, run_kept_server_on,
 };
+use std::alloc::{AllocError, Global};
 
 /// An end whose numbers are kept by a keeper in memory.
 pub(crate) trait KeptEnd<'t>: End {
@@ -27,27 +30,50 @@ pub(crate) trait KeptEnd<'t>: End {
     fn into_keeper(self) -> Memory<'t>;
 }
 
+/// Makes events by one of the two runs.
+fn log_server<'e>(
+    server: &mut KeptServer<Memory<'_>>,
+    events: &'e mut [KeptServerEvent],
+    way: Way,
+    alloc: Global,
+    log: &mut Vec<KeptServerEntry<'e>>,
+) -> Result<(), AllocError>
+    requires { log.old.items ≡ [] }
+{
+    if way == Way::ByRun {
+        return run_kept_server(alloc, server, events, log);
+    }
+    let mut rest = events;
+    run_kept_server_on(alloc, server, &mut rest, log)
+}
+
+/// Makes events of a server by one of the two runs, and shows the log.
+fn run_server(
+    server: &mut KeptServer<Memory<'_>>,
+    events: &mut [KeptServerEvent],
+    way: Way,
+    answer: &mut Answer,
+) -> Result<(), AllocError> {
+    let mut log = Vec::new(answer.alloc);
+    log_server(server, events, way, answer.alloc, &mut log)?;
+    for entry in &log {
+        match entry {
+            KeptServerEntry::Served(entry) => server_entry::show(entry, answer),
+            KeptServerEntry::Restarted(kept) => show_word(restarted(*kept), answer),
+        }
+        answer.word(";");
+    }
+    Ok(())
+}
+
 impl<'t> End for KeptServer<Memory<'t>> {
     fn make(&mut self, steps: &[Step<'_>], way: Way, answer: &mut Answer) -> Left {
         if way.calls(steps) {
             return Ok(Some(server_calls::make(self, steps, way, answer)));
         }
-        let events = steps.iter().filter_map(|step| kept_server_event(step));
+        let events = steps.iter().filter_map(kept_server_event);
         let mut events: Vec<KeptServerEvent> = events.collect(answer.alloc)?;
-        let (alloc, mut log) = (answer.alloc, Vec::new(answer.alloc));
-        if way == Way::ByRun {
-            run_kept_server(alloc, self, &mut events, &mut log)?;
-        } else {
-            let mut rest = events.as_mut_slice();
-            run_kept_server_on(alloc, self, &mut rest, &mut log)?;
-        }
-        for entry in &log {
-            match entry {
-                KeptServerEntry::Served(entry) => server_entry::show(entry, answer),
-                KeptServerEntry::Restarted(kept) => show_word(restarted(*kept), answer),
-            }
-            answer.word(";");
-        }
+        run_server(self, &mut events, way, answer)?;
         Ok(None)
     }
 }
@@ -66,27 +92,50 @@ impl<'t> KeptEnd<'t> for KeptServer<Memory<'t>> {
     }
 }
 
+/// Makes events by one of the two runs.
+fn log_client<'e>(
+    client: &mut KeptClient<Memory<'_>, 2>,
+    events: &'e mut [KeptClientEvent],
+    way: Way,
+    alloc: Global,
+    log: &mut Vec<KeptClientEntry<'e>>,
+) -> Result<(), AllocError>
+    requires { log.old.items ≡ [] }
+{
+    if way == Way::ByRun {
+        return run_kept_client(alloc, client, events, log);
+    }
+    let mut rest = events;
+    run_kept_client_on(alloc, client, &mut rest, log)
+}
+
+/// Makes events of a client by one of the two runs, and shows the log.
+fn run_client(
+    client: &mut KeptClient<Memory<'_>, 2>,
+    events: &mut [KeptClientEvent],
+    way: Way,
+    answer: &mut Answer,
+) -> Result<(), AllocError> {
+    let mut log = Vec::new(answer.alloc);
+    log_client(client, events, way, answer.alloc, &mut log)?;
+    for entry in &log {
+        match entry {
+            KeptClientEntry::Asked(entry) => client_entry::show(entry, answer),
+            KeptClientEntry::Restarted(kept) => show_word(restarted(*kept), answer),
+        }
+        answer.word(";");
+    }
+    Ok(())
+}
+
 impl<'t> End for KeptClient<Memory<'t>, 2> {
     fn make(&mut self, steps: &[Step<'_>], way: Way, answer: &mut Answer) -> Left {
         if way.calls(steps) {
             return Ok(Some(client_calls::make(self, steps, way, answer)));
         }
-        let events = steps.iter().filter_map(|step| kept_client_event(step));
+        let events = steps.iter().filter_map(kept_client_event);
         let mut events: Vec<KeptClientEvent> = events.collect(answer.alloc)?;
-        let (alloc, mut log) = (answer.alloc, Vec::new(answer.alloc));
-        if way == Way::ByRun {
-            run_kept_client(alloc, self, &mut events, &mut log)?;
-        } else {
-            let mut rest = events.as_mut_slice();
-            run_kept_client_on(alloc, self, &mut rest, &mut log)?;
-        }
-        for entry in &log {
-            match entry {
-                KeptClientEntry::Asked(entry) => client_entry::show(entry, answer),
-                KeptClientEntry::Restarted(kept) => show_word(restarted(*kept), answer),
-            }
-            answer.word(";");
-        }
+        run_client(self, &mut events, way, answer)?;
         Ok(None)
     }
 }
@@ -105,6 +154,21 @@ impl<'t> KeptEnd<'t> for KeptClient<Memory<'t>, 2> {
     }
 }
 
+/// Makes the steps of an end that is started. Returns its keeper.
+fn started<'t, E: KeptEnd<'t>>(
+    end: E,
+    steps: &[Step<'_>],
+    way: Way,
+    answer: &mut Answer,
+) -> Memory<'t> {
+    let mut end = end;
+    answer.word("started ;");
+    if end.make(steps, way, answer).is_err() {
+        answer.is_whole = false;
+    }
+    end.into_keeper()
+}
+
 /// Makes a start and the steps up to the next start. Returns the keeper for the next start.
 fn one_start<'t, E: KeptEnd<'t>>(
     keeper: Memory<'t>,
@@ -118,13 +182,7 @@ fn one_start<'t, E: KeptEnd<'t>>(
         return keeper;
     };
     match E::start(context, &start.fields, keeper) {
-        Ok(mut end) => {
-            answer.word("started ;");
-            if end.make(steps, way, answer).is_err() {
-                answer.is_whole = false;
-            }
-            end.into_keeper()
-        }
+        Ok(end) => started(end, steps, way, answer),
         Err((refusal, keeper)) => {
             Refusal::Kept(refusal).show(answer);
             answer.word(";");

@@ -1,16 +1,19 @@
 //! Rows of servers.
 
+ghost use Rattle.std.specs.Prelude.{◌≡◌, []};
+
 use crate::answer::Answer;
-use crate::ends::{End, Left, in_all_ways, in_both_ways};
+use crate::ends::{Begins, End, Left, in_all_ways, in_both_ways};
 use crate::refusal::Refusal;
 use crate::server_calls::make;
 use crate::server_end::ServerEnd;
 use crate::server_entry::show;
 use crate::server_events::{addition, event_of, show_left};
-use crate::steps::{Step, Way};
-use osc_endpoint::{Server, ServerEvent, run_server, run_server_on};
+use crate::steps::{Step, Way, are_events};
+use osc_endpoint::{Server, ServerEntry, ServerEvent, run_server, run_server_on};
 use osc_handle::{AddRefusal, ContextHandle, ServerHandle, SingleServerHandle};
 use osc_kept_handle::KeptServerHandle;
+use std::alloc::{AllocError, Global};
 
 /// Returns how many steps at the front add contexts.
 fn additions(steps: &[Step<'_>]) -> usize {
@@ -20,15 +23,46 @@ fn additions(steps: &[Step<'_>]) -> usize {
     }
 }
 
-impl End for Server {
+/// Makes events by one of the two runs.
+fn log_events<'e>(
+    server: &mut Server,
+    events: &'e mut [ServerEvent],
+    way: Way,
+    alloc: Global,
+    log: &mut Vec<ServerEntry<'e>>,
+) -> Result<(), AllocError>
+    requires { log.old.items ≡ [] }
+{
+    if way == Way::ByRun {
+        return run_server(alloc, server, events, log);
+    }
+    let mut rest = events;
+    run_server_on(alloc, server, &mut rest, log)
+}
+
+/// Makes events by one of the two runs, and shows the log.
+fn run(
+    server: &mut Server,
+    events: &mut [ServerEvent],
+    way: Way,
+    answer: &mut Answer,
+) -> Result<(), AllocError> {
+    let mut log = Vec::new(answer.alloc);
+    log_events(server, events, way, answer.alloc, &mut log)?;
+    for entry in &log {
+        show(entry, answer);
+        answer.word(";");
+    }
+    Ok(())
+}
+
+impl Begins for Server {
     fn begin(_first: &Step<'_>, _answer: &mut Answer) -> Option<Server> {
         Some(Server::new())
     }
+}
 
-    fn made_by_begin() -> usize {
-        0
-    }
-
+impl End for Server {
     /// A run is over the events after the contexts.
     fn make(&mut self, steps: &[Step<'_>], way: Way, answer: &mut Answer) -> Left {
         let added = additions(steps);
@@ -37,20 +71,9 @@ impl End for Server {
             return Ok(Some(make(self, steps, way, answer)));
         }
         let mut left = make(self, steps.get(..added).unwrap_or(&[]), way, answer);
-        let events = steps_after.iter().filter_map(|step| event_of(step));
+        let events = steps_after.iter().filter_map(event_of);
         let mut events: Vec<ServerEvent> = events.collect(answer.alloc)?;
-        let (alloc, mut log) = (answer.alloc, Vec::new(answer.alloc));
-        if way == Way::ByRun {
-            run_server(alloc, self, &mut events, &mut log)?;
-        } else {
-            let mut rest = events.as_mut_slice();
-            run_server_on(alloc, self, &mut rest, &mut log)?;
-        }
-        for entry in &log {
-            show(entry, answer);
-            answer.word(";");
-        }
-        drop(log);
+        run(self, &mut events, way, answer)?;
         for (step, event) in steps_after.iter().zip(events.iter()) {
             show_left(step, event, &mut left);
         }
@@ -58,34 +81,34 @@ impl End for Server {
     }
 }
 
-impl End for ServerHandle {
+impl Begins for ServerHandle {
     fn begin(_first: &Step<'_>, _answer: &mut Answer) -> Option<ServerHandle> {
         Some(ServerHandle::new())
     }
+}
 
-    fn made_by_begin() -> usize {
-        0
-    }
-
+impl End for ServerHandle {
     fn make(&mut self, steps: &[Step<'_>], way: Way, answer: &mut Answer) -> Left {
         Ok(Some(make(self, steps, way, answer)))
     }
 }
 
-impl End for SingleServerHandle {
+impl Begins for SingleServerHandle {
     /// Begins with the context that the first step adds.
     fn begin(first: &Step<'_>, answer: &mut Answer) -> Option<SingleServerHandle> {
         let (context, start, size) = addition(first)?;
         answer.word("added 0 ;");
         SingleServerHandle::begin(&ContextHandle::of(&context), start, size)
     }
+}
 
+impl End for SingleServerHandle {
     fn make(&mut self, steps: &[Step<'_>], way: Way, answer: &mut Answer) -> Left {
         Ok(Some(make(self, steps, way, answer)))
     }
 }
 
-impl End for KeptServerHandle {
+impl Begins for KeptServerHandle {
     /// Begins with `begin CONTEXT LOADED SIZE`.
     fn begin(first: &Step<'_>, answer: &mut Answer) -> Option<KeptServerHandle> {
         let fields = &first.fields;
@@ -94,7 +117,9 @@ impl End for KeptServerHandle {
         answer.word("begun ;");
         KeptServerHandle::begin(&context, fields.sequence_number(1), fields.window_size(2))
     }
+}
 
+impl End for KeptServerHandle {
     fn make(&mut self, steps: &[Step<'_>], way: Way, answer: &mut Answer) -> Left {
         make(self, steps, way, answer);
         answer.is_whole = answer.is_whole && self.is_whole();
@@ -102,20 +127,18 @@ impl End for KeptServerHandle {
     }
 }
 
-/// Returns whether the first step adds a context, and all others are events.
-fn has_one_context(steps: &[Step<'_>]) -> bool {
-    match steps {
-        [first, rest @ ..] => first.verb == "add" && rest.iter().all(|step| step.is_event()),
-        [] => false,
-    }
-}
-
-/// Makes a row's steps over the bytes of a server and, if it has one context, over the bytes of a server of one context.
-pub(crate) fn over_bytes(steps: &[Step<'_>], answer: &mut Answer) {
-    in_both_ways::<ServerHandle>(steps, answer);
-    if has_one_context(steps) {
+/// Makes a row's steps over the bytes of a server and, if it has one context, over the bytes of a server of one context. `all` is the first
+/// step and those after it.
+pub(crate) fn over_bytes(
+    first: &Step<'_>,
+    steps: &[Step<'_>],
+    all: &[Step<'_>],
+    answer: &mut Answer,
+) {
+    in_both_ways::<ServerHandle>(first, all, answer);
+    if first.verb == "add" && are_events(steps) {
         answer.again();
-        in_both_ways::<SingleServerHandle>(steps, answer);
+        in_both_ways::<SingleServerHandle>(first, steps, answer);
     }
 }
 
@@ -137,11 +160,16 @@ fn have_own_senders(steps: &[Step<'_>]) -> bool {
 
 /// Makes a row's steps over a server. If the steps only add contexts, no two with the same Sender Key, and are events, makes them over the
 /// bytes of a server too.
-pub(crate) fn over_all(steps: &[Step<'_>], answer: &mut Answer) {
-    in_all_ways::<Server>(steps, answer);
-    let mut others = steps.iter().filter(|step| step.verb != "add");
-    if others.all(|step| step.is_event()) && have_own_senders(steps) {
+pub(crate) fn over_all(
+    first: &Step<'_>,
+    steps: &[Step<'_>],
+    all: &[Step<'_>],
+    answer: &mut Answer,
+) {
+    in_all_ways::<Server>(first, all, answer);
+    let mut others = all.iter().filter(|step| step.verb != "add");
+    if others.all(|step| step.is_event()) && have_own_senders(all) {
         answer.again();
-        over_bytes(steps, answer);
+        over_bytes(first, steps, all, answer);
     }
 }

@@ -146,7 +146,28 @@ fn make_event<S: ServerEnd>(
     ticket
 }
 
-/// Makes steps of a server, one call each, and returns what they leave. Each event has a place for its ticket.
+/// Makes a step of a server. An event has a place for its ticket.
+fn make_step<S: ServerEnd>(
+    server: &mut S,
+    tickets: &mut Vec<Option<Ticket>>,
+    step: &Step<'_>,
+    way: Way,
+    answer: &mut Answer,
+    left: &mut Answer,
+) {
+    match step.verb {
+        "add" => add(server, step, answer),
+        "advance" | "is-open" => show_word(server.other(step), answer),
+        _ => {
+            let ticket = make_event(server, tickets, step, way, answer, left);
+            if tickets.push(ticket).is_err() {
+                answer.is_whole = false;
+            }
+        }
+    }
+}
+
+/// Makes steps of a server, one call each, and returns what they leave.
 pub(crate) fn make<S: ServerEnd>(
     server: &mut S,
     steps: &[Step<'_>],
@@ -155,16 +176,7 @@ pub(crate) fn make<S: ServerEnd>(
 ) -> Answer {
     let (mut tickets, mut left) = (Vec::new(answer.alloc), Answer::new(answer.alloc));
     for step in steps {
-        match step.verb {
-            "add" => add(server, step, answer),
-            "advance" | "is-open" => show_word(server.other(step), answer),
-            _ => {
-                let ticket = make_event(server, &mut tickets, step, way, answer, &mut left);
-                if tickets.push(ticket).is_err() {
-                    answer.is_whole = false;
-                }
-            }
-        }
+        make_step(server, &mut tickets, step, way, answer, &mut left);
         answer.word(";");
     }
     left

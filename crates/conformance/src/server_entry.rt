@@ -4,37 +4,43 @@ use crate::answer::Answer;
 use crate::protection::show_opened;
 use osc_endpoint::{Seen, ServerEntry};
 
+/// Returns the word for what the server made of a datagram.
+fn word_of(seen: &Seen<'_>) -> &'static str {
+    match seen {
+        Seen::Malformed(_) => "malformed",
+        Seen::NotRequest => "not-request",
+        Seen::Plain => "plain",
+        Seen::Undecodable => "undecodable",
+        Seen::NoContext => "no-context",
+        Seen::Replay => "replay",
+        Seen::BadTag => "bad-tag",
+        Seen::BadInner => "bad-inner",
+        Seen::Challenge { .. } => "challenge",
+        Seen::SequenceExhausted => "exhausted",
+        Seen::KeeperFailed => "keeper-failed",
+        Seen::Deliver { .. } => "deliver",
+    }
+}
+
 /// Shows what the server made of a datagram.
 fn show_seen(seen: &Seen<'_>, answer: &mut Answer) {
+    answer.word(word_of(seen));
     match seen {
-        Seen::Malformed(fault) => {
-            answer.word("malformed");
-            answer.print(*fault);
-        }
-        Seen::NotRequest => answer.word("not-request"),
-        Seen::Plain => answer.word("plain"),
-        Seen::Undecodable => answer.word("undecodable"),
-        Seen::NoContext => answer.word("no-context"),
-        Seen::Replay => answer.word("replay"),
-        Seen::BadTag => answer.word("bad-tag"),
-        Seen::BadInner => answer.word("bad-inner"),
+        Seen::Malformed(fault) => answer.print(*fault),
         Seen::Challenge { echo, issued } => {
-            answer.word("challenge");
             answer.bytes(echo);
             answer.print(*issued);
         }
-        Seen::SequenceExhausted => answer.word("exhausted"),
-        Seen::KeeperFailed => answer.word("keeper-failed"),
         Seen::Deliver {
             opened,
             context,
             number,
         } => {
-            answer.word("deliver");
             answer.print(*context);
             answer.print(number.number());
             show_opened(opened, answer);
         }
+        _ => {}
     }
 }
 

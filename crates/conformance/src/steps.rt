@@ -20,7 +20,7 @@ pub(crate) enum Way {
 impl Way {
     /// Returns whether these steps are made this way by calls, which is so if one of them is no event.
     pub(crate) fn calls(self, steps: &[Step<'_>]) -> bool {
-        matches!(self, Way::ByTake | Way::ByHalves) || !steps.iter().all(|step| step.is_event())
+        matches!(self, Way::ByTake | Way::ByHalves) || !are_events(steps)
     }
 }
 
@@ -62,6 +62,11 @@ impl Step<'_> {
             None => Err(Refusal::Bad),
         }
     }
+}
+
+/// Returns whether all steps are events.
+pub(crate) fn are_events(steps: &[Step<'_>]) -> bool {
+    steps.iter().all(|step| step.is_event())
 }
 
 /// Returns the steps of a row, which are separated by semicolons.

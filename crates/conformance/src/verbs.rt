@@ -14,9 +14,7 @@ pub(crate) fn make(
     answer: &mut Answer,
 ) {
     match verb {
-        "aes128" => ciphers::aes128(fields, answer),
-        "ccm-seal" => ciphers::ccm_seal(fields, answer),
-        "ccm-open" => ciphers::ccm_open(fields, answer),
+        "aes128" | "ccm-seal" | "ccm-open" => ciphers::with_all(verb, fields, answer),
         "hmac-sha256" => ciphers::hmac(fields, answer),
         "hkdf-extract" => ciphers::hkdf_extract(fields, answer),
         "hkdf-expand" => ciphers::hkdf_expand(fields, answer),
@@ -120,27 +118,28 @@ fn of_protection(
     }
 }
 
+/// Returns what the request of a response or a notification does.
+fn asked(verb: &str) -> Asked {
+    if verb == "seal-notification" || verb == "open-notification" {
+        Asked::Registers
+    } else {
+        Asked::Once
+    }
+}
+
 /// Makes a call of osc_context or osc_protect under a context.
 fn under_this(verb: &str, fields: &Fields<'_>, context: &KeyedContext, answer: &mut Answer) {
     match verb {
         "answers-to" => context::answers_to(fields, context.context(), answer),
         "names" => protection::named(fields, context, answer),
         "seal-request" => protection::sealed_request(fields, context, answer),
-        "seal-response" => protection::sealed_response(fields, context, Asked::Once, answer),
-        "seal-notification" => protection::sealed_response(
-            fields,
-            context,
-            Asked::Registers,
-            answer,
-        ),
+        "seal-response" | "seal-notification" => {
+            protection::sealed_response(fields, context, asked(verb), answer);
+        }
         "open-request" => protection::opened_request(fields, context, answer),
-        "open-response" => protection::opened_response(fields, context, Asked::Once, answer),
-        "open-notification" => protection::opened_response(
-            fields,
-            context,
-            Asked::Registers,
-            answer,
-        ),
+        "open-response" | "open-notification" => {
+            protection::opened_response(fields, context, asked(verb), answer);
+        }
         _ => fields.refuse(),
     }
 }
