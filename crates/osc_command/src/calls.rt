@@ -26,21 +26,21 @@ pub(crate) enum Takes {
 }
 
 /// An option, or a word that stands alone: its name, what the help calls its value, what it takes, and its help.
-pub(crate) struct Word(
-    pub(crate) &'static str,
-    pub(crate) &'static str,
-    pub(crate) Takes,
-    pub(crate) &'static str,
-);
+pub(crate) struct Word {
+    pub(crate) name: &'static str,
+    pub(crate) value: &'static str,
+    pub(crate) takes: Takes,
+    pub(crate) help: &'static str,
+}
 
 /// A call: its name, what it does, an example, the options of the context that it derives, and its other options and words.
-pub(crate) struct Call(
-    pub(crate) &'static str,
-    pub(crate) &'static str,
-    pub(crate) &'static str,
-    pub(crate) &'static [Word],
-    pub(crate) &'static [Word],
-);
+pub(crate) struct Call {
+    pub(crate) name: &'static str,
+    pub(crate) about: &'static str,
+    pub(crate) example: &'static str,
+    pub(crate) context: &'static [Word],
+    pub(crate) others: &'static [Word],
+}
 
 pub(crate) const ABOUT: &str =
     "oscore 0.1.0: OSCORE (RFC 8613) for CoAP. Protects, opens and explains
@@ -108,46 +108,46 @@ Examples:
 /// The options of a context. This end is the sender. What the context takes part in may be given more than once.
 #[rattlefmt::skip]
 const CONTEXT: &[Word] = &[
-    Word("secret", "HEX", Takes::Required, "The Master Secret, 1 to 64 bytes"),
-    Word("salt", "HEX", Takes::Value, "The Master Salt, 0 to 64 bytes [default: empty]"),
-    Word("sender", "HEX", Takes::Value, "This end's identifier, 0 to 7 bytes [default: empty]"),
-    Word("recipient", "HEX", Takes::Value, "The other end's, 0 to 7 bytes [default: empty]"),
-    Word("id-context", "HEX", Takes::Value, "The ID Context, 1 to 32 bytes [optional]"),
-    Word("allow", "WHAT", Takes::AnyOf(&["blocks", "observe"]), "What may also pass; both ends need the same [default: none]"),
+    Word { name: "secret", value: "HEX", takes: Takes::Required, help: "The Master Secret, 1 to 64 bytes" },
+    Word { name: "salt", value: "HEX", takes: Takes::Value, help: "The Master Salt, 0 to 64 bytes [default: empty]" },
+    Word { name: "sender", value: "HEX", takes: Takes::Value, help: "This end's identifier, 0 to 7 bytes [default: empty]" },
+    Word { name: "recipient", value: "HEX", takes: Takes::Value, help: "The other end's, 0 to 7 bytes [default: empty]" },
+    Word { name: "id-context", value: "HEX", takes: Takes::Value, help: "The ID Context, 1 to 32 bytes [optional]" },
+    Word { name: "allow", value: "WHAT", takes: Takes::AnyOf(&["blocks", "observe"]), help: "What may also pass; both ends need the same [default: none]" },
 ];
 
 /// The option for the number of the request that a response answers.
 #[rattlefmt::skip]
-const REQUEST: Word = Word("request", "M", Takes::Value, "Of a response: the number of its request [optional]");
+const REQUEST: Word = Word { name: "request", value: "M", takes: Takes::Value, help: "Of a response: the number of its request [optional]" };
 
 /// The option that tells more about that request.
 #[rattlefmt::skip]
-const REGISTERS: Word = Word("registers", "", Takes::NothingBeside("request"), "Its request registers an observation (RFC 7641)");
+const REGISTERS: Word = Word { name: "registers", value: "", takes: Takes::NothingBeside("request"), help: "Its request registers an observation (RFC 7641)" };
 
 /// The word that is the datagram.
 #[rattlefmt::skip]
-const DATAGRAM: Word = Word("datagram", "DATAGRAM", Takes::Alone, "The datagram, in hex");
+const DATAGRAM: Word = Word { name: "datagram", value: "DATAGRAM", takes: Takes::Alone, help: "The datagram, in hex" };
 
 #[rattlefmt::skip]
-const SEQUENCE: Word = Word("sequence", "N", Takes::Value, "The Sender Sequence Number to use, below 2^40 [optional]");
+const SEQUENCE: Word = Word { name: "sequence", value: "N", takes: Takes::Value, help: "The Sender Sequence Number to use, below 2^40 [optional]" };
 
 /// The options of a run. The file of `--numbers` says how the end begins.
 #[rattlefmt::skip]
 const RUN: &[Word] = &[
-    Word("role", "ROLE", Takes::RequiredOneOf(&["server", "client"]), "What this end is"),
-    Word("sequence", "N", Takes::Default("0"), "The next Sender Sequence Number, below 2^40"),
-    Word("restarted", "", Takes::Nothing, "Requests may have come to it in an earlier life"),
-    Word("numbers", "FILE", Takes::ValueFor("sequence", "restarted"), "The file that keeps the Sender Sequence Numbers [optional]"),
-    Word("window", "SIZE", Takes::OneOf(&["32", "64"]), "Window size [default: 32]"),
-    Word("life", "MS", Takes::Value, "How many ms a request is pending [default: 60000]"),
+    Word { name: "role", value: "ROLE", takes: Takes::RequiredOneOf(&["server", "client"]), help: "What this end is" },
+    Word { name: "sequence", value: "N", takes: Takes::Default("0"), help: "The next Sender Sequence Number, below 2^40" },
+    Word { name: "restarted", value: "", takes: Takes::Nothing, help: "Requests may have come to it in an earlier life" },
+    Word { name: "numbers", value: "FILE", takes: Takes::ValueFor("sequence", "restarted"), help: "The file that keeps the Sender Sequence Numbers [optional]" },
+    Word { name: "window", value: "SIZE", takes: Takes::OneOf(&["32", "64"]), help: "Window size [default: 32]" },
+    Word { name: "life", value: "MS", takes: Takes::Value, help: "How many ms a request is pending [default: 60000]" },
 ];
 
 /// All calls, as the help lists them.
 #[rattlefmt::skip]
 pub(crate) const CALLS: &[Call] = &[
-    Call("derive", "Prints the keys and the Common IV of a context.", EXAMPLE_DERIVE, CONTEXT, &[]),
-    Call("open", "Opens a protected request or response, and prints its parts.", EXAMPLE, CONTEXT, &[REQUEST, REGISTERS, DATAGRAM]),
-    Call("protect", "Protects a plain request or response, and prints it in hex.", EXAMPLE_PROTECT, CONTEXT, &[REQUEST, REGISTERS, SEQUENCE, DATAGRAM]),
-    Call("explain", "Prints what a datagram shows without a key.", EXAMPLE_EXPLAIN, &[], &[DATAGRAM]),
-    Call("run", "Runs a server or a client over the events on standard input.", EXAMPLE_RUN, CONTEXT, RUN),
+    Call { name: "derive", about: "Prints the keys and the Common IV of a context.", example: EXAMPLE_DERIVE, context: CONTEXT, others: &[] },
+    Call { name: "open", about: "Opens a protected request or response, and prints its parts.", example: EXAMPLE, context: CONTEXT, others: &[REQUEST, REGISTERS, DATAGRAM] },
+    Call { name: "protect", about: "Protects a plain request or response, and prints it in hex.", example: EXAMPLE_PROTECT, context: CONTEXT, others: &[REQUEST, REGISTERS, SEQUENCE, DATAGRAM] },
+    Call { name: "explain", about: "Prints what a datagram shows without a key.", example: EXAMPLE_EXPLAIN, context: &[], others: &[DATAGRAM] },
+    Call { name: "run", about: "Runs a server or a client over the events on standard input.", example: EXAMPLE_RUN, context: CONTEXT, others: RUN },
 ];

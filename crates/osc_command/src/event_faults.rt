@@ -19,7 +19,11 @@ pub(crate) enum Field {
 }
 
 /// An event's first word, the fields that follow it, and their names.
-pub(crate) struct Form(&'static str, &'static [Field], &'static str);
+pub(crate) struct Form {
+    word: &'static str,
+    fields: &'static [Field],
+    names: &'static str,
+}
 
 /// The events of an end, and the words that begin their lines.
 #[derive(Clone, Copy)]
@@ -29,24 +33,31 @@ pub(crate) struct Forms {
 }
 
 #[rattlefmt::skip]
-const TAKE: Form = Form("take", &[Now, Echo, Mid, Datagram], "followed by NOW ECHO MID DATAGRAM");
+const TAKE: Form = Form { word: "take", fields: &[Now, Echo, Mid, Datagram], names: "followed by NOW ECHO MID DATAGRAM" };
 
 #[rattlefmt::skip]
-const REPLY: Form = Form("reply", &[Event, Own, Mid, Plain], "followed by EVENT own|shared MID PLAIN");
+const REPLY: Form = Form { word: "reply", fields: &[Event, Own, Mid, Plain], names: "followed by EVENT own|shared MID PLAIN" };
 
-const NOTIFY: Form = Form("notify", &[Event, Plain], "followed by EVENT PLAIN");
+#[rattlefmt::skip]
+const NOTIFY: Form = Form { word: "notify", fields: &[Event, Plain], names: "followed by EVENT PLAIN" };
 
-const DROP: Form = Form("drop", &[Event], "followed by EVENT");
+#[rattlefmt::skip]
+const DROP: Form = Form { word: "drop", fields: &[Event], names: "followed by EVENT" };
 
-const REQUEST: Form = Form("request", &[Now, Plain], "followed by NOW PLAIN");
+#[rattlefmt::skip]
+const REQUEST: Form = Form { word: "request", fields: &[Now, Plain], names: "followed by NOW PLAIN" };
 
-const TAKE_RESPONSE: Form = Form("take", &[Now, Datagram], "followed by NOW DATAGRAM");
+#[rattlefmt::skip]
+const TAKE_RESPONSE: Form = Form { word: "take", fields: &[Now, Datagram], names: "followed by NOW DATAGRAM" };
 
-const FORGET: Form = Form("forget", &[Token], "followed by TOKEN");
+#[rattlefmt::skip]
+const FORGET: Form = Form { word: "forget", fields: &[Token], names: "followed by TOKEN" };
 
-const RESTART: Form = Form("restart", &[Next], "followed by NEXT");
+#[rattlefmt::skip]
+const RESTART: Form = Form { word: "restart", fields: &[Next], names: "followed by NEXT" };
 
-const RESTART_ALONE: Form = Form("restart", &[], "followed by nothing with --numbers");
+#[rattlefmt::skip]
+const RESTART_ALONE: Form = Form { word: "restart", fields: &[], names: "followed by nothing with --numbers" };
 
 const SERVER_WORDS: &str = "take, reply, notify, drop and restart";
 
@@ -135,7 +146,7 @@ fn spelling_fault(line: &str) -> Option<&'static str> {
 /// Returns what the first wrong field of an event must be.
 fn field_fault(form: &Form, line: &str) -> Option<&'static str> {
     let mut words = line.split(' ').skip(1);
-    for field in form.1 {
+    for field in form.fields {
         match words.next() {
             Some(word) if field.takes(word) => {}
             _ => return Some(field.rule()),
@@ -146,7 +157,7 @@ fn field_fault(form: &Form, line: &str) -> Option<&'static str> {
 
 /// Returns whether a line begins with the word of a form.
 fn begins(form: &Form, line: &str) -> bool {
-    line.split(' ').next() == Some(form.0)
+    line.split(' ').next() == Some(form.word)
 }
 
 /// Returns what is wrong with a line.
@@ -157,8 +168,8 @@ fn line_fault(alloc: Global, forms: Forms, line: &str) -> Result<String, AllocEr
     let Some(form) = forms.forms.iter().find(|form| begins(form, line)) else {
         return not_an_event(alloc, forms);
     };
-    if line.split(' ').count() != form.1.len() + 1 {
-        return format!(in alloc; "{} is {}", form.0, form.2);
+    if line.split(' ').count() != form.fields.len() + 1 {
+        return format!(in alloc; "{} is {}", form.word, form.names);
     }
     match field_fault(form, line) {
         Some(rule) => String::from_str(alloc, rule),

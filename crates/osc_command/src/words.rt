@@ -16,7 +16,7 @@ const VERSION: &str = "0.1.0";
 fn option_of<'a>(alloc: Global, word: &'a Word) -> Arg<'a>
     ensures { result.global ≡ false }
 {
-    Arg::new(alloc, word.0).long(word.0).help(word.3)
+    Arg::new(alloc, word.name).long(word.name).help(word.help)
 }
 
 /// Returns the option with one value.
@@ -24,7 +24,7 @@ fn valued<'a>(alloc: Global, word: &'a Word) -> Arg<'a>
     ensures { result.global ≡ false }
 {
     option_of(alloc, word)
-        .value_name(word.1)
+        .value_name(word.value)
         .action(ArgAction::Set)
 }
 
@@ -39,12 +39,12 @@ fn choice<'a>(alloc: Global, word: &'a Word, choices: &'a [&'a str]) -> Arg<'a>
 fn arg_of<'a>(alloc: Global, word: &'a Word) -> Result<Arg<'a>, AllocError>
     ensures { IfOk result (λ arg. arg.global ≡ false) }
 {
-    match word.2 {
+    match word.takes {
         Takes::Alone => Ok(
-            Arg::new(alloc, word.0)
-                .value_name(word.1)
+            Arg::new(alloc, word.name)
+                .value_name(word.value)
                 .required(true)
-                .help(word.3),
+                .help(word.help),
         ),
         Takes::Nothing => Ok(option_of(alloc, word).action(ArgAction::SetTrue)),
         Takes::NothingBeside(other) => option_of(alloc, word)
@@ -82,8 +82,14 @@ fn with_words<'a>(
 fn call_of<'a>(alloc: Global, call: &'a Call) -> Result<Command<'a>, AllocError>
     ensures { IfOk result IsLocal }
 {
-    let command = Command::new(alloc, call.0).about(call.1).after_help(call.2);
-    with_words(with_words(command, alloc, call.3)?, alloc, call.4)
+    let command = Command::new(alloc, call.name)
+        .about(call.about)
+        .after_help(call.example);
+    with_words(
+        with_words(command, alloc, call.context)?,
+        alloc,
+        call.others,
+    )
 }
 
 /// Returns the command without its calls.
