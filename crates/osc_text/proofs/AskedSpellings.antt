@@ -1,5 +1,5 @@
 -- What a line asks of a client is what is read of it.
-use Rattle.std.proofs.Common.{◌≡◌, ℕ, ◌^◌, List, ◌∷◌, [], ◌++◌, codes, Option, Some, None, option_map, refl, sym, subst}
+use Rattle.std.proofs.Common.{◌≡◌, ℕ, ◌^◌, List, ◌∷◌, [], ◌++◌, codes, Option, Some, option_map, refl, sym, subst}
 use Rattle.std.specs.Option.{option_and_then}
 use Rattle.osc_text.specs.AskedEvents.{AskedEvent, Forget, Request, Restart, SpellsAsked, Take}
 use Rattle.osc_text.specs.AskedReading.{asked_read, asked_verb_read}

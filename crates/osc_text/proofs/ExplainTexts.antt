@@ -1,5 +1,5 @@
 -- What `explain` prints: a line for each OSCORE option, and the one text of a datagram.
-use Rattle.std.proofs.Common.{◌≡◌, ℕ, ◌<◌, ◌==◌, Bool, true, false, List, [], ◌∷◌, ◌++◌, length, get_or, refl, sym, ap, ◌∙◌, ◌⊎◌, inl, inr, subst, Option, Result, Ok, Err}
+use Rattle.std.proofs.Common.{◌≡◌, ℕ, ◌<◌, ◌==◌, Bool, true, false, List, [], ◌∷◌, ◌++◌, length, get_or, refl, sym, ◌∙◌, ◌⊎◌, inl, inr, subst, Option, Result, Ok, Err}
 use Rattle.std.specs.Prelude.{if◌then◌else◌}
 use Rattle.std.proofs.lemmas.List.{drop_at, take_at}
 use Rattle.std.proofs.lemmas.List.Elements.{All-drop, All-from_get_or, All-tail, All-take}
@@ -13,11 +13,6 @@ use Rattle.osc_coap.specs.Text.{error_text}
 use Rattle.osc_coap.specs.declared.format_error.Fault.{Fault as FormatFault}
 use Rattle.osc_coap.specs.declared.format_error.FormatError.{FormatError}
 use Rattle.osc_context.specs.Laws.{ValueOrRefusal}
-use Rattle.osc_context.specs.OptionRefusal.{IsFirstValueRefusal}
-use Rattle.osc_context.specs.OscoreValue.{OscoreParts, IsOscoreValue}
-use Rattle.osc_context.specs.Views.{oscore_parts_of}
-use Rattle.osc_context.specs.declared.option_error.OptionError.{OptionError}
-use Rattle.osc_context.specs.declared.oscore_option.OscoreOption.{OscoreOption}
 use Rattle.osc_text.specs.Explanation.{ExplainText, MessageText, ValueLine, ValueLines, message_lines}
 use Rattle.osc_text.specs.Explanation.ExplainText.{explained, refused}
 use Rattle.osc_text.specs.Explanation.ValueLine.{says, faulty}

@@ -1,4 +1,4 @@
-use Rattle.std.proofs.Common.{codes, string_bytes}
+use Rattle.std.proofs.Common.{string_bytes}
 use Rattle.osc_text.proofs.MadeLines.{named_line}
 use Rattle.osc_text.proofs.lines.put_bytes.Goals as goal
 

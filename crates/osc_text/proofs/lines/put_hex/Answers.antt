@@ -1,4 +1,4 @@
-use Rattle.std.proofs.Common.{codes, string_bytes}
+use Rattle.std.proofs.Common.{string_bytes}
 use Rattle.osc_text.proofs.MadeLines.{line_is}
 use Rattle.osc_text.proofs.lines.put_hex.Goals as goal
 
