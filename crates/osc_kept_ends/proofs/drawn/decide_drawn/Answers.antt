@@ -20,19 +20,15 @@ returns-in-Challenge-clause-answered g c = λ h old k drawn.
           sealed k d.row d.agrees drawn (λ n is. last_drawn source.in_hand (next_of source.numbers) n source.last_drawn is) c.spend-own.ensures.used;
     }
 
-pub returns : goal.returns
-returns g c = record {
-  answered = λ h old k drawn.
-      let d = c.decide-decided.ensures.answered h k.agrees in
-      record {
-        answer = d.answer;
-        decides = d.decides;
-        step = took_unsealed c.args.server.now c.decide-decided.new.self h c.args.now c.args.fresh.echo c.args.fresh.mid c.args.datagram.now d.answer _ old (own_in c.args.source.now)
-            k d.row d.agrees (other_decided c.decide-decided.result.decision c.decide-decided.new.datagram d.answer c.in_default.not-Challenge d.decides) drawn;
-      };
-  keeper = refl;
-  shown = c.decide-decided.ensures.shown;
-  left = c.decide-decided.ensures.left;
-  within = c.decide-decided.ensures.within;
-  behind = c.decide-decided.ensures.behind;
-}
+pub returns-clause-answered : goal.returns-clause-answered
+returns-clause-answered g c = λ h old k drawn.
+    let d = c.decide-decided.ensures.answered h k.agrees in
+    record {
+      answer = d.answer;
+      decides = d.decides;
+      step = took_unsealed c.args.server.now c.decide-decided.new.self h c.args.now c.args.fresh.echo c.args.fresh.mid c.args.datagram.now d.answer _ old (own_in c.args.source.now)
+          k d.row d.agrees (other_decided c.decide-decided.result.decision c.decide-decided.new.datagram d.answer c.in_default.not-Challenge d.decides) drawn;
+    }
+
+pub returns-clause-keeper : goal.returns-clause-keeper
+returns-clause-keeper g c = refl
