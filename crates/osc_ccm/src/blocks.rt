@@ -3,11 +3,10 @@
 ghost use Rattle.std.specs.Prelude.{◌≡◌, ◌+◌, ◌∷◌, ◌++◌, ◌<◌, ◌≤◌, ℕ, length, min, slice_index, bit_xor};
 ghost use Rattle.osc_ccm.specs.Ccm.{padded_block, two_bytes};
 
-/// The length of a tag in bytes: RFC 3610's M.
-pub const TAG_LEN: usize = 8;
+use crate::algorithm::{AesCcm16_64_128, Nonce};
 
-/// The length of a nonce in bytes: 15 minus RFC 3610's L, which is 2.
-pub const NONCE_LEN: usize = 15 - 2;
+/// The length of a tag in bytes.
+pub(crate) const TAG_LEN: usize = AesCcm16_64_128::TAG_LEN;
 
 /// The most bytes that a message can have: the largest length that L bytes can hold.
 pub const MOST_PLAINTEXT: usize = 65_535;
@@ -27,7 +26,7 @@ pub(crate) const COUNTER_FLAGS: u8 = 1;
 const FIRST_AAD: usize = 16 - 2;
 
 /// Makes a block of a first byte, the nonce, and a number, high byte first: the form of B_0 and of each A_i.
-pub(crate) fn numbered_block(first: u8, nonce: &[u8; 13], number: u16) -> [u8; 16]
+pub(crate) fn numbered_block(first: u8, nonce: &Nonce, number: u16) -> [u8; 16]
     ensures { result ≡ (first ∷ nonce.now) ++ two_bytes number }
 {
     let [high, low] = number.to_be_bytes();

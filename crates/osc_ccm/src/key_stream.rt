@@ -3,11 +3,12 @@
 ghost use Rattle.std.specs.Prelude.{◌≡◌, ◌<◌, ◌≤◌, length};
 ghost use Rattle.osc_ccm.specs.Ccm.{encrypted, stream_block};
 
+use crate::algorithm::Nonce;
 use crate::blocks::{COUNTER_FLAGS, numbered_block, xor_front};
 use osc_aes::{BlockCipher, encrypted_length};
 
 /// Returns S_i. S_0 hides the tag, and the message begins at S_1.
-pub(crate) fn stream_block<C: BlockCipher>(cipher: &C, nonce: &[u8; 13], i: usize) -> [u8; 16]
+pub(crate) fn stream_block<C: BlockCipher>(cipher: &C, nonce: &Nonce, i: usize) -> [u8; 16]
     requires { i < 65536 }
     ensures { result ≡ stream_block (C.cipher_key cipher.now) nonce.now i }
 {
@@ -17,7 +18,7 @@ pub(crate) fn stream_block<C: BlockCipher>(cipher: &C, nonce: &[u8; 13], i: usiz
 }
 
 /// Adds the key stream to a message. Adding it twice gives the message back.
-pub(crate) fn add_key_stream<C: BlockCipher>(cipher: &C, nonce: &[u8; 13], message: &mut [u8])
+pub(crate) fn add_key_stream<C: BlockCipher>(cipher: &C, nonce: &Nonce, message: &mut [u8])
     requires { length message.old ≤ 65535 }
     ensures { message.new ≡ encrypted (C.cipher_key cipher.now) nonce.now message.old }
 {

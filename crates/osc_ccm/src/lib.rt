@@ -9,6 +9,7 @@
 //! ```
 #![tactic(auto)]
 
+mod algorithm;
 mod blocks;
 mod key_stream;
 mod laws;
@@ -17,7 +18,8 @@ mod opening;
 mod sealing;
 mod tag;
 
-pub use blocks::{MOST_AAD, MOST_PLAINTEXT, NONCE_LEN, TAG_LEN};
+pub use algorithm::{AesCcm16_64_128, Key, Nonce, Tag};
+pub use blocks::{MOST_AAD, MOST_PLAINTEXT};
 pub use laws::{one_plaintext, protection_length};
 pub use opening::{OpenError, open};
 pub use sealing::{SealError, seal};

@@ -4,6 +4,7 @@
 ghost use Rattle.std.specs.Prelude.{◌≡◌, ◌<◌, ◌≤◌, ◌+◌, ℕ, length};
 ghost use Rattle.osc_ccm.specs.Ccm.{encrypted, encrypted_tag};
 
+use crate::algorithm::{Nonce, Tag};
 use crate::blocks::xor_front;
 use crate::tag::{absorb_beside, begin, hidden_tag};
 use osc_aes::{BlockCipher, encrypted_length};
@@ -12,10 +13,10 @@ use osc_aes::{BlockCipher, encrypted_length};
 /// block i.
 pub(crate) fn seal_message<C: BlockCipher>(
     cipher: &C,
-    nonce: &[u8; 13],
+    nonce: &Nonce,
     aad: &[u8],
     message: &mut [u8],
-) -> [u8; 8]
+) -> Tag
     requires aad { length aad.now ≤ 65279 }
     requires message { length message.old ≤ 65535 }
     ensures message { message.new ≡ encrypted (C.cipher_key cipher.now) nonce.now message.old }
@@ -38,10 +39,10 @@ pub(crate) fn seal_message<C: BlockCipher>(
 /// together with the last.
 pub(crate) fn open_message<C: BlockCipher>(
     cipher: &C,
-    nonce: &[u8; 13],
+    nonce: &Nonce,
     aad: &[u8],
     message: &mut [u8],
-) -> [u8; 8]
+) -> Tag
     requires aad { length aad.now ≤ 65279 }
     requires message { length message.old ≤ 65535 }
     ensures message { message.new ≡ encrypted (C.cipher_key cipher.now) nonce.now message.old }

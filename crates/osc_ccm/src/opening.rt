@@ -3,6 +3,7 @@
 ghost use Rattle.std.specs.Prelude.{◌≡◌, ◌↔◌, ℕ, List, ◌+◌, ◌<◌, ◌≤◌, length, take, drop, IsOkAnd, IfOk, OnErr};
 ghost use Rattle.osc_ccm.specs.Ccm.{ccm, tag_length};
 
+use crate::algorithm::Nonce;
 use crate::blocks::{MOST_PLAINTEXT, TAG_LEN};
 use crate::key_stream::add_key_stream;
 use crate::message::open_message;
@@ -26,7 +27,7 @@ pub enum OpenError {
 /// as they are (RFC 3610, 2.5). A refusal tells nothing about how far the bytes agreed.
 pub fn open<C: BlockCipher>(
     cipher: &C,
-    nonce: &[u8; 13],
+    nonce: &Nonce,
     aad: &[u8],
     buf: &mut [u8],
 ) -> Result<usize, OpenError>

@@ -3,6 +3,7 @@
 ghost use Rattle.std.specs.Prelude.{◌≡◌, ◌↔◌, ◌+◌, ◌++◌, ◌<◌, ◌≤◌, length, take, drop, IsOk, IfOk, OnOk, OnErr};
 ghost use Rattle.osc_ccm.specs.Ccm.{ccm, tag_length};
 
+use crate::algorithm::Nonce;
 use crate::blocks::{MOST_PLAINTEXT, TAG_LEN};
 use crate::message::seal_message;
 use osc_aes::{BlockCipher, encrypted_length};
@@ -23,7 +24,7 @@ pub enum SealError {
 /// key.
 pub fn seal<C: BlockCipher>(
     cipher: &C,
-    nonce: &[u8; 13],
+    nonce: &Nonce,
     aad: &[u8],
     buf: &mut [u8],
     len: usize,

@@ -4,6 +4,7 @@
 ghost use Rattle.std.specs.Prelude.{◌≡◌, ◌↔◌, ◌<◌, ◌≤◌, ℕ, List, fold, length, replicate, take, IsTrue};
 ghost use Rattle.osc_ccm.specs.Ccm.{encoded_aad, first_block, mac_step, padded_block, padded_blocks, stream_block, tag_length, xor_bytes};
 
+use crate::algorithm::{Nonce, Tag};
 use crate::blocks::{
     COUNTER_FLAGS, FLAGS, FLAGS_WITH_AAD, TAG_LEN, aad_block, numbered_block, xor_front,
 };
@@ -13,7 +14,7 @@ use osc_aes::BlockCipher;
 /// with B_0.
 pub(crate) fn begin<C: BlockCipher>(
     cipher: &C,
-    nonce: &[u8; 13],
+    nonce: &Nonce,
     aad: &[u8],
     len: usize,
     i: usize,
@@ -40,7 +41,7 @@ pub(crate) fn begin<C: BlockCipher>(
 /// Takes up to 16 bytes into the state, as a block padded with zeros, and makes S_i together with it.
 pub(crate) fn absorb_beside<C: BlockCipher>(
     cipher: &C,
-    nonce: &[u8; 13],
+    nonce: &Nonce,
     state: &mut [u8; 16],
     part: &[u8],
     i: usize,
@@ -91,7 +92,7 @@ fn absorb_block<C: BlockCipher>(cipher: &C, state: &mut [u8; 16], part: &[u8])
 }
 
 /// Returns the tag as it is sent: the front of the last state, added to the front of S_0.
-pub(crate) fn hidden_tag(state: &[u8; 16], stream: &[u8; 16]) -> [u8; 8]
+pub(crate) fn hidden_tag(state: &[u8; 16], stream: &[u8; 16]) -> Tag
     ensures { result ≡ xor_bytes (take tag_length state.now) (take tag_length stream.now) }
 {
     let mut tag = [0u8; 8];
@@ -102,7 +103,7 @@ pub(crate) fn hidden_tag(state: &[u8; 16], stream: &[u8; 16]) -> [u8; 8]
 }
 
 /// Returns whether two tags are equal. It gathers the differences of all bytes, and tests them once.
-pub(crate) fn is_same_tag(tag: &[u8; 8], received: &[u8]) -> bool
+pub(crate) fn is_same_tag(tag: &Tag, received: &[u8]) -> bool
     requires { length received.now ≡ 8 }
     ensures { IsTrue result ↔ (tag.now ≡ received.now) }
 {

@@ -12,12 +12,10 @@ use crate::cbor::{begin_array, push_bytes, push_number, push_text};
 use crate::identifier::Kid;
 use crate::partial_iv::Piv;
 use arrayvec::ArrayVec;
+use osc_ccm::AesCcm16_64_128;
 
 /// The version of OSCORE (RFC 8613, 5.4).
 const OSCORE_VERSION: u8 = 1;
-
-/// AES-CCM-16-64-128, the only algorithm here (RFC 8152, 10.2).
-pub(crate) const ALGORITHM: u8 = 10;
 
 /// Returns the additional data of a request and of its response. The identifier and the number are those of the
 /// request, for the response too (RFC 8613, 5.4).
@@ -44,7 +42,7 @@ fn external_aad(kid: &Kid, partial_iv: Piv) -> ArrayVec<u8, 20>
     begin_array(&mut out, 5);
     push_number(&mut out, OSCORE_VERSION);
     begin_array(&mut out, 1);
-    push_number(&mut out, ALGORITHM);
+    push_number(&mut out, AesCcm16_64_128::NUMBER);
     push_bytes(&mut out, kid.bytes());
     push_bytes(&mut out, partial_iv.bytes().as_slice());
     push_bytes(&mut out, &[]);

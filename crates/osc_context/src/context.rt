@@ -13,6 +13,7 @@ use crate::derivation::{derive_common_iv, derive_key};
 use crate::features::{Features, NO_FEATURES};
 use crate::identifier::{IdContext, Kid};
 use crate::parameters::Params;
+use osc_ccm::{Key, Nonce};
 use osc_hkdf::extract;
 use std::fmt;
 
@@ -29,9 +30,9 @@ pub struct Context {
     sender_id: Kid,
     recipient_id: Kid,
     id_context: Option<IdContext>,
-    sender_key: [u8; 16],
-    recipient_key: [u8; 16],
-    common_iv: [u8; 13],
+    sender_key: Key,
+    recipient_key: Key,
+    common_iv: Nonce,
     constant_time: bool,
     features: Features,
     pub ghost usable: { IsUsable (record {
@@ -93,9 +94,9 @@ impl Context {
         sender: Kid,
         recipient: Kid,
         id_context: Option<IdContext>,
-        sender_key: [u8; 16],
-        recipient_key: [u8; 16],
-        common_iv: [u8; 13],
+        sender_key: Key,
+        recipient_key: Key,
+        common_iv: Nonce,
     ) -> Option<Context>
         ensures client { IfSome result (λ c. as_client c ≡ record {
           client = sender;
@@ -248,7 +249,7 @@ impl Context {
 
     /// Returns the Sender Key, under which this end seals.
     #[must_use]
-    pub fn sender_key(&self) -> &[u8; 16]
+    pub fn sender_key(&self) -> &Key
         ensures { result.now ≡ (as_client self.now).client_key }
     {
         &self.sender_key
@@ -256,7 +257,7 @@ impl Context {
 
     /// Returns the Recipient Key, under which the other end seals.
     #[must_use]
-    pub fn recipient_key(&self) -> &[u8; 16]
+    pub fn recipient_key(&self) -> &Key
         ensures { result.now ≡ (as_server self.now).client_key }
     {
         &self.recipient_key
@@ -264,7 +265,7 @@ impl Context {
 
     /// Returns the Common IV, from which each nonce is made.
     #[must_use]
-    pub fn common_iv(&self) -> &[u8; 13]
+    pub fn common_iv(&self) -> &Nonce
         ensures { result.now ≡ (as_client self.now).common_iv }
     {
         &self.common_iv

@@ -8,14 +8,10 @@ ghost use Rattle.osc_hkdf.specs.Hkdf.{expand_of};
 ghost use Rattle.osc_context.specs.Algorithm.{key_length, nonce_length};
 ghost use Rattle.osc_context.specs.Derivation.{info_of};
 
-use crate::additional_data::ALGORITHM;
 use crate::cbor::{begin_array, push_bytes, push_nil, push_number, push_text};
-use crate::nonces::NONCE_LEN;
 use arrayvec::ArrayVec;
+use osc_ccm::{AesCcm16_64_128, Key, Nonce};
 use osc_hkdf::expand;
-
-/// The length of a key of AES-CCM-16-64-128 in bytes (RFC 8152, 10.2).
-const KEY_LEN: usize = 16;
 
 /// The type of a key in its info.
 const KEY_TYPE: &str = "Key";
@@ -43,22 +39,22 @@ pub(crate) fn info(
         Some(bytes) => push_bytes(&mut out, bytes),
         None => push_nil(&mut out),
     }
-    push_number(&mut out, ALGORITHM);
+    push_number(&mut out, AesCcm16_64_128::NUMBER);
     push_text(&mut out, output_type);
     push_number(&mut out, len);
     out
 }
 
 /// Derives the key of the end with this identifier, under the pseudorandom key from salt and secret.
-pub(crate) fn derive_key(prk: &[u8; 32], id_context: Option<&[u8]>, id: &[u8]) -> [u8; KEY_LEN]
+pub(crate) fn derive_key(prk: &[u8; 32], id_context: Option<&[u8]>, id: &[u8]) -> Key
     requires id { length id.now ≤ 7 }
     requires id_context { IfSome (option_copied id_context) (λ bytes. length bytes ≤ 32) }
     ensures { result ≡ expand_of prk.now (info_of id.now (option_copied id_context.entry) (codes "Key") key_length) key_length }
 {
-    let mut key = [0u8; KEY_LEN];
+    let mut key = [0u8; AesCcm16_64_128::KEY_LEN];
     match expand(
         prk,
-        info(id, id_context, KEY_TYPE, KEY_LEN as u8).as_slice(),
+        info(id, id_context, KEY_TYPE, AesCcm16_64_128::KEY_LEN as u8).as_slice(),
         &mut key,
     ) {
         Ok(()) => key,
@@ -67,14 +63,20 @@ pub(crate) fn derive_key(prk: &[u8; 32], id_context: Option<&[u8]>, id: &[u8]) -
 }
 
 /// Derives the Common IV, under the pseudorandom key from salt and secret.
-pub(crate) fn derive_common_iv(prk: &[u8; 32], id_context: Option<&[u8]>) -> [u8; NONCE_LEN]
+pub(crate) fn derive_common_iv(prk: &[u8; 32], id_context: Option<&[u8]>) -> Nonce
     requires { IfSome (option_copied id_context) (λ bytes. length bytes ≤ 32) }
     ensures { result ≡ expand_of prk.now (info_of [] (option_copied id_context.entry) (codes "IV") nonce_length) nonce_length }
 {
-    let mut common_iv = [0u8; NONCE_LEN];
+    let mut common_iv = [0u8; AesCcm16_64_128::NONCE_LEN];
     match expand(
         prk,
-        info(&[], id_context, COMMON_IV_TYPE, NONCE_LEN as u8).as_slice(),
+        info(
+            &[],
+            id_context,
+            COMMON_IV_TYPE,
+            AesCcm16_64_128::NONCE_LEN as u8,
+        )
+        .as_slice(),
         &mut common_iv,
     ) {
         Ok(()) => common_iv,

@@ -4,9 +4,9 @@
 //! The request with number 20 of a client with the empty identifier (RFC 8613, C.4):
 //!
 //!     fn request(
-//!         common_iv: &[u8; 13],
+//!         common_iv: &Nonce,
 //!         value: &mut ArrayVec<u8, 255>,
-//!     ) -> Option<([u8; 13], ArrayVec<u8, 32>)> {
+//!     ) -> Option<(Nonce, ArrayVec<u8, 32>)> {
 //!         let client = Kid::new(&[])?;
 //!         let partial_iv = Piv::new(20)?;
 //!         let option = OscoreOption {

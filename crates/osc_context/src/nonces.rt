@@ -6,34 +6,32 @@ ghost use Rattle.osc_context.specs.Views.{number_of};
 
 use crate::identifier::Kid;
 use crate::partial_iv::Piv;
-
-/// The length in bytes of a nonce of AES-CCM-16-64-128, and of the Common IV (RFC 8152, 10.2, and RFC 8613, 3.1).
-pub(crate) const NONCE_LEN: usize = 13;
+use osc_ccm::{AesCcm16_64_128, Nonce};
 
 /// Returns the nonce. The identifier is that of the end that generated the Partial IV, in a response too
 /// (RFC 8613, 5.2).
 #[must_use]
-pub fn nonce(common_iv: &[u8; 13], owner: &Kid, partial_iv: Piv) -> [u8; 13]
+pub fn nonce(common_iv: &Nonce, owner: &Kid, partial_iv: Piv) -> Nonce
     ensures { result ≡ nonce_of common_iv.now owner.now (number_of partial_iv) }
 {
     let text = nonce_text(owner, partial_iv);
-    let mut nonce = [0u8; NONCE_LEN];
-    for i in 0..NONCE_LEN {
+    let mut nonce = [0u8; AesCcm16_64_128::NONCE_LEN];
+    for i in 0..AesCcm16_64_128::NONCE_LEN {
         nonce[i] = common_iv[i] ^ text[i];
     }
     nonce
 }
 
 /// Returns the length of the identifier, then the identifier and the Partial IV, each at the end of its field.
-fn nonce_text(owner: &Kid, partial_iv: Piv) -> [u8; NONCE_LEN]
+fn nonce_text(owner: &Kid, partial_iv: Piv) -> Nonce
     ensures { result ≡ nonce_text owner.now (number_of partial_iv) }
 {
     let id = owner.bytes();
     let partial_iv = partial_iv.bytes();
-    let mut text = [0u8; NONCE_LEN];
+    let mut text = [0u8; AesCcm16_64_128::NONCE_LEN];
     text[0] = id.len() as u8;
     put_before(&mut text, 8, id);
-    put_before(&mut text, NONCE_LEN, partial_iv.as_slice());
+    put_before(&mut text, AesCcm16_64_128::NONCE_LEN, partial_iv.as_slice());
     text
 }
 

@@ -7,6 +7,7 @@ ghost use Rattle.osc_context.specs.Views.{as_client, as_server, is_constant_time
 ghost use Rattle.osc_context.specs.Senders.{HaveSameSender};
 ghost use Rattle.osc_context_handle.specs.ContextBytes.{client_in, server_in, id_context_in, is_constant_time_in, IsContext};
 
+use osc_ccm::{Key, Nonce};
 use osc_context::{Context, Features, IdContext, Kid};
 
 /// A context in the caller's memory. If the ID Context has no bytes, there is none.
@@ -19,9 +20,9 @@ pub struct ContextHandle {
     pub recipient_len: u8,
     pub id_context: [u8; 32],
     pub id_context_len: u8,
-    pub sender_key: [u8; 16],
-    pub recipient_key: [u8; 16],
-    pub common_iv: [u8; 13],
+    pub sender_key: Key,
+    pub recipient_key: Key,
+    pub common_iv: Nonce,
     /// Whether its keys are used in constant time: any value but 0 asks for that.
     pub constant_time: u8,
     /// Whether block-wise transfer passes inside the protection: any value but 0 allows it.
@@ -168,7 +169,7 @@ impl ContextHandle {
 }
 
 /// Returns whether two keys are equal. It gathers the differences of all bytes, and tests them once.
-fn is_same_key(key: &[u8; 16], other: &[u8; 16]) -> bool
+fn is_same_key(key: &Key, other: &Key) -> bool
     ensures { IsTrue result ↔ (key.now ≡ other.now) }
 {
     let mut differences = 0;

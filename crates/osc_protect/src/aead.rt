@@ -17,7 +17,7 @@ ghost use Rattle.osc_protect.specs.Protection.{request_cipher, response_cipher, 
 use crate::context_cipher::ContextCipher;
 use crate::ends::End;
 use arrayvec::ArrayVec;
-use osc_ccm::protection_length;
+use osc_ccm::{Nonce, protection_length};
 use osc_coap::payload_stands_last;
 use osc_context::{Kid, Piv, aad, nonce};
 
@@ -25,7 +25,7 @@ use osc_context::{Kid, Piv, aad, nonce};
 #[derive(Drop)]
 pub(crate) struct Aead<'a> {
     cipher: ContextCipher<'a>,
-    nonce: [u8; 13],
+    nonce: Nonce,
     additional_data: ArrayVec<u8, 32>,
 }
 
@@ -35,12 +35,12 @@ ghost use Rattle.osc_protect.specs.Halves.{HasPayload, DecryptsPayload};
 /// Returns the nonce of a response. It comes from the server's own Partial IV if the response has one, and otherwise from the client's
 /// request (RFC 8613, 5.2).
 fn nonce_of_response(
-    common_iv: &[u8; 13],
+    common_iv: &Nonce,
     client: &Kid,
     server: &Kid,
     request: Piv,
     own: Option<Piv>,
-) -> [u8; 13]
+) -> Nonce
     ensures { result ≡ response_nonce common_iv.now client.now server.now (number_of request) (option_map number_of own) }
 {
     match own {
@@ -51,7 +51,7 @@ fn nonce_of_response(
 
 impl<'a> Aead<'a> {
     /// Makes the cipher of a request. The nonce and the additional data come from the client and its number (RFC 8613, 5.2 and 5.4).
-    pub(crate) fn of_request(client: End<'a>, common_iv: &[u8; 13], number: Piv) -> Aead<'a>
+    pub(crate) fn of_request(client: End<'a>, common_iv: &Nonce, number: Piv) -> Aead<'a>
         ensures { (s : SecurityContext) (m : List ℕ) → IsClientOf s client.entry → common_iv.now ≡ s.common_iv
             → cipher_of result m ≡ request_cipher s (number_of number) m }
     {
@@ -66,7 +66,7 @@ impl<'a> Aead<'a> {
     /// is otherwise the request's. The additional data is the request's (RFC 8613, 5.2 and 5.4).
     pub(crate) fn of_response(
         server: End<'a>,
-        common_iv: &[u8; 13],
+        common_iv: &Nonce,
         client: &Kid,
         request: Piv,
         own: Option<Piv>,

@@ -5,7 +5,7 @@ ghost use Rattle.osc_ccm.specs.Ccm.{ccm, tag_length};
 ghost use Rattle.osc_protect.specs.ContextCipher.{is_in_constant_time, key_under, keeps_constant_time, kept_key};
 
 use osc_aes::{PlaneAes, TableAes};
-use osc_ccm::{OpenError, SealError, open, seal};
+use osc_ccm::{Key, Nonce, OpenError, SealError, open, seal};
 
 /// AES-CCM under one key of a context: over a schedule that is kept, or over one that each call makes of the key. Each call checks once
 /// which cipher this is.
@@ -13,13 +13,13 @@ use osc_ccm::{OpenError, SealError, open, seal};
 pub(crate) enum ContextCipher<'a> {
     ByTables(&'a TableAes),
     ConstantTime(&'a PlaneAes),
-    ByTablesOf(&'a [u8; 16]),
-    ConstantTimeOf(&'a [u8; 16]),
+    ByTablesOf(&'a Key),
+    ConstantTimeOf(&'a Key),
 }
 
 impl<'a> ContextCipher<'a> {
     /// Returns the cipher of a key whose schedule isn't kept.
-    pub(crate) fn of_key(key: &'a [u8; 16], constant_time: bool) -> ContextCipher<'a>
+    pub(crate) fn of_key(key: &'a Key, constant_time: bool) -> ContextCipher<'a>
         ensures key { key_under result ≡ key.now }
         ensures chosen { is_in_constant_time result ≡ constant_time }
     {
@@ -33,7 +33,7 @@ impl<'a> ContextCipher<'a> {
     /// Seals the first `len` bytes of `payload` in place, as `osc_ccm::seal` does.
     pub(crate) fn seal(
         self,
-        nonce: &[u8; 13],
+        nonce: &Nonce,
         additional_data: &[u8],
         payload: &mut [u8],
         len: usize,
@@ -72,7 +72,7 @@ impl<'a> ContextCipher<'a> {
     /// Opens `payload` in place, as `osc_ccm::open` does.
     pub(crate) fn open(
         self,
-        nonce: &[u8; 13],
+        nonce: &Nonce,
         additional_data: &[u8],
         payload: &mut [u8],
     ) -> Result<usize, OpenError>
@@ -107,8 +107,8 @@ impl<'a> ContextCipher<'a> {
 /// frame.
 #[inline(never)]
 fn seal_in_planes(
-    key: &[u8; 16],
-    nonce: &[u8; 13],
+    key: &Key,
+    nonce: &Nonce,
     additional_data: &[u8],
     payload: &mut [u8],
     len: usize,
@@ -126,8 +126,8 @@ fn seal_in_planes(
 /// Opens so under a key whose planes are made here. It stays a separate call, as `seal_in_planes` does.
 #[inline(never)]
 fn open_in_planes(
-    key: &[u8; 16],
-    nonce: &[u8; 13],
+    key: &Key,
+    nonce: &Nonce,
     additional_data: &[u8],
     payload: &mut [u8],
 ) -> Result<usize, OpenError>
@@ -151,7 +151,7 @@ pub(crate) enum KeptSchedule {
 
 impl KeptSchedule {
     /// Makes the schedule of a key.
-    pub(crate) fn of_key(key: &[u8; 16], constant_time: bool) -> KeptSchedule
+    pub(crate) fn of_key(key: &Key, constant_time: bool) -> KeptSchedule
         ensures key { kept_key result ≡ key.now }
         ensures chosen { keeps_constant_time result ≡ constant_time }
     {

@@ -12,7 +12,7 @@ ghost use Rattle.osc_protect.specs.Split.{has_observe, option_with, said};
 use crate::checked::Checked;
 use crate::family::Family;
 use crate::protect_error::ProtectError;
-use osc_ccm::TAG_LEN;
+use osc_ccm::AesCcm16_64_128;
 use osc_coap::option_numbers::OSCORE;
 use osc_coap::{MOST_DATAGRAM, Message, head_len, option_len};
 
@@ -99,7 +99,7 @@ pub(crate) fn check_length(
     let delta = OSCORE.saturating_sub(lists.outer.number);
     let marker = head_len(&plain.token) + lists.outer.len + option_len(delta, value.len() as u16);
     let plaintext = 1 + lists.inner.len + marked_len(plain.payload());
-    let sealed = marker + 1 + plaintext + TAG_LEN;
+    let sealed = marker + 1 + plaintext + AesCcm16_64_128::TAG_LEN;
     if sealed > MOST_DATAGRAM {
         return Err(ProtectError::TooLong);
     }

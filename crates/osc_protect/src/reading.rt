@@ -19,7 +19,7 @@ use crate::option_search::{OuterUri, has_barred};
 use crate::stage_error::BadInner;
 use crate::stages::{DecryptedRequest, DecryptedResponse, ReadRequest, ReadResponse};
 use crate::usage::{Usage, is_code_of};
-use osc_ccm::TAG_LEN;
+use osc_ccm::AesCcm16_64_128;
 use osc_coap::{one_datagram, one_inner, parse_inner, parsed, parsed_inner, payload_stands_last};
 use osc_context::{Features, Piv};
 
@@ -213,7 +213,7 @@ fn inspect(usage: Usage, features: Features, datagram: &[u8], len: usize) -> Res
 {
     // For the proof alone.
     payload_stands_last();
-    let start = datagram.len() - (len + TAG_LEN);
+    let start = datagram.len() - (len + AesCcm16_64_128::TAG_LEN);
     let Ok(inner) = parse_inner(&datagram[start..start + len]) else {
         return Err(BadInner);
     };
@@ -240,7 +240,7 @@ fn lend(
     // For the proof alone.
     one_datagram();
     one_inner();
-    let message = parsed(datagram, len + TAG_LEN);
+    let message = parsed(datagram, len + AesCcm16_64_128::TAG_LEN);
     let inner = parsed_inner(&message.payload()[..len], payload_len);
     let uri = OuterUri::of(message.options());
     Opened {
