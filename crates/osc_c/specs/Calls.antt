@@ -16,13 +16,13 @@ use Rattle.osc_c.specs.declared.status.Status.{Status}
 use Rattle.osc_c.specs.declared.status.Status.TheVariants.{BadHandle, BadNumber}
 
 -- the response's own Partial IV, if one is given, is one that a Partial IV can hold (RFC 8613, 5)
-abbrev pub IsOwnNumber : Bool → ℕ → Type 0
-IsOwnNumber has_own own = has_own ≡ true → own < 2 ^ 40
+abbrev pub IsOwnPartialIv : Bool → ℕ → Type 0
+IsOwnPartialIv has_own own = has_own ≡ true → own < 2 ^ 40
 
 -- the numbers of a response, its request's and its own, are ones that a Partial IV can hold (RFC 8613, 5)
 pub record AreNumbers (asked : ℕ) (has_own : Bool) (number : ℕ) : Type 0 where
   pub request : asked < 2 ^ 40
-  pub own : IsOwnNumber has_own number
+  pub own : IsOwnPartialIv has_own number
 
 -- how many bytes Observe takes outside at most, where it is allowed: a byte, and a value of at most 3 (RFC 7252, 3.1; RFC 7641, 2; RFC 8613, 4.1.3.5)
 abbrev pub observe_room : Bool → ℕ

@@ -7,7 +7,7 @@ ghost use Rattle.osc_coap.specs.Datagram.{Parts, IsDatagram};
 ghost use Rattle.osc_protect.specs.Protection.{requests, responses};
 ghost use Rattle.osc_protect.specs.SealRefusals.{FitsToSeal};
 ghost use Rattle.osc_protect.specs.Sealed.{SealsRequest, SealsResponse};
-ghost use Rattle.osc_c.specs.Calls.{AreNumbers, HasRoomFor, IsOwnNumber, RefusesSealing};
+ghost use Rattle.osc_c.specs.Calls.{AreNumbers, HasRoomFor, IsOwnPartialIv, RefusesSealing};
 ghost use Rattle.osc_c.specs.Opened.{number_given};
 ghost use Rattle.osc_context_handle.specs.ContextBytes.{client_in, server_in, IsContext};
 ghost use Rattle.osc_c.specs.Statuses.{code};
@@ -100,8 +100,8 @@ pub extern "C" fn oscore_seal_request(
 /// Returns a message's own Partial IV, or `Some(None)` if it has none. Returns `None` if the number is 2^40 or above.
 fn own_number(has_own: bool, own: u64) -> Option<Option<Piv>>
     ensures made { IfSome result (λ piv. option_map number_of piv ≡ number_given has_own own) }
-    ensures accepted { IsSome result → IsOwnNumber has_own own }
-    ensures accepts { IsOwnNumber has_own own → IsSome result }
+    ensures accepted { IsSome result → IsOwnPartialIv has_own own }
+    ensures accepts { IsOwnPartialIv has_own own → IsSome result }
 {
     if has_own {
         Piv::new(own).map(Some)

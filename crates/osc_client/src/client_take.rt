@@ -142,11 +142,11 @@ impl<const N: usize> Client<N> {
         one_response();
         one_notification();
         protections_show_heads();
-        self.decide_forward(now, datagram)
+        self.judge(now, datagram)
     }
 
     /// Decides the answer to a datagram.
-    fn decide_forward(&mut self, now: u64, datagram: &mut [u8]) -> ClientDecision
+    fn judge(&mut self, now: u64, datagram: &mut [u8]) -> ClientDecision
         ensures answered { (h : History) → ClientAgrees self.old h → ClientDecidesTo h now datagram.old result datagram.new self.new }
         ensures shown { CanShow result datagram.new }
         ensures left { LeavesBy self.old result datagram.old datagram.new }

@@ -1,11 +1,12 @@
 -- Sealing is exact in both directions.
-use Rattle.std.proofs.Common.{◌≡◌, ℕ, ◌≤◌, List, take, Result, Ok, Err, IsOk, IfOk, IfErr, IsErrOf, refl, ap, subst, arith}
+use Rattle.std.proofs.Common.{◌≡◌, ℕ, ◌≤◌, List, length, take, drop, Result, Ok, Err, IsOk, IfOk, IfErr, IsErrOf, OnErr, refl, ap, subst, arith}
 use Rattle.osc_coap.specs.Datagram.{Parts, IsDatagram}
 use Rattle.osc_context.specs.Laws.{OneSpelling}
 use Rattle.osc_context.specs.OscoreValue.{IsOscoreValue}
 use Rattle.osc_protect.specs.Protection.{Protection}
 use Rattle.osc_protect.specs.Sealed.{HoldsSealed, IsSealed, features_for, outside, sealed_length}
 use Rattle.osc_protect.specs.SealRefusals.{CanBeSealed, FitsToSeal, RefusesSize, RefusesPlain, RefusesToSeal}
+use Rattle.osc_protect.specs.Sealing.{Seals}
 use Rattle.osc_protect.specs.Halves.{Makes}
 use Rattle.osc_protect.specs.Usage.{outer_code_of}
 use Rattle.osc_protect.specs.declared.protect_error.ProtectError.{ProtectError}
@@ -59,15 +60,28 @@ module _ {I : Type 0} (f : Protection I) (i : I) (p : Parts) where
   one_seal_refusal one room NoRoom NoRoom h k = refl
 
   -- what fits is sealed
-  pub fits_all : (room : ℕ) (r : Result ℕ ProtectError) → IfErr r (λ e. RefusesToSeal f i p room e) → FitsToSeal f i p room → IsOk r
+  fits_all : (room : ℕ) (r : Result ℕ ProtectError) → IfErr r (λ e. RefusesToSeal f i p room e) → FitsToSeal f i p room → IsOk r
   fits_all room (Ok x) refused fits = refl
   fits_all room (Err e) refused fits = absurd (fits_never room e fits refused)
 
   -- what is refused is answered so
-  pub refuses_all : OneSpelling → (room : ℕ) (r : Result ℕ ProtectError) → IfOk r (λ len. Makes f i p room len)
+  refuses_all : OneSpelling → (room : ℕ) (r : Result ℕ ProtectError) → IfOk r (λ len. Makes f i p room len)
       → IfErr r (λ e. RefusesToSeal f i p room e) → (e : ProtectError) → RefusesToSeal f i p room e → IsErrOf r e
   refuses_all one room (Ok len) made refused e h = absurd (made_never one room len e made h)
   refuses_all one room (Err g) made refused e h = ap Err (one_seal_refusal one room g e refused h)
+
+  -- what a call answers and leaves, from what each of its ways out says
+  pub seals_all : OneSpelling → (old new : List ℕ) (r : Result ℕ ProtectError) → IfOk r (λ n. IsSealed f i p (take n new)) → IfOk r (λ len. Makes f i p (length old) len)
+      → IfOk r (λ n. n ≤ length new) → IfOk r (λ n. drop n new ≡ drop n old) → IfErr r (λ e. RefusesToSeal f i p (length old) e) → OnErr r (new ≡ old) → Seals f i p old new r
+  seals_all one old new r sealed made within behind refused unchanged = record {
+    sealed = sealed;
+    within = within;
+    behind = behind;
+    accepts = fits_all (length old) r refused;
+    refused = refused;
+    refuses = refuses_all one (length old) r made refused;
+    unchanged = unchanged;
+  }
 
   -- a refusal of kind, code or options is one to seal
   pub plain_refuses : (room : ℕ) (e : ProtectError) → RefusesPlain f.usage (features_for f p) p e → RefusesToSeal f i p room e

@@ -1,5 +1,5 @@
 -- The stages of opening together: what is read after decrypting is what the datagram protects.
-use Rattle.std.proofs.Common.{◌≡◌, ℕ, Bool, List, true, false, ◌++◌, length, take, drop, refl, sym, ap, subst, ◌∙◌, option_map, Option, Result, Ok, Err, IfOk, IfErr, IsErr, IsOk, IsOkAnd, IsErrOf, OnErr, OnOk}
+use Rattle.std.proofs.Common.{◌≡◌, ◌≢◌, ℕ, Bool, List, true, false, ◌++◌, length, take, drop, refl, sym, ap, subst, ◌∙◌, option_map, Option, Result, Ok, Err, IfOk, IfErr, IsErr, IsOk, IsOkAnd, IsErrOf, OnErr, OnOk}
 use Rattle.std.proofs.lemmas.List.{take_at}
 use Rattle.osc_coap.specs.Datagram.{Parts, IsDatagram}
 use Rattle.osc_coap.specs.Inner.{InnerParts, IsInner}
@@ -11,7 +11,8 @@ use Rattle.osc_context.specs.SecurityContext.{SecurityContext}
 use Rattle.osc_protect.specs.Protection.{Protection, Protects, responses_to}
 use Rattle.osc_protect.specs.Refusals.{IsBadInner, RefusesPlaintext, RefusesToOpen}
 use Rattle.osc_protect.specs.Views.{message_of, opened_number}
-use Rattle.osc_protect.specs.Opening.{ShowsOuter, Opens}
+use Rattle.osc_protect.specs.Opening.{ShowsOuter, Opens, OpensExactly}
+use Rattle.osc_protect.specs.StageViews.{UnprotectsExactly}
 use Rattle.osc_coap.specs.Search.{has_number}
 use Rattle.osc_protect.specs.OptionSets.{is_barred}
 use Rattle.osc_protect.specs.Usage.{is_code_of}
@@ -21,7 +22,8 @@ use Rattle.osc_protect.specs.Laws.{OneMessage, OneNotification, OneResponse}
 use Rattle.osc_protect.specs.declared.opened.Opened.{Opened}
 use Rattle.osc_protect.specs.declared.stage_error.BadInner.{BadInner}
 use Rattle.osc_protect.specs.declared.unprotect_error.UnprotectError.{UnprotectError}
-use Rattle.osc_protect.specs.declared.unprotect_error.UnprotectError.TheVariants.{Inner}
+use Rattle.osc_protect.specs.declared.unprotect_error.UnprotectError.TheVariants.{Inner, WrongContext}
+use Rattle.osc_protect.specs.declared.usage.Usage.TheVariants.{Request, Response}
 
 -- a datagram protects one response, whether its request registers or not
 pub one_to : OneResponse → OneNotification → (s : SecurityContext) (r : Bool) (n : ℕ) → OneMessage (responses_to s r n)
@@ -83,18 +85,14 @@ module _ {I : Type 0} (one : DatagramIsOneMessage) (f : Protection I) (old new :
       let bad : IsBadInner f.usage f.features it.plaintext = subst (IsBadInner f.usage f.features) (front (h.0) h.1) h.2 in
       (it.head, (it.outer, it.datagram, it.shows), i, it.names, it.plaintext, it.seals, bad)
 
+-- a request is no response
+pub no_response : Request ≡ Response → ⊥
+no_response e = cc
+
 -- a fact of each outcome, made of another
 pub when_ok : {X E : Type 0} {P Q : X → Type 0} (r : Result X E) → ((x : X) → P x → Q x) → IfOk r P → IfOk r Q
 when_ok (Ok x) f h = f x h
 when_ok (Err e) f h = h
-
-pub when_accepted : {X E : Type 0} {P Q : Type 0} (r : Result X E) → (P → Q) → OnOk r P → OnOk r Q
-when_accepted (Ok x) f h = f h
-when_accepted (Err e) f h = h
-
-pub when_err : {X E : Type 0} {P Q : Type 0} (r : Result X E) → (P → Q) → OnErr r P → OnErr r Q
-when_err (Ok x) f h = h
-when_err (Err e) f h = f h
 
 -- ---- both directions
 
@@ -102,25 +100,42 @@ module _ {I : Type 0} (f : Protection I) (laws : OneMessage f) (d : List ℕ) wh
   only_ok : (i : I) (m : InnerParts) (o : Opened) → Opens f d o → Protects f i m d → (opened_number o ≡ (f.parts i).piv) × (message_of o ≡ m)
   only_ok i m o x y = (x.number_is ∙ ap (λ (j : I). (f.parts j).piv) (laws.number d x.number i (message_of o) m x.protects y), laws.message d x.number i (message_of o) m x.protects y)
 
-  pub only_all : (r : Result Opened UnprotectError) → IfOk r (λ o. Opens f d o) → IfErr r (λ e. RefusesToOpen f d e)
+  only_all : (r : Result Opened UnprotectError) → IfOk r (λ o. Opens f d o) → IfErr r (λ e. RefusesToOpen f d e)
       → (i : I) (m : InnerParts) → Protects f i m d → IsOkAnd r (λ o. (opened_number o ≡ (f.parts i).piv) × (message_of o ≡ m))
   only_all (Ok o) h k i m y = only_ok i m o h y
   only_all (Err e) h k i m y = laws.never_both d i m e y k
 
-  pub exactly_all : (r : Result Opened UnprotectError) → IfOk r (λ o. Opens f d o) → IfErr r (λ e. RefusesToOpen f d e)
-      → (e : UnprotectError) → RefusesToOpen f d e → IsErrOf r e
-  exactly_all (Ok o) h k e y = absurd (laws.never_both d h.number (message_of o) e h.protects y)
-  exactly_all (Err g) h k e y = ap Err (laws.refusal d g e k y)
-
-  -- the same of what borrows nothing
-  pub accepts_all : {X : Type 0} (r : Result X UnprotectError) → IfErr r (λ e. RefusesToOpen f d e) → (i : I) (m : InnerParts) → Protects f i m d → IsOk r
+  accepts_all : {X : Type 0} (r : Result X UnprotectError) → IfErr r (λ e. RefusesToOpen f d e) → (i : I) (m : InnerParts) → Protects f i m d → IsOk r
   accepts_all (Ok x) k i m y = refl
   accepts_all (Err e) k i m y = absurd (laws.never_both d i m e y k)
 
-  pub refuses_all : {X : Type 0} (r : Result X UnprotectError) → IfOk r (λ x. (i : I) × (m : InnerParts) × Protects f i m d) → IfErr r (λ e. RefusesToOpen f d e)
+  refuses_all : {X : Type 0} (r : Result X UnprotectError) → IfOk r (λ x. (i : I) × (m : InnerParts) × Protects f i m d) → IfErr r (λ e. RefusesToOpen f d e)
       → (e : UnprotectError) → RefusesToOpen f d e → IsErrOf r e
   refuses_all (Ok x) h k e y = absurd (laws.never_both d h.0 h.1 e h.2 y)
   refuses_all (Err g) h k e y = ap Err (laws.refusal d g e k y)
+
+  pub opens_exactly : (r : Result Opened UnprotectError) → IfOk r (λ o. Opens f d o) → IfErr r (λ e. RefusesToOpen f d e)
+      → (f.usage ≡ Response → IfErr r (λ e. e ≢ WrongContext)) → OpensExactly f d r
+  opens_exactly r opened refused no_context = record {
+    opened = opened;
+    accepts = only_all r opened refused;
+    refused = refused;
+    refuses = refuses_all r (when_ok r (λ o h. (h.number, message_of o, h.protects)) opened) refused;
+    no_wrong_context = no_context;
+  }
+
+  -- the same of what borrows nothing
+  pub unprotects_exactly : {X : Type 0} (Lends : List ℕ → X → List ℕ → Type 0) (Leaves : List ℕ → UnprotectError → List ℕ → Type 0) (new : List ℕ) (r : Result X UnprotectError)
+      → IfOk r (λ x. Lends d x new) → IfOk r (λ x. (i : I) × (m : InnerParts) × Protects f i m d) → IfErr r (λ e. RefusesToOpen f d e)
+      → (f.usage ≡ Response → IfErr r (λ e. e ≢ WrongContext)) → IfErr r (λ e. Leaves d e new) → UnprotectsExactly f Lends Leaves d new r
+  unprotects_exactly Lends Leaves new r lends accepted refused no_context left = record {
+    lends = lends;
+    accepts = accepts_all r refused;
+    refused = refused;
+    refuses = refuses_all r accepted refused;
+    no_wrong_context = no_context;
+    left = left;
+  }
 
   -- the same of reading alone
   pub only_read : (r : Result Opened BadInner) → IfOk r (λ o. Opens f d o) → OnErr r (RefusesPlaintext f d)
@@ -131,12 +146,3 @@ module _ {I : Type 0} (f : Protection I) (laws : OneMessage f) (d : List ℕ) wh
   pub exactly_read : (r : Result Opened BadInner) → IfOk r (λ o. Opens f d o) → OnErr r (RefusesPlaintext f d) → RefusesPlaintext f d → IsErr r
   exactly_read (Ok o) h k y = absurd (laws.never_both d h.number (message_of o) Inner h.protects y)
   exactly_read (Err e) h k y = refl
-
-  -- the same of what is read and borrows nothing
-  pub accepts_read : {X : Type 0} (r : Result X BadInner) → OnErr r (RefusesPlaintext f d) → (i : I) (m : InnerParts) → Protects f i m d → IsOk r
-  accepts_read (Ok x) k i m y = refl
-  accepts_read (Err e) k i m y = absurd (laws.never_both d i m Inner y k)
-
-  pub refuses_read : {X : Type 0} (r : Result X BadInner) → OnOk r ((i : I) × (m : InnerParts) × Protects f i m d) → RefusesPlaintext f d → IsErr r
-  refuses_read (Ok x) h y = absurd (laws.never_both d (h.0) (h.1) Inner h.2 y)
-  refuses_read (Err e) h y = refl

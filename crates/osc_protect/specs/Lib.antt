@@ -5,6 +5,7 @@ pub mod Head
 pub mod Protection
 pub mod Sealed
 pub mod SealRefusals
+pub mod Sealing
 pub mod Refusals
 pub mod Opening
 pub mod Stages

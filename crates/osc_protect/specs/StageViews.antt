@@ -1,12 +1,12 @@
 -- How the code is seen: the values that the stages of opening pass on. s is a security context, n a request's number, r whether that request
 -- registers an observation, d, old and new are datagrams, o is the opened message, e a refusal.
-use Rattle.std.specs.Prelude.{◌≡◌, ◌≢◌, ℕ, Bool, List, Option}
+use Rattle.std.specs.Prelude.{◌≡◌, ◌≢◌, ℕ, Bool, List, Option, Result, IfOk, IfErr, IsOk, IsErrOf}
 use Rattle.std.specs.Option.{option_map}
 use Rattle.osc_coap.specs.Inner.{InnerParts}
 use Rattle.osc_context.specs.SecurityContext.{SecurityContext}
 use Rattle.osc_context.specs.Views.{number_of}
 use Rattle.osc_protect.specs.Protection.{Protection, Protects, ProtectsRequest, requests, responses_to}
-use Rattle.osc_protect.specs.Refusals.{RefusesPlaintext}
+use Rattle.osc_protect.specs.Refusals.{RefusesPlaintext, RefusesToOpen}
 use Rattle.osc_protect.specs.Opening.{Opens}
 use Rattle.osc_protect.specs.Stages.{Decrypts, HasPayloadOf, HasPlaintext, HasSealed}
 use Rattle.osc_protect.specs.declared.opened.Opened.{Opened}
@@ -17,7 +17,7 @@ use Rattle.osc_protect.specs.declared.stages.ReadResponse.{ReadResponse}
 use Rattle.osc_protect.specs.declared.stages.SealedRequest.{SealedRequest}
 use Rattle.osc_protect.specs.declared.stages.SealedResponse.{SealedResponse}
 use Rattle.osc_protect.specs.declared.unprotect_error.UnprotectError.{UnprotectError}
-use Rattle.osc_protect.specs.declared.unprotect_error.UnprotectError.TheVariants.{Inner}
+use Rattle.osc_protect.specs.declared.unprotect_error.UnprotectError.TheVariants.{Inner, WrongContext}
 use Rattle.osc_protect.specs.declared.usage.Usage.TheVariants.{Request, Response}
 
 -- the value comes from the datagram's head, which names the context (how the code is seen)
@@ -94,3 +94,21 @@ pub record LeavesRequest (f : Protection ℕ) (old : List ℕ) (e : UnprotectErr
 pub record LeavesResponse (f : Protection (Option ℕ)) (old : List ℕ) (e : UnprotectError) (new : List ℕ) : Type 0 where
   pub same : e ≢ Inner → new ≡ old
   pub decrypted : e ≡ Inner → (y : DecryptedResponse) × DecryptsResponse f old y new
+
+-- what a call that opens a datagram and borrows nothing answers and leaves, where Lends says what it read of which bytes, and Leaves what a
+-- refusal leaves; otherwise it is as for a call that lends the message (RFC 8613, 8.2 and 8.4)
+pub record UnprotectsExactly {I X : Type 0} (f : Protection I) (Lends : List ℕ → X → List ℕ → Type 0) (Leaves : List ℕ → UnprotectError → List ℕ → Type 0) (old new : List ℕ) (result : Result X UnprotectError) : Type 0 where
+  pub lends : IfOk result (λ x. Lends old x new)
+  pub accepts : (i : I) (m : InnerParts) → Protects f i m old → IsOk result
+  pub refused : IfErr result (λ e. RefusesToOpen f old e)
+  pub refuses : (e : UnprotectError) → RefusesToOpen f old e → IsErrOf result e
+  pub no_wrong_context : f.usage ≡ Response → IfErr result (λ e. e ≢ WrongContext)
+  pub left : IfErr result (λ e. Leaves old e new)
+
+-- the same for a request (RFC 8613, 8.2)
+abbrev pub UnprotectsRequest : Protection ℕ → List ℕ → List ℕ → Result ReadRequest UnprotectError → Type 0
+UnprotectsRequest f old new result = UnprotectsExactly f (LendsRequest f) (LeavesRequest f) old new result
+
+-- the same for a response (RFC 8613, 8.4)
+abbrev pub UnprotectsResponse : Protection (Option ℕ) → List ℕ → List ℕ → Result ReadResponse UnprotectError → Type 0
+UnprotectsResponse f old new result = UnprotectsExactly f (LendsResponse f) (LeavesResponse f) old new result

@@ -32,7 +32,7 @@ pub fn decrypt_request(
 {
     // For the proof alone.
     one_head();
-    decrypt_request_forward(context.recipient(), datagram, sealed)
+    decrypt_request_by(context.recipient(), datagram, sealed)
 }
 
 /// Decrypts a response in its datagram. `sealed` comes from the datagram's head. On `Ok` the payload is the plaintext, followed by the old
@@ -53,11 +53,11 @@ pub fn decrypt_response(
 {
     // For the proof alone.
     one_head();
-    decrypt_response_forward(context.recipient(), request, datagram, sealed)
+    decrypt_response_by(context.recipient(), request, datagram, sealed)
 }
 
 /// Decrypts a request under the recipient's key.
-pub(crate) fn decrypt_request_forward(
+pub(crate) fn decrypt_request_by(
     recipient: Recipient<'_>,
     datagram: &mut [u8],
     sealed: SealedRequest,
@@ -81,7 +81,7 @@ pub(crate) fn decrypt_request_forward(
 }
 
 /// Decrypts a response under the recipient's key.
-pub(crate) fn decrypt_response_forward(
+pub(crate) fn decrypt_response_by(
     recipient: Recipient<'_>,
     request: &RequestRef,
     datagram: &mut [u8],

@@ -1,16 +1,13 @@
 //! A security context that keeps the schedules of its two keys, or makes each one when it needs it.
 
-ghost use Rattle.std.specs.Prelude.{◌≡◌, ◌≢◌, ◌≤◌, ℕ, List, Option, Some, is_some, length, take, drop, IfOk, IfErr, IsOk, IsOkAnd, IsErrOf, OnErr};
+ghost use Rattle.std.specs.Prelude.{◌≡◌, is_some, IfOk, IfErr, IsOk, IsErrOf};
 ghost use Rattle.std.specs.Option.{ForSome, option_map};
-ghost use Rattle.osc_coap.specs.Inner.{InnerParts};
 ghost use Rattle.osc_coap.specs.Interpreted.{interpreted};
 ghost use Rattle.osc_coap.specs.OptionNumbers.{observe};
 ghost use Rattle.osc_coap.specs.Views.{parts_of};
 ghost use Rattle.osc_context.specs.Views.{as_client, as_server, is_constant_time, number_of};
 ghost use Rattle.osc_protect.specs.ContextCipher.{keeps_constant_time, kept_key};
 ghost use Rattle.osc_protect.specs.declared.protect_error.ProtectError.{ProtectError};
-ghost use Rattle.osc_protect.specs.declared.unprotect_error.UnprotectError.{UnprotectError};
-ghost use Rattle.osc_protect.specs.declared.unprotect_error.UnprotectError.TheVariants.{WrongContext};
 
 use crate::checked::{Checked, check};
 use crate::context_cipher::KeptSchedule;
@@ -26,7 +23,7 @@ use crate::sealing::{seal_checked_response, seal_request_by, seal_response_by};
 use crate::stages::{ReadRequest, ReadResponse};
 use crate::unprotect_error::UnprotectError;
 use osc_coap::Message;
-use osc_context::{Context, Piv, one_option_value};
+use osc_context::{Context, Piv};
 use std::fmt;
 
 /// A security context with the schedules of its two keys, for an end that seals and opens more than one message. Its `Debug` shows no key
@@ -50,13 +47,12 @@ struct Schedules {
 
 impl KeyedContext {
     ghost use Rattle.osc_protect.specs.Checks.{ChecksResponse, observes};
-    ghost use Rattle.osc_protect.specs.Opening.{Opens};
-    ghost use Rattle.osc_protect.specs.Protection.{Protects, ProtectsRequest};
-    ghost use Rattle.osc_protect.specs.Refusals.{RefusesToOpen};
-    ghost use Rattle.osc_protect.specs.Sealed.{IsSealed, SealsRequest, features_for};
-    ghost use Rattle.osc_protect.specs.SealRefusals.{FitsToSeal, IsPlainResponse, RefusesPlainResponse, RefusesToSeal};
-    ghost use Rattle.osc_protect.specs.StageViews.{LeavesRequest, LeavesResponse, LendsRequest, LendsResponse};
-    ghost use Rattle.osc_protect.specs.Views.{context_of, message_of, opened_number, opened_requests, opened_responses, sealed_requests, sealed_responses};
+    ghost use Rattle.osc_protect.specs.Opening.{OpensExactly};
+    ghost use Rattle.osc_protect.specs.Sealed.{features_for};
+    ghost use Rattle.osc_protect.specs.Sealing.{Seals};
+    ghost use Rattle.osc_protect.specs.SealRefusals.{IsPlainResponse, RefusesPlainResponse};
+    ghost use Rattle.osc_protect.specs.StageViews.{UnprotectsRequest, UnprotectsResponse};
+    ghost use Rattle.osc_protect.specs.Views.{context_of, opened_requests, opened_responses, sealed_requests, sealed_responses};
 
     /// Makes both schedules, and keeps them.
     #[must_use]
@@ -120,14 +116,7 @@ impl KeyedContext {
         plain: &Message<'_>,
         out: &mut [u8],
     ) -> Result<usize, ProtectError>
-        ensures sealed { IfOk result (λ n. SealsRequest (as_client (context_of self.now)) (number_of number) (parts_of plain.now) (take n out.new)) }
-        ensures within { IfOk result (λ n. n ≤ length out.new) }
-        ensures behind { IfOk result (λ n. drop n out.new ≡ drop n out.old) }
-        ensures accepts { FitsToSeal (sealed_requests (context_of self.now)) (number_of number) (parts_of plain.now) (length out.old) → IsOk result }
-        ensures refused { IfErr result (λ e. RefusesToSeal (sealed_requests (context_of self.now)) (number_of number) (parts_of plain.now) (length out.old) e) }
-        ensures refuses { (e : ProtectError) → RefusesToSeal (sealed_requests (context_of self.now)) (number_of number) (parts_of plain.now) (length out.old) e
-            → IsErrOf result e }
-        ensures unchanged { OnErr result (out.new ≡ out.old) }
+        ensures { Seals (sealed_requests (context_of self.now)) (number_of number) (parts_of plain.now) out.old out.new result }
     {
         seal_request_by(self.sender(), number, plain, out)
     }
@@ -140,17 +129,7 @@ impl KeyedContext {
         plain: &Message<'_>,
         out: &mut [u8],
     ) -> Result<usize, ProtectError>
-        ensures sealed { IfOk result (λ n. IsSealed (sealed_responses (context_of self.now) request.now) (option_map number_of own) (parts_of plain.now) (take n out.new)) }
-        ensures within { IfOk result (λ n. n ≤ length out.new) }
-        ensures behind { IfOk result (λ n. drop n out.new ≡ drop n out.old) }
-        ensures accepts { FitsToSeal (sealed_responses (context_of self.now) request.now) (option_map number_of own) (parts_of plain.now) (length out.old)
-            → IsOk result }
-        ensures refused { IfErr result
-            (λ e. RefusesToSeal (sealed_responses (context_of self.now) request.now) (option_map number_of own) (parts_of plain.now) (length out.old) e) }
-        ensures refuses { (e : ProtectError)
-            → RefusesToSeal (sealed_responses (context_of self.now) request.now) (option_map number_of own) (parts_of plain.now) (length out.old) e
-            → IsErrOf result e }
-        ensures unchanged { OnErr result (out.new ≡ out.old) }
+        ensures { Seals (sealed_responses (context_of self.now) request.now) (option_map number_of own) (parts_of plain.now) out.old out.new result }
     {
         seal_response_by(self.sender(), request, own, plain, out)
     }
@@ -189,30 +168,14 @@ impl KeyedContext {
         out: &mut [u8],
     ) -> Result<usize, ProtectError>
         requires { ChecksResponse (context_of self.now) request.now (parts_of plain.now) checked }
-        ensures sealed { IfOk result (λ n. IsSealed (sealed_responses (context_of self.now) request.now) (option_map number_of own) (parts_of plain.now) (take n out.new)) }
-        ensures within { IfOk result (λ n. n ≤ length out.new) }
-        ensures behind { IfOk result (λ n. drop n out.new ≡ drop n out.old) }
-        ensures accepts { FitsToSeal (sealed_responses (context_of self.now) request.now) (option_map number_of own) (parts_of plain.now) (length out.old)
-            → IsOk result }
-        ensures refused { IfErr result
-            (λ e. RefusesToSeal (sealed_responses (context_of self.now) request.now) (option_map number_of own) (parts_of plain.now) (length out.old) e) }
-        ensures refuses { (e : ProtectError)
-            → RefusesToSeal (sealed_responses (context_of self.now) request.now) (option_map number_of own) (parts_of plain.now) (length out.old) e
-            → IsErrOf result e }
-        ensures unchanged { OnErr result (out.new ≡ out.old) }
+        ensures { Seals (sealed_responses (context_of self.now) request.now) (option_map number_of own) (parts_of plain.now) out.old out.new result }
     {
-        // For the proof alone.
-        one_option_value();
         seal_checked_response(self.sender(), request, own, checked, plain, out)
     }
 
     /// Opens a request as [`crate::open_request`] does, under the kept schedule or under one that it makes.
     pub fn open_request<'b>(&self, datagram: &'b mut [u8]) -> Result<Opened<'b>, UnprotectError>
-        ensures opened { IfOk result (λ o. Opens (opened_requests (context_of self.now)) datagram.old o) }
-        ensures accepts { (n : ℕ) (m : InnerParts) → ProtectsRequest (as_server (context_of self.now)) n m datagram.old
-            → IsOkAnd result (λ o. (opened_number o ≡ Some n) × (message_of o ≡ m)) }
-        ensures refused { IfErr result (λ e. RefusesToOpen (opened_requests (context_of self.now)) datagram.old e) }
-        ensures refuses { (e : UnprotectError) → RefusesToOpen (opened_requests (context_of self.now)) datagram.old e → IsErrOf result e }
+        ensures { OpensExactly (opened_requests (context_of self.now)) datagram.old result }
     {
         open_request_by(self.recipient(), datagram)
     }
@@ -223,23 +186,14 @@ impl KeyedContext {
         request: &RequestRef,
         datagram: &'b mut [u8],
     ) -> Result<Opened<'b>, UnprotectError>
-        ensures opened { IfOk result (λ o. Opens (opened_responses (context_of self.now) request.now) datagram.old o) }
-        ensures accepts { (own : Option ℕ) (m : InnerParts) → Protects (opened_responses (context_of self.now) request.now) own m datagram.old
-            → IsOkAnd result (λ o. (opened_number o ≡ own) × (message_of o ≡ m)) }
-        ensures refused { IfErr result (λ e. RefusesToOpen (opened_responses (context_of self.now) request.now) datagram.old e) }
-        ensures refuses { (e : UnprotectError) → RefusesToOpen (opened_responses (context_of self.now) request.now) datagram.old e → IsErrOf result e }
-        ensures no_wrong_context { IfErr result (λ e. e ≢ WrongContext) }
+        ensures { OpensExactly (opened_responses (context_of self.now) request.now) datagram.old result }
     {
         open_response_by(self.recipient(), request, datagram)
     }
 
     /// Opens a request as [`crate::unprotect_request`] does, under the kept schedule or under one that it makes.
     pub fn unprotect_request(&self, datagram: &mut [u8]) -> Result<ReadRequest, UnprotectError>
-        ensures lends { IfOk result (λ x. LendsRequest (opened_requests (context_of self.now)) datagram.old x datagram.new) }
-        ensures accepts { (n : ℕ) (m : InnerParts) → ProtectsRequest (as_server (context_of self.now)) n m datagram.old → IsOk result }
-        ensures refused { IfErr result (λ e. RefusesToOpen (opened_requests (context_of self.now)) datagram.old e) }
-        ensures refuses { (e : UnprotectError) → RefusesToOpen (opened_requests (context_of self.now)) datagram.old e → IsErrOf result e }
-        ensures left { IfErr result (λ e. LeavesRequest (opened_requests (context_of self.now)) datagram.old e datagram.new) }
+        ensures { UnprotectsRequest (opened_requests (context_of self.now)) datagram.old datagram.new result }
     {
         unprotect_request_by(self.recipient(), datagram)
     }
@@ -250,12 +204,7 @@ impl KeyedContext {
         request: &RequestRef,
         datagram: &mut [u8],
     ) -> Result<ReadResponse, UnprotectError>
-        ensures lends { IfOk result (λ x. LendsResponse (opened_responses (context_of self.now) request.now) datagram.old x datagram.new) }
-        ensures accepts { (own : Option ℕ) (m : InnerParts) → Protects (opened_responses (context_of self.now) request.now) own m datagram.old → IsOk result }
-        ensures refused { IfErr result (λ e. RefusesToOpen (opened_responses (context_of self.now) request.now) datagram.old e) }
-        ensures refuses { (e : UnprotectError) → RefusesToOpen (opened_responses (context_of self.now) request.now) datagram.old e → IsErrOf result e }
-        ensures no_wrong_context { IfErr result (λ e. e ≢ WrongContext) }
-        ensures left { IfErr result (λ e. LeavesResponse (opened_responses (context_of self.now) request.now) datagram.old e datagram.new) }
+        ensures { UnprotectsResponse (opened_responses (context_of self.now) request.now) datagram.old datagram.new result }
     {
         unprotect_response_by(self.recipient(), request, datagram)
     }

@@ -82,8 +82,8 @@ pub fn one_response()
     layer_laws();
 }
 
-/// States the same of the responses to a request that registers an observation: a datagram protects at most one of them, under one own
-/// number or none, or has at most one refusal, never both (RFC 8613, 8.4).
+/// States the same of the responses to a request that registers an observation: a datagram protects at most one of them, under one
+/// Partial IV of its own or none, or has at most one refusal, never both (RFC 8613, 8.4).
 pub fn one_notification()
     ensures { OneNotification }
 {

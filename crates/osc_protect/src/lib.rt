@@ -11,9 +11,9 @@
 //!
 //! If the request registers an observation, `RequestRef::registering(number)` names it, and a response to it may have Observe (4.1.3.5).
 //!
-//! `open_request`, for example, is a call. `open_request_by` does the same over the end whose key it takes, for a `Context` and a
-//! `KeyedContext` alike. `open_request_forward` does the work. Its clauses lead from its result to what holds, and the call adds their
-//! converses by a law. Other calls have such workers with the same endings of names, if a proof needs them.
+//! `open_request`, for example, is a call. `open_request_by` does the work, over the end whose key it takes, for a `Context` and a
+//! `KeyedContext` alike. All three have one contract, the record `OpensExactly`, whose fields are its clauses; so have the calls that seal, by
+//! `Seals`, and those that open and borrow nothing, by `UnprotectsExactly`.
 #![tactic(auto)]
 
 mod aead;

@@ -1,19 +1,16 @@
 //! Opens a request or a response in the datagram that carries it (RFC 8613, 8.2 and 8.4). Each call runs the stages one after the other
 //! over a context, and makes the schedule of one of its keys.
 
-ghost use Rattle.std.specs.Prelude.{◌≡◌, ◌≢◌, ℕ, Bool, List, Option, Some, IfOk, IfErr, IsOk, IsOkAnd, IsErrOf};
-ghost use Rattle.osc_coap.specs.Inner.{InnerParts};
+ghost use Rattle.std.specs.Prelude.{◌≡◌, ◌≢◌, ℕ, Bool, IfOk, IfErr};
 ghost use Rattle.osc_context.specs.SecurityContext.{SecurityContext};
-ghost use Rattle.osc_context.specs.Views.{as_server};
-ghost use Rattle.osc_protect.specs.Opening.{Opens};
-ghost use Rattle.osc_protect.specs.Protection.{Protects, ProtectsRequest, responses_to};
+ghost use Rattle.osc_protect.specs.Opening.{OpensExactly};
+ghost use Rattle.osc_protect.specs.Protection.{responses_to};
 ghost use Rattle.osc_protect.specs.Refusals.{RefusesToOpen};
-ghost use Rattle.osc_protect.specs.StageViews.{IsSealedRequest, IsSealedResponse, LeavesRequest, LeavesResponse, LendsRequest, LendsResponse};
-ghost use Rattle.osc_protect.specs.Views.{message_of, opened_number, opened_requests, opened_responses};
-ghost use Rattle.osc_protect.specs.declared.unprotect_error.UnprotectError.{UnprotectError};
+ghost use Rattle.osc_protect.specs.StageViews.{IsSealedRequest, IsSealedResponse, UnprotectsRequest, UnprotectsResponse};
+ghost use Rattle.osc_protect.specs.Views.{opened_requests, opened_responses};
 ghost use Rattle.osc_protect.specs.declared.unprotect_error.UnprotectError.TheVariants.{Inner, WrongContext};
 
-use crate::decrypting::{decrypt_request_forward, decrypt_response_forward};
+use crate::decrypting::{decrypt_request_by, decrypt_response_by};
 use crate::ends::Recipient;
 use crate::laws::{one_notification, one_request, one_response};
 use crate::opened::Opened;
@@ -31,12 +28,7 @@ pub fn open_request<'b>(
     context: &Context,
     datagram: &'b mut [u8],
 ) -> Result<Opened<'b>, UnprotectError>
-    ensures opened { IfOk result (λ o. Opens (opened_requests context.now) datagram.old o) }
-    // Whatever message the datagram protects, that message opens.
-    ensures accepts { (n : ℕ) (m : InnerParts) → ProtectsRequest (as_server context.now) n m datagram.old
-        → IsOkAnd result (λ o. (opened_number o ≡ Some n) × (message_of o ≡ m)) }
-    ensures refused { IfErr result (λ e. RefusesToOpen (opened_requests context.now) datagram.old e) }
-    ensures refuses { (e : UnprotectError) → RefusesToOpen (opened_requests context.now) datagram.old e → IsErrOf result e }
+    ensures { OpensExactly (opened_requests context.now) datagram.old result }
 {
     open_request_by(Recipient::of(context), datagram)
 }
@@ -48,13 +40,7 @@ pub fn open_response<'b>(
     request: &RequestRef,
     datagram: &'b mut [u8],
 ) -> Result<Opened<'b>, UnprotectError>
-    ensures opened { IfOk result (λ o. Opens (opened_responses context.now request.now) datagram.old o) }
-    // Whatever message the datagram protects, that message opens.
-    ensures accepts { (own : Option ℕ) (m : InnerParts) → Protects (opened_responses context.now request.now) own m datagram.old
-        → IsOkAnd result (λ o. (opened_number o ≡ own) × (message_of o ≡ m)) }
-    ensures refused { IfErr result (λ e. RefusesToOpen (opened_responses context.now request.now) datagram.old e) }
-    ensures refuses { (e : UnprotectError) → RefusesToOpen (opened_responses context.now request.now) datagram.old e → IsErrOf result e }
-    ensures no_wrong_context { IfErr result (λ e. e ≢ WrongContext) }
+    ensures { OpensExactly (opened_responses context.now request.now) datagram.old result }
 {
     open_response_by(Recipient::of(context), request, datagram)
 }
@@ -64,15 +50,15 @@ pub(crate) fn open_request_by<'b>(
     recipient: Recipient<'_>,
     datagram: &'b mut [u8],
 ) -> Result<Opened<'b>, UnprotectError>
-    ensures opened { IfOk result (λ o. Opens (opened_requests recipient.entry.context.now) datagram.old o) }
-    ensures accepts { (n : ℕ) (m : InnerParts) → ProtectsRequest (as_server recipient.entry.context.now) n m datagram.old
-        → IsOkAnd result (λ o. (opened_number o ≡ Some n) × (message_of o ≡ m)) }
-    ensures refused { IfErr result (λ e. RefusesToOpen (opened_requests recipient.entry.context.now) datagram.old e) }
-    ensures refuses { (e : UnprotectError) → RefusesToOpen (opened_requests recipient.entry.context.now) datagram.old e → IsErrOf result e }
+    ensures { OpensExactly (opened_requests recipient.entry.context.now) datagram.old result }
 {
     // For the proof alone.
     one_request();
-    open_request_forward(recipient, datagram)
+    let Unprotected { read, datagram } = unprotect_and_lend_request(recipient, datagram);
+    match read {
+        Ok(read) => Ok(read.opened(datagram)),
+        Err(error) => Err(error),
+    }
 }
 
 /// Opens a response under the recipient's key.
@@ -81,28 +67,12 @@ pub(crate) fn open_response_by<'b>(
     request: &RequestRef,
     datagram: &'b mut [u8],
 ) -> Result<Opened<'b>, UnprotectError>
-    ensures opened { IfOk result (λ o. Opens (opened_responses recipient.entry.context.now request.now) datagram.old o) }
-    ensures accepts { (own : Option ℕ) (m : InnerParts) → Protects (opened_responses recipient.entry.context.now request.now) own m datagram.old
-        → IsOkAnd result (λ o. (opened_number o ≡ own) × (message_of o ≡ m)) }
-    ensures refused { IfErr result (λ e. RefusesToOpen (opened_responses recipient.entry.context.now request.now) datagram.old e) }
-    ensures refuses { (e : UnprotectError) → RefusesToOpen (opened_responses recipient.entry.context.now request.now) datagram.old e → IsErrOf result e }
-    ensures no_wrong_context { IfErr result (λ e. e ≢ WrongContext) }
+    ensures { OpensExactly (opened_responses recipient.entry.context.now request.now) datagram.old result }
 {
     // For the proof alone.
     one_response();
     one_notification();
-    open_response_forward(recipient, request, datagram)
-}
-
-/// Opens the request, and lends slices of the datagram.
-fn open_request_forward<'b>(
-    recipient: Recipient<'_>,
-    datagram: &'b mut [u8],
-) -> Result<Opened<'b>, UnprotectError>
-    ensures opened { IfOk result (λ o. Opens (opened_requests recipient.entry.context.now) datagram.old o) }
-    ensures refused { IfErr result (λ e. RefusesToOpen (opened_requests recipient.entry.context.now) datagram.old e) }
-{
-    let Unprotected { read, datagram } = unprotect_and_lend_request(recipient, datagram);
+    let Unprotected { read, datagram } = unprotect_and_lend_response(recipient, request, datagram);
     match read {
         Ok(read) => Ok(read.opened(datagram)),
         Err(error) => Err(error),
@@ -121,11 +91,9 @@ fn unprotect_and_lend_request<'b>(
     recipient: Recipient<'_>,
     datagram: &'b mut [u8],
 ) -> Unprotected<'b, ReadRequest>
-    ensures lends { IfOk result.read (λ x. LendsRequest (opened_requests recipient.entry.context.now) datagram.old x result.datagram.now) }
-    ensures refused { IfErr result.read (λ e. RefusesToOpen (opened_requests recipient.entry.context.now) datagram.old e) }
-    ensures left { IfErr result.read (λ e. LeavesRequest (opened_requests recipient.entry.context.now) datagram.old e result.datagram.now) }
+    ensures { UnprotectsRequest (opened_requests recipient.entry.context.now) datagram.old result.datagram.now result.read }
 {
-    let read = unprotect_request_forward(recipient, datagram);
+    let read = unprotect_request_by(recipient, datagram);
     Unprotected { read, datagram }
 }
 
@@ -135,11 +103,7 @@ pub fn unprotect_request(
     context: &Context,
     datagram: &mut [u8],
 ) -> Result<ReadRequest, UnprotectError>
-    ensures lends { IfOk result (λ x. LendsRequest (opened_requests context.now) datagram.old x datagram.new) }
-    ensures accepts { (n : ℕ) (m : InnerParts) → ProtectsRequest (as_server context.now) n m datagram.old → IsOk result }
-    ensures refused { IfErr result (λ e. RefusesToOpen (opened_requests context.now) datagram.old e) }
-    ensures refuses { (e : UnprotectError) → RefusesToOpen (opened_requests context.now) datagram.old e → IsErrOf result e }
-    ensures left { IfErr result (λ e. LeavesRequest (opened_requests context.now) datagram.old e datagram.new) }
+    ensures { UnprotectsRequest (opened_requests context.now) datagram.old datagram.new result }
 {
     unprotect_request_by(Recipient::of(context), datagram)
 }
@@ -149,51 +113,17 @@ pub(crate) fn unprotect_request_by(
     recipient: Recipient<'_>,
     datagram: &mut [u8],
 ) -> Result<ReadRequest, UnprotectError>
-    ensures lends { IfOk result (λ x. LendsRequest (opened_requests recipient.entry.context.now) datagram.old x datagram.new) }
-    ensures accepts { (n : ℕ) (m : InnerParts) → ProtectsRequest (as_server recipient.entry.context.now) n m datagram.old → IsOk result }
-    ensures refused { IfErr result (λ e. RefusesToOpen (opened_requests recipient.entry.context.now) datagram.old e) }
-    ensures refuses { (e : UnprotectError) → RefusesToOpen (opened_requests recipient.entry.context.now) datagram.old e → IsErrOf result e }
-    ensures left { IfErr result (λ e. LeavesRequest (opened_requests recipient.entry.context.now) datagram.old e datagram.new) }
+    ensures { UnprotectsRequest (opened_requests recipient.entry.context.now) datagram.old datagram.new result }
 {
     // For the proof alone.
     one_request();
-    unprotect_request_forward(recipient, datagram)
-}
-
-/// Runs the stages of a request, one after the other, and borrows nothing.
-fn unprotect_request_forward(
-    recipient: Recipient<'_>,
-    datagram: &mut [u8],
-) -> Result<ReadRequest, UnprotectError>
-    ensures lends { IfOk result (λ x. LendsRequest (opened_requests recipient.entry.context.now) datagram.old x datagram.new) }
-    ensures accepted { IfOk result (λ x. (n : ℕ) × (m : InnerParts) × ProtectsRequest (as_server recipient.entry.context.now) n m datagram.old) }
-    ensures refused { IfErr result (λ e. RefusesToOpen (opened_requests recipient.entry.context.now) datagram.old e) }
-    ensures left { IfErr result (λ e. LeavesRequest (opened_requests recipient.entry.context.now) datagram.old e datagram.new) }
-{
     let sealed = find_request(recipient.context, datagram)?;
-    let Ok(decrypted) = decrypt_request_forward(recipient, datagram, sealed) else {
+    let Ok(decrypted) = decrypt_request_by(recipient, datagram, sealed) else {
         return Err(UnprotectError::Tag);
     };
     match inspect_request(datagram, decrypted) {
         Ok(read) => Ok(read),
         Err(_) => Err(UnprotectError::Inner),
-    }
-}
-
-/// Opens the response, and lends slices of the datagram.
-fn open_response_forward<'b>(
-    recipient: Recipient<'_>,
-    request: &RequestRef,
-    datagram: &'b mut [u8],
-) -> Result<Opened<'b>, UnprotectError>
-    ensures opened { IfOk result (λ o. Opens (opened_responses recipient.entry.context.now request.now) datagram.old o) }
-    ensures refused { IfErr result (λ e. RefusesToOpen (opened_responses recipient.entry.context.now request.now) datagram.old e) }
-    ensures no_wrong_context { IfErr result (λ e. e ≢ WrongContext) }
-{
-    let Unprotected { read, datagram } = unprotect_and_lend_response(recipient, request, datagram);
-    match read {
-        Ok(read) => Ok(read.opened(datagram)),
-        Err(error) => Err(error),
     }
 }
 
@@ -203,12 +133,9 @@ fn unprotect_and_lend_response<'b>(
     request: &RequestRef,
     datagram: &'b mut [u8],
 ) -> Unprotected<'b, ReadResponse>
-    ensures lends { IfOk result.read (λ x. LendsResponse (opened_responses recipient.entry.context.now request.now) datagram.old x result.datagram.now) }
-    ensures refused { IfErr result.read (λ e. RefusesToOpen (opened_responses recipient.entry.context.now request.now) datagram.old e) }
-    ensures no_wrong_context { IfErr result.read (λ e. e ≢ WrongContext) }
-    ensures left { IfErr result.read (λ e. LeavesResponse (opened_responses recipient.entry.context.now request.now) datagram.old e result.datagram.now) }
+    ensures { UnprotectsResponse (opened_responses recipient.entry.context.now request.now) datagram.old result.datagram.now result.read }
 {
-    let read = unprotect_response_forward(recipient, request, datagram);
+    let read = unprotect_response_by(recipient, request, datagram);
     Unprotected { read, datagram }
 }
 
@@ -219,12 +146,7 @@ pub fn unprotect_response(
     request: &RequestRef,
     datagram: &mut [u8],
 ) -> Result<ReadResponse, UnprotectError>
-    ensures lends { IfOk result (λ x. LendsResponse (opened_responses context.now request.now) datagram.old x datagram.new) }
-    ensures accepts { (own : Option ℕ) (m : InnerParts) → Protects (opened_responses context.now request.now) own m datagram.old → IsOk result }
-    ensures refused { IfErr result (λ e. RefusesToOpen (opened_responses context.now request.now) datagram.old e) }
-    ensures refuses { (e : UnprotectError) → RefusesToOpen (opened_responses context.now request.now) datagram.old e → IsErrOf result e }
-    ensures no_wrong_context { IfErr result (λ e. e ≢ WrongContext) }
-    ensures left { IfErr result (λ e. LeavesResponse (opened_responses context.now request.now) datagram.old e datagram.new) }
+    ensures { UnprotectsResponse (opened_responses context.now request.now) datagram.old datagram.new result }
 {
     unprotect_response_by(Recipient::of(context), request, datagram)
 }
@@ -235,33 +157,13 @@ pub(crate) fn unprotect_response_by(
     request: &RequestRef,
     datagram: &mut [u8],
 ) -> Result<ReadResponse, UnprotectError>
-    ensures lends { IfOk result (λ x. LendsResponse (opened_responses recipient.entry.context.now request.now) datagram.old x datagram.new) }
-    ensures accepts { (own : Option ℕ) (m : InnerParts) → Protects (opened_responses recipient.entry.context.now request.now) own m datagram.old → IsOk result }
-    ensures refused { IfErr result (λ e. RefusesToOpen (opened_responses recipient.entry.context.now request.now) datagram.old e) }
-    ensures refuses { (e : UnprotectError) → RefusesToOpen (opened_responses recipient.entry.context.now request.now) datagram.old e → IsErrOf result e }
-    ensures no_wrong_context { IfErr result (λ e. e ≢ WrongContext) }
-    ensures left { IfErr result (λ e. LeavesResponse (opened_responses recipient.entry.context.now request.now) datagram.old e datagram.new) }
+    ensures { UnprotectsResponse (opened_responses recipient.entry.context.now request.now) datagram.old datagram.new result }
 {
     // For the proof alone.
     one_response();
     one_notification();
-    unprotect_response_forward(recipient, request, datagram)
-}
-
-/// Runs the stages of a response, one after the other, and borrows nothing.
-fn unprotect_response_forward(
-    recipient: Recipient<'_>,
-    request: &RequestRef,
-    datagram: &mut [u8],
-) -> Result<ReadResponse, UnprotectError>
-    ensures lends { IfOk result (λ x. LendsResponse (opened_responses recipient.entry.context.now request.now) datagram.old x datagram.new) }
-    ensures accepted { IfOk result (λ x. (own : Option ℕ) × (m : InnerParts) × Protects (opened_responses recipient.entry.context.now request.now) own m datagram.old) }
-    ensures refused { IfErr result (λ e. RefusesToOpen (opened_responses recipient.entry.context.now request.now) datagram.old e) }
-    ensures no_wrong_context { IfErr result (λ e. e ≢ WrongContext) }
-    ensures left { IfErr result (λ e. LeavesResponse (opened_responses recipient.entry.context.now request.now) datagram.old e datagram.new) }
-{
     let sealed = find_response(datagram)?;
-    let Ok(decrypted) = decrypt_response_forward(recipient, request, datagram, sealed) else {
+    let Ok(decrypted) = decrypt_response_by(recipient, request, datagram, sealed) else {
         return Err(UnprotectError::Tag);
     };
     match inspect_response(datagram, decrypted) {

@@ -39,22 +39,8 @@ pub fn inspect_request(
         → RefusesPlaintext (requests s) old → IsErr result }
 {
     // For the proof alone.
-    one_request();
-    inspect_request_forward(datagram, decrypted)
-}
-
-/// Reads a request's plaintext.
-fn inspect_request_forward(
-    datagram: &[u8],
-    decrypted: DecryptedRequest,
-) -> Result<ReadRequest, BadInner>
-    requires { FitsRequest datagram.now decrypted }
-    ensures placed { IfOk result (λ x. CanLendRequest datagram.now decrypted x) }
-    ensures accepted { OnOk result (AcceptsRequestAfter datagram.now decrypted) }
-    ensures refused { OnErr result (RefusesRequestAfter datagram.now decrypted) }
-{
-    // For the proof alone.
     one_datagram();
+    one_request();
     let (number, len) = (decrypted.number, decrypted.len);
     match inspect(Usage::Request, decrypted.features, datagram, len) {
         Ok(payload_len) => Ok(ReadRequest {
@@ -92,19 +78,7 @@ pub fn read_request(datagram: &[u8], decrypted: DecryptedRequest) -> Result<Open
 {
     // For the proof alone.
     one_request();
-    read_request_forward(datagram, decrypted)
-}
-
-/// Reads a request's plaintext, and lends slices of it.
-fn read_request_forward(
-    datagram: &[u8],
-    decrypted: DecryptedRequest,
-) -> Result<Opened<'_>, BadInner>
-    requires { FitsRequest datagram.now decrypted }
-    ensures opened { IfOk result (λ o. OpensRequestAfter datagram.now decrypted o) }
-    ensures refused { OnErr result (RefusesRequestAfter datagram.now decrypted) }
-{
-    match inspect_request_forward(datagram, decrypted) {
+    match inspect_request(datagram, decrypted) {
         Ok(read) => Ok(read.opened(datagram)),
         Err(error) => Err(error),
     }
@@ -126,23 +100,9 @@ pub fn inspect_response(
         → RefusesPlaintext (responses_to s r n) old → IsErr result }
 {
     // For the proof alone.
+    one_datagram();
     one_response();
     one_notification();
-    inspect_response_forward(datagram, decrypted)
-}
-
-/// Reads a response's plaintext.
-fn inspect_response_forward(
-    datagram: &[u8],
-    decrypted: DecryptedResponse,
-) -> Result<ReadResponse, BadInner>
-    requires { FitsResponse datagram.now decrypted }
-    ensures placed { IfOk result (λ x. CanLendResponse datagram.now decrypted x) }
-    ensures accepted { OnOk result (AcceptsResponseAfter datagram.now decrypted) }
-    ensures refused { OnErr result (RefusesResponseAfter datagram.now decrypted) }
-{
-    // For the proof alone.
-    one_datagram();
     let (number, len) = (decrypted.number, decrypted.len);
     match inspect(Usage::Response, decrypted.features, datagram, len) {
         Ok(payload_len) => Ok(ReadResponse {
@@ -187,19 +147,7 @@ pub fn read_response(datagram: &[u8], decrypted: DecryptedResponse) -> Result<Op
     // For the proof alone.
     one_response();
     one_notification();
-    read_response_forward(datagram, decrypted)
-}
-
-/// Reads a response's plaintext, and lends slices of it.
-fn read_response_forward(
-    datagram: &[u8],
-    decrypted: DecryptedResponse,
-) -> Result<Opened<'_>, BadInner>
-    requires { FitsResponse datagram.now decrypted }
-    ensures opened { IfOk result (λ o. OpensResponseAfter datagram.now decrypted o) }
-    ensures refused { OnErr result (RefusesResponseAfter datagram.now decrypted) }
-{
-    match inspect_response_forward(datagram, decrypted) {
+    match inspect_response(datagram, decrypted) {
         Ok(read) => Ok(read.opened(datagram)),
         Err(error) => Err(error),
     }

@@ -51,14 +51,6 @@ impl<'a> RequestHead<'a> {
     {
         // For the proof alone.
         one_head();
-        RequestHead::read_forward(message)
-    }
-
-    /// Reads the head of a message.
-    fn read_forward(message: &Message<'a>) -> Result<RequestHead<'a>, NoHead>
-        ensures head { IfOk result (λ h. ShowsRequestHead (parts_of message.now) (seen_head h)) }
-        ensures refused { IfErr result (λ e. ShowsNoRequestHead (parts_of message.now) e) }
-    {
         match head_of(Usage::Request, message) {
             Ok(head) => Ok(of_request(head)),
             Err(none) => Err(none),
@@ -107,17 +99,6 @@ fn of_request(head: OscoreHead<'_>) -> RequestHead<'_>
     }
 }
 
-/// Reads the head of a request's datagram.
-fn head_of_request_forward(datagram: &[u8]) -> Result<RequestHead<'_>, HeadError>
-    ensures head { IfOk result (λ h. HasRequestHead datagram.now (seen_head h)) }
-    ensures refused { IfErr result (λ e. HasNoRequestHead datagram.now e) }
-{
-    match read_head(Usage::Request, datagram) {
-        Ok(head) => Ok(of_request(head)),
-        Err(error) => Err(error),
-    }
-}
-
 /// Reads what a protected request shows to a reader without the key: Type, Message ID, token, kid, kid context and Partial IV. It does what
 /// `parse` and then `RequestHead::read` do. Returns the first refusal in the order of `HeadError` (RFC 8613, 8.2).
 pub fn head_of_request(datagram: &[u8]) -> Result<RequestHead<'_>, HeadError>
@@ -128,5 +109,8 @@ pub fn head_of_request(datagram: &[u8]) -> Result<RequestHead<'_>, HeadError>
 {
     // For the proof alone.
     one_head();
-    head_of_request_forward(datagram)
+    match read_head(Usage::Request, datagram) {
+        Ok(head) => Ok(of_request(head)),
+        Err(error) => Err(error),
+    }
 }

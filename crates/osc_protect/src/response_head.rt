@@ -44,14 +44,6 @@ impl<'a> ResponseHead<'a> {
     {
         // For the proof alone.
         one_head();
-        ResponseHead::read_forward(message)
-    }
-
-    /// Reads the head of a message.
-    fn read_forward(message: &Message<'a>) -> Result<ResponseHead<'a>, NoHead>
-        ensures head { IfOk result (λ h. ShowsResponseHead (parts_of message.now) (seen_response_head h)) }
-        ensures refused { IfErr result (λ e. ShowsNoResponseHead (parts_of message.now) e) }
-    {
         match head_of(Usage::Response, message) {
             Ok(head) => Ok(of_response(head)),
             Err(none) => Err(none),

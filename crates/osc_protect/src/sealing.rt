@@ -14,10 +14,10 @@ ghost use Rattle.osc_context.specs.Views.{as_client, as_server, number_of, oscor
 ghost use Rattle.osc_context.specs.declared.features.Features.{Features};
 ghost use Rattle.osc_coap.specs.Search.{has_number};
 ghost use Rattle.osc_protect.specs.OptionSets.{is_unsupported};
-ghost use Rattle.osc_protect.specs.Sealed.{HoldsSealed, IsSealed, SealsRequest, inside, outside, sealed_length};
-ghost use Rattle.osc_protect.specs.SealRefusals.{FitsToSeal, RefusesSize, RefusesToSeal};
+ghost use Rattle.osc_protect.specs.Sealed.{HoldsSealed, inside, outside, sealed_length};
+ghost use Rattle.osc_protect.specs.Sealing.{Seals};
+ghost use Rattle.osc_protect.specs.SealRefusals.{RefusesSize};
 ghost use Rattle.osc_protect.specs.Checks.{Checks, ChecksResponse};
-ghost use Rattle.osc_protect.specs.Halves.{Makes};
 ghost use Rattle.osc_protect.specs.Split.{said};
 ghost use Rattle.osc_protect.specs.Usage.{outer_code_of, value_of_response};
 ghost use Rattle.osc_protect.specs.Views.{cipher_of, sealed_requests, sealed_responses};
@@ -196,14 +196,7 @@ pub fn seal_request(
     plain: &Message<'_>,
     out: &mut [u8],
 ) -> Result<usize, ProtectError>
-    ensures sealed { IfOk result (λ n. SealsRequest (as_client context.now) (number_of number) (parts_of plain.now) (take n out.new)) }
-    ensures within { IfOk result (λ n. n ≤ length out.new) }
-    ensures behind { IfOk result (λ n. drop n out.new ≡ drop n out.old) }
-    ensures accepts { FitsToSeal (sealed_requests context.now) (number_of number) (parts_of plain.now) (length out.old) → IsOk result }
-    ensures refused { IfErr result (λ e. RefusesToSeal (sealed_requests context.now) (number_of number) (parts_of plain.now) (length out.old) e) }
-    ensures refuses { (e : ProtectError) → RefusesToSeal (sealed_requests context.now) (number_of number) (parts_of plain.now) (length out.old) e
-        → IsErrOf result e }
-    ensures unchanged { OnErr result (out.new ≡ out.old) }
+    ensures { Seals (sealed_requests context.now) (number_of number) (parts_of plain.now) out.old out.new result }
 {
     seal_request_by(Sender::of(context), number, plain, out)
 }
@@ -221,15 +214,7 @@ pub fn seal_response(
     plain: &Message<'_>,
     out: &mut [u8],
 ) -> Result<usize, ProtectError>
-    ensures sealed { IfOk result (λ n. IsSealed (sealed_responses context.now request.now) (option_map number_of own) (parts_of plain.now) (take n out.new)) }
-    ensures within { IfOk result (λ n. n ≤ length out.new) }
-    ensures behind { IfOk result (λ n. drop n out.new ≡ drop n out.old) }
-    ensures accepts { FitsToSeal (sealed_responses context.now request.now) (option_map number_of own) (parts_of plain.now) (length out.old) → IsOk result }
-    ensures refused { IfErr result (λ e. RefusesToSeal (sealed_responses context.now request.now) (option_map number_of own) (parts_of plain.now) (length out.old) e) }
-    ensures refuses { (e : ProtectError)
-        → RefusesToSeal (sealed_responses context.now request.now) (option_map number_of own) (parts_of plain.now) (length out.old) e
-        → IsErrOf result e }
-    ensures unchanged { OnErr result (out.new ≡ out.old) }
+    ensures { Seals (sealed_responses context.now request.now) (option_map number_of own) (parts_of plain.now) out.old out.new result }
 {
     seal_response_by(Sender::of(context), request, own, plain, out)
 }
@@ -241,57 +226,10 @@ pub(crate) fn seal_request_by(
     plain: &Message<'_>,
     out: &mut [u8],
 ) -> Result<usize, ProtectError>
-    ensures sealed { IfOk result (λ n. SealsRequest (as_client sender.entry.context.now) (number_of number) (parts_of plain.now) (take n out.new)) }
-    ensures within { IfOk result (λ n. n ≤ length out.new) }
-    ensures behind { IfOk result (λ n. drop n out.new ≡ drop n out.old) }
-    ensures accepts { FitsToSeal (sealed_requests sender.entry.context.now) (number_of number) (parts_of plain.now) (length out.old) → IsOk result }
-    ensures refused { IfErr result (λ e. RefusesToSeal (sealed_requests sender.entry.context.now) (number_of number) (parts_of plain.now) (length out.old) e) }
-    ensures refuses { (e : ProtectError) → RefusesToSeal (sealed_requests sender.entry.context.now) (number_of number) (parts_of plain.now) (length out.old) e
-        → IsErrOf result e }
-    ensures unchanged { OnErr result (out.new ≡ out.old) }
+    ensures { Seals (sealed_requests sender.entry.context.now) (number_of number) (parts_of plain.now) out.old out.new result }
 {
     // For the proof alone.
     one_option_value();
-    seal_request_forward(sender, number, plain, out)
-}
-
-/// Seals a response under the sender's key.
-pub(crate) fn seal_response_by(
-    sender: Sender<'_>,
-    request: &RequestRef,
-    own: Option<Piv>,
-    plain: &Message<'_>,
-    out: &mut [u8],
-) -> Result<usize, ProtectError>
-    ensures sealed { IfOk result (λ n. IsSealed (sealed_responses sender.entry.context.now request.now) (option_map number_of own) (parts_of plain.now) (take n out.new)) }
-    ensures within { IfOk result (λ n. n ≤ length out.new) }
-    ensures behind { IfOk result (λ n. drop n out.new ≡ drop n out.old) }
-    ensures accepts { FitsToSeal (sealed_responses sender.entry.context.now request.now) (option_map number_of own) (parts_of plain.now) (length out.old) → IsOk result }
-    ensures refused { IfErr result (λ e. RefusesToSeal (sealed_responses sender.entry.context.now request.now) (option_map number_of own) (parts_of plain.now) (length out.old) e) }
-    ensures refuses { (e : ProtectError)
-        → RefusesToSeal (sealed_responses sender.entry.context.now request.now) (option_map number_of own) (parts_of plain.now) (length out.old) e
-        → IsErrOf result e }
-    ensures unchanged { OnErr result (out.new ≡ out.old) }
-{
-    // For the proof alone.
-    one_option_value();
-    seal_response_forward(sender, request, own, plain, out)
-}
-
-/// Checks a request, then its length, then seals it.
-fn seal_request_forward(
-    sender: Sender<'_>,
-    number: Piv,
-    plain: &Message<'_>,
-    out: &mut [u8],
-) -> Result<usize, ProtectError>
-    ensures sealed { IfOk result (λ n. SealsRequest (as_client sender.entry.context.now) (number_of number) (parts_of plain.now) (take n out.new)) }
-    ensures made { IfOk result (λ n. Makes (sealed_requests sender.entry.context.now) (number_of number) (parts_of plain.now) (length out.old) n) }
-    ensures within { IfOk result (λ n. n ≤ length out.new) }
-    ensures behind { IfOk result (λ n. drop n out.new ≡ drop n out.old) }
-    ensures refused { IfErr result (λ e. RefusesToSeal (sealed_requests sender.entry.context.now) (number_of number) (parts_of plain.now) (length out.old) e) }
-    ensures unchanged { OnErr result (out.new ≡ out.old) }
-{
     let context = sender.context;
     let family = Family {
         usage: Usage::Request,
@@ -305,22 +243,18 @@ fn seal_request_forward(
     seal_in_room(family, checked, value.as_slice(), &aead, plain, out)
 }
 
-/// Checks a response, then its length, then seals it.
-fn seal_response_forward(
+/// Seals a response under the sender's key.
+pub(crate) fn seal_response_by(
     sender: Sender<'_>,
     request: &RequestRef,
     own: Option<Piv>,
     plain: &Message<'_>,
     out: &mut [u8],
 ) -> Result<usize, ProtectError>
-    ensures sealed { IfOk result (λ n. IsSealed (sealed_responses sender.entry.context.now request.now) (option_map number_of own) (parts_of plain.now) (take n out.new)) }
-    ensures made { IfOk result (λ n. Makes (sealed_responses sender.entry.context.now request.now) (option_map number_of own) (parts_of plain.now) (length out.old) n) }
-    ensures within { IfOk result (λ n. n ≤ length out.new) }
-    ensures behind { IfOk result (λ n. drop n out.new ≡ drop n out.old) }
-    ensures refused { IfErr result
-        (λ e. RefusesToSeal (sealed_responses sender.entry.context.now request.now) (option_map number_of own) (parts_of plain.now) (length out.old) e) }
-    ensures unchanged { OnErr result (out.new ≡ out.old) }
+    ensures { Seals (sealed_responses sender.entry.context.now request.now) (option_map number_of own) (parts_of plain.now) out.old out.new result }
 {
+    // For the proof alone.
+    one_option_value();
     let family = Family::of_response(sender.context, request);
     let checked = check(family, plain)?;
     seal_checked_response(sender, request, own, checked, plain, out)
@@ -336,14 +270,10 @@ pub(crate) fn seal_checked_response(
     out: &mut [u8],
 ) -> Result<usize, ProtectError>
     requires { ChecksResponse sender.context.now request.now (parts_of plain.now) checked }
-    ensures sealed { IfOk result (λ n. IsSealed (sealed_responses sender.entry.context.now request.now) (option_map number_of own) (parts_of plain.now) (take n out.new)) }
-    ensures made { IfOk result (λ n. Makes (sealed_responses sender.entry.context.now request.now) (option_map number_of own) (parts_of plain.now) (length out.old) n) }
-    ensures within { IfOk result (λ n. n ≤ length out.new) }
-    ensures behind { IfOk result (λ n. drop n out.new ≡ drop n out.old) }
-    ensures refused { IfErr result
-        (λ e. RefusesToSeal (sealed_responses sender.entry.context.now request.now) (option_map number_of own) (parts_of plain.now) (length out.old) e) }
-    ensures unchanged { OnErr result (out.new ≡ out.old) }
+    ensures { Seals (sealed_responses sender.entry.context.now request.now) (option_map number_of own) (parts_of plain.now) out.old out.new result }
 {
+    // For the proof alone.
+    one_option_value();
     let family = Family::of_response(sender.context, request);
     let context = sender.context;
     let mut value = ArrayVec::new();

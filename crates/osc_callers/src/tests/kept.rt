@@ -45,7 +45,7 @@ fn run(rt: &(impl Abort + Alloc<A = Global>), wrong: Option<(u64, Wrong)>) -> (u
         }
     }
     assert!(rt; ascend(&seen.sent), "requests: {wrong:?}");
-    assert!(rt; ascend(&seen.own), "own numbers: {wrong:?}");
+    assert!(rt; ascend(&seen.own), "Sender Sequence Numbers: {wrong:?}");
     assert!(rt; ascend(&seen.delivered), "deliveries: {wrong:?}");
     // A call that goes wrong costs at most the rounds in which each keeper had it.
     assert!(rt; ROUNDS <= seen.delivered.len() as u64 + 2, "{wrong:?}");

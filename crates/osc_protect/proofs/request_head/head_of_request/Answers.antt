@@ -1,4 +1,4 @@
-use Rattle.std.proofs.Common.{◌≡◌, ℕ, List, ap, Result, Ok, Err, IfOk, IfErr, IsOkAnd, IsErrOf}
+use Rattle.std.proofs.Common.{◌≡◌, ℕ, List, ap, Result, Ok, Err, IfOk, IfErr, IsOkAnd, IsErrOf, rules}
 use Rattle.osc_protect.specs.Head.{Head, HasHead, HasNoHead}
 use Rattle.osc_protect.specs.Views.{seen_head}
 use Rattle.osc_protect.specs.Laws.{OneHead}
@@ -15,8 +15,14 @@ exactly : (laws : OneHead Request) (d : List ℕ) (r : Result RequestHead HeadEr
 exactly laws d (Ok x) y z e k = absurd (laws.never_both d (seen_head x) e y k)
 exactly laws d (Err f) y z e k = ap Err (laws.refusal d f e z k)
 
-pub returns-clause-accepts : goal.returns-clause-accepts
-returns-clause-accepts c = only c.one_head.ensures.request c.args.datagram.now c.head_of_request_forward.result c.head_of_request_forward.ensures.head c.head_of_request_forward.ensures.refused
+pub returns-in-Ok-clause-accepts : goal.returns-in-Ok-clause-accepts
+returns-in-Ok-clause-accepts c = only c.one_head.ensures.request c.args.datagram.now (Ok c.of_request.result) (search rules) tt
 
-pub returns-clause-refuses : goal.returns-clause-refuses
-returns-clause-refuses c = exactly c.one_head.ensures.request c.args.datagram.now c.head_of_request_forward.result c.head_of_request_forward.ensures.head c.head_of_request_forward.ensures.refused
+pub returns-in-Ok-clause-refuses : goal.returns-in-Ok-clause-refuses
+returns-in-Ok-clause-refuses c = exactly c.one_head.ensures.request c.args.datagram.now (Ok c.of_request.result) (search rules) tt
+
+pub returns-in-Err-clause-accepts : goal.returns-in-Err-clause-accepts
+returns-in-Err-clause-accepts c = only c.one_head.ensures.request c.args.datagram.now (Err c.in-Err.error) tt (search rules)
+
+pub returns-in-Err-clause-refuses : goal.returns-in-Err-clause-refuses
+returns-in-Err-clause-refuses c = exactly c.one_head.ensures.request c.args.datagram.now (Err c.in-Err.error) tt (search rules)

@@ -3,7 +3,7 @@ use Rattle.osc_client.specs.Agrees.{TokensDiffer}
 use Rattle.osc_client.specs.ClientHistory.{BadInner, context, observes}
 use Rattle.osc_client.proofs.Asking.{differ_at, differ_removed, heard_at, moved}
 use Rattle.osc_client.proofs.ClientDecisions.{delivered, heads_law, notified, responses_law}
-use Rattle.osc_client.proofs.client.Client.decide_forward.Goals as goal
+use Rattle.osc_client.proofs.client.Client.judge.Goals as goal
 
 pub returns-in_default-clause-answered : goal.returns-in_default-clause-answered
 returns-in_default-clause-answered g c = λ h a.
