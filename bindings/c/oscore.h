@@ -56,7 +56,7 @@ OSCORE_ASSERT(sizeof(void *) == 8, "this library has pointers of 8 bytes: compil
 typedef enum oscore_status {
     OSCORE_DONE = 0,
     OSCORE_BAD_HANDLE = 1,         /* no call wrote such a handle: as a length that is too large, or two identifiers that are one */
-    OSCORE_BAD_NUMBER = 2,         /* a number is 2^40 or more, a kind above 3, or a window has neither 32 nor 64 places */
+    OSCORE_BAD_NUMBER = 2,         /* a number is 2^40 or more, a kind above 3, or a window has neither 1, 32 nor 64 places */
     OSCORE_SECRET_LENGTH = 3,      /* the Master Secret has no byte, or more than 64 */
     OSCORE_SALT_LENGTH = 4,        /* the Master Salt has more than 64 bytes */
     OSCORE_ID_TOO_LONG = 5,        /* an identifier has more than 7 bytes */
@@ -127,7 +127,7 @@ typedef struct oscore_context {
     uint8_t recipient[7], recipient_len;
     uint8_t id_context[32], id_context_len; /* of length 0: none */
     uint8_t sender_key[16], recipient_key[16], common_iv[13];
-    uint8_t constant_time; /* by any value but 0 its keys are used in constant time */
+    uint8_t tables; /* by any value but 0 its keys are used with tables, by 0 in constant time */
     uint8_t blocks; /* any value but 0 lets block-wise options pass inside the protection */
     uint8_t observe; /* any value but 0 lets Observe pass, in requests and in notifications, inside and outside the protection */
 } oscore_context;
@@ -180,7 +180,7 @@ typedef struct oscore_request_head {
    read it, and change nothing. */
 typedef struct oscore_server_context {
     oscore_context context;
-    uint8_t places;        /* of the window that the context gets: 32 or 64 */
+    uint8_t places;        /* of the window that the context gets: 1, 32 or 64 */
     uint8_t window_places; /* of the window that is open */
     uint8_t gate;          /* 0 restarted, 1 restarted and challenged, 2 open with no number seen, 3 open */
     uint8_t echo[8];       /* the challenge */
@@ -271,9 +271,9 @@ void oscore_sizes(oscore_struct_sizes *sizes);
 void oscore_status_name(uint32_t status, char name[24]);
 
 /* Derives a context from a Master Secret (1 to 64 bytes), a Master Salt (0 to 64), an ID Context (1 to 32) where `has_id_context`
-   says that there is one, the identifier of this end and that of the other (0 to 7 bytes each). Its keys are used with AES by tables,
-   whose times may tell of a key to whoever shares the machine; with `constant_time` by a cipher whose source has no look-up and no branch
-   that depends on a key or a message, which is slower. What is sent is the same, and the other end may choose otherwise.
+   says that there is one, the identifier of this end and that of the other (0 to 7 bytes each). Its keys are used with AES by a cipher
+   whose source has no look-up and no branch that depends on a key or a message; with `tables` by one that looks up tables, which is faster,
+   and whose times may tell of a key to whoever shares the machine. What is sent is the same, and the other end may choose otherwise.
    With `blocks` the options Block1 and Block2 (27 and 23) pass inside the protection, both ways (RFC 8613, 4.1.3.4.1). Without it no
    message with such an option is sealed, and none opens.
    With `observe` messages may have Observe (6), the option of observations (RFC 7641; RFC 8613, 4.1.3.5): it then stands outside and,
@@ -285,7 +285,7 @@ void oscore_status_name(uint32_t status, char name[24]);
 OSCORE_MUST_USE oscore_status oscore_derive(oscore_context *out, const uint8_t *secret, size_t secret_len, const uint8_t *salt,
                                             size_t salt_len, bool has_id_context, const uint8_t *id_context, size_t id_context_len,
                                             const uint8_t *sender, size_t sender_len, const uint8_t *recipient,
-                                            size_t recipient_len, bool constant_time, bool blocks, bool observe);
+                                            size_t recipient_len, bool tables, bool blocks, bool observe);
 
 /* Writes a plain message, as it is to be sealed: its kind (0 CON, 1 NON, 2 ACK, 3 RST), its code (1 GET .. ; 69 is 2.05), message ID and
    token, its options in ascending order of their numbers, and its payload, which is behind a marker where it isn't empty. The first
@@ -331,7 +331,7 @@ void oscore_server_begin(oscore_server *server);
 
 /* Adds a context, and writes its index. `restarted` says that it may have received requests before, so that what was seen of them is
    lost: then no request is delivered until one brings back an Echo value (RFC 8613, B.1.2). `next` is its next Sender Sequence Number,
-   above each that it ever sealed under. A context that was never used begins with false and 0. Its window has 32 or 64 places. From then
+   above each that it ever sealed under. A context that was never used begins with false and 0. Its window has 1, 32 or 64 places. From then
    on the server counts the numbers of the context's sender: seal neither requests nor responses by `context` beside it. Two contexts with
    the same Sender Key would each count from their own `next`, and share key and nonce, so the second is OSCORE_SAME_SENDER: contexts with
    the same Master Secret are to differ in Sender ID, Master Salt or ID Context (RFC 8613, 3.3). */
@@ -464,7 +464,7 @@ OSCORE_MUST_USE oscore_status oscore_client_take(oscore_client *client, uint64_t
 
 /* Begins a server of a context, with the number that was saved last. With 0 it never received a request, and it takes nothing before its
    first save; else it begins a new life, as a context that is added as `restarted`: no request is delivered until one brings back an
-   Echo value. Its window has 32 or 64 places. A refusal is OSCORE_BAD_HANDLE or OSCORE_BAD_NUMBER, and leaves the server. */
+   Echo value. Its window has 1, 32 or 64 places. A refusal is OSCORE_BAD_HANDLE or OSCORE_BAD_NUMBER, and leaves the server. */
 OSCORE_MUST_USE oscore_status oscore_kept_server_begin(oscore_kept_server *server, const oscore_context *context, uint64_t loaded,
                                                        uint8_t window_places);
 

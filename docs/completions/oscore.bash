@@ -21,7 +21,7 @@ _oscore() {
     fi
     case $before in
         --role) words=(server client) ;;
-        --window) words=(32 64) ;;
+        --window) words=(1 32 64) ;;
         --allow) words=(blocks observe) ;;
         --numbers)
             compopt -o filenames 2>/dev/null
@@ -37,7 +37,7 @@ _oscore() {
     fi
 
     case $call in
-        derive | open | protect | run) words=(--secret --salt --sender --recipient --id-context --allow --help) ;;
+        derive | open | protect | run) words=(--secret --salt --sender --recipient --id-context --allow --tables --help) ;;
         explain) words=(--help) ;;
         help) ((COMP_CWORD == 2)) && words=(derive open protect explain run) ;;
     esac

@@ -40,6 +40,7 @@ complete -c oscore -n "$context --sender" -l sender -x -d 'This end\'s identifie
 complete -c oscore -n "$context --recipient" -l recipient -x -d 'The other end\'s identifier, 0 to 7 bytes of hex'
 complete -c oscore -n "$context --id-context" -l id-context -x -d 'The ID Context, 1 to 32 bytes of hex'
 complete -c oscore -n '__oscore_call derive open protect run' -l allow -x -a 'blocks observe' -d 'What may also pass'
+complete -c oscore -n '__oscore_call derive open protect run; and __oscore_without --tables' -l tables -d 'Use the keys by tables'
 
 complete -c oscore -n '__oscore_call open protect; and __oscore_without --request' -l request -x -d 'Of a response: the number of its request'
 complete -c oscore -n '__oscore_call open protect; and __oscore_without --registers' -l registers -d 'Its request registers an observation'
@@ -49,5 +50,5 @@ complete -c oscore -n '__oscore_call run; and __oscore_without --role' -l role -
 complete -c oscore -n '__oscore_call run; and __oscore_without --sequence --numbers' -l sequence -x -d 'The next Sender Sequence Number'
 complete -c oscore -n '__oscore_call run; and __oscore_without --numbers --sequence --restarted' -l numbers -r -F -d 'The file that keeps the Sender Sequence Numbers'
 complete -c oscore -n '__oscore_call run; and __oscore_without --restarted --numbers --life; and __oscore_no client' -l restarted -d 'Requests may have come to it in an earlier life'
-complete -c oscore -n '__oscore_call run; and __oscore_without --window --life; and __oscore_no client' -l window -x -a '32 64' -d 'The places of the replay window'
+complete -c oscore -n '__oscore_call run; and __oscore_without --window --life; and __oscore_no client' -l window -x -a '1 32 64' -d 'The places of the replay window'
 complete -c oscore -n '__oscore_call run; and __oscore_without --life --restarted --window; and __oscore_no server' -l life -x -d 'For how many ms a request is pending'

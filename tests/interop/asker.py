@@ -31,7 +31,7 @@ class Response(NamedTuple):
 
 
 class Calls:
-    """Seals and opens by the C library, by tables and in constant time by turns, under one count of numbers."""
+    """Seals and opens by the C library, in constant time and by tables by turns, under one count of numbers."""
 
     def __init__(self, program: str, words: Words, number: int = 0, allows_blocks: bool = False):
         self.library, self.number = Library(program), number

@@ -1,7 +1,7 @@
 /* Makes the calls of the C library that lines on standard input ask for, and prints a line for each. Words stand a space apart; bytes are
    hex, "-" where there are none; "none" is what isn't there. A context is kept in one of SLOTS slots.
 
-       derive SLOT CONSTANT_TIME BLOCKS OBSERVE SECRET SALT ID_CONTEXT SENDER RECIPIENT
+       derive SLOT TABLES BLOCKS OBSERVE SECRET SALT ID_CONTEXT SENDER RECIPIENT
            STATUS SENDER_KEY RECIPIENT_KEY COMMON_IV
        seal-request SLOT NUMBER PLAIN
        seal-response SLOT REQUEST OWN PLAIN
@@ -114,11 +114,11 @@ static void print_status(oscore_status status) {
 
 static void derive(void) {
     oscore_context *context = next_slot();
-    bool constant_time = next_number() != 0, blocks = next_number() != 0, observe = next_number() != 0;
+    bool tables = next_number() != 0, blocks = next_number() != 0, observe = next_number() != 0;
     bytes secret = next_bytes(), salt = next_bytes(), id_context = next_bytes(), sender = next_bytes(), recipient = next_bytes();
     *context = (oscore_context)OSCORE_ZERO;
     print_status(oscore_derive(context, secret.at, secret.len, salt.at, salt.len, id_context.is_there, id_context.at, id_context.len,
-                               sender.at, sender.len, recipient.at, recipient.len, constant_time, blocks, observe));
+                               sender.at, sender.len, recipient.at, recipient.len, tables, blocks, observe));
     print_bytes(context->sender_key, sizeof context->sender_key);
     print_bytes(context->recipient_key, sizeof context->recipient_key);
     print_bytes(context->common_iv, sizeof context->common_iv);

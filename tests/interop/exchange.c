@@ -2,9 +2,10 @@
    that. The messages are those of RFC 8613, C.4 and C.7, but that both are NON, and that the response's payload has a length that is told.
    Numbers begin at 20.
 
-       exchange LENGTH ROUNDS [constant]
+       exchange LENGTH ROUNDS [tables]
 
-   It prints nanoseconds an exchange. exchange_libcoap.c does the same by libcoap. */
+   It prints nanoseconds an exchange, of contexts in constant time or, with `tables`, by tables. exchange_libcoap.c does the same by
+   libcoap. */
 #define _POSIX_C_SOURCE 200809L
 #include "exchange.h"
 #include "oscore.h"

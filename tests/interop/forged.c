@@ -55,10 +55,10 @@ static uint8_t len_of(const char *text) {
     return (uint8_t)(len > 32 ? 32 : len);
 }
 
-static void derive(oscore_context *context, const char *own, const char *their, const char *id_context, bool constant_time) {
+static void derive(oscore_context *context, const char *own, const char *their, const char *id_context, bool tables) {
     need("a context", OSCORE_DONE,
          oscore_derive(context, SECRET, sizeof SECRET, NULL, 0, *id_context != 0, (const uint8_t *)id_context, len_of(id_context),
-                       (const uint8_t *)own, len_of(own), (const uint8_t *)their, len_of(their), constant_time, false, false));
+                       (const uint8_t *)own, len_of(own), (const uint8_t *)their, len_of(their), tables, false, false));
 }
 
 /* The highest numbers, those around the edges of their lengths in bytes, and any. */
@@ -191,7 +191,7 @@ int main(int count, char **words) {
         derive(&clients[context][cipher], NAMES[context].client, NAMES[context].server, NAMES[context].id_context, cipher == 1);
         derive(&servers[context][cipher], NAMES[context].server, NAMES[context].client, NAMES[context].id_context, cipher == 1);
         for (long round = 0; round < rounds; round++) {
-            snprintf(where, sizeof where, "context %d%s, round %ld", context, cipher == 1 ? " in constant time" : "", round);
+            snprintf(where, sizeof where, "context %d%s, round %ld", context, cipher == 1 ? " by tables" : "", round);
             oscore_server_begin(&server);
             need("a server", OSCORE_DONE, oscore_server_add(&server, &servers[context][cipher], false, 0, draw() % 2 ? 32 : 64, &index));
             need("a client", OSCORE_DONE, oscore_client_begin(&client, &clients[context][cipher], 0, LIFE_MS));

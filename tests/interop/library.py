@@ -7,9 +7,9 @@ from typing import List, NamedTuple, Optional
 
 from oscore_reading import Context, Opened
 
-CIPHERS = ("by tables", "in constant time")
+CIPHERS = ("in constant time", "by tables")
 CLIENT, SERVER = 0, 2
-"""The slots of a context's two ends; the one behind each has the same context, in constant time."""
+"""The slots of a context's two ends; the one behind each has the same context, by tables."""
 
 
 class Answer(NamedTuple):

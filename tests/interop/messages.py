@@ -1,4 +1,4 @@
-"""Seals and opens random messages by the C library, by tables and in constant time, and by a peer, and compares byte by byte. A peer is
+"""Seals and opens random messages by the C library, in constant time and by tables, and by a peer, and compares byte by byte. A peer is
 this folder's own reading of RFC 8613, or aiocoap.
 
     messages.py printed

@@ -38,6 +38,9 @@ static const row ROWS[] = {
     {32, FRESH, "32 1 0", "DDR"},
     {32, FRESH, "32 0 32 1", "DRRD"},
     {32, FRESH, "0 199 168 167", "DDDR"},
+    /* One place: numbers are delivered in order alone. */
+    {1, FRESH, "5 7 6 7 8", "DDRRD"},
+    {1, FRESH, "0 0 1", "DRD"},
     {64, FRESH, "0 2 0", "DDR"},
     {64, FRESH, "31 0 31 0", "DDRR"},
     {64, FRESH, "32 0 32 0", "DDRR"},
@@ -54,6 +57,7 @@ static const row ROWS[] = {
     {32, 40, "71 41 40 41 71", "DDRRR"},
     {32, 40, "73 41 42 41", "DRDR"},
     {64, 2, "0 1 2 3 3", "RRRDR"},
+    {1, 40, "39 40 42 41 43", "RRDRD"},
     {64, 40, "103 41 40 41 103", "DDRRR"},
 };
 
@@ -202,7 +206,7 @@ static void try_row(const row *tried, int cipher) {
     static trial at;
     char where[128];
     snprintf(where, sizeof where, "window of %d, %s %s%s", tried->places, tried->echoed == FRESH ? "fresh" : "restarted", tried->numbers,
-             cipher == 1 ? ", in constant time" : "");
+             cipher == 1 ? ", by tables" : "");
     begin(&at, where, cipher, tried->places, tried->echoed);
     const char *rest = tried->numbers;
     for (const char *letter = tried->wanted; *letter; letter++) {
@@ -219,13 +223,15 @@ static int below(int most) {
     return (int)(chance % (uint64_t)most);
 }
 
+static const uint8_t SIZES[] = {1, 32, 64};
+
 /* Numbers near the highest so far, around the window's edge, or anywhere; each comes again, and a fourth of the lives is a restart's. */
 static void try_at_random(long order) {
     static trial at;
     char where[64];
     int cipher = below(CIPHERS), lost = below(4) ? FRESH : below(MOST_NUMBERS);
     snprintf(where, sizeof where, "order %ld%s", order, lost == FRESH ? "" : ", restarted");
-    begin(&at, where, cipher, below(2) ? 32 : 64, lost);
+    begin(&at, where, cipher, SIZES[below(3)], lost);
     for (int left = below(MOST_STEPS); left > 0; left--) {
         int where_to = below(3), number = at.highest + (where_to == 0 ? below(3) - at.places : below(8) - 4);
         if (where_to == 2 || number < 0 || number >= MOST_NUMBERS) number = below(MOST_NUMBERS);

@@ -14,7 +14,7 @@ typedef struct named_bytes {
 
 typedef struct description {
     named_bytes bytes[ID_CONTEXT + 1];
-    bool restarted, constant_time, blocks, observe;
+    bool restarted, tables, blocks, observe;
     uint64_t next;
 } description;
 
@@ -55,7 +55,7 @@ static const char *read_words(char *words[], size_t count, description *to) {
     if (!to->restarted && strcmp(words[STATE], "fresh")) return "the state, which is fresh or restarted";
     if (!read_number(words[NEXT], &to->next)) return "the next number";
     for (size_t i = WORDS_LEAST; i < count; i++) {
-        if (!strcmp(words[i], "constant-time")) to->constant_time = true;
+        if (!strcmp(words[i], "tables")) to->tables = true;
         else if (!strcmp(words[i], "blocks")) to->blocks = true;
         else if (!strcmp(words[i], "observe")) to->observe = true;
         else return "a word behind the next number";
@@ -66,7 +66,7 @@ static const char *read_words(char *words[], size_t count, description *to) {
 static oscore_status make_context(const description *of, oscore_context *context) {
     const named_bytes *b = of->bytes;
     return oscore_derive(context, b[SECRET].bytes, b[SECRET].len, b[SALT].bytes, b[SALT].len, b[ID_CONTEXT].len > 0, b[ID_CONTEXT].bytes,
-                         b[ID_CONTEXT].len, b[OWN].bytes, b[OWN].len, b[THEIR].bytes, b[THEIR].len, of->constant_time, of->blocks, of->observe);
+                         b[ID_CONTEXT].len, b[OWN].bytes, b[OWN].len, b[THEIR].bytes, b[THEIR].len, of->tables, of->blocks, of->observe);
 }
 
 static store_answer refuse(char why[WHY_ROOM], const char *what) {

@@ -4,7 +4,7 @@
 
 #include "store.h"
 
-/* SECRET SALT OWN THEIR IDCONTEXT STATE NEXT, and any of the words constant-time, blocks and observe. */
+/* SECRET SALT OWN THEIR IDCONTEXT STATE NEXT, and any of the words tables, blocks and observe. */
 enum { WORDS_LEAST = 7, WORDS_MOST = 10, WHY_ROOM = 80 };
 
 /* Adds the context that the words describe; README.md says what they are. STORE_NOT: it can't be added, and `why` says why, without a word of

@@ -8,8 +8,9 @@
        Sender Key 16, Recipient Key 16, Common IV 13, features 1, length of the Sender ID 1 and its bytes
        era 8, effect 8
        asked 1, number 8, hash 8, length of the reply 2, and the reply where it has room here
-   The format's number changes with what stands here. */
-enum { FORMAT = 1, CONSTANT_TIME = 1, BLOCKS = 2, OBSERVE = 4 };
+   The format's number changes with what stands here. Of the features, bit 0 asked for constant time when tables were the default: it is
+   written no more, and says nothing. */
+enum { FORMAT = 1, BLOCKS = 2, OBSERVE = 4, TABLES = 8 };
 enum { NUMBERS_LEN = 8 + 3 + 8 + 4 * 8 + 2 * 8, KEYS_LEN = 16 + 16 + 13 + 1, ASKED_LEN = 1 + 8 + 8 + 2 };
 enum { FIXED_LEN = 1 + NUMBERS_LEN + KEYS_LEN + 1 + 8 + 8 + ASKED_LEN };
 
@@ -75,7 +76,7 @@ static void write_handle(cursor *to, const oscore_server1 *handle) {
     put_bytes(to, context->sender_key, 16);
     put_bytes(to, context->recipient_key, 16);
     put_bytes(to, context->common_iv, 13);
-    put_number(to, (context->constant_time ? CONSTANT_TIME : 0u) | (context->blocks ? BLOCKS : 0u) | (context->observe ? OBSERVE : 0u), 1);
+    put_number(to, (context->blocks ? BLOCKS : 0u) | (context->observe ? OBSERVE : 0u) | (context->tables ? TABLES : 0u), 1);
     put_number(to, context->sender_len, 1);
     put_bytes(to, context->sender, context->sender_len);
 }
@@ -98,9 +99,9 @@ static void read_handle(reader *from, oscore_server1 *handle) {
     get_bytes(from, context->recipient_key, 16);
     get_bytes(from, context->common_iv, 13);
     uint64_t features = get_number(from, 1);
-    context->constant_time = (features & CONSTANT_TIME) != 0;
     context->blocks = (features & BLOCKS) != 0;
     context->observe = (features & OBSERVE) != 0;
+    context->tables = (features & TABLES) != 0;
     context->sender_len = (uint8_t)get_number(from, 1);
 }
 
@@ -186,7 +187,7 @@ bool row_fingerprint(const oscore_context *context, uint8_t fingerprint[FINGERPR
     static const uint8_t NAME[] = "gateway: fingerprint", END[] = {1};
     oscore_context of = OSCORE_ZERO;
     oscore_status status = oscore_derive(&of, context->sender_key, sizeof context->sender_key, NAME, sizeof NAME - 1, true, NAME,
-                                         sizeof NAME - 1, NULL, 0, END, sizeof END, true, false, false);
+                                         sizeof NAME - 1, NULL, 0, END, sizeof END, false, false, false);
     if (status == OSCORE_DONE) memcpy(fingerprint, of.sender_key, FINGERPRINT_LEN);
     oscore_wipe(&of, sizeof of);
     oscore_wipe_stack();

@@ -18,8 +18,8 @@ static const char *SEALED_GET = "64445d1f0000397490ff9f1ea60c8c8dee1b7a";
 enum { NOW = 1000, LIFE = 5000 };
 /* What is handed in, each at a place of its own. */
 enum { CONTEXT, CLIENT, OPTIONS, OPENED, OUT, SEALED_LEN, DETAIL, NUMBER, PLAIN, DATAGRAM, TOKEN, SECRET, SALT, RECIPIENT, SIZES };
-/* Whether `begin` makes a client in constant time. */
-static bool constant_time;
+/* Whether `begin` makes a client that goes by tables. */
+static bool tables;
 static oscore_context *context;
 static oscore_client *client;
 static oscore_option *options;
@@ -53,7 +53,7 @@ static void begin(uint64_t next) {
     hex("0102030405060708090a0b0c0d0e0f10", secret);
     hex("9e7ca92223786340", salt);
     CHECK(!oscore_derive(context, guarded_copy(SECRET, secret, 16), 16, guarded_copy(SALT, salt, 8), 8, false, NULL, 0, NULL, 0,
-                         guarded_copy(RECIPIENT, &one, 1), 1, constant_time, false, false));
+                         guarded_copy(RECIPIENT, &one, 1), 1, tables, false, false));
     CHECK(!oscore_client_begin(client, context, next, LIFE));
     CHECK(client->next == next && client->life_ms == LIFE && client->clock == 0 && client->count == 0);
 }
@@ -112,7 +112,7 @@ static void exchanges(void) {
             && opened->number == 0);
         CHECK(opened->payload_len == 12 && !memcmp(opened->payload, "Hello World!", 12) && !opened->option_count);
         CHECK(take(NOW, ANSWERS[own]) == OSCORE_UNKNOWN_TOKEN && *detail == 0);
-        CHECK(client->context.constant_time == constant_time);
+        CHECK(client->context.tables == tables);
     }
 }
 
@@ -230,9 +230,9 @@ int main(int count, char **words) {
     if (count > 1) rounds = atoi(words[1]);
     for (int before = 0; before < 2; before++) {
         lay_out(before);
-        constant_time = true;
+        tables = true;
         exchanges();
-        constant_time = false;
+        tables = false;
         exchanges();
         begins();
         refuses();

@@ -57,11 +57,11 @@ WRAP(status_name, void, (uint32_t status, char name[24])) {
 
 WRAP(derive, oscore_status, (oscore_context *out, const uint8_t *secret, size_t secret_len, const uint8_t *salt, size_t salt_len,
                              bool has_id_context, const uint8_t *id_context, size_t id_context_len, const uint8_t *sender,
-                             size_t sender_len, const uint8_t *recipient, size_t recipient_len, bool constant_time, bool blocks,
+                             size_t sender_len, const uint8_t *recipient, size_t recipient_len, bool tables, bool blocks,
                              bool observe)) {
     STRUCT(out), BYTES(secret), BYTES(salt), BYTES(id_context), BYTES(sender), BYTES(recipient);
     return __real_oscore_derive(out, secret, secret_len, salt, salt_len, has_id_context, id_context, id_context_len, sender, sender_len,
-                                recipient, recipient_len, constant_time, blocks, observe);
+                                recipient, recipient_len, tables, blocks, observe);
 }
 
 WRAP(write_message, oscore_status, (uint8_t kind, uint8_t code, uint16_t message_id, const uint8_t *token, size_t token_len,

@@ -32,7 +32,7 @@ enum { CONTEXT, OWN, CLIENT, SERVER, OPTIONS, OPENED, TICKET, OUT, SEALED_LEN, R
     TOKEN, SECRET, SALT, ONE, SIZES };
 static const uint64_t NUMBERS = 1ull << 40;
 static const uint8_t ECHO[8] = {1, 2, 3, 4, 5, 6, 7, 8};
-static bool constant_time, observe;
+static bool tables, observe;
 static oscore_context *context, *own;
 static oscore_kept_client *client;
 static oscore_kept_server *server;
@@ -76,8 +76,8 @@ static void derive(void) {
     uint8_t bytes[16], one = 1;
     const uint8_t *secret = guarded_copy(SECRET, bytes, hex("0102030405060708090a0b0c0d0e0f10", bytes));
     const uint8_t *salt = guarded_copy(SALT, bytes, hex("9e7ca92223786340", bytes)), *id = guarded_copy(ONE, &one, 1);
-    CHECK(!oscore_derive(context, secret, 16, salt, 8, false, NULL, 0, NULL, 0, id, 1, constant_time, false, observe));
-    CHECK(!oscore_derive(own, secret, 16, salt, 8, false, NULL, 0, id, 1, NULL, 0, constant_time, false, observe));
+    CHECK(!oscore_derive(context, secret, 16, salt, 8, false, NULL, 0, NULL, 0, id, 1, tables, false, observe));
+    CHECK(!oscore_derive(own, secret, 16, salt, 8, false, NULL, 0, id, 1, NULL, 0, tables, false, observe));
 }
 
 static void begin_client(uint64_t loaded) {
@@ -247,7 +247,7 @@ static void serves_fresh(void) {
         CHECK(!answer(ANSWER, by_own, 64) && is(out, *out_len, SEALED_ANSWERS[by_own]));
         CHECK(server->server.context.next == (uint64_t)by_own && answer(ANSWER, by_own, 64) == OSCORE_TICKET_SPENT);
         CHECK(take_text(SEALED) == OSCORE_REPLAY && *reply_len);
-        CHECK(server->server.context.context.constant_time == constant_time);
+        CHECK(server->server.context.context.tables == tables);
     }
 }
 
@@ -395,7 +395,7 @@ static void asks(void) {
         CHECK(!oscore_kept_client_saved(client, 20 + BATCH) && !ask(NOW, REQUEST, 64) && is(out, *out_len, SEALED));
         CHECK(ask(NOW, REQUEST, 64) == OSCORE_TOKEN_IN_USE && ask(NOW, "4101000107", 3) == OSCORE_NO_ROOM && client->client.next == 21);
         CHECK(!take_response(NOW, SEALED_ANSWERS[by_own]) && *number == 20 && opened->payload_len == 12 && client->client.count == 0);
-        CHECK(take_response(NOW, SEALED_ANSWERS[by_own]) == OSCORE_UNKNOWN_TOKEN && client->client.context.constant_time == constant_time);
+        CHECK(take_response(NOW, SEALED_ANSWERS[by_own]) == OSCORE_UNKNOWN_TOKEN && client->client.context.tables == tables);
     }
     begin_client(NUMBERS - 1);
     CHECK(ask(NOW, REQUEST, 64) == OSCORE_SAVE_FIRST && *detail == NUMBERS && !oscore_kept_client_saved(client, NUMBERS));
@@ -522,7 +522,7 @@ int main(int count, char **words) {
     for (int before = 0; before < 2; before++) {
         lay_out(before);
         for (int ciphers = 0; ciphers < 2; ciphers++) {
-            constant_time = ciphers;
+            tables = ciphers == 0;
             serves_fresh();
             asks();
             notifies();

@@ -68,22 +68,22 @@ static const char *SEALED_ANSWERS[2] = {"64445d1f0000397490ffdbaad1e9a7e7b2a813d
                                         "64445d1f00003974920100ff4d4c13669384b67354b2b6175ff4b8658c666a6cf88e"};
 
 static uint32_t derive_into(oscore_context *context, const uint8_t *sender, size_t sender_len, const uint8_t *recipient, size_t recipient_len,
-                            int i, bool constant_time) {
+                            int i, bool tables) {
     size_t secret_len, salt_len, id_context_len = 0;
     const uint8_t *secret = bytes_at(SECRET, "0102030405060708090a0b0c0d0e0f10", 0, &secret_len);
     const uint8_t *salt = bytes_at(SALT, DERIVED[i].salt, 0, &salt_len), *id_context = NULL;
     if (DERIVED[i].id_context) id_context = bytes_at(ID_CONTEXT, DERIVED[i].id_context, 0, &id_context_len);
     return oscore_derive(context, secret, secret_len, salt, salt_len, id_context, id_context, id_context_len,
                          guarded_copy(SENDER, sender, sender_len), sender_len, guarded_copy(RECIPIENT, recipient, recipient_len), recipient_len,
-                         constant_time, false, false);
+                         tables, false, false);
 }
 
-static void derives(bool constant_time) {
+static void derives(bool tables) {
     uint8_t client[1], server[1], wanted[16];
     for (int i = 0; i < CONTEXTS; i++) {
         size_t client_len = hex(DERIVED[i].client, client), server_len = hex(DERIVED[i].server, server);
-        CHECK(!derive_into(clients[i], client, client_len, server, server_len, i, constant_time));
-        CHECK(!derive_into(servers[i], server, server_len, client, client_len, i, constant_time));
+        CHECK(!derive_into(clients[i], client, client_len, server, server_len, i, tables));
+        CHECK(!derive_into(servers[i], server, server_len, client, client_len, i, tables));
         CHECK(hex(DERIVED[i].client_key, wanted) == 16 && !memcmp(clients[i]->sender_key, wanted, 16)
             && !memcmp(servers[i]->recipient_key, wanted, 16));
         CHECK(hex(DERIVED[i].server_key, wanted) == 16 && !memcmp(clients[i]->recipient_key, wanted, 16)
@@ -91,7 +91,7 @@ static void derives(bool constant_time) {
         CHECK(hex(DERIVED[i].common_iv, wanted) == 13 && !memcmp(clients[i]->common_iv, wanted, 13)
             && !memcmp(servers[i]->common_iv, wanted, 13));
         CHECK(clients[i]->sender_len == client_len && clients[i]->recipient_len == 1 && clients[i]->recipient[0] == 1);
-        CHECK(clients[i]->constant_time == constant_time && servers[i]->constant_time == constant_time);
+        CHECK(clients[i]->tables == tables && servers[i]->tables == tables);
         size_t id_context_len = DERIVED[i].id_context ? hex(DERIVED[i].id_context, wanted) : 0;
         CHECK(clients[i]->id_context_len == id_context_len && !memcmp(clients[i]->id_context, wanted, id_context_len));
     }
@@ -408,11 +408,11 @@ static void ciphers_agree(void) {
         for (size_t k = 0; k < sizeof context->common_iv; k++) context->common_iv[k] = (uint8_t)rand();
         for (size_t k = 5; k < len; k++) bytes[k] = (uint8_t)rand();
         uint8_t *plain = guarded_copy(PLAIN, bytes, len), *out = guarded_room(OUT, OSCORE_ROOM(len));
-        context->constant_time = 0;
+        context->tables = (uint8_t)(1 + rand() % 255);
         CHECK(!oscore_seal_request(context, number, plain, len, out, OSCORE_ROOM(len), out_len, detail));
         len_by_tables = *out_len;
         memcpy(by_tables, out, len_by_tables);
-        context->constant_time = (uint8_t)(1 + rand() % 255);
+        context->tables = 0;
         CHECK(!oscore_seal_request(context, number, plain, len, out, OSCORE_ROOM(len), out_len, detail));
         CHECK(*out_len == len_by_tables && !memcmp(out, by_tables, len_by_tables));
     }
@@ -508,8 +508,8 @@ int main(int count, char **words) {
     if (count > 1) rounds = atoi(words[1]);
     for (int before = 0; before < 2; before++) {
         lay_out(before);
-        for (int constant_time = 1; constant_time >= 0; constant_time--) {
-            derives(constant_time);
+        for (int tables = 1; tables >= 0; tables--) {
+            derives(tables);
             exchanges_requests();
             exchanges_responses();
         }

@@ -22,7 +22,7 @@ static const char *GONE = "50840005", *SEALED_GONE = "614401014a920104ff4f6d3216
 enum { LIFE = 60000 };
 enum { CONTEXT, CLIENT, SERVER, SERVER1, OPTIONS, OPENED, TICKET, USED, OUT, OUT_LEN, DETAIL, NUMBER, PLAIN, DATAGRAM, TOKEN, SECRET, SALT, ID, ECHO, REPLY,
        REPLY_LEN, INDEX };
-static bool single, constant_time;
+static bool single, tables;
 static oscore_client *client;
 static oscore_server *server;
 static oscore_server1 *server1;
@@ -67,7 +67,7 @@ static const oscore_context *derive(bool of_client) {
     const uint8_t *secret = guarded_copy(SECRET, bytes, hex("0102030405060708090a0b0c0d0e0f10", bytes));
     const uint8_t *salt = guarded_copy(SALT, bytes, hex("9e7ca92223786340", bytes)), *id = guarded_copy(ID, &one, 1);
     CHECK(!oscore_derive(context, secret, 16, salt, 8, false, NULL, 0, of_client ? NULL : id, of_client ? 0 : 1, of_client ? id : NULL,
-                         of_client ? 1 : 0, constant_time, true, true));
+                         of_client ? 1 : 0, tables, true, true));
     return context;
 }
 
@@ -290,7 +290,7 @@ int main(void) {
     for (int before = 0; before < 2; before++) {
         lay_out(before);
         for (int kind = 0; kind < 4; kind++) {
-            single = kind % 2, constant_time = kind / 2;
+            single = kind % 2, tables = kind / 2;
             observes();
             asks_for_a_block();
             refuses();

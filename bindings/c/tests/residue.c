@@ -40,7 +40,7 @@ static const uint8_t ANSWER[23] = "\x61\x44\0\1\7\xffthe door is shut", NOTE[24]
 /* Who wipes the stack behind a call: nobody, the function that made it, or the one that called that. */
 static enum { NOBODY, CALLER, ITS_CALLER } wiping;
 static const uint8_t *secret;
-static bool constant_time;
+static bool tables;
 static oscore_context client_end, server_end;
 static oscore_client client;
 static oscore_server server;
@@ -63,7 +63,7 @@ static void fails(int line, const char *condition) {
         if (wiping == CALLER) oscore_wipe_stack(); \
         return status; \
     }
-CALL(derive, &client_end, secret, 16, SALT, 8, false, NULL, 0, NULL, 0, &ONE, 1, constant_time, false, true)
+CALL(derive, &client_end, secret, 16, SALT, 8, false, NULL, 0, NULL, 0, &ONE, 1, tables, false, true)
 CALL(seal_request, &client_end, NUMBER, ASKS[0], sizeof ASKS[0] - 1, out, ROOM, &out_len, &detail)
 CALL(seal_response, &server_end, NUMBER, false, 0, ANSWER, sizeof ANSWER - 1, response, ROOM, &response_len, &detail)
 CALL(open_request, &server_end, request, request_len, options, 4, &opened, &detail)
@@ -115,7 +115,7 @@ static void prepare(int which, before before) {
     uint8_t sent[ROOM];
     secret = SECRETS[which];
     CHECK(!derive());
-    CHECK(!oscore_derive(&server_end, secret, 16, SALT, 8, false, NULL, 0, &ONE, 1, NULL, 0, constant_time, false, true));
+    CHECK(!oscore_derive(&server_end, secret, 16, SALT, 8, false, NULL, 0, &ONE, 1, NULL, 0, tables, false, true));
     oscore_server_begin(&server);
     CHECK(!client_begin() && !seal_response() && (before == EMPTY || !server_add()));
     CHECK(!oscore_client_request(&client, 0, ASKS[0], sizeof ASKS[0] - 1, request, ROOM, &request_len, &detail));
@@ -273,7 +273,7 @@ static void check_handles(void) {
 static left check_row(const row *row) {
     wiping = NOBODY;
     left left = left_by(row);
-    printf("%-22s %-13s %6zu %3zu %4zu %9zu %18zu %17zu\n", row->name, constant_time ? "constant time" : "tables", left.secret, left.prk,
+    printf("%-22s %-13s %6zu %3zu %4zu %9zu %18zu %17zu\n", row->name, tables ? "tables" : "constant time", left.secret, left.prk,
            left.keys, left.iv, left.words, left.depending);
     /* As oscore.h says of OSCORE_STACK. */
     CHECK(left.stack + 4000 < OSCORE_STACK);
@@ -291,7 +291,7 @@ int main(void) {
     puts("                                     secret PRK keys Common IV words of a schedule bytes that depend");
     for (int way = 0; way < 2; way++) {
         bool seen = false;
-        constant_time = way;
+        tables = way == 0;
         for (size_t i = 0; i < sizeof ROWS / sizeof *ROWS; i++) {
             left left = check_row(&ROWS[i]);
             seen = seen || (left.keys > 0 && left.words > BY_CHANCE && left.depending > 0);

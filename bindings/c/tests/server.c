@@ -24,8 +24,8 @@ enum { CLIENT, OWN, SERVER, OPTIONS, OPENED, TICKET, OUT, SEALED_LEN, REPLY, REP
     SECRET, SALT, ID_CONTEXT, SENDER, RECIPIENT };
 static const uint64_t NUMBERS = 1ull << 40;
 static uint8_t echo[8] = {1, 2, 3, 4, 5, 6, 7, 8};
-/* Whether `derive` makes contexts in constant time, and the server's own identifier. */
-static bool constant_time;
+/* Whether `derive` makes contexts that go by tables, and the server's own identifier. */
+static bool tables;
 static uint8_t sender = 1;
 static oscore_context *client, *own;
 static oscore_server *server;
@@ -65,8 +65,8 @@ static void derive(uint8_t recipient, size_t recipient_len, const char *id_conte
     size_t id_len = id_context ? hex(id_context, bytes) : 0;
     const uint8_t *id = guarded_copy(ID_CONTEXT, bytes, id_len), *client_id = guarded_copy(SENDER, &recipient, recipient_len);
     const uint8_t *server_id = guarded_copy(RECIPIENT, &sender, 1);
-    CHECK(!oscore_derive(client, secret, 16, salt, 8, id_context, id, id_len, client_id, recipient_len, server_id, 1, constant_time, false, false));
-    CHECK(!oscore_derive(own, secret, 16, salt, 8, id_context, id, id_len, server_id, 1, client_id, recipient_len, constant_time, false, false));
+    CHECK(!oscore_derive(client, secret, 16, salt, 8, id_context, id, id_len, client_id, recipient_len, server_id, 1, tables, false, false));
+    CHECK(!oscore_derive(own, secret, 16, salt, 8, id_context, id, id_len, server_id, 1, client_id, recipient_len, tables, false, false));
 }
 
 static void begin(bool restarted, uint64_t next) {
@@ -178,7 +178,7 @@ static void exchanges(void) {
         CHECK(server->unanswered[0].highest == 20 && server->unanswered[0].mask == 1);
         CHECK(!answer(ticket, with_number) && is(out, *out_len, SEALED_ANSWERS[with_number]));
         CHECK(server->contexts[0].next == (uint64_t)with_number && !server->unanswered[0].mask);
-        CHECK(server->contexts[0].context.constant_time == constant_time && client->constant_time == constant_time);
+        CHECK(server->contexts[0].context.tables == tables && client->tables == tables);
         CHECK(!open_response(20, out, *out_len) && opened->code == 69 && opened->has_number == with_number && !opened->option_count);
     }
     /* Not confirmable: reply and refusal aren't either, and their message ID is the one that was handed in. */
@@ -406,12 +406,15 @@ static void spoils_datagrams(void) {
     CHECK(delivered >= rounds / 4);
 }
 
+static bool is_size(uint8_t places) {
+    return places == 1 || places == 32 || places == 64;
+}
+
 static bool is_bad_context(const oscore_server_context *bytes) {
     const oscore_context *c = &bytes->context;
     return c->sender_len > 7 || c->recipient_len > 7 || c->id_context_len > 32
         || (c->sender_len == c->recipient_len && !memcmp(c->sender, c->recipient, c->sender_len))
-        || (bytes->places != 32 && bytes->places != 64) || bytes->gate > 3
-        || (bytes->gate >= 2 && bytes->window_places != 32 && bytes->window_places != 64)
+        || !is_size(bytes->places) || bytes->gate > 3 || (bytes->gate >= 2 && !is_size(bytes->window_places))
         || (bytes->gate == 3 && bytes->at >= NUMBERS) || bytes->next > NUMBERS;
 }
 
@@ -477,10 +480,10 @@ int main(int count, char **words) {
     if (count > 1) rounds = atoi(words[1]);
     for (int before = 0; before < 2; before++) {
         lay_out(before);
-        constant_time = true;
+        tables = true;
         exchanges();
         restarts();
-        constant_time = false;
+        tables = false;
         exchanges();
         refuses_datagrams();
         refuses_replies();

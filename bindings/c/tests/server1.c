@@ -58,13 +58,13 @@ static bool is(const uint8_t *bytes, size_t len, const char *text) {
 }
 
 /* The context of RFC 8613, C.1, for both ends. */
-static void derive(bool constant_time) {
+static void derive(bool tables) {
     uint8_t bytes[16], one_byte = 1;
     const uint8_t *secret = guarded_copy(SECRET, bytes, hex("0102030405060708090a0b0c0d0e0f10", bytes));
     const uint8_t *salt = guarded_copy(SALT, bytes, hex("9e7ca92223786340", bytes));
     const uint8_t *none = guarded_room(ID_CONTEXT, 0), *empty = guarded_room(SENDER, 0), *server_id = guarded_copy(RECIPIENT, &one_byte, 1);
-    CHECK(!oscore_derive(client, secret, 16, salt, 8, false, none, 0, empty, 0, server_id, 1, constant_time, false, true));
-    CHECK(!oscore_derive(own, secret, 16, salt, 8, false, none, 0, server_id, 1, empty, 0, constant_time, false, true));
+    CHECK(!oscore_derive(client, secret, 16, salt, 8, false, none, 0, empty, 0, server_id, 1, tables, false, true));
+    CHECK(!oscore_derive(own, secret, 16, salt, 8, false, none, 0, server_id, 1, empty, 0, tables, false, true));
 }
 
 static void begin(bool restarted, uint64_t next, uint8_t places) {
@@ -289,8 +289,8 @@ int main(int count, char **words) {
     CHECK(sizeof(oscore_server1) == 168);
     for (int before = 0; before < 2; before++) {
         lay_out(before);
-        for (int constant_time = 1; constant_time >= 0; constant_time--) {
-            derive(constant_time);
+        for (int tables = 1; tables >= 0; tables--) {
+            derive(tables);
             exchanges();
         }
         refuses();

@@ -71,6 +71,21 @@ fn call<'a, C: ClientEnd>(
     }
 }
 
+/// Makes a step that is no event.
+fn make_other<C: ClientEnd>(client: &mut C, step: &Step<'_>, answer: &mut Answer) {
+    match step.verb {
+        "next" => match client.next() {
+            Ok(number) => answer.print(number),
+            Err(refusal) => refusal.show(answer),
+        },
+        "advance" => {
+            let advanced = client.advance(step.fields.number(0));
+            show_word(advanced.map(|()| "advanced"), answer);
+        }
+        _ => show_word(client.other(step), answer),
+    }
+}
+
 /// Makes a step of a client.
 fn make_step<C: ClientEnd>(
     client: &mut C,
@@ -80,12 +95,7 @@ fn make_step<C: ClientEnd>(
     left: &mut Answer,
 ) {
     let Some(mut event) = event_of(step) else {
-        let made = if step.verb == "advance" {
-            client.advance(step.fields.number(0)).map(|()| "advanced")
-        } else {
-            client.other(step)
-        };
-        return show_word(made, answer);
+        return make_other(client, step, answer);
     };
     match call(client, &mut event, way) {
         Ok(entry) => show(&entry, answer),

@@ -30,6 +30,11 @@ pub(crate) trait ClientEnd {
         Err(Refusal::Bad)
     }
 
+    /// Returns the Sender Sequence Number of the next request.
+    fn next(&self) -> Made<u64> {
+        Err(Refusal::Bad)
+    }
+
     /// Makes a step that only some clients have, and returns the word for what came of it.
     fn other(&mut self, _step: &Step<'_>) -> Made<&'static str> {
         Err(Refusal::Bad)

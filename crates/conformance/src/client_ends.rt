@@ -38,6 +38,10 @@ impl<const N: usize> ClientEnd for Client<N> {
         Client::advance(self, now);
         Ok(())
     }
+
+    fn next(&self) -> Made<u64> {
+        Ok(Client::next(self))
+    }
 }
 
 impl ClientEnd for KeptClient<Memory<'_>, 2> {
@@ -61,6 +65,10 @@ impl ClientEnd for KeptClient<Memory<'_>, 2> {
     fn advance(&mut self, now: u64) -> Made<()> {
         KeptClient::advance(self, now);
         Ok(())
+    }
+
+    fn next(&self) -> Made<u64> {
+        Ok(self.upcoming())
     }
 
     fn other(&mut self, step: &Step<'_>) -> Made<&'static str> {

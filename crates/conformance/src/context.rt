@@ -160,3 +160,9 @@ pub(crate) fn answers_to(fields: &Fields<'_>, context: &Context, answer: &mut An
         "other"
     });
 }
+
+/// Shows the fingerprint of this end of the context.
+pub(crate) fn fingerprint(fields: &Fields<'_>, context: &Context, answer: &mut Answer) {
+    fields.count(1);
+    answer.bytes(&context.fingerprint());
+}

@@ -148,12 +148,12 @@ impl<'t> Fields<'t> {
         u16::from_be_bytes(self.array::<2>(place))
     }
 
-    /// Returns the size of a window: 32, or else 64.
+    /// Returns the size of a window: 1, 32, or else 64.
     pub(crate) fn window_size(&self, place: usize) -> WindowSize {
-        if self.number(place) == 32 {
-            WindowSize::Places32
-        } else {
-            WindowSize::Places64
+        match self.number(place) {
+            1 => WindowSize::Place1,
+            32 => WindowSize::Places32,
+            _ => WindowSize::Places64,
         }
     }
 

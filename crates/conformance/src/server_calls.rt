@@ -10,7 +10,7 @@ use osc_coap::parse;
 use osc_endpoint::siblings::{put_back, take_out, ticket_at};
 use osc_endpoint::{Answering, Arrival, Notifying, ServerEntry, ServerEvent, Taken, Ticket};
 
-/// Takes a datagram, by one call or by its two halves. Returns the ticket of a delivery too.
+/// Takes a datagram, by one call, by its two halves, or by the call that counts. Returns the ticket of a delivery too.
 fn take<'a, S: ServerEnd>(
     server: &mut S,
     arrival: &'a mut Arrival,
@@ -24,10 +24,10 @@ fn take<'a, S: ServerEnd>(
     } = arrival;
     let (now, fresh) = (*now, *fresh);
     let at = Moment { now, fresh };
-    let Taken { outcome, reply } = if way == Way::ByHalves {
-        server.halves(at, bytes, out)?
-    } else {
-        server.take(at, bytes, out)?
+    let Taken { outcome, reply } = match way {
+        Way::ByHalves => server.halves(at, bytes, out)?,
+        Way::Counted => server.counted(at, bytes, out)?,
+        _ => server.take(at, bytes, out)?,
     };
     let (seen, ticket) = outcome.part();
     let reply = out.get(..reply).ok_or(Refusal::Bad)?;
@@ -119,6 +119,16 @@ fn add<S: ServerEnd>(server: &mut S, step: &Step<'_>, answer: &mut Answer) {
     }
 }
 
+/// Shows the next Sender Sequence Number of a context, or `none` if it isn't there.
+fn show_next<S: ServerEnd>(server: &S, step: &Step<'_>, answer: &mut Answer) {
+    step.fields.count(1);
+    match server.next(step.fields.index(0)) {
+        Ok(Some(number)) => answer.print(number),
+        Ok(None) => answer.word("none"),
+        Err(refusal) => refusal.show(answer),
+    }
+}
+
 /// Makes an event, shows what came of it and what it leaves, and returns the ticket of a delivery.
 fn make_event<S: ServerEnd>(
     server: &mut S,
@@ -132,6 +142,7 @@ fn make_event<S: ServerEnd>(
         show_word(server.other(step), answer);
         return None;
     };
+    let way = if step.is_counted() { Way::Counted } else { way };
     let ticket = match call(server, tickets, &mut event, way) {
         Ok((entry, ticket)) => {
             show(&entry, answer);
@@ -158,6 +169,7 @@ fn make_step<S: ServerEnd>(
     match step.verb {
         "add" => add(server, step, answer),
         "advance" | "is-open" => show_word(server.other(step), answer),
+        "next" => show_next(server, step, answer),
         _ => {
             let ticket = make_event(server, tickets, step, way, answer, left);
             if tickets.push(ticket).is_err() {

@@ -38,6 +38,11 @@ pub(crate) trait ServerEnd {
     /// Takes a datagram, by the two halves of that call.
     fn halves<'b>(&mut self, at: Moment, bytes: &'b mut [u8], out: &mut Room) -> Made<Taken<'b>>;
 
+    /// Takes a datagram with an Echo value that the call makes of the next number.
+    fn counted<'b>(&mut self, _at: Moment, _: &'b mut [u8], _out: &mut Room) -> Made<Taken<'b>> {
+        Err(Refusal::Bad)
+    }
+
     /// Replies to the request of a ticket.
     fn reply(&mut self, ticket: Ticket, reply: &Reply<'_>, out: &mut [u8]) -> Replied;
 
@@ -51,6 +56,11 @@ pub(crate) trait ServerEnd {
 
     /// Begins a new life of a context.
     fn restart(&mut self, _context: usize, _next: Piv) -> Made<()> {
+        Err(Refusal::Bad)
+    }
+
+    /// Returns the Sender Sequence Number with which a context seals next, if it is there.
+    fn next(&self, _context: usize) -> Made<Option<u64>> {
         Err(Refusal::Bad)
     }
 

@@ -49,6 +49,10 @@ impl ServerEnd for Server {
         Server::restart(self, context, next).map_err(Refusal::Restart)
     }
 
+    fn next(&self, context: usize) -> Made<Option<u64>> {
+        Ok(Server::next(self, context))
+    }
+
     fn other(&mut self, step: &Step<'_>) -> Made<&'static str> {
         match step.verb {
             "advance" => {
@@ -79,12 +83,20 @@ impl ServerEnd for KeptServer<Memory<'_>> {
         }
     }
 
+    fn counted<'b>(&mut self, at: Moment, bytes: &'b mut [u8], out: &mut Room) -> Made<Taken<'b>> {
+        Ok(KeptServer::take_counted(self, at.now, at.fresh.mid, bytes, out))
+    }
+
     fn reply(&mut self, ticket: Ticket, reply: &Reply<'_>, out: &mut [u8]) -> Replied {
         answered(KeptServer::reply(self, ticket, reply.own, reply.mid, &reply.plain, out))
     }
 
     fn notify(&mut self, ticket: &Ticket, plain: &Message<'_>, out: &mut [u8]) -> Made<usize> {
         KeptServer::notify(self, ticket, plain, out).map_err(Refusal::of_reply)
+    }
+
+    fn next(&self, _context: usize) -> Made<Option<u64>> {
+        Ok(Some(self.upcoming()))
     }
 
     fn other(&mut self, step: &Step<'_>) -> Made<&'static str> {

@@ -8,27 +8,38 @@ use osc_endpoint::{Answering, Arrival, Fresh, Notifying, ServerEvent, Start};
 use osc_kept::KeptServerEvent;
 use osc_window::WindowSize;
 
-/// Reads `add CONTEXT fresh|restarted NEXT SIZE`: the context, how it begins, and the size of its window.
-pub(crate) fn addition(step: &Step<'_>) -> Option<(Context, Start, WindowSize)> {
-    let fields = &step.fields;
-    fields.count(4);
-    let context = step.context()?;
+/// Reads how a context begins: `fresh NEXT SIZE`, `restarted NEXT SIZE` or `received NEXT SIZE HIGHEST`.
+fn beginning(fields: &Fields<'_>) -> Start {
     let next = fields.sequence_number(2);
-    let start = if fields.word(1) == "fresh" {
+    if fields.word(1) == "received" {
+        fields.count(5);
+        let highest = fields.sequence_number(4);
+        return Start::Received { next, highest };
+    }
+    fields.count(4);
+    if fields.word(1) == "fresh" {
         Start::Fresh(next)
     } else {
         Start::Restarted(next)
-    };
-    Some((context, start, fields.window_size(3)))
+    }
 }
 
-/// Reads `take NOW ECHO MID DATAGRAM`.
+/// Reads `add CONTEXT ..`: the context, how it begins, and the size of its window.
+pub(crate) fn addition(step: &Step<'_>) -> Option<(Context, Start, WindowSize)> {
+    let context = step.context()?;
+    Some((context, beginning(&step.fields), step.fields.window_size(3)))
+}
+
+/// Reads `take NOW ECHO MID DATAGRAM`. The value `counted` is made by the call.
 fn arrival(fields: &Fields<'_>) -> Arrival {
     fields.count(4);
-    let fresh = Fresh {
-        echo: fields.array::<8>(1),
-        mid: fields.message_id(2),
+    let echo = if fields.word(1) == "counted" {
+        [0; 8]
+    } else {
+        fields.array::<8>(1)
     };
+    let mid = fields.message_id(2);
+    let fresh = Fresh { echo, mid };
     Arrival {
         now: fields.number(0),
         fresh,

@@ -13,6 +13,8 @@ pub(crate) const FILLED_WITH: u8 = 0xaa;
 pub(crate) enum Way {
     ByTake,
     ByHalves,
+    /// By the call that makes the Echo value of the next number.
+    Counted,
     ByRun,
     ByRunOn,
 }
@@ -20,7 +22,7 @@ pub(crate) enum Way {
 impl Way {
     /// Returns whether these steps are made this way by calls, which is so if one of them is no event.
     pub(crate) fn calls(self, steps: &[Step<'_>]) -> bool {
-        matches!(self, Way::ByTake | Way::ByHalves) || !are_events(steps)
+        !matches!(self, Way::ByRun | Way::ByRunOn) || !are_events(steps)
     }
 }
 
@@ -45,7 +47,12 @@ impl Step<'_> {
 
     /// Returns whether the step is an event, which runs know.
     pub(crate) fn is_event(&self) -> bool {
-        !matches!(self.verb, "add" | "advance" | "is-open")
+        !matches!(self.verb, "add" | "advance" | "is-open" | "next") && !self.is_counted()
+    }
+
+    /// Returns whether the step is `take NOW counted MID DATAGRAM`: the server makes the Echo value of its next number.
+    pub(crate) fn is_counted(&self) -> bool {
+        self.verb == "take" && self.fields.word(1) == "counted"
     }
 
     /// Returns whether the step is `restart` without a number: the end goes on at the number that is kept.

@@ -131,6 +131,7 @@ fn asked(verb: &str) -> Asked {
 fn under_this(verb: &str, fields: &Fields<'_>, context: &KeyedContext, answer: &mut Answer) {
     match verb {
         "answers-to" => context::answers_to(fields, context.context(), answer),
+        "fingerprint" => context::fingerprint(fields, context.context(), answer),
         "names" => protection::named(fields, context, answer),
         "seal-request" => protection::sealed_request(fields, context, answer),
         "seal-response" | "seal-notification" => {
@@ -144,7 +145,7 @@ fn under_this(verb: &str, fields: &Fields<'_>, context: &KeyedContext, answer: &
     }
 }
 
-/// Makes such a call under a context that keeps its schedules, again under one that keeps none, and again under one in constant time.
+/// Makes such a call under a context that keeps its schedules, again under one that keeps none, and again under one that goes by tables.
 fn under_a_context(
     verb: &str,
     fields: &Fields<'_>,
@@ -158,8 +159,8 @@ fn under_a_context(
     ) else {
         return fields.refuse();
     };
-    let third = third.constant_time();
-    if context.is_constant_time() || !third.is_constant_time() {
+    let third = third.tables();
+    if !context.is_constant_time() || third.is_constant_time() {
         return fields.refuse();
     }
     under_this(verb, fields, &KeyedContext::new(context), answer);

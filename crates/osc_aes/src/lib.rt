@@ -2,7 +2,7 @@
 //! `specs/`.
 //!
 //! ```
-//! let cipher = TableAes::new(&key);
+//! let cipher = PlaneAes::new(&key);
 //! cipher.encrypt(&mut block);
 //! ```
 #![tactic(auto)]

@@ -7,7 +7,7 @@ use Rattle.osc_coap.specs.Laws.{DatagramHasNoFault, DatagramHasOneFault, Datagra
 use Rattle.osc_coap.specs.declared.format_error.Fault.{Fault}
 use Rattle.osc_context.specs.declared.partial_iv.Piv.{Piv}
 use Rattle.osc_window.specs.declared.window_size.WindowSize.{WindowSize}
-use Rattle.osc_window.specs.declared.window_size.WindowSize.TheVariants.{Places32, Places64}
+use Rattle.osc_window.specs.declared.window_size.WindowSize.TheVariants.{Place1, Places32, Places64}
 use Rattle.osc_client.specs.ClientAnswer.{ClientAnswer}
 use Rattle.osc_client.specs.ClientHistory as client
 use Rattle.osc_laws.specs.ClientLaws.{AllClientAnswers, OneClientAnswer}
@@ -47,8 +47,9 @@ carried_too one P h event got entry all x y p = subst P (one 8 h event got entry
 
 -- numbers that are given can be added
 pub are_addable : (next places : ℕ) (number : Piv) (size : WindowSize) → serves.AreGiven next places number size → serves.AreAddable next places
-are_addable next places number Places32 given = record { number = subst (λ n. n < 2 ^ 40) given.next_is number.in_range; size = inl (sym given.places_are) }
-are_addable next places number Places64 given = record { number = subst (λ n. n < 2 ^ 40) given.next_is number.in_range; size = inr (sym given.places_are) }
+are_addable next places number Place1 given = record { number = subst (λ n. n < 2 ^ 40) given.next_is number.in_range; size = inl (sym given.places_are) }
+are_addable next places number Places32 given = record { number = subst (λ n. n < 2 ^ 40) given.next_is number.in_range; size = inr (inl (sym given.places_are)) }
+are_addable next places number Places64 given = record { number = subst (λ n. n < 2 ^ 40) given.next_is number.in_range; size = inr (inr (sym given.places_are)) }
 
 pub adding_read : OneServerAnswer → (s new : ServerHandle) (c : ContextHandle) (restarted : Bool) (next places : ℕ) (status : Status) (result index : ℕ) → serves.RefusesAdding s new c restarted next places status → result ≡ code status
     → IsTable s.contexts → IsContext c → (number : Piv) (size : WindowSize) → serves.AreGiven next places number size → (h : server.History) (entry : server.Entry) → Serves s h

@@ -1,6 +1,6 @@
 -- To be believed: why a call of C on a server does nothing, or less, row by row in the order in which the reasons are checked, and what it leaves; and what
 -- C reads of each answer. s are the server's bytes before, new those after, c the bytes of a context, t the bytes of a ticket, d a datagram.
-use Rattle.std.specs.Prelude.{◌≡◌, ℕ, ◌<◌, ◌^◌, ◌⊎◌, List, Bool, true, false}
+use Rattle.std.specs.Prelude.{◌≡◌, ℕ, ◌<◌, ◌^◌, List, Bool, true, false}
 use Rattle.osc_coap.specs.Datagram.{Parts, IsDatagram}
 use Rattle.osc_coap.specs.Fault.{HasFault}
 use Rattle.osc_coap.specs.declared.format_error.Fault.{Fault}
@@ -8,6 +8,7 @@ use Rattle.osc_context.specs.SecurityContext.{SecurityContext}
 use Rattle.osc_context.specs.Views.{number_of}
 use Rattle.osc_context.specs.declared.partial_iv.Piv.{Piv}
 use Rattle.osc_window.specs.Views.{places_of}
+use Rattle.osc_window.specs.Window.{HasPlaces}
 use Rattle.osc_window.specs.declared.window_size.WindowSize.{WindowSize}
 use Rattle.osc_laws.specs.Senders.{HasSameSender}
 use Rattle.osc_endpoint.specs.ServerAnswer.{ServerAnswer}
@@ -46,7 +47,7 @@ start_given false next = Fresh next
 -- numbers that a context can begin with: a valid next Sender Sequence Number, and the places of a window (RFC 8613, 3.2.2 and 7.2.1)
 pub record AreAddable (next places : ℕ) : Type 0 where
   pub number : next < 2 ^ 40
-  pub size : (places ≡ 32) ⊎ (places ≡ 64)
+  pub size : HasPlaces places
 
 -- what these numbers stand for (how the code is seen)
 pub record AreGiven (next places : ℕ) (number : Piv) (size : WindowSize) : Type 0 where

@@ -1,6 +1,6 @@
 //! Deriving a context into the caller's memory.
 
-ghost use Rattle.std.specs.Prelude.{◌≡◌, ◌≢◌, ◌≤◌, ◌||◌, Bool, List, ℕ, length, take};
+ghost use Rattle.std.specs.Prelude.{◌≡◌, ◌≢◌, ◌≤◌, ◌&&◌, Bool, List, ℕ, length, not, take};
 ghost use Rattle.osc_context.specs.ContextRefusal.{IsFirstParamsRefusal};
 ghost use Rattle.osc_context.specs.Views.{as_client, client_context_of, is_constant_time};
 ghost use Rattle.osc_context.specs.declared.context_error.ContextError.{ContextError};
@@ -13,7 +13,7 @@ use osc_context::{Context, Features, Params};
 use osc_handle::ContextHandle;
 
 /// Derives a context by HKDF (RFC 8613, 3.2.1) and writes it into the handle. Without `has_id_context` there is no ID Context,
-/// whatever the bytes of `id_context` are. With `constant_time` the keys of the context are used in constant time.
+/// whatever the bytes of `id_context` are. The keys of the context are used in constant time, but with `tables` by the cipher with tables.
 /// With `blocks` the options of block-wise transfer pass inside the protection, and with `observe` Observe does; both ends must have
 /// the same of each.
 #[unsafe(no_mangle)]
@@ -25,12 +25,12 @@ pub extern "C" fn oscore_derive(
     id_context: &[u8],
     sender: &[u8],
     recipient: &[u8],
-    constant_time: bool,
+    tables: bool,
     blocks: bool,
     observe: bool,
 ) -> u32
     ensures client { result ≡ 0 → IsContext out.new × (client_in out.new ≡ allowing blocks observe (client_context_of (given secret.entry salt.entry has_id_context id_context.entry sender.entry recipient.entry))) }
-    ensures chosen { result ≡ 0 → is_constant_time_in out.new ≡ constant_time }
+    ensures chosen { result ≡ 0 → is_constant_time_in out.new ≡ not tables }
     ensures refused { result ≢ 0 → (e : ContextError) × (result ≡ code (context_status e)) × IsFirstParamsRefusal (given secret.entry salt.entry has_id_context id_context.entry sender.entry recipient.entry) e }
     ensures unchanged { result ≢ 0 → out.new ≡ out.old }
 {
@@ -47,25 +47,21 @@ pub extern "C" fn oscore_derive(
     };
     match Context::derive(params) {
         Ok(context) => {
-            *out = handle_of(context, constant_time, blocks, observe);
+            *out = handle_of(context, tables, blocks, observe);
             DONE
         }
         Err(error) => Status::from(error).code(),
     }
 }
 
-/// Returns the bytes of a context that allows blocks and Observe, each if that is asked for, and whose keys are used in constant time if
-/// that is.
-fn handle_of(context: Context, constant_time: bool, blocks: bool, observe: bool) -> ContextHandle
+/// Returns the bytes of a context that allows blocks and Observe, each if that is asked for, and whose keys are used by the cipher with
+/// tables if that is.
+fn handle_of(context: Context, tables: bool, blocks: bool, observe: bool) -> ContextHandle
     ensures client { client_in result ≡ allowing blocks observe (as_client context) }
     ensures handle { IsContext result }
-    ensures chosen { is_constant_time_in result ≡ (constant_time || is_constant_time context) }
+    ensures chosen { is_constant_time_in result ≡ (not tables && is_constant_time context) }
 {
     let context = context.with_features(Features { observe, blocks });
-    let context = if constant_time {
-        context.constant_time()
-    } else {
-        context
-    };
+    let context = if tables { context.tables() } else { context };
     ContextHandle::of(&context)
 }

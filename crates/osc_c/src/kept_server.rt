@@ -55,7 +55,7 @@ pub(crate) fn save_first(number: u64) -> Refusal
 }
 
 /// Begins a server of a context (RFC 8613, B.1). `loaded` is the number that was saved last, or 0 if none ever was. With 0, the
-/// context never received a request; otherwise the server goes on as after a restart. Its window has 32 or 64 places. A refusal is
+/// context never received a request; otherwise the server goes on as after a restart. Its window has 1, 32 or 64 places. A refusal is
 /// BadHandle or BadNumber, in this order, and changes nothing.
 #[unsafe(no_mangle)]
 pub extern "C" fn oscore_kept_server_begin(

@@ -100,7 +100,7 @@ fn add_in(
 }
 
 /// Adds a context to a server, and writes its index to `index` (RFC 8613, B.1). `next` is its next Sender Sequence Number;
-/// `restarted` says that it may have received requests in an earlier life. Its window has 32 or 64 places. A refusal is BadHandle,
+/// `restarted` says that it may have received requests in an earlier life. Its window has 1, 32 or 64 places. A refusal is BadHandle,
 /// BadNumber, Full, SameLookup or SameSender, in this order, and changes nothing.
 #[unsafe(no_mangle)]
 pub extern "C" fn oscore_server_add(

@@ -7,5 +7,6 @@ mod folder;
 mod kept;
 mod premises;
 mod reading;
+mod record;
 mod two_ends;
 mod writing;

@@ -27,11 +27,6 @@ key_stream-more key nonce n =
     ∙ ap (λ (l : List ℕ). flat_map (stream_block key nonce) (range_with_len 1 n) ++ l)
     (append-nil (stream_block key nonce (1 + n)) ∙ ap (stream_block key nonce) at)
 
--- no block of the key stream, no byte
-pub no_key_stream : (key nonce : List ℕ) → key_stream key nonce 0 ≡ []
-unfolding key_stream
-no_key_stream key nonce = refl
-
 -- a buffer of which the first i blocks were encrypted
 abbrev pub encrypted_to : List ℕ → List ℕ → List ℕ → ℕ → List ℕ
 encrypted_to key nonce init i = xor_bytes (take (16 * i) init) (key_stream key nonce i) ++ drop (16 * i) init

@@ -3,7 +3,7 @@
 //! if the whole buffer is that.
 //!
 //! ```
-//! let cipher = TableAes::new(&key);
+//! let cipher = PlaneAes::new(&key);
 //! let sealed_len = seal(&cipher, &nonce, aad, &mut buf, plaintext_len)?;
 //! let plaintext_len = open(&cipher, &nonce, aad, &mut buf[..sealed_len])?;
 //! ```

@@ -1,6 +1,6 @@
 //! The client: one context, and the requests that wait for their responses.
 
-ghost use Rattle.std.specs.Prelude.{◌≤◌, ◌^◌};
+ghost use Rattle.std.specs.Prelude.{◌≡◌, ◌≤◌, ◌^◌};
 ghost use Rattle.osc_context.specs.Views.{as_client, number_of};
 
 use crate::pending::{Pending, drop_expired, find_request};
@@ -22,9 +22,9 @@ pub struct Client<const N: usize> {
 }
 
 impl<const N: usize> Client<N> {
-    ghost use Rattle.osc_client.specs.Agrees.{ClientAgrees, HasTokensApart};
+    ghost use Rattle.osc_client.specs.Agrees.{ClientAgrees, HasTokensApart, client_parts};
     ghost use Rattle.osc_client.specs.ClientAnswer.{ClientAnswer};
-    ghost use Rattle.osc_client.specs.ClientHistory.{History, New, Then, Advance, Advanced, Forget, Forgot, Restart, Restarted};
+    ghost use Rattle.osc_client.specs.ClientHistory.{History, New, Then, Advance, Advanced, Forget, Forgot, Restart, Restarted, next};
 
     /// Makes a client with nothing pending. Its requests are pending for `life_ms` milliseconds and no longer, except a registration that
     /// was notified.
@@ -47,6 +47,17 @@ impl<const N: usize> Client<N> {
     {
         self.next = next.number();
         self.pending.clear();
+    }
+
+    /// Returns the Sender Sequence Number of the next request, or 2^40 if none is left.
+    #[must_use]
+    pub fn next(&self) -> u64
+        ensures number { (h : History) → ClientAgrees self.now h → result ≡ next h }
+        ensures value { result ≡ (client_parts self.now).next }
+        ensures most { result ≤ 2 ^ 40 }
+    {
+        let Client { next, .. } = self;
+        *next
     }
 
     /// Moves the clock to `now`, in milliseconds, if that is later. Drops the requests whose time has passed.

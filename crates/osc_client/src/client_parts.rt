@@ -1,6 +1,6 @@
 //! Makes a client from plain values, and returns the values of a client, for a caller that keeps them elsewhere between two calls.
 
-ghost use Rattle.std.specs.Prelude.{◌≡◌, ◌≤◌, ◌<◌, ◌^◌, ◌++◌, ◌∷◌, [], length, map};
+ghost use Rattle.std.specs.Prelude.{◌≡◌, ◌≤◌, ◌<◌, ◌++◌, ◌∷◌, [], length, map};
 ghost use Rattle.osc_context.specs.Views.{as_client};
 ghost use Rattle.osc_client.specs.Views.{asked_of};
 
@@ -51,16 +51,6 @@ impl<const N: usize> Client<N> {
         ensures { result ≡ (client_parts self.now).clock }
     {
         self.clock
-    }
-
-    /// Returns the Sender Sequence Number of the next request, or the limit, 2^40, if none is left.
-    #[doc(hidden)]
-    #[must_use]
-    pub fn next(&self) -> u64
-        ensures value { result ≡ (client_parts self.now).next }
-        ensures most { result ≤ 2 ^ 40 }
-    {
-        self.next
     }
 
     /// Returns the requests in the table, oldest first.

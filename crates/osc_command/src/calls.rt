@@ -114,6 +114,7 @@ const CONTEXT: &[Word] = &[
     Word { name: "recipient", value: "HEX", takes: Takes::Value, help: "The other end's, 0 to 7 bytes [default: empty]" },
     Word { name: "id-context", value: "HEX", takes: Takes::Value, help: "The ID Context, 1 to 32 bytes [optional]" },
     Word { name: "allow", value: "WHAT", takes: Takes::AnyOf(&["blocks", "observe"]), help: "What may also pass; both ends need the same [default: none]" },
+    Word { name: "tables", value: "", takes: Takes::Nothing, help: "Use the keys by tables: faster, but not in constant time" },
 ];
 
 /// The option for the number of the request that a response answers.
@@ -138,7 +139,7 @@ const RUN: &[Word] = &[
     Word { name: "sequence", value: "N", takes: Takes::Default("0"), help: "The next Sender Sequence Number, below 2^40" },
     Word { name: "restarted", value: "", takes: Takes::Nothing, help: "Requests may have come to it in an earlier life" },
     Word { name: "numbers", value: "FILE", takes: Takes::ValueFor("sequence", "restarted"), help: "The file that keeps the Sender Sequence Numbers [optional]" },
-    Word { name: "window", value: "SIZE", takes: Takes::OneOf(&["32", "64"]), help: "Window size [default: 32]" },
+    Word { name: "window", value: "SIZE", takes: Takes::OneOf(&["1", "32", "64"]), help: "Window size [default: 32]" },
     Word { name: "life", value: "MS", takes: Takes::Value, help: "How many ms a request is pending [default: 60000]" },
 ];
 

@@ -6,7 +6,7 @@ use osc_context::{Features, Params};
 use osc_text::{Agreed, Fault};
 use std::alloc::Global;
 
-/// The bytes of a context's options, from which the context is derived, and what may pass inside its protection.
+/// The bytes of a context's options, from which the context is derived, what may pass inside its protection, and its cipher.
 #[derive(Drop)]
 pub(crate) struct ContextWords {
     secret: Vec<u8>,
@@ -15,6 +15,7 @@ pub(crate) struct ContextWords {
     recipient: Vec<u8>,
     id_context: Option<Vec<u8>>,
     features: Features,
+    tables: bool,
 }
 
 /// Returns whether `--allow` gives this name.
@@ -50,10 +51,11 @@ impl ContextWords {
                 observe: is_allowed(matches, "observe"),
                 blocks: is_allowed(matches, "blocks"),
             },
+            tables: matches.get_flag("tables"),
         })
     }
 
-    /// Returns what was agreed: what the context is derived from, and the features that it takes part in.
+    /// Returns what was agreed: what the context is derived from, and the features that it takes part in; and the cipher.
     pub(crate) fn agreed(&self) -> Agreed<'_> {
         let params = Params {
             secret: self.secret.as_slice(),
@@ -65,6 +67,7 @@ impl ContextWords {
         Agreed {
             params,
             features: self.features,
+            tables: self.tables,
         }
     }
 }

@@ -53,10 +53,10 @@ fn read_window(matches: &ArgMatches<'_>) -> Result<WindowSize, Fault> {
     if matches.get_str("life").is_some() {
         return Err(input_fault("--life", Wrong::Role));
     }
-    if matches.get_str("window") == Some("64") {
-        Ok(WindowSize::Places64)
-    } else {
-        Ok(WindowSize::default())
+    match matches.get_str("window") {
+        Some("1") => Ok(WindowSize::Place1),
+        Some("64") => Ok(WindowSize::Places64),
+        _ => Ok(WindowSize::default()),
     }
 }
 

@@ -5,6 +5,7 @@ pub mod Algorithm
 pub mod Nonce
 pub mod AdditionalData
 pub mod Features
+pub mod Fingerprint
 pub mod SecurityContext
 pub mod Senders
 pub mod Derivation

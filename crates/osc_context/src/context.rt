@@ -4,6 +4,7 @@ ghost use Rattle.std.specs.Prelude.{◌≡◌, ◌≢◌, IfSome, IsSome, IsNone
 ghost use Rattle.std.specs.Option.{option_copied, option_map};
 ghost use Rattle.osc_context.specs.ContextRefusal.{IsFirstParamsRefusal, RefusesParams};
 ghost use Rattle.osc_context.specs.Features.{no_features};
+ghost use Rattle.osc_context.specs.Fingerprint.{fingerprint_of};
 ghost use Rattle.osc_context.specs.PrivateWords.{PassesBelow};
 ghost use Rattle.osc_context.specs.SecurityContext.{AnswersTo, IsUsable};
 ghost use Rattle.osc_context.specs.declared.context_error.ContextError.{ContextError};
@@ -11,6 +12,7 @@ ghost use Rattle.osc_context.specs.declared.context_error.ContextError.{ContextE
 use crate::context_error::ContextError;
 use crate::derivation::{derive_common_iv, derive_key};
 use crate::features::{Features, NO_FEATURES};
+use crate::fingerprint::fingerprint;
 use crate::identifier::{IdContext, Kid};
 use crate::parameters::Params;
 use osc_ccm::{Key, Nonce};
@@ -54,7 +56,7 @@ impl Context {
     pub fn derive(params: Params<'_>) -> Result<Context, ContextError>
         ensures client { IfOk result (λ c. as_client c ≡ client_context_of params.entry) }
         ensures server { IfOk result (λ c. as_server c ≡ server_context_of params.entry) }
-        ensures by_tables { IfOk result (λ c. is_constant_time c ≡ false) }
+        ensures chosen { IfOk result (λ c. is_constant_time c ≡ true) }
         ensures accepted { IsOk result → (e : ContextError) → ¬ RefusesParams params.entry e }
         ensures accepts { ((e : ContextError) → ¬ RefusesParams params.entry e) → IsOk result }
         ensures refused { IfErr result (λ e. IsFirstParamsRefusal params.entry e) }
@@ -66,7 +68,7 @@ impl Context {
     /// Derives a context, or finds why it can't.
     fn derive_judged(params: Params<'_>) -> Result<Context, ContextError>
         ensures client { IfOk result (λ c. as_client c ≡ client_context_of params.entry) }
-        ensures by_tables { IfOk result (λ c. is_constant_time c ≡ false) }
+        ensures chosen { IfOk result (λ c. is_constant_time c ≡ true) }
         ensures passed { IsOk result → PassesBelow 5 params.entry }
         ensures refused { IfErr result (λ e. IsFirstParamsRefusal params.entry e) }
     {
@@ -81,7 +83,7 @@ impl Context {
             sender_id: sender,
             recipient_id: recipient,
             id_context,
-            constant_time: false,
+            constant_time: true,
             features: NO_FEATURES,
         })
     }
@@ -116,7 +118,7 @@ impl Context {
           id_context = id_context;
           features = no_features;
         }) }
-        ensures by_tables { IfSome result (λ c. is_constant_time c ≡ false) }
+        ensures chosen { IfSome result (λ c. is_constant_time c ≡ true) }
         ensures accepts { sender ≢ recipient → IsSome result }
         ensures refuses { sender ≡ recipient → IsNone result }
     {
@@ -130,31 +132,31 @@ impl Context {
             sender_key,
             recipient_key,
             common_iv,
-            constant_time: false,
+            constant_time: true,
             features: NO_FEATURES,
         })
     }
 
-    /// Returns the same context, but its keys are used by a cipher with no look-up and no branch that depends on a key.
-    /// That cipher is slower than the one with tables, and its times tell nothing about the key. A context uses tables
-    /// unless you call this. What is sent is the same.
-    #[inline(always)]
-    #[must_use]
-    pub fn constant_time(mut self) -> Context
-        ensures client { as_client result ≡ as_client self }
-        ensures server { as_server result ≡ as_server self }
-        ensures chosen { is_constant_time result ≡ true }
-    {
-        self.constant_time = true;
-        self
-    }
-
-    /// Returns whether its keys are used in constant time.
+    /// Returns whether its keys are used in constant time, as they are unless `tables` was called.
     #[must_use]
     pub fn is_constant_time(&self) -> bool
         ensures { result ≡ is_constant_time self.now }
     {
         self.constant_time
+    }
+
+    /// Returns the same context, but its keys are used by the cipher with tables, which it looks up by bytes that depend on
+    /// the key. That cipher is faster, but its times may tell of the key to whoever shares the processor. Unless you call
+    /// this, a context uses a cipher with no look-up and no branch that depends on a key. What is sent is the same.
+    #[inline(always)]
+    #[must_use]
+    pub fn tables(mut self) -> Context
+        ensures client { as_client result ≡ as_client self }
+        ensures server { as_server result ≡ as_server self }
+        ensures chosen { is_constant_time result ≡ false }
+    {
+        self.constant_time = false;
+        self
     }
 
     /// Returns the same context, but it takes part in these features and in no others. Both ends must have the same ones:
@@ -269,6 +271,15 @@ impl Context {
         ensures { result.now ≡ (as_client self.now).common_iv }
     {
         &self.common_iv
+    }
+
+    /// Returns what tells this sending end from another: 8 bytes of a code under the Sender Key, of the Sender ID (own
+    /// rule). They don't tell the key, and what is kept of this end can be marked with them.
+    #[must_use]
+    pub fn fingerprint(&self) -> [u8; 8]
+        ensures { result ≡ fingerprint_of (as_client self.now).client_key (as_client self.now).client }
+    {
+        fingerprint(&self.sender_key, &self.sender_id)
     }
 }
 

@@ -21,9 +21,9 @@ client_in h = record { client = take h.sender_len h.sender; client_key = h.sende
 abbrev pub server_in : ContextHandle → SecurityContext
 server_in h = record { client = take h.recipient_len h.recipient; client_key = h.recipient_key; server = take h.sender_len h.sender; server_key = h.sender_key; common_iv = h.common_iv; id_context = id_context_in h.id_context h.id_context_len; features = features_in h }
 
--- its keys are used in constant time: any value but 0 asks for it (own rule)
+-- its keys are used in constant time: any value but 0 of the byte asks for tables (own rule)
 abbrev pub is_constant_time_in : ContextHandle → Bool
-is_constant_time_in h = not (h.constant_time == 0)
+is_constant_time_in h = h.tables == 0
 
 -- bytes that a call may have written: lengths that the fields have room for, and two different identifiers (RFC 8613, 3.3)
 pub record IsContext (h : ContextHandle) : Type 0 where

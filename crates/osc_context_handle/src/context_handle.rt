@@ -1,7 +1,7 @@
 //! A context in the caller's memory: plain bytes, each of which may have any value.
 
 ghost use Rattle.std.specs.Option.{option_map};
-ghost use Rattle.std.specs.Prelude.{◌≡◌, ◌≤◌, ◌||◌, ◌↔◌, take, IfSome, IfNone, IsSome, IsTrue, length, true, false};
+ghost use Rattle.std.specs.Prelude.{◌≡◌, ◌≤◌, ◌&&◌, ◌↔◌, not, take, IfSome, IfNone, IsSome, IsTrue, length, true, false};
 ghost use Rattle.osc_context.specs.SecurityContext.{AnswersTo};
 ghost use Rattle.osc_context.specs.Views.{as_client, as_server, is_constant_time};
 ghost use Rattle.osc_context.specs.Senders.{HaveSameSender};
@@ -23,8 +23,8 @@ pub struct ContextHandle {
     pub sender_key: Key,
     pub recipient_key: Key,
     pub common_iv: Nonce,
-    /// Whether its keys are used in constant time: any value but 0 asks for that.
-    pub constant_time: u8,
+    /// Whether its keys are used by the cipher with tables: any value but 0 asks for that, and 0 for the one in constant time.
+    pub tables: u8,
     /// Whether block-wise transfer passes inside the protection: any value but 0 allows it.
     pub blocks: u8,
     /// Whether Observe passes inside the protection: any value but 0 allows it.
@@ -55,7 +55,7 @@ impl ContextHandle {
             sender_key: *context.sender_key(),
             recipient_key: *context.recipient_key(),
             common_iv: *context.common_iv(),
-            constant_time: u8::from(context.is_constant_time()),
+            tables: u8::from(!context.is_constant_time()),
             blocks: u8::from(context.features().blocks),
             observe: u8::from(context.features().observe),
         }
@@ -76,7 +76,7 @@ impl ContextHandle {
             sender_key: [0; 16],
             recipient_key: [0; 16],
             common_iv: [0; 13],
-            constant_time: 0,
+            tables: 0,
             blocks: 0,
             observe: 0,
         }
@@ -105,7 +105,7 @@ impl ContextHandle {
             observe: self.observe != 0,
             blocks: self.blocks != 0,
         };
-        Some(as_asked(context, self.constant_time != 0, features))
+        Some(as_asked(context, self.tables != 0, features))
     }
 }
 
@@ -200,19 +200,15 @@ fn id_context(bytes: &[u8; 32], len: u8) -> Option<Option<IdContext>>
     IdContext::new(bytes.get(..usize::from(len))?).map(Some)
 }
 
-/// Returns the context with these features, and with its keys used in constant time if that is asked for.
+/// Returns the context with these features, and with its keys used by the cipher with tables if that is asked for.
 #[inline(always)]
-fn as_asked(context: Context, constant_time: bool, features: Features) -> Context
+fn as_asked(context: Context, tables: bool, features: Features) -> Context
     ensures client { as_client result ≡ record (as_client context) { features = features } }
     ensures server { as_server result ≡ record (as_server context) { features = features } }
-    ensures chosen { is_constant_time result ≡ (constant_time || is_constant_time context) }
+    ensures chosen { is_constant_time result ≡ (not tables && is_constant_time context) }
 {
     let context = context.with_features(features);
-    if constant_time {
-        context.constant_time()
-    } else {
-        context
-    }
+    if tables { context.tables() } else { context }
 }
 
 /// Returns a field with the bytes at the front and zeros after them, and how many they are.

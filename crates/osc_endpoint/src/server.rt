@@ -3,7 +3,7 @@
 ghost use Rattle.std.specs.Prelude.{◌≡◌, OnErr};
 ghost use Rattle.osc_context.specs.Views.{as_server};
 
-use crate::table::{find, is_open_at};
+use crate::table::{find, is_open_at, next_at};
 use arrayvec::ArrayVec;
 use osc_context::Context;
 use osc_life::siblings::Slot;
@@ -22,7 +22,8 @@ impl Server {
     ghost use Rattle.osc_endpoint.specs.Agrees.{Agrees};
     ghost use Rattle.osc_endpoint.specs.ServerAnswer.{ServerAnswer};
     ghost use Rattle.osc_life.specs.ServerHistory.{History, Begin, Then, Add, Advance, Advanced, life};
-    ghost use Rattle.osc_life.specs.Life.{is_open_life};
+    ghost use Rattle.std.specs.Option.{option_map};
+    ghost use Rattle.osc_life.specs.Life.{is_open_life, next_own};
     ghost use Rattle.osc_endpoint.specs.Views.{added_entry};
 
     /// Makes a server with no context.
@@ -66,13 +67,22 @@ impl Server {
         Ok(index)
     }
 
-    /// Returns whether the context at an index checks requests by their number. It does if it was added fresh and never restarted, or if it
-    /// delivered a request in its present life. Returns false if no context has the index.
+    /// Returns whether the context at an index checks requests by their number. It does if it was added fresh or above a number and never
+    /// restarted, or if it delivered a request in its present life. Returns false if no context has the index.
     #[must_use]
     pub fn is_open(&self, context: usize) -> bool
         ensures { (h : History) → Agrees self.now h → result ≡ is_open_life (life h context) }
     {
         is_open_at(self.slots.as_slice(), context)
+    }
+
+    /// Returns the Sender Sequence Number with which the context at an index seals next, or 2^40 if none is left. Returns None if no context
+    /// has the index.
+    #[must_use]
+    pub fn next(&self, context: usize) -> Option<u64>
+        ensures { (h : History) → Agrees self.now h → result ≡ option_map next_own (life h context) }
+    {
+        next_at(self.slots.as_slice(), context)
     }
 
     /// Moves the clock to `now`, in milliseconds, if that is later.

@@ -7,7 +7,7 @@ ghost use Rattle.osc_life.specs.Deciding.{CanShow, Leaves};
 ghost use Rattle.osc_life.specs.Judging.{IsAskerOf, IsNamedAt, LooksUp};
 ghost use Rattle.std.specs.Option.{option_map};
 ghost use Rattle.osc_coap.specs.Views.{parts_of};
-ghost use Rattle.osc_life.specs.Life.{Life, is_open_life, marked};
+ghost use Rattle.osc_life.specs.Life.{Life, is_open_life, marked, next_own};
 ghost use Rattle.osc_life.specs.Replies.{as_reply};
 ghost use Rattle.osc_endpoint.specs.Replying.{TableNotify, TableReply, marks_at};
 ghost use Rattle.osc_life.specs.Views.{reply_entry, values_of};
@@ -18,7 +18,7 @@ ghost use Rattle.osc_life.specs.declared.slot.Slot.{Slot};
 
 use osc_coap::Message;
 use osc_life::siblings::{
-    Named, Slot, is_for, is_open_place, judge_place, notify_place, reply_place,
+    Named, Slot, is_for, is_open_place, judge_place, next_of_place, notify_place, reply_place,
 };
 use osc_life::{Decided, ReplyError, Ticket};
 
@@ -117,4 +117,15 @@ pub(crate) fn is_open_at(slots: &[Option<Slot>], context: usize) -> bool
     ensures { (lives : ℕ → Option Life) → TableAgrees slots.now lives → result ≡ is_open_life (lives context) }
 {
     context < slots.len() && is_open_place(&slots[context])
+}
+
+/// Returns the next Sender Sequence Number of the context at an index, if it is there.
+pub(crate) fn next_at(slots: &[Option<Slot>], context: usize) -> Option<u64>
+    ensures { (lives : ℕ → Option Life) → TableAgrees slots.now lives → result ≡ option_map next_own (lives context) }
+{
+    if context < slots.len() {
+        next_of_place(&slots[context])
+    } else {
+        None
+    }
 }

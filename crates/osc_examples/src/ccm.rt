@@ -3,14 +3,14 @@
 ghost use Rattle.std.specs.Prelude.{◌≡◌, ◌++◌, [], IfSome, take, drop};
 ghost use Rattle.osc_ccm.specs.Ccm.{ccm};
 
-use osc_aes::TableAes;
+use osc_aes::PlaneAes;
 use osc_ccm::{Key, Nonce, open, seal};
 
 /// Seals the first 64 bytes of a buffer. With their tag they are 72 bytes, and the rest of the buffer stays.
 pub fn seal_block(key: &Key, nonce: &Nonce, buf: &mut [u8; 128])
     ensures { buf.new ≡ ccm key.now nonce.now [] (take 64 buf.old) ++ drop 72 buf.old }
 {
-    let Ok(_) = seal(&TableAes::new(key), nonce, &[], buf, 64) else {
+    let Ok(_) = seal(&PlaneAes::new(key), nonce, &[], buf, 64) else {
         unreachable!()
     };
 }
@@ -19,5 +19,5 @@ pub fn seal_block(key: &Key, nonce: &Nonce, buf: &mut [u8; 128])
 pub fn open_all(key: &Key, nonce: &Nonce, buf: &mut [u8]) -> Option<usize>
     ensures { IfSome result (λ len. buf.old ≡ ccm key.now nonce.now [] (take len buf.new)) }
 {
-    open(&TableAes::new(key), nonce, &[], buf).ok()
+    open(&PlaneAes::new(key), nonce, &[], buf).ok()
 }

@@ -19,6 +19,7 @@ pub mod kept_handle;
 pub mod messages;
 pub mod observing;
 pub mod protect;
+pub mod record;
 pub mod serving;
 pub mod staging;
 pub mod text;

@@ -1,1 +1,2 @@
 pub mod NumberTexts
+pub mod RecordTexts

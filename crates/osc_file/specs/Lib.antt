@@ -1,2 +1,4 @@
 pub mod NumberText
+pub mod RecordText
+pub mod Newest
 pub mod Views

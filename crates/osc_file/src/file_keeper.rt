@@ -5,6 +5,7 @@ ghost use Rattle.std.specs.Prelude.{◌≡◌, ◌+◌, IfOk, None, Some};
 use crate::file_trouble::FileTrouble;
 use crate::held::{Held, read};
 use crate::lock::{TryLock, locked};
+use crate::number_text::spell;
 use crate::replacing::replace;
 use osc_context::{Count, Keeper, KeeperError};
 use std::io;
@@ -124,7 +125,7 @@ where
 
     fn save(&mut self, next: u64) -> Result<(), KeeperError> {
         let done = match self.unchanged() {
-            Ok((name, _)) => saved(replace(self.rt, name, next)),
+            Ok((name, _)) => saved(self.rt, name, next),
             Err(trouble) => Err(trouble),
         };
         match done {
@@ -137,10 +138,16 @@ where
     }
 }
 
-/// What came of a save.
-fn saved(done: io::Result<()>) -> Result<(), FileTrouble> {
-    match done {
+/// Saves the number.
+fn saved<R: Files + Alloc>(rt: &R, name: &str, next: u64) -> Result<(), FileTrouble> {
+    match replaced(rt, name, next) {
         Ok(()) => Ok(()),
         Err(error) => Err(FileTrouble::Save(error.kind())),
     }
+}
+
+/// Replaces what the file holds with a number.
+fn replaced<R: Files + Alloc>(rt: &R, name: &str, number: u64) -> io::Result<()> {
+    let text = spell(rt.alloc(), number)?;
+    replace(rt, name, text.as_str())
 }

@@ -12,15 +12,28 @@
 //!     }
 #![tactic(auto)]
 
+mod counted_record;
+mod counter;
 mod file_keeper;
 mod file_trouble;
 mod held;
 mod lock;
 mod number_text;
+mod places;
+mod record;
+mod record_file;
+mod record_text;
+mod record_trouble;
 mod replacing;
+mod storing;
 mod telling_keeper;
 
+pub use counted_record::CountedRecord;
+pub use counter::MonotonicCounter;
 pub use file_keeper::FileKeeper;
 pub use file_trouble::FileTrouble;
 pub use lock::TryLock;
+pub use places::Place;
+pub use record_file::RecordFile;
+pub use record_trouble::RecordTrouble;
 pub use telling_keeper::TellingKeeper;

@@ -1,6 +1,6 @@
 //! The lock of a number's file: a file beside it, which only one open at a time has locked.
 
-use std::fs::{self, File, OpenOptions};
+use std::fs::{self, File, OpenFile, OpenOptions};
 use std::io::{self, ErrorKind};
 use std::rt::Files;
 
@@ -33,14 +33,37 @@ pub(crate) fn locked<R: Files + Alloc>(rt: &R, name: &str) -> io::Result<R::File
 where
     R::File: TryLock,
 {
+    locked_as(rt, name, OpenOptions::new().write(true).create(true))
+}
+
+/// Makes the file NAME.lock, which must be missing, and locks it.
+pub(crate) fn locked_first<R: Files + Alloc>(rt: &R, name: &str) -> io::Result<R::File>
+where
+    R::File: TryLock,
+{
+    let file = locked_as(rt, name, OpenOptions::new().write(true).create_new(true))?;
+    file.sync_all()?;
+    Ok(file)
+}
+
+/// Opens the file NAME.lock, which must be there, and locks it.
+pub(crate) fn locked_again<R: Files + Alloc>(rt: &R, name: &str) -> io::Result<R::File>
+where
+    R::File: TryLock,
+{
+    locked_as(rt, name, OpenOptions::new().write(true))
+}
+
+/// Opens the file NAME.lock in this way and locks it.
+fn locked_as<R: Files + Alloc>(rt: &R, name: &str, how: &OpenOptions) -> io::Result<R::File>
+where
+    R::File: TryLock,
+{
     let lock_name = format!(in rt.alloc(); "{name}.lock")?;
     if is_link(rt, lock_name.as_str())? {
         return Err(io::Error::from(ErrorKind::PermissionDenied));
     }
-    let file = OpenOptions::new()
-        .write(true)
-        .create(true)
-        .open(rt, lock_name.as_str())?;
+    let file = how.open(rt, lock_name.as_str())?;
     file.try_lock()?;
     Ok(file)
 }

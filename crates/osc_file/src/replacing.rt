@@ -3,19 +3,17 @@
 ghost use Rattle.std.specs.Prelude.{◌≡◌, ◌<◌, IfSome, codes, length};
 ghost use Rattle.std.specs.Path.{path_parent};
 
-use crate::number_text::spell;
 use std::fs::{self, File, OpenFile};
 use std::io::{self, ErrorKind, Write};
 use std::path::Path;
 use std::rt::Files;
 
-/// Replaces what the file holds with a number.
-// NAME.new takes the name only once its number is on the disk, and a rename is one step (POSIX, rename). Whenever this stops, NAME is
+/// Replaces what the file holds with this text.
+// NAME.new takes the name only once its text is on the disk, and a rename is one step (POSIX, rename). Whenever this stops, NAME is
 // the old file, or missing as before, or the new file. The folder holds the name, so without a sync of the folder a power cut may
 // bring the old file back after Ok. `fs::open` opens a folder for reading, and `sync_all` syncs it. The folder is opened before the
 // rename, so that after the rename only the sync can fail.
-pub(crate) fn replace<R: Files + Alloc>(rt: &R, name: &str, number: u64) -> io::Result<()> {
-    let text = spell(rt.alloc(), number)?;
+pub(crate) fn replace<R: Files + Alloc>(rt: &R, name: &str, text: &str) -> io::Result<()> {
     let new_name = format!(in rt.alloc(); "{name}.new")?;
     let folder = fs::open(rt, folder_of(name))?;
     let mut file = made_anew(rt, new_name.as_str())?;

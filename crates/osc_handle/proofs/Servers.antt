@@ -131,6 +131,7 @@ count_added s h serves room =
 born_count : (s : SecurityContext) (start : Start) (size : WindowSize) → (born s start size).count ≡ 0
 born_count s (starts.Fresh n) size = refl
 born_count s (starts.Restarted n) size = refl
+born_count s (starts.Received n highest) size = refl
 
 pub serves_added : WaitingHasLife → (s t : ServerHandle) (h : server.History) (context : ContextHandle) (start : Start) (size : WindowSize) (index : ℕ) (u : UnansweredHandle)
     → Serves s h → IsContextBytes context → s.contexts.count ≤ length s.contexts.slots → index ≡ s.contexts.count → index < 8

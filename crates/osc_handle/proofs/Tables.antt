@@ -97,7 +97,7 @@ gates_alike b (gates.Restarted (Some c)) (gates.Open w) l g f a = absurd (let tw
 gates_alike b (gates.Open v) (gates.Restarted None) l g f a = absurd (let two = open_gate b _ g.highest in omega (arith, f, two))
 gates_alike b (gates.Open v) (gates.Restarted (Some d)) l g f a = absurd (let two = open_gate b _ g.highest in omega (arith, f.0, two))
 gates_alike b (gates.Open v) (gates.Open w) l g f a =
-    (a.0, alike v w l.size (floor l.open_at_birth l.marks) (spent l.open_at_birth l.marks) (one_highest b _ _ g.highest f.highest) (sym g.mask ∙ f.mask) (one_size _ _ (g.size ∙ sym f.size)) a.1)
+    (a.0, alike v w l.size (floor l.least l.open_at_birth l.marks) (spent l.open_at_birth l.marks) (one_highest b _ _ g.highest f.highest) (sym g.mask ∙ f.mask) (one_size _ _ (g.size ∙ sym f.size)) a.1)
 
 -- contexts of the same bytes agree with the same lives
 pub slots_alike : (b : SlotHandle) (s t : Slot) (l : Life) → IsSlotIn b s → IsSlotIn b t → SlotAgrees s l → SlotAgrees t l

@@ -1,8 +1,9 @@
 -- To be believed: what the bytes of one context of a server say. b are the bytes.
-use Rattle.std.specs.Prelude.{◌≡◌, ℕ, ◌≤◌, ◌<◌, ◌^◌, ◌⊎◌, Option, Some, None}
+use Rattle.std.specs.Prelude.{◌≡◌, ℕ, ◌≤◌, ◌<◌, ◌^◌, Option, Some, None}
 use Rattle.std.specs.Option.{option_map}
 use Rattle.osc_context.specs.Views.{as_server, number_of}
 use Rattle.osc_window.specs.Views.{parts_of, places_of}
+use Rattle.osc_window.specs.Window.{HasPlaces}
 use Rattle.osc_window.specs.declared.gate.Gate.{Gate}
 use Rattle.osc_window.specs.declared.gate.Gate.TheVariants as gates
 use Rattle.osc_window.specs.declared.window.WindowParts.{WindowParts}
@@ -52,7 +53,7 @@ pub record SameBut (old new : SlotHandle) : Type 0 where
 
 -- bytes of a window that a call may have written (own rule)
 abbrev pub IsWindowBytes : SlotHandle → Type 0
-IsWindowBytes b = (b.window_places ≡ 32) ⊎ (b.window_places ≡ 64)
+IsWindowBytes b = HasPlaces b.window_places
 
 -- bytes of a gate that a call may have written (own rule)
 pub data IsGateBytes (b : SlotHandle) : Type 0 where
@@ -63,6 +64,6 @@ pub data IsGateBytes (b : SlotHandle) : Type 0 where
 -- bytes of a context in its life that a call may have written (own rule)
 pub record IsSlotBytes (b : SlotHandle) : Type 0 where
   pub context : IsContext b.context
-  pub size : (b.places ≡ 32) ⊎ (b.places ≡ 64)
+  pub size : HasPlaces b.places
   pub gate : IsGateBytes b
   pub next : b.next ≤ 2 ^ 40

@@ -4,6 +4,7 @@ ghost use Rattle.std.specs.Prelude.{◌≡◌, ◌≢◌, ◌≤◌, ◌<◌, �
 ghost use Rattle.std.specs.Option.{option_map};
 ghost use Rattle.osc_context.specs.Views.{as_server, is_constant_time, number_of};
 ghost use Rattle.osc_window.specs.Views.{places_of};
+ghost use Rattle.osc_window.specs.Window.{HasPlaces};
 ghost use Rattle.osc_coap.specs.Views.{parts_of};
 ghost use Rattle.osc_protect.specs.Views.{context_of};
 ghost use Rattle.osc_life.specs.Agrees.{SlotAgrees};
@@ -30,7 +31,7 @@ use osc_window::{Gate, Window, WindowParts, WindowSize};
 #[derive(Clone, Copy)]
 pub struct SlotHandle {
     pub context: ContextHandle,
-    /// The number of places in the window that the context gets: 32 or 64.
+    /// The number of places in the window that the context gets: 1, 32 or 64.
     pub places: u8,
     /// The number of places in the window that is open.
     pub window_places: u8,
@@ -45,14 +46,15 @@ pub struct SlotHandle {
     pub life: u64,
 }
 
-/// Returns the size of a window with this number of places, 32 or 64, or `None` for any other number.
+/// Returns the size of a window with this number of places, 1, 32 or 64, or `None` for any other number.
 #[must_use]
 pub fn size_with(places: u8) -> Option<WindowSize>
     ensures made { IfSome result (λ size. places_of size ≡ places) }
-    ensures accepts { (places ≡ 32) ⊎ (places ≡ 64) → IsSome result }
-    ensures accepted { IsSome result → (places ≡ 32) ⊎ (places ≡ 64) }
+    ensures accepts { HasPlaces places → IsSome result }
+    ensures accepted { IsSome result → HasPlaces places }
 {
     match places {
+        1 => Some(WindowSize::Place1),
         32 => Some(WindowSize::Places32),
         64 => Some(WindowSize::Places64),
         _ => None,

@@ -4,7 +4,7 @@ use Rattle.osc_context.specs.SecurityContext.{SecurityContext, IsUsable}
 use Rattle.osc_client.specs.ClientHistory as client
 use Rattle.osc_life.specs.ServerHistory as server
 use Rattle.osc_kept_ends.specs.Numbering.{Allowed, Load}
-use Rattle.osc_kept.specs.Premises.{Answers, AtEach, BeginsAbove, EchoIsNew, FreshWhileNothingDelivered, IsAboveOwn, IsAboveSent, IsKept, KeptBeginAbove, NobodyForges, NumbersAreKept}
+use Rattle.osc_kept.specs.Premises.{Answers, AtEach, BeginsAbove, EchoIsNew, StartsAboveDelivered, IsAboveOwn, IsAboveSent, IsKept, KeptBeginAbove, NobodyForges, NumbersAreKept}
 use Rattle.osc_kept.specs.World.{World, Begin, Then, Event, Client, Server, ClientStarts, ServerStarts, AtClient, AtServer, Has, client_effect, numbers, server_effect}
 use Rattle.osc_kept.proofs.Deeds.{owned}
 use Rattle.osc_kept.proofs.Digest.{answered_is, digest, sent_is}
@@ -39,7 +39,7 @@ kept_begin_above n s Begin a k = tt
 kept_begin_above n s (Then w event) a k = (kept_begin_above n s w a.0 k.0, begins_at n s w event a k)
 
 pub is_kept : (n : ℕ) (s : SecurityContext) (w : World) → IsUsable s → AtEach (Answers n s) w → AtEach (NobodyForges s) w → AtEach (EchoIsNew s) w → AtEach (NumbersAreKept s) w
-    → AtEach FreshWhileNothingDelivered w → IsKept n s w
+    → AtEach StartsAboveDelivered w → IsKept n s w
 is_kept n s w usable answers sealed unseen kept fresh = record {
   lawful = record { usable = usable; answers = answers; sealed = sealed; unseen = unseen; above = kept_begin_above n s w answers kept; fresh = fresh };
   kept = kept;
@@ -47,7 +47,7 @@ is_kept n s w usable answers sealed unseen kept fresh = record {
 
 -- an event that adds nothing to what the other premises say
 pub more_kept : (n : ℕ) (s : SecurityContext) (w : World) (event : Event) → IsKept n s w → Answers n s w event → NobodyForges s w event → EchoIsNew s w event
-    → FreshWhileNothingDelivered w event → AtEach (NumbersAreKept s) (Then w event) → IsKept n s (Then w event)
+    → StartsAboveDelivered w event → AtEach (NumbersAreKept s) (Then w event) → IsKept n s (Then w event)
 more_kept n s w event i answers sealed unseen fresh kept =
     let l = i.lawful in
     is_kept n s (Then w event) l.usable (l.answers, answers) (l.sealed, sealed) (l.unseen, unseen) kept (l.fresh, fresh)

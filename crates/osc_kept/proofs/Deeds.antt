@@ -8,6 +8,7 @@ use Rattle.osc_coap.specs.Inner.{InnerParts}
 use Rattle.osc_coap.specs.Interpreted.{interpreted}
 use Rattle.osc_coap.specs.OptionNumbers as options
 use Rattle.osc_context.specs.SecurityContext.{SecurityContext}
+use Rattle.osc_context.specs.Views.{number_of}
 use Rattle.osc_life.specs.declared.start.Start.{Start}
 use Rattle.osc_life.specs.declared.start.Start.TheVariants as starts
 use Rattle.osc_life.specs.Life.{Life, Mark, Delivered, Spoiled, Challenged, Answered, Passes, born, challenge, first_delivered, floor, is_open, opened, renewed, spent}
@@ -49,7 +50,7 @@ replied (Some own) l = with_mark Answered l
 
 -- the present life of the server; one without a request, as long as none began
 abbrev pub life_in : SecurityContext → List Deed → Life
-life_in s [] = record { context = s; size = Places32; count = 0; open_at_birth = false; first = 0; marks = [] }
+life_in s [] = record { context = s; size = Places32; count = 0; open_at_birth = false; least = 0; first = 0; marks = [] }
 life_in s (Begins start size ∷ ds) = born s start size
 life_in s (Renews next ∷ ds) = renewed next (life_in s ds)
 life_in s (Spoils n ∷ ds) = with_mark (Spoiled n) (life_in s ds)
@@ -109,6 +110,7 @@ Holds ds t = Has t (given ds) × (Has t (taken ds) → ⊥)
 abbrev pub Fits : SecurityContext → List Deed → Deed → Type 0
 Fits s ds (Sends n m) = (r : Request) → Has r (sends ds) → r.number < n
 Fits s ds (Begins (starts.Fresh first) size) = (n : ℕ) → Has n (delivers ds) → ⊥
+Fits s ds (Begins (starts.Received first highest) size) = (n : ℕ) → Has n (delivers ds) → n ≤ number_of highest
 Fits s ds (Delivers t m) = Passes (life_in s ds) t.number × (is_open (life_in s ds) ≡ false → CarriesLast (life_in s ds) m)
     × Has (record { number = t.number; message = m }) (sends ds)
 Fits s ds (Challenges n echo issued own m) = IsSent ds n × AllBelow (owns ds) own
@@ -255,6 +257,7 @@ replied_challenge (Some o) l = refl
 pub born_challenge : (s : SecurityContext) (start : Start) (size : WindowSize) → challenge (born s start size).marks ≡ None
 born_challenge s (starts.Fresh first) size = refl
 born_challenge s (starts.Restarted first) size = refl
+born_challenge s (starts.Received first highest) size = refl
 
 -- no request that was sent before this life carries the value of its last challenge
 challenged : (s : SecurityContext) (ds : List Deed) (c : List ℕ × ℕ) (q : Request) → AllFit s ds → challenge (life_in s ds).marks ≡ Some c → Has q (cut ds)
@@ -288,6 +291,7 @@ replied_fresh (Some o) l = refl
 born_first : (s : SecurityContext) (start : Start) (size : WindowSize) → first_delivered (born s start size).marks ≡ None
 born_first s (starts.Fresh first) size = refl
 born_first s (starts.Restarted first) size = refl
+born_first s (starts.Received first highest) size = refl
 
 first_step : (n f : ℕ) (q : Request) (o : Option ℕ) → ((g : ℕ) → o ≡ Some g → q.number < g) → (o ≡ None → q.number < n) → unwrap_or o n ≡ f → q.number < f
 first_step n f q None i j e = subst (λ x. q.number < x) e (j refl)
@@ -307,14 +311,25 @@ first s (Replies t own m ∷ ds) f a r e q h = first s ds f a.0 (sym (replied_fr
 first s (d ∷ ds) f a r e q h = first s ds f a.0 r e q h
 first s [] f a r e q h = absurd h
 
--- a fresh life is the first in which anything is delivered
-fresh_here : (s : SecurityContext) (ds : List Deed) (n : ℕ) → AllFit s ds → (life_in s ds).open_at_birth ≡ true → Has n (delivers ds) → Has n (here (life_in s ds).marks)
+replied_least : (own : Option ℕ) (l : Life) → (replied own l).least ≡ l.least
+replied_least None l = refl
+replied_least (Some own) l = refl
+
+-- what was delivered before a life that was open at its birth is below the least number of that
+abbrev IsHereOrBelow : Life → ℕ → Type 0
+IsHereOrBelow l n = Has n (here l.marks) ⊎ (n < l.least)
+
+fresh_here : (s : SecurityContext) (ds : List Deed) (n : ℕ) → AllFit s ds → (life_in s ds).open_at_birth ≡ true → Has n (delivers ds) → IsHereOrBelow (life_in s ds) n
 fresh_here s (Begins (starts.Fresh first) size ∷ ds) n a r h = absurd (a.1 n h)
 fresh_here s (Begins (starts.Restarted first) size ∷ ds) n a r h = let f : false ≡ true = r in cc
+fresh_here s (Begins (starts.Received first highest) size ∷ ds) n a r h = inr (let most = a.1 n h in omega (arith, most))
 fresh_here s (Renews next ∷ ds) n a r h = let f : false ≡ true = r in cc
-fresh_here s (Delivers t m ∷ ds) n a r (inl e) = inl e
-fresh_here s (Delivers t m ∷ ds) n a r (inr h) = inr (fresh_here s ds n a.0 r h)
-fresh_here s (Replies t own m ∷ ds) n a r h = replied_here own (life_in s ds) n (fresh_here s ds n a.0 (sym (replied_fresh own (life_in s ds)) ∙ r) h)
+fresh_here s (Delivers t m ∷ ds) n a r (inl e) = inl (inl e)
+fresh_here s (Delivers t m ∷ ds) n a r (inr h) = elim (fresh_here s ds n a.0 r h) [ inl x ↦ inl (inr x) | inr low ↦ inr low ]
+fresh_here s (Replies t own m ∷ ds) n a r h = elim (fresh_here s ds n a.0 (sym (replied_fresh own (life_in s ds)) ∙ r) h) [
+  | inl x ↦ inl (replied_here own (life_in s ds) n x)
+  | inr low ↦ inr (subst (λ k. n < k) (sym (replied_least own (life_in s ds))) low)
+]
 fresh_here s (d ∷ ds) n a r h = fresh_here s ds n a.0 r h
 fresh_here s [] n a r h = absurd h
 
@@ -334,8 +349,8 @@ not_early s ds n a p r o k =
           cc
       | inr x ↦
           let above : k.0.number < x.0 = first s ds x.0 a r x.1 k.0 k.1 in
-          let least : floor l.open_at_birth l.marks ≤ n = (p o).above in
-          let g : floor l.open_at_birth l.marks ≡ x.0 = ap (λ b. cond b 0 (unwrap_or (first_delivered l.marks) 0)) r ∙ ap (λ y. unwrap_or y 0) x.1 in
+          let least : floor l.least l.open_at_birth l.marks ≤ n = (p o).above in
+          let g : floor l.least l.open_at_birth l.marks ≡ x.0 = ap (λ b. cond b l.least (unwrap_or (first_delivered l.marks) 0)) r ∙ ap (λ y. unwrap_or y 0) x.1 in
           let e : k.0.number ≡ n = k.2 in
           absurd (omega (arith, above, least, g, e))
     ]
@@ -346,7 +361,13 @@ never_again s ds n m a passes may sent h =
     let l = life_in s ds in
     elim (cases_Bool (is_open l)) [
       | inl open' ↦ elim (cases_Bool l.open_at_birth) [
-        | inl r ↦ in_this_life l n passes open' (fresh_here s ds n a r h)
+        | inl r ↦ elim (fresh_here s ds n a r h) [
+          | inl k ↦ in_this_life l n passes open' k
+          | inr low ↦
+              let least : floor l.least l.open_at_birth l.marks ≤ n = (passes open').above in
+              let g : floor l.least l.open_at_birth l.marks ≡ l.least = ap (λ b. cond b l.least (unwrap_or (first_delivered l.marks) 0)) r in
+              absurd (omega (arith, low, least, g))
+        ]
         | inr r ↦ elim (earlier s ds n a h) [
           | inl k ↦ in_this_life l n passes open' k
           | inr k ↦ not_early s ds n a passes r open' k

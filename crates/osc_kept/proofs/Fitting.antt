@@ -25,7 +25,7 @@ use Rattle.osc_life.specs.Life.{Life, Admits, born, Carries, challenge, in_force
 use Rattle.osc_endpoint.specs.ServerAnswer.{ServerAnswer}
 use Rattle.osc_life.specs.LifeAnswer.{challenge_given}
 use Rattle.osc_life.specs.ServerHistory as server
-use Rattle.osc_kept.specs.Premises.{AtEach, Answers, BeginsAbove, EchoIsNew, FreshWhileNothingDelivered, IsLawful, NobodyForges, NobodyForgesRequests, SealedByClient}
+use Rattle.osc_kept.specs.Premises.{AtEach, Answers, BeginsAbove, EchoIsNew, StartsAboveDelivered, IsLawful, NobodyForges, NobodyForgesRequests, SealedByClient}
 use Rattle.osc_kept.specs.World.{World, Event, Begin, Then, ServerStarts, AtClient, AtServer, Has, client_history, sent, server_life}
 use Rattle.osc_kept.proofs.Above.{owns_below, sends_below}
 use Rattle.osc_kept.proofs.Deeds.{AllFit, Begins, CarriesLast, Challenges, Deed, Delivers, Fits, Holds, Renews, Replies, Spoils, carried, given, life_in, replied, sends}
@@ -74,14 +74,14 @@ same_in_time : (b : Bool) (x c : List ℕ × ℕ) → (if b then Some x else Non
 same_in_time true x c e = e
 same_in_time false x c e = cc
 
-still_in_force : (b : Bool) (o : Option (List ℕ × ℕ)) (clock : ℕ) (c : List ℕ × ℕ) → (if b then None else challenge_in_force o clock) ≡ Some c → o ≡ Some c
+pub still_in_force : (b : Bool) (o : Option (List ℕ × ℕ)) (clock : ℕ) (c : List ℕ × ℕ) → (if b then None else challenge_in_force o clock) ≡ Some c → o ≡ Some c
 still_in_force true o clock c e = cc
 still_in_force false None clock c e = cc
 still_in_force false (Some x) clock c e = same_in_time (nat_le (clock - x.1) 30000) x c e
 
-given_or_new : (o p : Option (List ℕ × ℕ)) (fresh c : List ℕ × ℕ) → ((x : List ℕ × ℕ) → o ≡ Some x → p ≡ Some x) → c ≡ unwrap_or o fresh → (p ≡ Some c) ⊎ (o ≡ None)
-given_or_new None p fresh c f e = inr refl
-given_or_new (Some x) p fresh c f e = inl (f x refl ∙ ap (λ y. Some y) (sym e))
+pub again_or_new : (o p : Option (List ℕ × ℕ)) (fresh c : List ℕ × ℕ) → ((x : List ℕ × ℕ) → o ≡ Some x → p ≡ Some x) → c ≡ unwrap_or o fresh → (p ≡ Some c) ⊎ ((o ≡ None) × (c ≡ fresh))
+again_or_new None p fresh c f e = inr (refl, e)
+again_or_new (Some x) p fresh c f e = inl (f x refl ∙ ap (λ y. Some y) (sym e))
 
 -- ---- each event
 
@@ -156,6 +156,7 @@ replied_context (Some o) l = refl
 born_context : (s : SecurityContext) (start : Start) (size : WindowSize) → (born s start size).context ≡ s
 born_context s (starts.Fresh first) size = refl
 born_context s (starts.Restarted first) size = refl
+born_context s (starts.Received first highest) size = refl
 
 pub context_in : (s : SecurityContext) (ds : List Deed) → (life_in s ds).context ≡ s
 context_in s [] = refl
@@ -202,9 +203,9 @@ fits_challenge laws n s w now mid i k issued echo d value reply y =
     let life_i : server.life h i ≡ Some l = ap (λ j. server.life h j) x.4.3 ∙ x.3.life_is ∙ ap (λ z. Some z) e in (
       (_, sent, sym number),
       (owns_below n s w y.all y.above).below,
-      elim (given_or_new (in_force l clock) (challenge l.marks) (echo, clock) (value, issued) (λ c f. still_in_force (is_open l) (challenge l.marks) clock c f) last) [
+      elim (again_or_new (in_force l clock) (challenge l.marks) (echo, clock) (value, issued) (λ c f. still_in_force (is_open l) (challenge l.marks) clock c f) last) [
         | inl same ↦ inl same
-        | inr none ↦ inr (λ r q f. y.unseen h l y.answer.1 life_i none r (subst (λ rs. Has r rs) (sym (sent_is s w)) q) f)
+        | inr new ↦ inr (λ r q f. y.unseen h l y.answer.1 life_i new.0 r (subst (λ rs. Has r rs) (sym (sent_is s w)) q) f)
       ],
     )
 
@@ -243,9 +244,10 @@ pub fits_client : (n : ℕ) (s : SecurityContext) (w : World) (o : Option client
 fits_client n s w (Some h) (client.Request now p room) (client.Sent bytes) e a b = sends_below n s w h a b e
 fits_client n s w o event entry e a b = tt
 
-fits_start : (s : SecurityContext) (w : World) (start : Start) (size : WindowSize) → FreshWhileNothingDelivered w (ServerStarts start size) → Fits s (digest s w) (Begins start size)
+fits_start : (s : SecurityContext) (w : World) (start : Start) (size : WindowSize) → StartsAboveDelivered w (ServerStarts start size) → Fits s (digest s w) (Begins start size)
 fits_start s w (starts.Fresh first) size f = λ n k. subst (λ ns. Has n ns) (sym (delivered_is s w) ∙ f) k
 fits_start s w (starts.Restarted first) size f = tt
+fits_start s w (starts.Received first highest) size f = λ n k. f n (subst (λ ns. Has n ns) (sym (delivered_is s w)) k)
 
 pub at_server : (n : ℕ) (s : SecurityContext) (w : World) (event : server.Event) (entry : server.Entry) → IsLawful n s (Then w (AtServer event entry)) → At n s w event entry
 at_server n s w event entry i =

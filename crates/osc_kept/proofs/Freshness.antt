@@ -2,7 +2,7 @@
 -- when it was issued.
 use Rattle.std.proofs.Common.{◌≡◌, ℕ, ◌≤◌, ◌∙◌, sym, ap, subst, refl, Bool, true, false, Option, Some, None, List, ◌∷◌, ◌⊎◌, inl, inr, if◌then◌else◌}
 use Rattle.std.proofs.lemmas.Bool.{leb-true}
-use Rattle.std.specs.Prelude.{◌-◌, max, nat_le, unwrap_or}
+use Rattle.std.specs.Prelude.{◌-◌, max, nat_le}
 use Rattle.osc_coap.specs.Inner.{InnerParts}
 use Rattle.osc_coap.specs.Interpreted.{interpreted}
 use Rattle.osc_coap.specs.OptionNumbers as options
@@ -18,7 +18,7 @@ use Rattle.osc_kept.specs.World.{World, Event, Begin, Then, ClientStarts, Server
 use Rattle.osc_kept.proofs.Claims.{delivers_once}
 use Rattle.osc_kept.proofs.Deeds.{life_in, born_challenge}
 use Rattle.osc_kept.proofs.Digest.{client_deed, digest, server_deed}
-use Rattle.osc_kept.proofs.Fitting.{LawsBelow, At, at_life, at_server, at_stands, before, same_life}
+use Rattle.osc_kept.proofs.Fitting.{LawsBelow, At, again_or_new, at_life, at_server, at_stands, before, same_life, still_in_force}
 use Rattle.osc_kept.proofs.Lives.{some_is}
 
 -- the value of the last challenge in the present life of the server, and when it was issued
@@ -72,19 +72,6 @@ last_is n s (Then w (Draws of)) i = last_is n s w (before n s w (Draws of) i)
 last_is n s (Then w (Reserves of)) i = last_is n s w (before n s w (Reserves of) i)
 
 -- ---- challenges
-
-same_in_time : (b : Bool) (x c : List ℕ × ℕ) → (if b then Some x else None) ≡ Some c → Some x ≡ Some c
-same_in_time true x c e = e
-same_in_time false x c e = cc
-
-pub still_in_force : (b : Bool) (o : Option (List ℕ × ℕ)) (clock : ℕ) (c : List ℕ × ℕ) → (if b then None else challenge_in_force o clock) ≡ Some c → o ≡ Some c
-still_in_force true o clock c e = cc
-still_in_force false None clock c e = cc
-still_in_force false (Some x) clock c e = same_in_time (nat_le (clock - x.1) 30000) x c e
-
-pub again_or_new : (o p : Option (List ℕ × ℕ)) (fresh c : List ℕ × ℕ) → ((x : List ℕ × ℕ) → o ≡ Some x → p ≡ Some x) → c ≡ unwrap_or o fresh → (p ≡ Some c) ⊎ ((o ≡ None) × (c ≡ fresh))
-again_or_new None p fresh c f e = inr (refl, e)
-again_or_new (Some x) p fresh c f e = inl (f x refl ∙ ap (λ y. Some y) (sym e))
 
 at_clock : (s : SecurityContext) (w : World) (now : ℕ) (P : ℕ → Type 0) (h : server.History) → server_history s w ≡ Some h → P (max (server.clock h) now) → AtClock s w now P
 at_clock s w now P h e p = λ g f. subst (λ x. P (max (server.clock x) now)) (some_is (sym e ∙ f)) p

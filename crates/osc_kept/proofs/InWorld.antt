@@ -21,7 +21,6 @@ use Rattle.osc_kept.specs.GoingOn.{ClientRuns, GoesOn, HasSavedFirst, IsDrawn, S
 use Rattle.osc_kept.specs.InWorld.{ClientInWorld, ClientStartsInWorld, ClientStays, ClientTrusts, IsAsClaimed, IsHeld, IsUnseen, ServerInWorld, ServerStartsInWorld, ServerStays, ServerTrusts}
 use Rattle.osc_kept_ends.specs.KeptAsking as asking
 use Rattle.osc_kept_ends.specs.KeptServing as serving
-use Rattle.osc_kept_ends.specs.KeptServing.{IsStart}
 use Rattle.osc_kept.specs.Claims.{TwoEnds}
 use Rattle.osc_kept_ends.specs.Numbering.{Own, AreAlike}
 use Rattle.osc_kept.specs.Premises.{Answers, AtEach, EchoIsNew, IsKept, IsNoAdd, LoadsNoneBelow, NobodyForges, NobodyForgesRequests, NobodyForgesResponses, NumbersAreKept, SealedByClient, SealedByServer}
@@ -348,6 +347,7 @@ server_starts claims n s w (starts.Restarted first) size loaded floor i x is a l
     let b = server_begins s w (starts.Restarted first) size loaded floor is a in
     let k : AtEach (NumbersAreKept s) (server_started (starts.Restarted first) size w) = b.0.kept i.kept least in
     (later_in claims n s w first size i x k, λ g own y. record { history_is = y.history_is; numbers_are = y.numbers_are }, b.1)
+server_starts claims n s w (starts.Received first highest) size loaded floor i x is a least = absurd is
 
 pub client_starts : TwoEnds → ClientStartsInWorld
 client_starts claims n s w loaded ms floor own i g least =

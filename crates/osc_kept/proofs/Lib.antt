@@ -12,6 +12,7 @@ pub mod Hearing
 pub mod Saving
 pub mod GoingOn
 pub mod InWorld
+pub mod EchoNumbers
 pub mod RunTickets
 pub mod RunsInWorld
 pub mod Examples

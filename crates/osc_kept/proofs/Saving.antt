@@ -13,7 +13,7 @@ use Rattle.osc_observe.specs.Received.{Received}
 use Rattle.osc_life.specs.ServerHistory as server
 use Rattle.osc_kept_ends.specs.Numbering.{Own, Effect, Reserve, after, Allowed}
 use Rattle.osc_kept.specs.GoingOn.{FreshBySaving, SavesFirst}
-use Rattle.osc_kept.specs.Premises.{Answers, AtEach, FreshWhileNothingDelivered, NumbersAreKept}
+use Rattle.osc_kept.specs.Premises.{Answers, AtEach, StartsAboveDelivered, NumbersAreKept}
 use Rattle.osc_kept.specs.World.{World, Begin, Then, Event, Server, ServerStarts, AtServer, Has, delivered, effect, numbers}
 use Rattle.osc_kept.proofs.Deeds.{Deed, Begins, Renews, Challenges, Delivers, Notifies, Replies, born_challenge, delivers, here, life_in, owns, replied}
 use Rattle.osc_kept.proofs.Digest.{delivered_is, digest}
@@ -60,6 +60,7 @@ replied_marks (Some o) l n h = h
 born_here : (s : SecurityContext) (start : Start) (size : WindowSize) (n : ℕ) → Has n (here (born s start size).marks) → ⊥
 born_here s (starts.Fresh first) size n h = h
 born_here s (starts.Restarted first) size n h = h
+born_here s (starts.Received first highest) size n h = h
 
 here_delivered : (s : SecurityContext) (ds : List Deed) (n : ℕ) → Has n (here (life_in s ds).marks) → Has n (delivers ds)
 here_delivered s (Begins start size ∷ ds) n h = absurd (born_here s start size n h)
@@ -112,12 +113,13 @@ none_there : (xs : List ℕ) → ((k : ℕ) → Has k xs → ⊥) → xs ≡ []
 none_there [] f = refl
 none_there (x ∷ xs) f = absurd (f x (inl refl))
 
-fresh_at : (n : ℕ) (s : SecurityContext) (w : World) (event : Event) → Saves n s (Then w event) → FreshWhileNothingDelivered w event
+fresh_at : (n : ℕ) (s : SecurityContext) (w : World) (event : Event) → Saves n s (Then w event) → StartsAboveDelivered w event
 fresh_at n s w (ServerStarts (starts.Fresh first) size) (a, b, f) = none_there (delivered w) (λ k h.
     let floor : 0 < (numbers Server s w).floor = saved n s w (a.0, b.0, f.0) k h in
     let least : (numbers Server s w).floor ≤ number_of first = b.1.server.0 in
     let zero' : number_of first ≡ 0 = f.1 in
     omega (arith, floor, least, zero'))
+fresh_at n s w (ServerStarts (starts.Received first highest) size) (a, b, f) = f.1
 fresh_at n s w event i = tt
 
 pub fresh_by_saving : FreshBySaving

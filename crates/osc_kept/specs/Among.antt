@@ -10,7 +10,7 @@ use Rattle.osc_laws.specs.OneContext.{share}
 use Rattle.osc_endpoint.specs.ServerAnswer.{ServerAnswer}
 use Rattle.osc_life.specs.ServerHistory as server
 use Rattle.osc_kept.specs.Claims.{BothEnds}
-use Rattle.osc_kept.specs.Premises.{Answers, AtEach, EchoIsNew, FreshWhileNothingDelivered, IsNoAdd, NobodyForges, BeginsAbove}
+use Rattle.osc_kept.specs.Premises.{Answers, AtEach, EchoIsNew, StartsAboveDelivered, IsNoAdd, NobodyForges, BeginsAbove}
 use Rattle.osc_kept.specs.World.{World, Event, AtServer, ServerStarts, server_history}
 
 -- two histories with the same clock, the same lives and the same tickets left: what is answered, except to Add, depends on nothing else of them (own rule)
@@ -54,7 +54,7 @@ pub record IsLawfulAmong (n i : ℕ) (s : SecurityContext) (w : World) : Type 0 
   pub sealed : AtEach (NobodyForges s) w
   pub unseen : AtEach (EchoIsNew s) w
   pub above : AtEach (BeginsAbove s) w
-  pub fresh : AtEach FreshWhileNothingDelivered w
+  pub fresh : AtEach StartsAboveDelivered w
 
 -- what holds of two ends holds of each context of a server of many, and its client (RFC 8613, 5.2, 7.4 and 8.4)
 abbrev pub EachContext : Type 0

@@ -22,8 +22,10 @@ use Rattle.osc_kept_runs.specs.declared.kept_event.KeptClientEvent.{KeptClientEv
 use Rattle.osc_kept_runs.specs.declared.kept_event.KeptServerEntry.{KeptServerEntry}
 use Rattle.osc_kept_runs.specs.declared.kept_event.KeptServerEvent.{KeptServerEvent}
 use Rattle.osc_kept_ends.specs.declared.kept_server.KeptServer.{KeptServer}
+use Rattle.osc_kept.specs.EchoNumbers.{EchoesAreNumbers}
 use Rattle.osc_kept.specs.GoingOn.{ClientRuns, GoesOn, KnowsFloor, ServerRuns, server_started}
 use Rattle.osc_kept.specs.InWorld.{ClientStays, IsAsClaimed, IsHeld, ServerStays}
+use Rattle.osc_kept_ends.specs.EchoNumber.{echo_of}
 use Rattle.osc_kept_ends.specs.KeptAsking as asking
 use Rattle.osc_kept_runs.specs.KeptRuns.{ClientRun, ServerRun, client_state, server_state}
 use Rattle.osc_kept_ends.specs.KeptServing as serving
@@ -65,6 +67,12 @@ DecidesInWorld n s w now fresh d decision left reply old new = (answer : server.
 abbrev pub TakesInWorld : {K : Type 0} {k : keeper.Ghosts K} → ℕ → SecurityContext → World → ℕ → Fresh → List ℕ → Outcome → List ℕ → KeptServer K k → KeptServer K k → Type 0
 TakesInWorld n s w now fresh d outcome reply old new = (answer : server.Answer) × Shows outcome answer
     × ServerAfter n s w (server.Datagram now fresh.echo fresh.mid d) (server.Took answer reply) old new
+
+-- so does what became of a datagram with an Echo value of the server's next number, and all Echo values are made of numbers still (RFC 9175, A, method 3)
+abbrev pub CountsInWorld : {K : Type 0} {k : keeper.Ghosts K} → ℕ → SecurityContext → World → ℕ → ℕ → List ℕ → Outcome → List ℕ → KeptServer K k → KeptServer K k → Type 0
+CountsInWorld n s w now mid d outcome reply old new = (answer : server.Answer) × Shows outcome answer
+    × (v : World) × GoesOn Server s w (AtServer (server.Datagram now (echo_of (upcoming (own_in old.source))) mid d) (server.Took answer reply)) v (own_in old.source) (own_in new.source)
+    × IsAsClaimed n s w v × RunsIn s v new × ClientStays s w v × EchoesAreNumbers s v
 
 -- a life begins at the number that was loaded if that isn't below the floor; a keeper that knows the floor sees to that (RFC 8613, B.1)
 abbrev pub RestartsInWorld : {K : Type 0} {k : keeper.Ghosts K} → ℕ → SecurityContext → World → ℕ → KeptServer K k → KeptServer K k → Type 0

@@ -16,7 +16,7 @@ use Rattle.osc_client.specs.ClientHistory as client
 use Rattle.osc_observe.specs.Received.{Received}
 use Rattle.osc_life.specs.ServerHistory as server
 use Rattle.osc_kept.specs.Claims.{AtEachHeard, DeliversOnce, IsNext, SealsUnderNewNonces}
-use Rattle.osc_kept.specs.Premises.{Answers, AtEach, EchoIsNew, FreshWhileNothingDelivered, IsKept, NobodyForges, NumbersAreKept}
+use Rattle.osc_kept.specs.Premises.{Answers, AtEach, EchoIsNew, StartsAboveDelivered, IsKept, NobodyForges, NumbersAreKept}
 use Rattle.osc_kept.specs.World.{World, Begin, Then, Client, Server, ClientStarts, ServerStarts, Draws, Reserves, AtClient, AtServer}
 
 -- what the events of these lists refer to: the first number of a server, its window, and how long a request is pending (own rule)
@@ -142,7 +142,7 @@ forged x r echo d = delivers 0 0 r echo d (start_server x Begin)
 -- it is delivered, and all other premises hold (RFC 8613, 12.3 and 12.6)
 abbrev pub ForgeryBreaks : Type 0
 ForgeryBreaks = (n : ℕ) (s : SecurityContext) (x : Ends) (r : Received) (echo d : List ℕ) → AtEach (Answers n s) (forged x r echo d)
-    → AtEach (EchoIsNew s) (forged x r echo d) × AtEach (NumbersAreKept s) (forged x r echo d) × AtEach FreshWhileNothingDelivered (forged x r echo d)
+    → AtEach (EchoIsNew s) (forged x r echo d) × AtEach (NumbersAreKept s) (forged x r echo d) × AtEach StartsAboveDelivered (forged x r echo d)
     × (AtEach (DeliversOnce s) (forged x r echo d) → ⊥)
 
 -- a request is delivered, and after a restart it is challenged with the value that it carries (RFC 9175, 2.3)
@@ -154,7 +154,7 @@ repeated_value x q r k echo c =
 abbrev pub RepeatedValueBreaks : Type 0
 RepeatedValueBreaks = (n : ℕ) (s : SecurityContext) (x : Ends) (q : Asked) (r k : Received) (echo c : List ℕ) → AtEach (Answers n s) (repeated_value x q r k echo c)
     → AtEach (NobodyForges s) (repeated_value x q r k echo c) × AtEach (NumbersAreKept s) (repeated_value x q r k echo c)
-    × AtEach FreshWhileNothingDelivered (repeated_value x q r k echo c) × (AtEach (DeliversOnce s) (repeated_value x q r k echo c) → ⊥)
+    × AtEach StartsAboveDelivered (repeated_value x q r k echo c) × (AtEach (DeliversOnce s) (repeated_value x q r k echo c) → ⊥)
 
 -- the client seals with 1, and starts anew below that, at 0; request 0 comes through a challenge, and opens the window below 1 (RFC 8613, 7.2.1 and B.1.2)
 abbrev pub number_out_of_order : Ends → Asked → Asked → Received → Received → Received → List ℕ → List ℕ → World
@@ -167,7 +167,7 @@ abbrev pub NumberOutOfOrderBreaks : Type 0
 NumberOutOfOrderBreaks = (n : ℕ) (s : SecurityContext) (x : Ends) (q later : Asked) (r k m : Received) (echo c : List ℕ) → (CarriesValue q echo → ⊥)
     → AtEach (Answers n s) (number_out_of_order x q later r k m echo c)
     → AtEach (NobodyForges s) (number_out_of_order x q later r k m echo c) × AtEach (EchoIsNew s) (number_out_of_order x q later r k m echo c)
-    × AtEach FreshWhileNothingDelivered (number_out_of_order x q later r k m echo c) × (AtEach (DeliversOnce s) (number_out_of_order x q later r k m echo c) → ⊥)
+    × AtEach StartsAboveDelivered (number_out_of_order x q later r k m echo c) × (AtEach (DeliversOnce s) (number_out_of_order x q later r k m echo c) → ⊥)
 
 -- a registration is delivered and notified; the server is restarted at 0, below the number of that notification, and challenges the request (RFC 8613, 7.2.1)
 abbrev pub restarts_below : Ends → Piv → Asked → Received → List ℕ → Answered → List ℕ → World
@@ -188,7 +188,7 @@ OwnOutOfOrderBreaks = (n : ℕ) (s : SecurityContext) (x : Ends) (high : Piv) (q
     → (CarriesValue q echo → ⊥) → AtEach (Answers n s) (own_out_of_order x high q again r k u v echo c early late)
     → AtEach (NobodyForges s) (own_out_of_order x high q again r k u v echo c early late)
     × AtEach (EchoIsNew s) (own_out_of_order x high q again r k u v echo c early late)
-    × AtEach FreshWhileNothingDelivered (own_out_of_order x high q again r k u v echo c early late)
+    × AtEach StartsAboveDelivered (own_out_of_order x high q again r k u v echo c early late)
     × (AtEachHeard (IsNext s) (own_out_of_order x high q again r k u v echo c early late) → ⊥)
 
 -- a request is delivered and answered without a Partial IV of its own; the server starts fresh again, at a number that it didn't use, and does the same (RFC 8613, B.1.2)

@@ -13,7 +13,7 @@ use Rattle.osc_kept_ends.specs.KeptAsking as asking
 use Rattle.osc_kept_ends.specs.KeptServing as serving
 use Rattle.osc_kept_ends.specs.KeptServing.{IsStart, started}
 use Rattle.osc_kept_ends.specs.Numbering.{Own, AreAlike, Allowed, Goes, Load, Steps, nothing_drawn}
-use Rattle.osc_kept.specs.Premises.{Answers, AtEach, FreshWhileNothingDelivered, LoadsNoneBelow, NumbersAreKept}
+use Rattle.osc_kept.specs.Premises.{Answers, AtEach, StartsAboveDelivered, LoadsNoneBelow, NumbersAreKept}
 use Rattle.osc_kept.specs.World.{World, Event, Then, End, Client, Server, ClientStarts, ServerStarts, Draws, Reserves, AtClient, AtServer, client_history, server_history, server_life, numbers}
 
 -- a running server, by its history and its numbers; the floor that its keeper knows may be another one (own rule)
@@ -73,6 +73,7 @@ ClientGoesOn = (s : SecurityContext) (w : World) (h : client.History) (event : c
 abbrev pub server_started : Start → WindowSize → World → World
 server_started (starts.Fresh first) size w = Then (Then w (ServerStarts (starts.Fresh first) size)) (Reserves Server)
 server_started (starts.Restarted first) size w = Then w (ServerStarts (starts.Restarted first) size)
+server_started (starts.Received first highest) size w = Then w (ServerStarts (starts.Received first highest) size)
 
 -- an end starts with kept numbers if what was loaded isn't below what was saved before, in whatever process; a keeper that knows the floor sees to that,
 -- and still knows it (RFC 8613, B.1.1)
@@ -91,9 +92,11 @@ abbrev pub ClientBegins : Type 0
 ClientBegins = (s : SecurityContext) (w : World) (loaded life_ms floor : ℕ) (own : Own) → Goes (Load loaded) (nothing_drawn floor) own
     → StartsOn Client s w loaded (Then w (ClientStarts loaded life_ms)) floor own × ClientRuns s (Then w (ClientStarts loaded life_ms)) (client.New s loaded life_ms) own
 
--- a server starts fresh only at 0, and then a number is saved before it takes a datagram; KeptServer sees to this (RFC 8613, B.1.1 and B.1.2)
+-- a server starts fresh only at 0, and then a number is saved before it takes a datagram; KeptServer sees to this, and never starts open above a number
+-- (RFC 8613, B.1.1 and B.1.2)
 abbrev pub SavesFirst : SecurityContext → World → Event → Type 0
 SavesFirst s w (ServerStarts (starts.Fresh first) size) = number_of first ≡ 0
+SavesFirst s w (ServerStarts (starts.Received first highest) size) = StartsAboveDelivered w (ServerStarts (starts.Received first highest) size)
 SavesFirst s w (AtServer (server.Datagram now echo mid d) entry) = (of : Life) → server_life s w ≡ Some of → of.open_at_birth ≡ true → 0 < (numbers Server s w).floor
 SavesFirst s w event = Unit {0}
 
@@ -104,4 +107,4 @@ pub record HasSavedFirst (s : SecurityContext) (w : World) : Type 0 where
 
 -- so a server starts fresh only while nothing was delivered (RFC 8613, B.1.2)
 abbrev pub FreshBySaving : Type 0
-FreshBySaving = (n : ℕ) (s : SecurityContext) (w : World) → AtEach (Answers n s) w → AtEach (NumbersAreKept s) w → AtEach (SavesFirst s) w → AtEach FreshWhileNothingDelivered w
+FreshBySaving = (n : ℕ) (s : SecurityContext) (w : World) → AtEach (Answers n s) w → AtEach (NumbersAreKept s) w → AtEach (SavesFirst s) w → AtEach StartsAboveDelivered w

@@ -7,6 +7,7 @@ pub mod Among
 pub mod KeptPlainness
 pub mod GoingOn
 pub mod InWorld
+pub mod EchoNumbers
 pub mod RunsInWorld
 pub mod CallsInWorld
 pub mod Examples

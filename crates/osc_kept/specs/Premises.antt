@@ -6,6 +6,7 @@ use Rattle.osc_coap.specs.Inner.{InnerParts}
 use Rattle.osc_coap.specs.Interpreted.{interpreted}
 use Rattle.osc_coap.specs.OptionNumbers as options
 use Rattle.osc_context.specs.SecurityContext.{SecurityContext, IsUsable}
+use Rattle.osc_context.specs.Views.{number_of}
 use Rattle.osc_protect.specs.CipherLaws.{CipherInput, request_seal, response_seal}
 use Rattle.osc_protect.specs.Protection.{Protects, ProtectsRequest, responses_to}
 use Rattle.osc_life.specs.declared.start.Start.TheVariants as starts
@@ -106,10 +107,11 @@ BeginsAbove s w event = Unit {0}
 
 -- ---- KeptServer sees to it, or whoever says how a Server starts
 
--- a server starts fresh only while no request was delivered (RFC 8613, B.1.2)
-abbrev pub FreshWhileNothingDelivered : World → Event → Type 0
-FreshWhileNothingDelivered w (ServerStarts (starts.Fresh first) size) = delivered w ≡ []
-FreshWhileNothingDelivered w event = Unit {0}
+-- a server starts fresh only while no request was delivered, and open above a number only if that is the highest one that was (RFC 8613, 7.4 and B.1.2)
+abbrev pub StartsAboveDelivered : World → Event → Type 0
+StartsAboveDelivered w (ServerStarts (starts.Fresh first) size) = delivered w ≡ []
+StartsAboveDelivered w (ServerStarts (starts.Received first highest) size) = (n : ℕ) → Has n (delivered w) → n ≤ number_of highest
+StartsAboveDelivered w event = Unit {0}
 
 -- all of these (own rule)
 pub record IsLawful (n : ℕ) (s : SecurityContext) (w : World) : Type 0 where
@@ -118,7 +120,7 @@ pub record IsLawful (n : ℕ) (s : SecurityContext) (w : World) : Type 0 where
   pub sealed : AtEach (NobodyForges s) w
   pub unseen : AtEach (EchoIsNew s) w
   pub above : AtEach (BeginsAbove s) w
-  pub fresh : AtEach FreshWhileNothingDelivered w
+  pub fresh : AtEach StartsAboveDelivered w
 
 -- ---- how the numbers of kept ends go: each life then begins above all numbers that were used (law KeptBeginAbove)
 

@@ -16,7 +16,8 @@ ghost use Rattle.osc_client.specs.declared.client_outcome.RequestError.TheVarian
 ghost use Rattle.osc_life.specs.declared.outcome.Outcome.TheVariants as outcomes;
 ghost use Rattle.osc_life.specs.declared.server_error.ReplyError.TheVariants as replies;
 ghost use Rattle.osc_life.specs.declared.start.Start.{Start as StartOf};
-ghost use Rattle.osc_kept.specs.CallsInWorld.{AsksInWorld, ClientAfter, ClientDecidesInWorld, ClientRestartsInWorld, ClientRunsIn, ClientStartsInWorld, ClientTakesInWorld, DecidesInWorld, HoldsTicket, NobodyForgesTo, RestartsInWorld, RunsIn, ServerAfter, ServesInWorld, StartsInWorld, TakesInWorld};
+ghost use Rattle.osc_kept.specs.CallsInWorld.{AsksInWorld, ClientAfter, ClientDecidesInWorld, ClientRestartsInWorld, ClientRunsIn, ClientStartsInWorld, ClientTakesInWorld, CountsInWorld, DecidesInWorld, HoldsTicket, NobodyForgesTo, RestartsInWorld, RunsIn, ServerAfter, ServesInWorld, StartsInWorld, TakesInWorld};
+ghost use Rattle.osc_kept.specs.EchoNumbers.{EchoesAreNumbers};
 ghost use Rattle.osc_kept.specs.GoingOn.{HasSavedFirst};
 ghost use Rattle.osc_kept.specs.InWorld.{IsUnseen};
 ghost use Rattle.osc_kept_ends.specs.KeptServing.{IsStart};
@@ -25,7 +26,7 @@ ghost use Rattle.osc_kept_ends.specs.Refusals.{Loaded, RefusesAt};
 ghost use Rattle.osc_kept_ends.specs.declared.kept_error.KeptError.TheVariants.{LivesExhausted};
 ghost use Rattle.osc_kept.specs.World.{World, Client as ClientEnd, Server as ServerEnd, numbers};
 
-use crate::laws::{kept_ends_in_world, kept_runs_in_world};
+use crate::laws::{echo_by_numbers, kept_ends_in_world, kept_runs_in_world};
 use osc_coap::Message;
 use osc_context::{Context, Keeper, KeeperError};
 use osc_endpoint::{
@@ -112,6 +113,29 @@ pub fn take_in_world<'b, K: Keeper>(
     // For the proof alone.
     kept_ends_in_world();
     server.take(now, fresh, datagram, out)
+}
+
+/// Calls `KeptServer::take_counted`. Its claim about that list assumes that nobody forged the datagram, and that all Echo values of the
+/// list are made of numbers (`EchoesAreNumbers`); of the longer list it claims that too.
+pub fn take_counted_in_world<'b, K: Keeper>(
+    server: &mut KeptServer<K>,
+    now: u64,
+    mid: u16,
+    datagram: &'b mut [u8],
+    out: &mut [u8; 64],
+) -> Taken<'b>
+    ensures answered { result.outcome ≢ outcomes.KeeperFailed → (n : ℕ) (s : SecurityContext) (w : World) → IsKept n s w → EchoesAreNumbers s w → RunsIn s w server.old
+        → NobodyForgesRequests s w datagram.old
+        → CountsInWorld n s w now mid datagram.old result.outcome (take result.reply out.new) server.old server.new }
+    ensures clock_alone { result.outcome ≡ outcomes.KeeperFailed → (n : ℕ) (s : SecurityContext) (w : World) → IsKept n s w → RunsIn s w server.old
+        → ServerAfter n s w (served.Advance now) served.Advanced server.old server.new }
+    ensures failed { result.outcome ≡ outcomes.KeeperFailed → K.failures server.new.source.keeper ≡ K.failures server.old.source.keeper + 1 }
+    ensures worked { result.outcome ≢ outcomes.KeeperFailed → K.failures server.new.source.keeper ≡ K.failures server.old.source.keeper }
+{
+    // For the proof alone.
+    echo_by_numbers();
+    kept_ends_in_world();
+    server.take_counted(now, mid, datagram, out)
 }
 
 /// Calls `KeptServer::reply`. Its claim about that list assumes a ticket that a delivery gave and that no reply took.

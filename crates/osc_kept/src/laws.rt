@@ -3,6 +3,7 @@
 
 ghost use Rattle.osc_kept.specs.Among.{EachContext, StaysLike};
 ghost use Rattle.osc_kept.specs.Claims.{TwoEnds};
+ghost use Rattle.osc_kept.specs.EchoNumbers.{CountedGoesOn, EchoByNumbers, NumberIsUnseen};
 ghost use Rattle.osc_kept.specs.Examples.{NoneCanBeLeftOut, ObservationCanBeMet, PremisesCanBeMet};
 ghost use Rattle.osc_kept.specs.GoingOn.{ClientBegins, ClientGoesOn, FreshBySaving, ServerBegins, ServerGoesOn};
 ghost use Rattle.osc_kept.specs.InWorld.{ClientInWorld, ClientStartsInWorld, ServerInWorld, ServerStartsInWorld};
@@ -31,6 +32,18 @@ pub fn both_ends()
     one_cipher_input();
     one_option_value();
     one_nonce();
+}
+
+/// States that Echo values needn't be drawn at random (RFC 9175, A, method 3). If a challenge that gives a new value makes it of the Sender
+/// Sequence Number with which it is sealed (`KeptServer::take_counted`), requests carry only Echo values that the client heard, and no reply
+/// or notification has one, then each new value is one that no request carries, and all is as `both_ends` says. `unseen` says it of the
+/// server's next number. `goes_on` says that a server that counts so keeps to it.
+pub fn echo_by_numbers()
+    ensures ends { EchoByNumbers }
+    ensures unseen { NumberIsUnseen }
+    ensures goes_on { CountedGoesOn }
+{
+    both_ends();
 }
 
 /// States the same of each context of a server of many, and of its client (`IsLawfulAmong`). What happens to the context is its share of

@@ -261,6 +261,7 @@ reply_without s t h v false m p room bytes old new is k row a drawn =
 born_next : (c : SecurityContext) (start : Start) (size : WindowSize) → next_own (born c start size) ≡ (born c start size).first
 born_next c (starts.Fresh first) size = omega arith
 born_next c (starts.Restarted first) size = omega arith
+born_next c (starts.Received first highest) size = omega arith
 
 -- a server with the context that was added
 pub added_alone : (s : Server) (c : SecurityContext) (start : Start) (size : WindowSize) (index next : ℕ) → Agrees s (Then Begin (Add c start size) (Added index)) → index ≡ 0

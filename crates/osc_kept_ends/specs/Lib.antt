@@ -1,7 +1,9 @@
 -- to be believed, in reading order
 pub mod Numbering
+pub mod EchoNumber
 pub mod Refusals
 pub mod KeptServing
+pub mod KeptTaking
 pub mod KeptAsking
 -- how the code is seen
 pub mod Views

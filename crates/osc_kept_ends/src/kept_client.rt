@@ -174,6 +174,14 @@ impl<K: Keeper, const N: usize> KeptClient<K, N> {
         self.client.advance(now);
     }
 
+    /// Returns the Sender Sequence Number of the next request, or 2^40 if none is left.
+    #[must_use]
+    pub fn upcoming(&self) -> u64
+        ensures { result ≡ upcoming (own_in self.now.source) }
+    {
+        self.source.upcoming()
+    }
+
     /// Ends the client, and returns its keeper.
     pub fn into_keeper(self) -> K
         ensures { result ≡ self.source.keeper }

@@ -11,12 +11,12 @@ ghost use Rattle.osc_life.specs.LifeAnswer.{asks_own};
 ghost use Rattle.osc_life.specs.ServerHistory.{History, Begin, Then, Add, Added, Advance, Advanced, Notify, Reply, Restart, Restarted, NotRestarted};
 ghost use Rattle.osc_life.specs.Views.{reply_entry, values_of};
 ghost use Rattle.osc_endpoint.specs.Views.{server_entry};
-ghost use Rattle.osc_life.specs.declared.outcome.Outcome.TheVariants as outcomes;
 ghost use Rattle.osc_life.specs.declared.server_error.ReplyError.TheVariants as replies;
 ghost use Rattle.osc_life.specs.declared.server_error.RestartError.TheVariants as restarts;
 ghost use Rattle.osc_life.specs.declared.start.Start.{Start as StartOf};
 ghost use Rattle.osc_kept_ends.specs.declared.kept_error.KeptError.TheVariants.{LivesExhausted};
-ghost use Rattle.osc_kept_ends.specs.KeptServing.{IsKept, IsStart, KeptDecides, KeptStep, KeptTakes, started};
+ghost use Rattle.osc_kept_ends.specs.EchoNumber.{echo_of};
+ghost use Rattle.osc_kept_ends.specs.KeptServing.{IsKept, IsStart, KeptDecides, KeptStep, started};
 ghost use Rattle.osc_kept_ends.specs.Numbering.{Allowed, Goes, Load, nothing_drawn, upcoming};
 ghost use Rattle.osc_kept_ends.specs.Owning.{own_in};
 ghost use Rattle.osc_kept_ends.specs.Refusals.{Loaded, RefusesAt};
@@ -40,6 +40,8 @@ pub struct KeptServer<K: Keeper> {
 }
 
 impl<K: Keeper> KeptServer<K> {
+    ghost use Rattle.osc_kept_ends.specs.KeptTaking.{TakesDatagram};
+
     /// Starts a server of a context at the number that the keeper loads. It starts fresh if and only if that number is 0; then the
     /// first number is drawn before `start` returns, so that no later start is fresh. Otherwise it starts as after a restart. Returns
     /// the first refusal in the order of `KeptError`; a refusal gives the keeper back and drops the context.
@@ -148,17 +150,7 @@ impl<K: Keeper> KeptServer<K> {
         datagram: &'b mut [u8],
         out: &mut [u8; 64],
     ) -> Taken<'b>
-        ensures answered { result.outcome ≢ outcomes.KeeperFailed → (h : History)
-            → IsKept self.old.server (upcoming (own_in self.old.source)) h
-            → KeptTakes h now fresh datagram.old result.outcome (take result.reply out.new) (own_in self.old.source) (own_in self.new.source) self.new.server }
-        ensures failed { result.outcome ≡ outcomes.KeeperFailed → K.failures self.new.source.keeper ≡ K.failures self.old.source.keeper + 1 }
-        ensures worked { result.outcome ≢ outcomes.KeeperFailed → K.failures self.new.source.keeper ≡ K.failures self.old.source.keeper }
-        ensures clock_alone { result.outcome ≡ outcomes.KeeperFailed → (h : History)
-            → IsKept self.old.server (upcoming (own_in self.old.source)) h
-            → IsKept self.new.server (upcoming (own_in self.new.source)) (Then h (Advance now) Advanced) }
-        ensures unchanged { result.outcome ≡ outcomes.KeeperFailed → (own_in self.new.source ≡ own_in self.old.source) × (result.reply ≡ 0) }
-        ensures within { result.reply ≤ 64 }
-        ensures behind { drop result.reply out.new ≡ drop result.reply out.old }
+        ensures { TakesDatagram now fresh datagram.old self.old self.new result out.old out.new }
     {
         match self.decide(now, fresh, datagram, out) {
             Ok(Decided { decision, reply }) => {
@@ -170,6 +162,21 @@ impl<K: Keeper> KeptServer<K> {
                 reply: 0,
             },
         }
+    }
+
+    /// Takes a datagram in place as `take` does. The fresh Echo value is made of the number with which a challenge would be sealed: its
+    /// eight bytes, high byte first (RFC 9175, A, method 3). So no random source is asked for.
+    pub fn take_counted<'b>(
+        &mut self,
+        now: u64,
+        mid: u16,
+        datagram: &'b mut [u8],
+        out: &mut [u8; 64],
+    ) -> Taken<'b>
+        ensures { TakesDatagram now (record { echo = echo_of (upcoming (own_in self.old.source)); mid = mid }) datagram.old self.old self.new result out.old out.new }
+    {
+        let echo = self.upcoming().to_be_bytes();
+        self.take(now, Fresh { echo, mid }, datagram, out)
     }
 
     /// Seals a reply as `Server::reply` does. With `own`, or if the ticket's request registers an observation, it draws a number before
@@ -226,6 +233,14 @@ impl<K: Keeper> KeptServer<K> {
         };
         let (server, source) = (&mut self.server, &mut self.source);
         notify_drawn(server, source, ticket, plain, out)
+    }
+
+    /// Returns the Sender Sequence Number with which the server seals next, or 2^40 if none is left.
+    #[must_use]
+    pub fn upcoming(&self) -> u64
+        ensures { result ≡ upcoming (own_in self.now.source) }
+    {
+        self.source.upcoming()
     }
 
     /// Ends the server, and returns its keeper.

@@ -4,7 +4,7 @@ ghost use Rattle.std.specs.Prelude.{◌≡◌, ◌≤◌, ◌+◌, ℕ, true, Is
 ghost use Rattle.std.specs.Option.{ForSome};
 ghost use Rattle.osc_context.specs.Reserving.{Covers};
 ghost use Rattle.osc_context.specs.Views.{limit_of, next_of, number_of};
-ghost use Rattle.osc_kept_ends.specs.Numbering.{Draws, Goes, Load, Use, after, nothing_drawn};
+ghost use Rattle.osc_kept_ends.specs.Numbering.{Draws, Goes, Load, Use, after, nothing_drawn, upcoming};
 ghost use Rattle.osc_kept_ends.specs.Refusals.{Loaded, RefusesAt};
 ghost use Rattle.osc_kept_ends.specs.Views.{lifted};
 
@@ -79,6 +79,16 @@ impl<K: Keeper> Source<K> {
     {
         self.numbers = numbers;
         self.in_hand = None;
+    }
+
+    /// Returns the number with which the end seals next, or 2^40 if none is left.
+    pub(crate) fn upcoming(&self) -> u64
+        ensures { result ≡ upcoming (own_in self.now) }
+    {
+        match self.in_hand {
+            Some(number) => number.number(),
+            None => self.numbers.upcoming(),
+        }
     }
 
     /// Draws the next number if none is in hand, unless none is left. If the keeper fails, the numbers don't change.

@@ -36,7 +36,7 @@ allowed_if false first mark h = tt
 
 pub new_beside : (of : Life) (k n : ℕ) → is_open of ≡ true → k ≢ n → k < n + places_of of.size → IsNewIn of n → IsNewIn (marked (Some (Delivered k)) of) n
 new_beside of k n is apart less new = record {
-  above = subst (λ f. f ≤ n) (sym (floor_open of.open_at_birth of.marks k is)) new.above;
+  above = subst (λ f. f ≤ n) (sym (floor_open of.least of.open_at_birth of.marks k is)) new.above;
   unspent = All-cons (λ m. m ≢ n) k (spent of.open_at_birth of.marks) apart new.unspent;
   within = All-cons (λ m. m < n + places_of of.size) k (spent of.open_at_birth of.marks) less new.within;
 }
@@ -48,7 +48,7 @@ pub new_first : (of : Life) (k n : ℕ) → is_open of ≡ false → k < n → I
 new_first of k n shut less =
     let none = sym (closed_bare of.open_at_birth of.marks shut).spent_is in
     record {
-      above = subst (λ f. f ≤ n) (sym (floor_closed of.open_at_birth of.marks k shut)) (omega (arith, less));
+      above = subst (λ f. f ≤ n) (sym (floor_closed of.least of.open_at_birth of.marks k shut)) (omega (arith, less));
       unspent = All-cons (λ m. m ≢ n) k (spent of.open_at_birth of.marks) (λ e. omega (arith, less, e)) (subst (All (λ m. m ≢ n)) none (All-nil (λ m. m ≢ n)));
       within = All-cons (λ m. m < n + places_of of.size) k (spent of.open_at_birth of.marks) (omega (arith, less))
           (subst (All (λ m. m < n + places_of of.size)) none (All-nil (λ m. m < n + places_of of.size)));

@@ -167,10 +167,12 @@ kept_added false l o = refl
 born_context : (s : SecurityContext) (start : Start) (size : WindowSize) → (born s start size).context ≡ s
 born_context s (starts.Fresh next) size = refl
 born_context s (starts.Restarted next) size = refl
+born_context s (starts.Received next highest) size = refl
 
 born_unused : (s : SecurityContext) (start : Start) (size : WindowSize) → own_count (born s start size).marks ≡ 0
 born_unused s (starts.Fresh next) size = refl
 born_unused s (starts.Restarted next) size = refl
+born_unused s (starts.Received next highest) size = refl
 
 -- ---- each answer is a step
 

@@ -37,13 +37,13 @@ open_first (Challenged echo issued ∷ marks) n h = open_first marks n h
 open_first (Answered ∷ marks) n h = open_first marks n h
 
 -- a delivery in an open life leaves the floor, and in a closed one makes it
-pub floor_open : (fresh : Bool) (marks : List Mark) (n : ℕ) → opened fresh marks ≡ true → floor fresh (Delivered n ∷ marks) ≡ floor fresh marks
-floor_open true marks n h = refl
-floor_open false marks n h = open_first marks n h
+pub floor_open : (least : ℕ) (fresh : Bool) (marks : List Mark) (n : ℕ) → opened fresh marks ≡ true → floor least fresh (Delivered n ∷ marks) ≡ floor least fresh marks
+floor_open least true marks n h = refl
+floor_open least false marks n h = open_first marks n h
 
-pub floor_closed : (fresh : Bool) (marks : List Mark) (n : ℕ) → opened fresh marks ≡ false → floor fresh (Delivered n ∷ marks) ≡ n
-floor_closed true marks n h = let e = (closed_bare true marks h).fresh_is in cc
-floor_closed false marks n h = ap (λ o. unwrap_or o n) (closed_bare false marks h).first_is
+pub floor_closed : (least : ℕ) (fresh : Bool) (marks : List Mark) (n : ℕ) → opened fresh marks ≡ false → floor least fresh (Delivered n ∷ marks) ≡ n
+floor_closed least true marks n h = let e = (closed_bare true marks h).fresh_is in cc
+floor_closed least false marks n h = ap (λ o. unwrap_or o n) (closed_bare false marks h).first_is
 
 -- what a mark of the window does
 abbrev pub Spends : Window → Window → ℕ → Type 0
@@ -59,7 +59,7 @@ pub delivered_open : (g : Gate) (w v : Window) (l : Life) (n : ℕ) → g ≡ ga
     → GateAgrees (gates.Open v) (marked (Some (Delivered n)) l)
 delivered_open g w v l n is agrees spends =
     let a : GateAgrees (gates.Open w) l = subst (λ x. GateAgrees x l) is agrees in
-    (refl, subst (λ f. AgreesWith v l.size f (n ∷ spent l.open_at_birth l.marks)) (sym (floor_open l.open_at_birth l.marks n a.0)) (spends l.size _ _ a.1))
+    (refl, subst (λ f. AgreesWith v l.size f (n ∷ spent l.open_at_birth l.marks)) (sym (floor_open l.least l.open_at_birth l.marks n a.0)) (spends l.size _ _ a.1))
 
 -- a gate that is opened
 pub delivered_closed : (g new : Gate) (kept : Option (List ℕ × ℕ)) (size : WindowSize) (l : Life) (n : ℕ)
@@ -69,7 +69,7 @@ delivered_closed g (gates.Restarted k) kept size l n is agrees same opens = absu
 delivered_closed g (gates.Open v) kept size l n is agrees same opens =
     let a : GateAgrees (gates.Restarted kept) l = subst (λ x. GateAgrees x l) is agrees in (
       refl,
-      subst (λ f. AgreesWith v l.size f (n ∷ spent l.open_at_birth l.marks)) (sym (floor_closed l.open_at_birth l.marks n a.0))
+      subst (λ f. AgreesWith v l.size f (n ∷ spent l.open_at_birth l.marks)) (sym (floor_closed l.least l.open_at_birth l.marks n a.0))
           (subst (λ ms. AgreesWith v l.size n (n ∷ ms)) (sym (closed_bare l.open_at_birth l.marks a.0).spent_is)
           (subst (λ z. AgreesWith v z n (n ∷ [])) same opens)),
     )

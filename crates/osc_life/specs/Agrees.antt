@@ -11,7 +11,7 @@ use Rattle.osc_life.specs.Life.{Life, is_open, next_own, floor, spent, challenge
 -- a closed gate has the life's last challenge; an open one takes exactly the numbers that are new in it (RFC 8613, 7.4)
 abbrev pub GateAgrees : Gate → Life → Type 0
 GateAgrees (gates.Restarted kept) l = (is_open l ≡ false) × (kept ≡ challenge l.marks)
-GateAgrees (gates.Open window) l = (is_open l ≡ true) × AgreesWith window l.size (floor l.open_at_birth l.marks) (spent l.open_at_birth l.marks)
+GateAgrees (gates.Open window) l = (is_open l ≡ true) × AgreesWith window l.size (floor l.least l.open_at_birth l.marks) (spent l.open_at_birth l.marks)
 
 -- a context of the server is as its present life says (RFC 8613, 3.1)
 pub record SlotAgrees (s : Slot) (l : Life) : Type 0 where

@@ -12,7 +12,7 @@ use Rattle.osc_window.specs.Gate.{challenge_in_force}
 use Rattle.osc_coap.specs.OptionNumbers as numbers
 use Rattle.osc_coap.specs.Interpreted.{interpreted}
 use Rattle.osc_life.specs.declared.start.Start.{Start}
-use Rattle.osc_life.specs.declared.start.Start.TheVariants.{Fresh, Restarted}
+use Rattle.osc_life.specs.declared.start.Start.TheVariants.{Fresh, Restarted, Received}
 
 -- what an answer leaves: a delivered number, the number of a bad plaintext, a challenge, or a reply or notification with a Partial IV of its own (own rule)
 pub data Mark : Type 0 where
@@ -21,17 +21,18 @@ pub data Mark : Type 0 where
   Challenged : (echo : List ℕ) (issued : ℕ) → Mark
   Answered : Mark
 
--- a life: its context and window size, how many lives came before it, whether it is open at its birth, as a life that was added fresh is,
--- its first Sender Sequence Number, and its marks (RFC 8613, 3.1)
+-- a life: its context and window size, how many lives came before it, whether it is open at its birth, as a life that was added fresh is, and
+-- from which number on, its first Sender Sequence Number, and its marks (RFC 8613, 3.1)
 pub record Life : Type 0 where
   pub context : SecurityContext
   pub size : WindowSize
   pub count : ℕ
   pub open_at_birth : Bool
+  pub least : ℕ
   pub first : ℕ
   pub marks : List Mark
 
--- the life was added fresh and never restarted, or a request was delivered in it (RFC 8613, B.1.2)
+-- the life was open at its birth, or a request was delivered in it (RFC 8613, B.1.2)
 abbrev pub opened : Bool → List Mark → Bool
 opened from_birth [] = from_birth
 opened from_birth (Delivered n ∷ marks) = true
@@ -43,9 +44,9 @@ first_delivered [] = None
 first_delivered (Delivered n ∷ marks) = Some (unwrap_or (first_delivered marks) n)
 first_delivered (mark ∷ marks) = first_delivered marks
 
--- the least number that can be new: the number of the first delivery after a restart, else 0 (RFC 8613, B.1.2)
-abbrev pub floor : Bool → List Mark → ℕ
-floor from_birth marks = if from_birth then 0 else unwrap_or (first_delivered marks) 0
+-- the least number that can be new: that of the birth if the life was open then, else the number of the first delivery (RFC 8613, 7.4 and B.1.2)
+abbrev pub floor : ℕ → Bool → List Mark → ℕ
+floor least from_birth marks = if from_birth then least else unwrap_or (first_delivered marks) 0
 
 -- the numbers of what was delivered, and of bad plaintexts that came while the life was open (RFC 8613, 7.4)
 abbrev pub spent : Bool → List Mark → List ℕ
@@ -86,7 +87,7 @@ HasOwn l = next_own l < 2 ^ 40
 
 -- the number is new in this life, while the life is open (RFC 8613, 7.4)
 abbrev pub IsNewIn : Life → ℕ → Type 0
-IsNewIn l n = IsNew (places_of l.size) (floor l.open_at_birth l.marks) (spent l.open_at_birth l.marks) n
+IsNewIn l n = IsNew (places_of l.size) (floor l.least l.open_at_birth l.marks) (spent l.open_at_birth l.marks) n
 
 -- the challenge that is in force at this moment; there is none once the life is open (RFC 9175, 2.3; own rule: the time)
 abbrev pub in_force : Life → ℕ → Option (List ℕ × ℕ)
@@ -110,11 +111,12 @@ abbrev pub marked : Option Mark → Life → Life
 marked None l = l
 marked (Some mark) l = record l { marks = mark ∷ l.marks }
 
--- the life of a context that is added (RFC 8613, B.1)
+-- the life of a context that is added; above the highest number that it may have received each number is new (RFC 8613, 7.4 and B.1)
 abbrev pub born : SecurityContext → Start → WindowSize → Life
-born context (Fresh next) size = record { context = context; size = size; count = 0; open_at_birth = true; first = number_of next; marks = [] }
-born context (Restarted next) size = record { context = context; size = size; count = 0; open_at_birth = false; first = number_of next; marks = [] }
+born context (Fresh next) size = record { context = context; size = size; count = 0; open_at_birth = true; least = 0; first = number_of next; marks = [] }
+born context (Restarted next) size = record { context = context; size = size; count = 0; open_at_birth = false; least = 0; first = number_of next; marks = [] }
+born context (Received next highest) size = record { context = context; size = size; count = 0; open_at_birth = true; least = number_of highest + 1; first = number_of next; marks = [] }
 
 -- the life that a restart begins (RFC 8613, B.1)
 abbrev pub renewed : ℕ → Life → Life
-renewed next l = record { context = l.context; size = l.size; count = l.count + 1; open_at_birth = false; first = next; marks = [] }
+renewed next l = record { context = l.context; size = l.size; count = l.count + 1; open_at_birth = false; least = 0; first = next; marks = [] }

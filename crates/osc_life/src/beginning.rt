@@ -23,6 +23,9 @@ impl Slot {
         let (gate, next) = match start {
             Start::Fresh(next) => (Gate::Open(Window::fresh(size)), next),
             Start::Restarted(next) => (Gate::Restarted { challenge: None }, next),
+            Start::Received { next, highest } => {
+                (Gate::Open(Window::from_floor(highest, size)), next)
+            }
         };
         Slot {
             context: KeyedContext::new(context),

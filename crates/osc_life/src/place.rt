@@ -1,13 +1,13 @@
 //! A place of a server's table: a context, or none. It answers for the context there.
 
-ghost use Rattle.std.specs.Prelude.{◌≡◌, ◌≢◌, ◌≤◌, ℕ, List, Option, Some, Ok, Result, IfNone, IfOk, IfErr, OnErr, Err, length, slice_get, take, drop, true, false};
+ghost use Rattle.std.specs.Prelude.{◌≡◌, ◌≢◌, ◌≤◌, ℕ, List, Option, None, Some, Ok, Result, IfNone, IfOk, IfErr, OnErr, Err, length, slice_get, take, drop, true, false};
 ghost use Rattle.osc_context.specs.Views.{number_of};
 ghost use Rattle.osc_coap.specs.Views.{parts_of};
 ghost use Rattle.osc_protect.specs.Views.{shown};
 ghost use Rattle.osc_life.specs.Agrees.{HoldsLife};
 ghost use Rattle.osc_life.specs.Deciding.{CanShow, Leaves};
 ghost use Rattle.osc_life.specs.Judging.{IsAskerOf, IsNamedAt, JudgesTo, LooksUp};
-ghost use Rattle.osc_life.specs.Life.{Life, is_open, marked};
+ghost use Rattle.osc_life.specs.Life.{Life, is_open, marked, next_own};
 ghost use Rattle.osc_life.specs.LifeAnswer.{LifeRestart, as_notification};
 ghost use Rattle.osc_life.specs.Replies.{as_reply};
 ghost use Rattle.osc_life.specs.Replying.{PlaceNotify, PlaceReply, reply_mark};
@@ -139,6 +139,17 @@ pub fn is_open_place(place: &Option<Slot>) -> bool
     match place {
         Some(slot) => slot.gate.is_open(),
         None => false,
+    }
+}
+
+/// Returns the next Sender Sequence Number of the context in a place, or 2^40 if none is left.
+pub fn next_of_place(place: &Option<Slot>) -> Option<u64>
+    ensures some { (l : Life) → HoldsLife place.now l → result ≡ Some (next_own l) }
+    ensures none { IfNone place.now (result ≡ None) }
+{
+    match place {
+        Some(slot) => Some(slot.next),
+        None => None,
     }
 }
 

@@ -1,4 +1,4 @@
-//! The cipher of a context's keys: by tables, or in constant time if the context asks for that.
+//! The cipher of a context's keys: in constant time, or by tables if the context asks for that.
 
 ghost use Rattle.std.specs.Prelude.{◌≡◌, ◌+◌, ◌++◌, ◌≤◌, ℕ, List, length, take, drop, IfOk, IsOk, OnOk, OnErr};
 ghost use Rattle.osc_ccm.specs.Ccm.{ccm, tag_length};

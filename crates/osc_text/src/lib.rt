@@ -3,7 +3,7 @@
 //!
 //! ```
 //! let params = Params { secret, salt, id_context: None, sender, recipient };
-//! let agreed = Agreed { params, features: NO_FEATURES };
+//! let agreed = Agreed { params, features: NO_FEATURES, tables: false };
 //! let mut datagram = read_hex(alloc, word)?;
 //! let status = open_text(alloc, agreed, Opening::Request, &mut datagram, &mut out)?;
 //! ```

@@ -1,16 +1,17 @@
 -- Windows that take exactly the new numbers, and stay so.
 use Rattle.std.proofs.Common.{◌≡◌, ◌≢◌, ℕ, ◌+◌, ◌<◌, ◌≤◌, ◌↔◌, ◌∙◌, List, [], ◌∷◌, ◌++◌, Bool, sym, ap, arith, subst}
 use Rattle.std.specs.Prelude.{nat_lt, IsTrue}
+use Rattle.std.specs.List.{All}
 use Rattle.std.proofs.lemmas.Bool.Decides.{nat_tests}
 use Rattle.std.proofs.lemmas.List.{append-nil}
 use Rattle.std.proofs.lemmas.List.Elements.{All-nil, All-cons, All-head, All-tail}
 use Rattle.osc_window.specs.declared.window_size.WindowSize.{WindowSize}
-use Rattle.osc_window.specs.declared.window_size.WindowSize.TheVariants.{Places32, Places64}
+use Rattle.osc_window.specs.declared.window_size.WindowSize.TheVariants.{Place1, Places32, Places64}
 use Rattle.osc_window.specs.declared.window.Window.{Window}
 use Rattle.osc_window.specs.Window.{IsNew}
 use Rattle.osc_window.specs.Views.{places_of, size_of}
 use Rattle.osc_window.specs.Taken.{IsFresh, IsFromFloor, Spends, AgreesWith}
-use Rattle.osc_window.specs.Laws.{BecomesBy, FreshTakesNew, FloorTakesNew}
+use Rattle.osc_window.specs.Laws.{BecomesBy, FreshTakesNew, FloorTakesNew, InOrder}
 use Rattle.osc_window.proofs.Masks.{left_by}
 
 -- ---- tests and facts
@@ -29,11 +30,13 @@ above_is after floor n e = (λ h. grind (arith, nat_tests), λ h. grind (arith, 
 
 -- each size has places
 pub places_some : (size : WindowSize) → 0 < places_of size
+places_some Place1 = omega arith
 places_some Places32 = omega arith
 places_some Places64 = omega arith
 
 -- and 64 at most
 pub places_most : (size : WindowSize) → places_of size ≤ 64
+places_most Place1 = omega arith
 places_most Places32 = omega arith
 places_most Places64 = omega arith
 
@@ -98,6 +101,20 @@ floor_agrees window floor size h = record {
   );
 }
 
+-- and with nothing spent from the number behind the floor on
+pub above_agrees : (window : Window) (floor : ℕ) (size : WindowSize) → IsFromFloor window floor size → AgreesWith window size (floor + 1) []
+above_agrees window floor size h = record {
+  size_is = h.size_is;
+  takes_new = λ n. (
+    λ t. let above = (h.takes_above n).0 t in record {
+      above = omega (arith, above);
+      unspent = All-nil (λ m. m ≢ n);
+      within = All-nil (λ m. m < n + places_of size);
+    },
+    λ k. let above = k.above in (h.takes_above n).1 (omega (arith, above)),
+  );
+}
+
 -- a mark keeps the agreement
 pub spends_agrees : (old new : Window) (n : ℕ) → Spends old new n → (size : WindowSize) (floor : ℕ) (spent : List ℕ)
     → AgreesWith old size floor spent → AgreesWith new size floor (n ∷ spent)
@@ -131,3 +148,15 @@ fresh_law first last size marks f b =
 pub floor_law : FloorTakesNew
 floor_law first last floor size marks f b =
     marks_agree first size floor (floor ∷ []) (floor_agrees first floor size f) last marks b
+
+-- ---- one place
+
+all_below : (n : ℕ) (spent : List ℕ) → All (λ m. m ≢ n) spent → All (λ m. m < n + 1) spent → All (λ m. m < n) spent
+all_below n [] other within = All-nil (λ m. m < n)
+all_below n (m ∷ spent) other within =
+    let apart = All-head (λ k. k ≢ n) m spent other in
+    let near = All-head (λ k. k < n + 1) m spent within in
+    All-cons (λ k. k < n) m spent (grind (arith, apart, near)) (all_below n spent (All-tail (λ k. k ≢ n) m spent other) (All-tail (λ k. k < n + 1) m spent within))
+
+pub in_order : InOrder
+in_order floor n spent new = all_below n spent new.unspent new.within

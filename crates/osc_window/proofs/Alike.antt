@@ -9,10 +9,15 @@ use Rattle.osc_window.specs.Views.{parts_of, places_of, size_of, takes}
 use Rattle.osc_window.specs.Window.{IsNew}
 use Rattle.osc_window.specs.declared.window.Window.{Window}
 use Rattle.osc_window.specs.declared.window_size.WindowSize.{WindowSize}
-use Rattle.osc_window.specs.declared.window_size.WindowSize.TheVariants.{Places32, Places64}
+use Rattle.osc_window.specs.declared.window_size.WindowSize.TheVariants.{Place1, Places32, Places64}
 
 -- sizes with as many places are one
 pub one_size : (a b : WindowSize) → places_of a ≡ places_of b → a ≡ b
+one_size Place1 Place1 e = refl
+one_size Place1 Places32 e = absurd (omega (arith, e))
+one_size Place1 Places64 e = absurd (omega (arith, e))
+one_size Places32 Place1 e = absurd (omega (arith, e))
+one_size Places64 Place1 e = absurd (omega (arith, e))
 one_size Places32 Places32 e = refl
 one_size Places32 Places64 e = absurd (omega (arith, e))
 one_size Places64 Places32 e = absurd (omega (arith, e))

@@ -3,7 +3,7 @@ use Rattle.std.specs.Prelude.{ℕ, List, Bool, true, false, Option, None}
 use Rattle.std.specs.Option.{option_map}
 use Rattle.osc_context.specs.Views.{number_of}
 use Rattle.osc_window.specs.declared.window_size.WindowSize.{WindowSize}
-use Rattle.osc_window.specs.declared.window_size.WindowSize.TheVariants.{Places32, Places64}
+use Rattle.osc_window.specs.declared.window_size.WindowSize.TheVariants.{Place1, Places32, Places64}
 use Rattle.osc_window.specs.declared.window.Window.{Window}
 use Rattle.osc_window.specs.declared.window.WindowParts.{WindowParts}
 use Rattle.osc_window.specs.declared.gate.Gate.{Gate}
@@ -12,6 +12,7 @@ use Rattle.osc_window.specs.SpentMask.{taken_by}
 
 -- the number of places of a window of this size (how the code is seen)
 abbrev pub places_of : WindowSize → ℕ
+places_of Place1 = 1
 places_of Places32 = 32
 places_of Places64 = 64
 

@@ -18,6 +18,6 @@ mod window;
 mod window_size;
 
 pub use gate::Gate;
-pub use laws::takes_new_numbers;
+pub use laws::{in_order, takes_new_numbers};
 pub use window::{Window, WindowParts};
 pub use window_size::WindowSize;

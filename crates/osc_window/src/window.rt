@@ -3,7 +3,7 @@
 //!     too old | 31 .. 2 1 0 | new        bit i of the mask stands for the number highest - i,
 //!                         ^ highest      with 64 places from i = 63 on
 
-ghost use Rattle.std.specs.Prelude.{◌≡◌, ◌-◌, ◌<◌, ◌≤◌, ◌==◌, ◌&&◌, ◌||◌, ◌∷◌, [], ℕ, List, IsTrue, not, nat_lt};
+ghost use Rattle.std.specs.Prelude.{◌≡◌, ◌+◌, ◌-◌, ◌<◌, ◌≤◌, ◌==◌, ◌&&◌, ◌||◌, ◌∷◌, [], ℕ, List, IsTrue, not, nat_lt};
 ghost use Rattle.osc_context.specs.Views.{number_of};
 ghost use Rattle.osc_window.specs.declared.window_size.WindowSize.{WindowSize};
 ghost use Rattle.osc_window.specs.declared.window.Window.{Window};
@@ -75,12 +75,14 @@ impl Window {
     }
 
     /// Makes the window of a restarted context after a request with this number has shown that it is fresh. The number
-    /// is spent, and all numbers below it are too old (RFC 8613, B.1.2).
+    /// is spent, and all numbers below it are too old (RFC 8613, B.1.2). So this is also the window of a context that received
+    /// requests with numbers up to this one at most.
     #[tactic(auto, unfolding(crate::specs::Views::takes, crate::specs::Views::size_of))]
     #[must_use]
     pub fn from_floor(floor: Piv, size: WindowSize) -> Window
         ensures made { IsFromFloor result (number_of floor) size }
         ensures agrees { AgreesWith result size (number_of floor) (number_of floor ∷ []) }
+        ensures unspent { AgreesWith result size (number_of floor + 1) [] }
     {
         Window {
             highest: Some(floor),

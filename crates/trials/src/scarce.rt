@@ -32,6 +32,7 @@ fn agreed<'a>(sender: &'a [u8], recipient: &'a [u8]) -> Agreed<'a> {
     Agreed {
         params: params(sender, recipient),
         features: NO_FEATURES,
+        tables: false,
     }
 }
 

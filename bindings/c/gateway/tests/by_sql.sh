@@ -78,7 +78,7 @@ $(printf '%0140d' 0) - 53 54 - fresh 0|the secret
 00 - 53 54 - fresh -1|the next number
 00 - 53 54 - fresh 0 slow|a word behind the next number
 00 - 53 54 - fresh 0 blocks blocks blocks blocks|the number of words
-aabbccddeeff - 53 54 - restarted 5000 constant-time blocks
+aabbccddeeff - 53 54 - restarted 5000 tables blocks
 LINES
 }
 

@@ -83,8 +83,8 @@ static void names_and_replies(void) {
     CHECK(inside > 0 && beside > 0);
 }
 
-/* The features byte stands behind the format, the numbers and the keys. A row of before has no bit of Observe, and reads without it; each
-   bit alone comes back as the one field. */
+/* The features byte stands behind the format, the numbers and the keys. Each bit alone comes back as the one field. A row of before has
+   no bit of Observe and none of tables, and reads without both: in constant time, whether or not bit 0 asked for that. */
 static void features(void) {
     enum { FEATURES = 1 + 67 + 45 };
     static row made, read;
@@ -92,18 +92,20 @@ static void features(void) {
     row_key key;
     oscore_context context = make_context(1, 4, 8, false);
     row_key_of_context(&key, &context);
-    for (uint8_t bits = 0; bits < 8; bits++) {
-        context.constant_time = bits & 1, context.blocks = (bits & 2) != 0, context.observe = (bits & 4) != 0;
+    for (uint8_t bits = 0; bits < 16; bits += 2) {
+        context.blocks = (bits & 2) != 0, context.observe = (bits & 4) != 0, context.tables = (bits & 8) != 0;
         memset(&made, 0, sizeof made);
         CHECK(!oscore_server1_begin(&made.handle, &context, false, 0, 64));
         row_write(&made, &key, &bytes);
         CHECK(bytes.state[FEATURES] == bits);
-        bytes.state[FEATURES] &= 3;
-        CHECK(row_read(&read, &key, &bytes));
-        const oscore_context *back = &read.handle.context.context;
-        CHECK(back->constant_time == context.constant_time && back->blocks == context.blocks && back->observe == 0);
+        for (uint8_t before = 0; before < 2; before++) {
+            bytes.state[FEATURES] = (uint8_t)((bits & 2) | before);
+            CHECK(row_read(&read, &key, &bytes));
+            const oscore_context *back = &read.handle.context.context;
+            CHECK(back->blocks == context.blocks && back->observe == 0 && back->tables == 0);
+        }
         through(&made, &key);
-        CHECK(made.handle.context.context.observe == context.observe);
+        CHECK(made.handle.context.context.observe == context.observe && made.handle.context.context.tables == context.tables);
     }
 }
 

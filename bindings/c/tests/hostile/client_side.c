@@ -31,7 +31,7 @@ void begin_clients(void) {
     for (int i = 0; i < ENDS; i++) {
         oscore_context context;
         make_rooms(&ends[i], i);
-        derive(0, false, i == 1, &context);
+        derive(0, false, i == 0, &context);
         ends[i].client = lay_zeros(&ends[i].handle, sizeof(oscore_client));
         lay_bytes(&ends[i].context, (struct bytes){(const uint8_t *)&context, sizeof context});
         NEEDS(!oscore_client_begin(ends[i].client, (const oscore_context *)ends[i].context.at, 0, REQUEST_LIFE_MS));

@@ -26,12 +26,12 @@ static const uint8_t PRINTED[CONTEXTS][45] = {
      0x2c, 0xa5, 0x8f, 0xb8, 0x5f, 0xf1, 0xb8, 0x1c, 0x0b, 0x71, 0x81, 0xb8, 0x5e},
 };
 
-void derive(size_t place, bool of_server, bool constant_time, oscore_context *context) {
+void derive(size_t place, bool of_server, bool tables, oscore_context *context) {
     const struct agreed *agreed = &AGREED[place];
     struct bytes client = agreed->client, server = {SERVER, 1}, own = of_server ? server : client, other = of_server ? client : server;
     memset(context, 0, sizeof *context);
     NEEDS(!oscore_derive(context, SECRET, sizeof SECRET, SALT, agreed->has_salt ? sizeof SALT : 0, agreed->id_context.len > 0,
-                         agreed->id_context.at, agreed->id_context.len, own.at, own.len, other.at, other.len, constant_time,
+                         agreed->id_context.at, agreed->id_context.len, own.at, own.len, other.at, other.len, tables,
                          agreed->allowed.blocks, agreed->allowed.observe));
     const uint8_t *of_client = of_server ? context->recipient_key : context->sender_key;
     const uint8_t *of_other = of_server ? context->sender_key : context->recipient_key;

@@ -43,7 +43,7 @@ static void begin(struct server_end *end, int place) {
     oscore_server_begin(end->server);
     for (size_t i = 0; i < CONTEXTS; i++) {
         oscore_context context;
-        derive(i, true, place == 1, &context);
+        derive(i, true, place == 0, &context);
         lay_bytes(&end->context, (struct bytes){(const uint8_t *)&context, sizeof context});
         size_t *index = lay_zeros(&end->index, sizeof *index);
         uint32_t status = oscore_server_add(end->server, (const oscore_context *)end->context.at, false, 0, AGREED[i].window_places, index);
