@@ -4,7 +4,7 @@ ghost use Rattle.std.specs.Prelude.{◌≤◌};
 
 use crate::answer::Answer;
 use crate::fields::Fields;
-use osc_blocks::{Block, BlockSize, Body, Received, block_of};
+use osc_blocks::{Block, BlockSize, Body, Received, block_of, request_tag};
 
 /// The room of a body, in bytes.
 const ROOM: usize = 48;
@@ -76,14 +76,20 @@ pub(crate) fn cut(fields: &Fields<'_>, answer: &mut Answer) {
     }
 }
 
-/// Passes one block to a body: an operation, the value of an option and a payload.
+/// Passes one block to a body: the number of its request, an operation, the value of an option and a payload.
 fn take(body: &mut Body<ROOM>, fields: &Fields<'_>, place: usize, answer: &mut Answer)
     requires { place ≤ 4294967296 }
 {
-    let Some(block) = Block::read(fields.bytes(place + 1)) else {
+    let Some(block) = Block::read(fields.bytes(place + 2)) else {
         return fields.refuse();
     };
-    match body.take(fields.bytes(place), block, fields.bytes(place + 2)) {
+    let number = fields.sequence_number(place);
+    match body.take(
+        number,
+        fields.bytes(place + 1),
+        block,
+        fields.bytes(place + 3),
+    ) {
         Ok(Received::More(next)) => {
             answer.word("next");
             show(next, answer);
@@ -93,12 +99,18 @@ fn take(body: &mut Body<ROOM>, fields: &Fields<'_>, place: usize, answer: &mut A
     }
 }
 
-/// Passes blocks to an empty body, three fields each, and shows the body that it then is.
+/// Passes blocks to an empty body, four fields each, and shows the body that it then is.
 pub(crate) fn body(fields: &Fields<'_>, answer: &mut Answer) {
     let mut body = Body::new();
-    for step in 0..(fields.len() / 3).min(1000) {
-        take(&mut body, fields, 3 * step, answer);
+    for step in 0..(fields.len() / 4).min(1000) {
+        take(&mut body, fields, 4 * step, answer);
     }
-    fields.count(3 * (fields.len() / 3).min(1000));
+    fields.count(4 * (fields.len() / 4).min(1000));
     answer.part(body.whole());
+}
+
+/// Shows the Request-Tag of a body whose first request has this number.
+pub(crate) fn tag(fields: &Fields<'_>, answer: &mut Answer) {
+    fields.count(1);
+    answer.bytes(request_tag(fields.sequence_number(0)).as_slice());
 }

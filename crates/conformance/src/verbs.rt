@@ -98,6 +98,7 @@ fn of_blocks(verb: &str, fields: &Fields<'_>, contexts: &[NamedContext<'_>], ans
         "write-block" => blocks::write(fields, answer),
         "cut-block" => blocks::cut(fields, answer),
         "join-blocks" => blocks::body(fields, answer),
+        "request-tag" => blocks::tag(fields, answer),
         _ => of_protection(verb, fields, contexts, answer),
     }
 }

@@ -6,9 +6,10 @@ use Rattle.std.proofs.lemmas.Grind.{common_steps}
 use Rattle.std.proofs.lemmas.List.{append-nil, take_all, drop-drop, take-append-drop}
 use Rattle.osc_blocks.specs.declared.block_size.BlockSize.{BlockSize}
 use Rattle.osc_blocks.specs.BlockValue.{place_of, size_of}
-use Rattle.osc_blocks.specs.InBlocks.{Piece, AreFront, IsInBlocks, joined}
+use Rattle.osc_blocks.specs.InBlocks.{Piece, AreFront, AreIncreasing, IsInBlocks, joined}
 use Rattle.osc_blocks.specs.Laws.{CutsIntoBlocks}
 use Rattle.osc_blocks.specs.Cut.{IsCut, AreCut}
+use Rattle.osc_blocks.proofs.Increasing.{above_increasing}
 
 -- the place after a block
 pub step_on : (n s : ℕ) → (n + 1) * s ≡ n * s + s
@@ -42,8 +43,8 @@ full_cut operation body size n p cut e =
 
 -- the last block
 last_cut : (operation body : List ℕ) (size : BlockSize) (n : ℕ) (p : Piece) (later : List Piece) → IsCut operation body size n p
-    → p.block.more ≡ false → later ≡ [] → IsInBlocks operation (n * size_of size) (p ∷ later) (drop (n * size_of size) body)
-last_cut operation body size n p later cut e none =
+    → AreIncreasing (p ∷ later) → p.block.more ≡ false → later ≡ [] → IsInBlocks operation (n * size_of size) (p ∷ later) (drop (n * size_of size) body)
+last_cut operation body size n p later cut above e none =
     let place = cut_place operation body size n p cut in
     let long = cut_length operation body size n p cut in
     let test : nat_lt (n * size_of size + size_of size) (length body) ≡ false = sym (cut_more operation body size n p cut) ∙ e in
@@ -60,13 +61,14 @@ last_cut operation body size n p later cut e none =
       begins = record { operation_is = cut.operation_is; place_is = place ∙ sym (add-zero (n * size_of size)) };
       ends = record { last = e; within = omega (arith, long, same) };
       body_is = sym (bytes ∙ all);
+      increasing = above;
     }
 
 -- a block before others
 more_cut : (operation body : List ℕ) (size : BlockSize) (n : ℕ) (p : Piece) (later : List Piece) → IsCut operation body size n p
-    → p.block.more ≡ true → IsInBlocks operation ((n + 1) * size_of size) later (drop ((n + 1) * size_of size) body)
+    → AreIncreasing (p ∷ later) → p.block.more ≡ true → IsInBlocks operation ((n + 1) * size_of size) later (drop ((n + 1) * size_of size) body)
     → IsInBlocks operation (n * size_of size) (p ∷ later) (drop (n * size_of size) body)
-more_cut operation body size n p later cut e r =
+more_cut operation body size n p later cut above e r =
     let place = cut_place operation body size n p cut in
     let full : length p.payload ≡ size_of size = full_cut operation body size n p cut e in
     let same : size_of p.block.size ≡ size_of size = ap size_of cut.size_is in
@@ -91,6 +93,7 @@ more_cut operation body size n p later cut e r =
       begins = record { operation_is = r.begins.operation_is; place_is = r.begins.place_is ∙ last };
       ends = r.ends;
       body_is = sym (bytes ∙ parts);
+      increasing = above;
     }
 
 pub either : (b : Bool) → (b ≡ true) ⊎ (b ≡ false)
@@ -98,17 +101,18 @@ either true = inl refl
 either false = inr refl
 
 -- the blocks of a body from one on
-pub cut_in_blocks : (operation body : List ℕ) (size : BlockSize) (n : ℕ) (pieces : List Piece) → AreCut operation body size n pieces
+pub cut_in_blocks : (operation body : List ℕ) (size : BlockSize) (n : ℕ) (pieces : List Piece) → AreCut operation body size n pieces → AreIncreasing pieces
     → IsInBlocks operation (n * size_of size) pieces (drop (n * size_of size) body)
-cut_in_blocks operation body size n [] cut = absurd cut
-cut_in_blocks operation body size n (p ∷ later) cut =
+cut_in_blocks operation body size n [] cut above = absurd cut
+cut_in_blocks operation body size n (p ∷ later) cut above =
     elim (either p.block.more) [
-      | inl e ↦ more_cut operation body size n p later cut.0 e (cut_in_blocks operation body size (n + 1) later (when_true _ _ e cut.1))
-      | inr e ↦ last_cut operation body size n p later cut.0 e (when_false _ _ e cut.1)
+      | inl e ↦ more_cut operation body size n p later cut.0 above e
+          (cut_in_blocks operation body size (n + 1) later (when_true _ _ e cut.1) (above_increasing p.request later above))
+      | inr e ↦ last_cut operation body size n p later cut.0 above e (when_false _ _ e cut.1)
     ]
 
 -- the law of cut bodies
 pub cuts_law : CutsIntoBlocks
-cuts_law operation body size pieces cut =
+cuts_law operation body size pieces cut above =
     let zero_times : 0 * size_of size ≡ 0 = omega arith in
-    subst (λ (k : ℕ). IsInBlocks operation k pieces (drop k body)) zero_times (cut_in_blocks operation body size 0 pieces cut)
+    subst (λ (k : ℕ). IsInBlocks operation k pieces (drop k body)) zero_times (cut_in_blocks operation body size 0 pieces cut above)

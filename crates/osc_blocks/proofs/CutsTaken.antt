@@ -6,12 +6,13 @@ use Rattle.osc_blocks.specs.declared.block_size.BlockSize.{BlockSize}
 use Rattle.osc_blocks.specs.declared.body.Stage.{Stage}
 use Rattle.osc_blocks.specs.declared.body.Stage.TheVariants.{Empty, Begun, Complete}
 use Rattle.osc_blocks.specs.BlockValue.{size_of}
-use Rattle.osc_blocks.specs.InBlocks.{Piece, IsFull, AreFront, IsInBlocks, joined}
+use Rattle.osc_blocks.specs.InBlocks.{Piece, IsFull, AreFront, AreIncreasing, IsInBlocks, joined, last_request}
 use Rattle.osc_blocks.specs.Cut.{AreCut, HasBlock}
 use Rattle.osc_blocks.specs.Taking.{Kept, Keeps, KeepsAt, whole_at}
 use Rattle.osc_blocks.specs.Judging.{CanTake}
 use Rattle.osc_blocks.specs.Laws.{GivesBackBodies, TakesCutBlocks}
 use Rattle.osc_blocks.proofs.Cuts.{cuts_law, step_on, cut_place, cut_length, full_cut, either}
+use Rattle.osc_blocks.proofs.Increasing.{increasing_split}
 use Rattle.osc_blocks.proofs.NotRefused.{not_refused}
 
 -- ---- the blocks before one
@@ -64,20 +65,21 @@ one_operation : (a b : List ℕ) (m n : ℕ) (pieces : List Piece) → 0 < lengt
 one_operation a b m n [] some f g = absurd (omega (arith, some))
 one_operation a b m n (p ∷ later) some f g = sym f.0.operation_is ∙ g.0.operation_is
 
-record IsBegun (stage : Stage) (operation kept bytes : List ℕ) (pieces : List Piece) : Type 0 where
+record IsBegun (stage : Stage) (last : ℕ) (operation kept bytes : List ℕ) (pieces : List Piece) : Type 0 where
   stage_is : stage ≡ Begun
   length_is : length (joined pieces) ≡ length bytes
   same : operation ≡ kept
+  last_is : last ≡ last_request 0 pieces
 
-begun : (stage : Stage) (operation kept bytes : List ℕ) (pieces : List Piece) → 0 < length pieces → AreFront operation 0 pieces
-    → KeepsAt stage kept bytes pieces → IsBegun stage operation kept bytes pieces
-begun Empty operation kept bytes pieces some f k = let none = ap length k in absurd (omega (arith, some, none))
-begun Begun operation kept bytes pieces some f k =
-    record { stage_is = refl; length_is = sym (ap length k.1); same = one_operation operation kept 0 0 pieces some f k.0 }
-begun Complete operation kept bytes pieces some f k =
+begun : (stage : Stage) (last : ℕ) (operation kept bytes : List ℕ) (pieces : List Piece) → 0 < length pieces → AreFront operation 0 pieces
+    → KeepsAt stage last kept bytes pieces → IsBegun stage last operation kept bytes pieces
+begun Empty last operation kept bytes pieces some f k = let none = ap length k in absurd (omega (arith, some, none))
+begun Begun last operation kept bytes pieces some f k =
+    record { stage_is = refl; length_is = sym (ap length k.1); same = one_operation operation kept 0 0 pieces some f k.0; last_is = k.3 }
+begun Complete last operation kept bytes pieces some f k =
     let full = front_last operation 0 k.front k.last (subst (λ (l : List Piece). AreFront operation 0 l) k.pieces_are f) in
     let more = full.more in
-    let last = k.ends.last in
+    let ends = k.ends.last in
     cc
 
 -- ---- one block
@@ -97,8 +99,8 @@ begins_within body (suc n) size has = let lt = has.1 (omega arith) in omega (ari
 
 -- a body takes a block that is cut where it holds those before it
 can_take_cut : (most : ℕ) (kept : Kept) (operation body : List ℕ) (size : BlockSize) (earlier : List Piece) (piece : Piece) (later : List Piece)
-    → Reached operation body size 0 earlier piece later → length operation ≤ 64 → length body ≤ most → Keeps kept earlier → CanTake most kept piece
-can_take_cut most kept operation body size earlier piece later r short room k =
+    → Reached operation body size 0 earlier piece later → AreIncreasing (earlier ++ piece ∷ later) → length operation ≤ 64 → length body ≤ most → Keeps kept earlier → CanTake most kept piece
+can_take_cut most kept operation body size earlier piece later r above short room k =
     let cut = r.here.0 in
     let count : 0 + length earlier ≡ length earlier = omega arith in
     let number : piece.block.number ≡ length earlier = cut.number_is ∙ count in
@@ -109,8 +111,8 @@ can_take_cut most kept operation body size earlier piece later r short room k =
     let zero_times : 0 * size_of size ≡ 0 = omega arith in
     let front = subst (λ (n : ℕ). AreFront operation n earlier) zero_times r.front in
     let ends = r.place in
-    let is_begun : 0 < piece.block.number → IsBegun kept.stage operation kept.operation kept.bytes earlier =
-    λ later. begun kept.stage operation kept.operation kept.bytes earlier (omega (arith, later, number)) front k in
+    let is_begun : 0 < piece.block.number → IsBegun kept.stage kept.request operation kept.operation kept.bytes earlier =
+    λ later. begun kept.stage kept.request operation kept.operation kept.bytes earlier (omega (arith, later, number)) front k in
     record {
       short = let e = ap length cut.operation_is in omega (arith, e, short);
       right_length = right_by piece.block.more (length piece.payload) (size_of piece.block.size)
@@ -120,6 +122,10 @@ can_take_cut most kept operation body size earlier piece later r short room k =
         let kept_length = (is_begun later).length_is in omega (arith, place, ends, zero_times, kept_length),
       );
       same_operation = λ later. cut.operation_is ∙ (is_begun later).same;
+      newer = λ behind.
+          let last = (is_begun behind).last_is in
+          let lt = increasing_split earlier piece later (omega (arith, behind, number)) above in
+          omega (arith, last, lt);
       has_room = record {
         room = omega (arith, place, long, within, room);
         next = λ e.
@@ -130,24 +136,30 @@ can_take_cut most kept operation body size earlier piece later r short room k =
 
 -- the law of blocks that are cut and taken
 pub taken_law : TakesCutBlocks
-taken_law most kept operation body size earlier piece later cut short room k =
-    not_refused most kept piece (can_take_cut most kept operation body size earlier piece later (reached operation body size 0 earlier piece later cut) short room k)
+taken_law most kept operation body size earlier piece later cut above short room k =
+    not_refused most kept piece (can_take_cut most kept operation body size earlier piece later (reached operation body size 0 earlier piece later cut) above short room k)
 
 -- ---- all blocks
 
-given_back : (stage : Stage) (ko kb operation body : List ℕ) (pieces : List Piece) → IsInBlocks operation 0 pieces body
-    → KeepsAt stage ko kb pieces → whole_at stage kb ≡ Some body
-given_back Empty ko kb operation body pieces r k =
+given_back : (stage : Stage) (last : ℕ) (ko kb operation body : List ℕ) (pieces : List Piece) → IsInBlocks operation 0 pieces body
+    → KeepsAt stage last ko kb pieces → whole_at stage kb ≡ Some body
+given_back Empty last ko kb operation body pieces r k =
     let none = ap length (sym k ∙ r.pieces_are) in
     absurd (omega (arith, none, length-append r.front (r.last ∷ [])))
-given_back Begun ko kb operation body pieces r k =
+given_back Begun last ko kb operation body pieces r k =
     let full = front_last ko 0 r.front r.last (subst (λ (l : List Piece). AreFront ko 0 l) r.pieces_are k.0) in
     let more = full.more in
-    let last = r.ends.last in
+    let ends = r.ends.last in
     cc
-given_back Complete ko kb operation body pieces r k = ap Some (k.body_is ∙ sym r.body_is)
+given_back Complete last ko kb operation body pieces r k = ap Some (k.body_is ∙ sym r.body_is)
+
+keeps_increasing : (stage : Stage) (last : ℕ) (operation bytes : List ℕ) (pieces : List Piece) → KeepsAt stage last operation bytes pieces → AreIncreasing pieces
+keeps_increasing Empty last operation bytes pieces k = subst AreIncreasing (sym k) tt
+keeps_increasing Begun last operation bytes pieces k = k.2
+keeps_increasing Complete last operation bytes pieces k = k.increasing
 
 -- the law of bodies that are given back
 pub given_law : GivesBackBodies
 given_law kept operation body size pieces cut k =
-    given_back kept.stage kept.operation kept.bytes operation body pieces (cuts_law operation body size pieces cut) k
+    let above = keeps_increasing kept.stage kept.request kept.operation kept.bytes pieces k in
+    given_back kept.stage kept.request kept.operation kept.bytes operation body pieces (cuts_law operation body size pieces cut above) k

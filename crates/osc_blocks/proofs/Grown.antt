@@ -6,9 +6,10 @@ use Rattle.std.proofs.lemmas.List.{append-nil, take_all}
 use Rattle.osc_blocks.specs.declared.body.Stage.{Stage}
 use Rattle.osc_blocks.specs.declared.body.Stage.TheVariants.{Empty, Begun, Complete}
 use Rattle.osc_blocks.specs.BlockValue.{place_of, size_of}
-use Rattle.osc_blocks.specs.InBlocks.{Piece, BeginsAt, IsFull, AreFront, IsInBlocks, joined}
+use Rattle.osc_blocks.specs.InBlocks.{Piece, BeginsAt, IsFull, AreFront, AreIncreasing, IsInBlocks, joined}
 use Rattle.osc_blocks.specs.Taking.{Kept, Keeps, KeepsAt, kept_after, stage_after, whole_at, with_piece}
 use Rattle.osc_blocks.specs.Judging.{CanTake, HasRightLength}
+use Rattle.osc_blocks.proofs.Increasing.{increasing_push, last_push}
 
 -- ---- one piece more
 
@@ -29,13 +30,15 @@ front_push operation place (q ∷ later) p f b full =
 
 -- what is kept after a block that goes on this front
 keeps_pushed : (operation : List ℕ) (front : List Piece) (p : Piece) (more : Bool) → p.block.more ≡ more → AreFront operation 0 front
-    → BeginsAt operation (0 + length (joined front)) p → HasRightLength p.block (length p.payload)
-    → KeepsAt (stage_after more) operation (joined front ++ p.payload) (front ++ p ∷ [])
-keeps_pushed operation front p true e f b right = (
+    → BeginsAt operation (0 + length (joined front)) p → HasRightLength p.block (length p.payload) → AreIncreasing (front ++ p ∷ [])
+    → KeepsAt (stage_after more) p.request operation (joined front ++ p.payload) (front ++ p ∷ [])
+keeps_pushed operation front p true e f b right above = (
   front_push operation 0 front p f b (record { more = e; full = when_true _ _ e right }),
   joined_push front p,
+  above,
+  sym (last_push 0 front p),
 )
-keeps_pushed operation front p false e f b right = record {
+keeps_pushed operation front p false e f b right above = record {
   front = front;
   last = p;
   pieces_are = refl;
@@ -43,13 +46,15 @@ keeps_pushed operation front p false e f b right = record {
   begins = b;
   ends = record { last = e; within = when_false _ _ e right };
   body_is = joined_push front p;
+  increasing = above;
 }
 
 -- ---- what is kept after a block
 
-moved : (stage : Stage) (operation a b : List ℕ) (xs ys : List Piece) → a ≡ b → xs ≡ ys → KeepsAt stage operation a xs → KeepsAt stage operation b ys
-moved stage operation a b xs ys e f k =
-    subst (λ (zs : List Piece). KeepsAt stage operation b zs) f (subst (λ (bytes : List ℕ). KeepsAt stage operation bytes xs) e k)
+moved : (stage : Stage) (last : ℕ) (operation a b : List ℕ) (xs ys : List Piece) → a ≡ b → xs ≡ ys
+    → KeepsAt stage last operation a xs → KeepsAt stage last operation b ys
+moved stage last operation a b xs ys e f k =
+    subst (λ (zs : List Piece). KeepsAt stage last operation b zs) f (subst (λ (bytes : List ℕ). KeepsAt stage last operation bytes xs) e k)
 
 is_zero : (n : ℕ) → n ≡ 0 → (n == 0) ≡ true
 is_zero n e = grind (arith, nat_tests)
@@ -64,21 +69,24 @@ keeps_after most kept p pieces can k = elim (zero_or p.block.number) [
   | inl first ↦
       let place : place_of p.block ≡ 0 = ap (λ (n : ℕ). n * size_of p.block.size) first ∙ zero_times (size_of p.block.size) in
       let test : (p.block.number == 0) ≡ true = is_zero p.block.number first in
-      moved (stage_after p.block.more) p.operation ([] ++ p.payload) (take (place_of p.block) kept.bytes ++ p.payload) ([] ++ p ∷ []) (with_piece pieces p)
+      moved (stage_after p.block.more) p.request p.operation ([] ++ p.payload) (take (place_of p.block) kept.bytes ++ p.payload) ([] ++ p ∷ []) (with_piece pieces p)
       (ap (λ (n : ℕ). take n kept.bytes ++ p.payload) (sym place)) (ap (λ (b : Bool). if b then p ∷ [] else pieces ++ p ∷ []) (sym test))
-      (keeps_pushed p.operation [] p p.block.more refl tt (record { operation_is = refl; place_is = place }) can.right_length)
+      (keeps_pushed p.operation [] p p.block.more refl tt (record { operation_is = refl; place_is = place }) can.right_length tt)
   | inr later ↦
       let order = can.in_order later in
       let same : p.operation ≡ kept.operation = can.same_operation later in
-      let begun : KeepsAt Begun kept.operation kept.bytes pieces = subst (λ (s : Stage). KeepsAt s kept.operation kept.bytes pieces) order.0 k in
+      let begun : KeepsAt Begun kept.request kept.operation kept.bytes pieces = subst (λ (s : Stage). KeepsAt s kept.request kept.operation kept.bytes pieces) order.0 k in
+      let newer = can.newer later in
+      let last = begun.3 in
       let front : AreFront p.operation 0 pieces = subst (λ (o : List ℕ). AreFront o 0 pieces) (sym same) begun.0 in
       let size : length kept.bytes ≡ length (joined pieces) = ap length begun.1 in
       let place : place_of p.block ≡ length kept.bytes = order.1 in
       let bytes : joined pieces ≡ take (place_of p.block) kept.bytes = sym (take_all (place_of p.block) kept.bytes (omega (arith, place)) ∙ begun.1) in
       let test : (p.block.number == 0) ≡ false = not_zero p.block.number later in
-      moved (stage_after p.block.more) p.operation (joined pieces ++ p.payload) (take (place_of p.block) kept.bytes ++ p.payload) (pieces ++ p ∷ []) (with_piece pieces p)
+      moved (stage_after p.block.more) p.request p.operation (joined pieces ++ p.payload) (take (place_of p.block) kept.bytes ++ p.payload) (pieces ++ p ∷ []) (with_piece pieces p)
       (ap (λ (b : List ℕ). b ++ p.payload) bytes) (ap (λ (b : Bool). if b then p ∷ [] else pieces ++ p ∷ []) (sym test))
-      (keeps_pushed p.operation pieces p p.block.more refl front (record { operation_is = refl; place_is = place ∙ (size ∙ sym (zero-add (length (joined pieces)))) }) can.right_length)
+      (keeps_pushed p.operation pieces p p.block.more refl front (record { operation_is = refl; place_is = place ∙ (size ∙ sym (zero-add (length (joined pieces)))) }) can.right_length
+      (increasing_push pieces p begun.2 (omega (arith, newer, last))))
 ]
   where
     zero_or : (n : ℕ) → (n ≡ 0) ⊎ (0 < n)
@@ -103,16 +111,16 @@ whole_after old new p pieces is last k =
     subst (λ (after : Kept). IsSomeAnd (whole_at after.stage after.bytes) (IsInBlocks p.operation 0 (with_piece pieces p))) (sym is)
     (after_last p.block.more last (subst (λ (after : Kept). Keeps after (with_piece pieces p)) is k))
   where
-    after_last : (more : Bool) → more ≡ false → KeepsAt (stage_after more) p.operation (kept_after old p).bytes (with_piece pieces p)
+    after_last : (more : Bool) → more ≡ false → KeepsAt (stage_after more) p.request p.operation (kept_after old p).bytes (with_piece pieces p)
         → IsSomeAnd (whole_at (stage_after more) (kept_after old p).bytes) (IsInBlocks p.operation 0 (with_piece pieces p))
     after_last true e k = cc
     after_last false e k = k
 
 -- bytes of a body that is complete are that body in its pieces
-pub whole_keeps : (stage : Stage) (operation kept bytes : List ℕ) (pieces : List Piece) → KeepsAt stage operation kept pieces
+pub whole_keeps : (stage : Stage) (last : ℕ) (operation kept bytes : List ℕ) (pieces : List Piece) → KeepsAt stage last operation kept pieces
     → whole_at stage kept ≡ Some bytes → IsInBlocks operation 0 pieces bytes
-whole_keeps Empty operation kept bytes pieces k e = cc
-whole_keeps Begun operation kept bytes pieces k e = cc
-whole_keeps Complete operation kept bytes pieces k e =
+whole_keeps Empty last operation kept bytes pieces k e = cc
+whole_keeps Begun last operation kept bytes pieces k e = cc
+whole_keeps Complete last operation kept bytes pieces k e =
     let same : kept ≡ bytes = cc in
     subst (λ (b : List ℕ). IsInBlocks operation 0 pieces b) same k

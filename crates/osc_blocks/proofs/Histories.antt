@@ -30,5 +30,5 @@ held_after most first last (Refused p ∷ earlier) h b =
 pub bodies_law : HandsOverBodies
 bodies_law most first last calls bytes h b whole =
     let r = held_after most first last calls h b in
-    let in_blocks = whole_keeps (kept_of last).stage (kept_of last).operation (kept_of last).bytes bytes r.1 r.3 whole in
+    let in_blocks = whole_keeps (kept_of last).stage (kept_of last).request (kept_of last).operation (kept_of last).bytes bytes r.1 r.3 whole in
     (r.0, r.1, (kept_of last).operation, r.2, in_blocks)

@@ -1,6 +1,9 @@
 pub mod Uints
+pub mod Increasing
 pub mod Grown
 pub mod NotRefused
 pub mod Cuts
 pub mod CutsTaken
 pub mod Histories
+pub mod OneBody
+pub mod RequestTags

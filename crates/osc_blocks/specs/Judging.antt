@@ -17,6 +17,10 @@ IsInOrder kept block = 0 < block.number → (kept.stage ≡ Begun) × (place_of 
 abbrev pub IsOfSameOperation : Kept → List ℕ → BlockParts → Type 0
 IsOfSameOperation kept operation block = 0 < block.number → operation ≡ kept.operation
 
+-- the block begins a body, or its request has a higher number than that of the block before it (own rule)
+abbrev pub IsNewer : Kept → ℕ → BlockParts → Type 0
+IsNewer kept request block = 0 < block.number → kept.request < request
+
 -- the body stays within its room, and the next block can have its number (RFC 7959, 2.2)
 pub record HasRoom (most : ℕ) (block : BlockParts) (n : ℕ) : Type 0 where
   pub room : place_of block + n ≤ most
@@ -28,4 +32,5 @@ pub record CanTake (most : ℕ) (kept : Kept) (piece : Piece) : Type 0 where
   pub right_length : HasRightLength piece.block (length piece.payload)
   pub in_order : IsInOrder kept piece.block
   pub same_operation : IsOfSameOperation kept piece.operation piece.block
+  pub newer : IsNewer kept piece.request piece.block
   pub has_room : HasRoom most piece.block (length piece.payload)

@@ -4,6 +4,7 @@ pub mod BlockValue
 pub mod InBlocks
 pub mod Cut
 pub mod Taking
+pub mod RequestTag
 pub mod Laws
 -- how the code is seen
 pub mod Views

@@ -14,7 +14,7 @@ parts_of block = record { number = block.number; more = block.more; size = block
 
 -- what a body keeps (how the code is seen)
 unfoldable pub kept_of : {most : ℕ} → Body most → Kept
-kept_of body = record { operation = body.operation.items; bytes = body.bytes.items; stage = body.stage }
+kept_of body = record { request = body.request; operation = body.operation.items; bytes = body.bytes.items; stage = body.stage }
 
 -- the bytes of a body, once its last block was taken (how the code is seen)
 abbrev pub whole_of : {most : ℕ} → Body most → Option (List ℕ)

@@ -17,6 +17,9 @@ pub enum BlockError {
     OutOfOrder,
     /// The block isn't number 0, and the body that is begun is of another operation: 4.08 (RFC 7959, 2.9.2).
     OtherOperation,
+    /// The block isn't number 0, and the number of its request isn't higher than that of the block before it: 4.08
+    /// (RFC 7959, 2.9.2; own rule: that numbers increase).
+    OldNumber,
     /// The body would have more bytes than there is room for, or more blocks than can be numbered: 4.13 (RFC 7959, 2.9.3).
     TooLarge,
 }
@@ -33,6 +36,7 @@ impl fmt::Display for BlockError {
             BlockError::WrongLength => f.write_str("WrongLength"),
             BlockError::OutOfOrder => f.write_str("OutOfOrder"),
             BlockError::OtherOperation => f.write_str("OtherOperation"),
+            BlockError::OldNumber => f.write_str("OldNumber"),
             BlockError::TooLarge => f.write_str("TooLarge"),
         }
     }

@@ -3,14 +3,16 @@
 ghost use Rattle.std.specs.Prelude.{◌≡◌, ℕ, List, [], true, false, IfErr, IfOk, IfSome, IsErrOf, IsOk, IsSomeAnd, OnErr, OnOk, MatchResult};
 ghost use Rattle.std.specs.Option.{option_copied};
 ghost use Rattle.osc_blocks.specs.InBlocks.{IsInBlocks, Piece, piece_of};
-ghost use Rattle.osc_blocks.specs.Taking.{HasWrongLength, IsFirstRefusal, IsOfOtherOperation, IsOutOfOrder, IsTooLarge, Refuses, kept_after, with_piece};
-ghost use Rattle.osc_blocks.specs.Judging.{CanTake, HasRightLength, HasRoom, IsInOrder, IsOfSameOperation};
+ghost use Rattle.osc_blocks.specs.Taking.{HasOldNumber, HasWrongLength, IsFirstRefusal, IsOfOtherOperation, IsOutOfOrder, IsTooLarge, Refuses, kept_after, with_piece};
+ghost use Rattle.osc_blocks.specs.Judging.{CanTake, HasRightLength, HasRoom, IsInOrder, IsNewer, IsOfSameOperation};
 ghost use Rattle.osc_blocks.specs.Views.{Holds, IsReceived, Takes, kept_of, parts_of, whole_of};
+ghost use Rattle.osc_context.specs.Views.{number_of};
 
 use crate::block::{Block, NUMBER_LIMIT};
 use crate::block_error::BlockError;
 use crate::received::Received;
 use arrayvec::ArrayVec;
+use osc_context::Piv;
 
 /// The most bytes of an operation (own rule).
 const MOST_OPERATION: usize = 64;
@@ -30,6 +32,8 @@ enum Stage {
 /// one, and drops what was there (RFC 7959, 2.5).
 #[derive(Drop)]
 pub struct Body<const MOST: usize> {
+    /// The number of the request of the last block that was taken.
+    request: u64,
     operation: ArrayVec<u8, 64>,
     bytes: ArrayVec<u8, MOST>,
     stage: Stage,
@@ -43,38 +47,42 @@ impl<const MOST: usize> Body<MOST> {
         ensures { Holds result [] × ((kept_of result).stage ≡ Stage.Empty) }
     {
         Body {
+            request: 0,
             operation: ArrayVec::new(),
             bytes: ArrayVec::new(),
             stage: Stage::Empty,
         }
     }
 
-    /// Takes a block. `operation` is up to 64 bytes that tell one body from another: for Block1 the code and the
+    /// Takes a block. `number` is the Partial IV of the request that carries it; at a client, of the request that the response
+    /// with Block2 answers. `operation` is up to 64 bytes that tell one body from another: for Block1 the code and the
     /// options, Request-Tag among them, but not Block1, Block2 and the elective options that are no part of the Cache-Key, as
-    /// Size1 and Echo; for Block2 the ETag (RFC 7252, 5.4.2; RFC 7959, 2.4 and 2.5; RFC 9175, 3.3; own rule: the limit). Refuses
-    /// with LongOperation, WrongLength, OutOfOrder, OtherOperation or TooLarge, judged in this order.
+    /// Size1 and Echo; for Block2 the ETag (RFC 7252, 5.4.2; RFC 7959, 2.4 and 2.5; RFC 9175, 3.3; own rule: the limit). Requests
+    /// of one operation are of one sender. Refuses with LongOperation, WrongLength, OutOfOrder, OtherOperation, OldNumber or TooLarge,
+    /// judged in this order.
     #[tactic(auto, unfolding(crate::specs::Views::kept_of))]
     pub fn take(
         &mut self,
+        number: Piv,
         operation: &[u8],
         block: Block,
         payload: &[u8],
     ) -> Result<Received, BlockError>
-        ensures taken { OnOk result (Takes self.old self.new (piece_of operation.now (parts_of block) payload.now)) }
-        ensures kept { OnOk result (kept_of self.new ≡ kept_after (kept_of self.old) (piece_of operation.now (parts_of block) payload.now)) }
+        ensures taken { OnOk result (Takes self.old self.new (piece_of (number_of number) operation.now (parts_of block) payload.now)) }
+        ensures kept { OnOk result (kept_of self.new ≡ kept_after (kept_of self.old) (piece_of (number_of number) operation.now (parts_of block) payload.now)) }
         ensures received { IfOk result (λ received. IsReceived received (parts_of block) (whole_of self.new)) }
         ensures joined { IfOk result (λ received. received ≡ Received.Whole → (pieces : List Piece) → Holds self.old pieces
-            → IsSomeAnd (whole_of self.new) (IsInBlocks operation.now 0 (with_piece pieces (piece_of operation.now (parts_of block) payload.now)))) }
+            → IsSomeAnd (whole_of self.new) (IsInBlocks operation.now 0 (with_piece pieces (piece_of (number_of number) operation.now (parts_of block) payload.now)))) }
         ensures unchanged { OnErr result (self.new ≡ self.old) }
         ensures accepted { IsOk result → (e : BlockError)
-            → ¬ Refuses MOST (kept_of self.old) (piece_of operation.now (parts_of block) payload.now) e }
+            → ¬ Refuses MOST (kept_of self.old) (piece_of (number_of number) operation.now (parts_of block) payload.now) e }
         ensures refused { IfErr result
-            (IsFirstRefusal MOST (kept_of self.old) (piece_of operation.now (parts_of block) payload.now)) }
+            (IsFirstRefusal MOST (kept_of self.old) (piece_of (number_of number) operation.now (parts_of block) payload.now)) }
         ensures refuses { (e : BlockError)
-            → IsFirstRefusal MOST (kept_of self.old) (piece_of operation.now (parts_of block) payload.now) e → IsErrOf result e }
+            → IsFirstRefusal MOST (kept_of self.old) (piece_of (number_of number) operation.now (parts_of block) payload.now) e → IsErrOf result e }
     {
-        self.judge(operation, block, payload)?;
-        self.keep(operation, block, payload);
+        self.judge(number, operation, block, payload)?;
+        self.keep(number, operation, block, payload);
         if block.more() {
             Ok(Received::More(block.next()))
         } else {
@@ -84,11 +92,12 @@ impl<const MOST: usize> Body<MOST> {
 
     /// Keeps a block that can be taken. Number 0 drops all bytes, and each other block begins where the bytes end.
     #[tactic(auto, unfolding(crate::specs::Views::kept_of))]
-    fn keep(&mut self, operation: &[u8], block: Block, payload: &[u8])
-        requires { CanTake MOST (kept_of self.old) (piece_of operation.now (parts_of block) payload.now) }
-        ensures kept { kept_of self.new ≡ kept_after (kept_of self.old) (piece_of operation.now (parts_of block) payload.now) }
-        ensures taken { Takes self.old self.new (piece_of operation.now (parts_of block) payload.now) }
+    fn keep(&mut self, number: Piv, operation: &[u8], block: Block, payload: &[u8])
+        requires { CanTake MOST (kept_of self.old) (piece_of (number_of number) operation.now (parts_of block) payload.now) }
+        ensures kept { kept_of self.new ≡ kept_after (kept_of self.old) (piece_of (number_of number) operation.now (parts_of block) payload.now) }
+        ensures taken { Takes self.old self.new (piece_of (number_of number) operation.now (parts_of block) payload.now) }
     {
+        self.request = number.number();
         self.bytes.truncate(block.place());
         self.bytes.try_extend_from_slice(payload).unwrap();
         self.operation.clear();
@@ -115,10 +124,16 @@ impl<const MOST: usize> Body<MOST> {
     }
 
     /// Judges whether a block can be taken.
-    fn judge(&self, operation: &[u8], block: Block, payload: &[u8]) -> Result<(), BlockError>
+    fn judge(
+        &self,
+        number: Piv,
+        operation: &[u8],
+        block: Block,
+        payload: &[u8],
+    ) -> Result<(), BlockError>
         ensures { MatchResult result
-            (λ _. CanTake MOST (kept_of self.now) (piece_of operation.now (parts_of block) payload.now))
-            (IsFirstRefusal MOST (kept_of self.now) (piece_of operation.now (parts_of block) payload.now)) }
+            (λ _. CanTake MOST (kept_of self.now) (piece_of (number_of number) operation.now (parts_of block) payload.now))
+            (IsFirstRefusal MOST (kept_of self.now) (piece_of (number_of number) operation.now (parts_of block) payload.now)) }
     {
         if operation.len() > MOST_OPERATION {
             return Err(BlockError::LongOperation);
@@ -131,6 +146,9 @@ impl<const MOST: usize> Body<MOST> {
         }
         if self.is_of_other_operation(operation, block) {
             return Err(BlockError::OtherOperation);
+        }
+        if self.has_old_number(number, block) {
+            return Err(BlockError::OldNumber);
         }
         if is_too_large(MOST, block, payload.len()) {
             return Err(BlockError::TooLarge);
@@ -163,6 +181,15 @@ impl<const MOST: usize> Body<MOST> {
             return false;
         }
         operation != self.operation.as_slice()
+    }
+
+    /// Returns whether a block would go on a body by a request with no higher number than that of the block before it.
+    #[tactic(auto, unfolding(crate::specs::Views::kept_of))]
+    fn has_old_number(&self, number: Piv, block: Block) -> bool
+        ensures yes { result ≡ true → HasOldNumber (kept_of self.now) (number_of number) (parts_of block) }
+        ensures no { result ≡ false → IsNewer (kept_of self.now) (number_of number) (parts_of block) }
+    {
+        block.number() > 0 && number.number() <= self.request
     }
 }
 

@@ -1,10 +1,11 @@
 //! A body of 10,000 bytes goes to a server in blocks, and comes back in blocks (RFC 7959). Each block is a protected message of its own,
-//! under a context that takes part in block-wise transfer.
+//! under a context that takes part in block-wise transfer. Blocks of two uploads are never joined.
 
 mod ends;
+mod uploads;
 
 use ends::{Ends, Part};
-use osc_blocks::{Block, BlockSize, Body, Received, block_of};
+use osc_blocks::{Block, BlockSize, Body, Received, block_of, request_tag};
 use osc_coap::option_numbers::{BLOCK1, BLOCK2};
 use std::process::Abort;
 
@@ -36,7 +37,7 @@ fn body() -> [u8; BODY_LEN] {
     body
 }
 
-/// Sends a body to the server, which answers each block with the block that it took (RFC 7959, 2.5). Returns how many requests it took.
+/// Sends a body to the server, each block with the body's Request-Tag. The server answers each block with the block that it took (RFC 7959, 2.5). Returns how many requests it took.
 fn put(
     rt: &impl Abort,
     ends: &mut Ends,
@@ -44,6 +45,7 @@ fn put(
     size: BlockSize,
     came: &mut Body<10_240>,
 ) -> u32 {
+    let tag = request_tag(ends.upcoming(rt));
     let mut count = 0;
     for number in 0..MOST_BLOCKS {
         let Some((block, payload)) = block_of(sent, number, size) else {
@@ -53,12 +55,13 @@ fn put(
             code: PUT,
             number: BLOCK1,
             block,
+            tag: tag.as_slice(),
             payload,
         };
         let mut room = [0u8; 1100];
         let (taken, ticket) = ends.ask(rt, &request, &mut room);
         let received = came
-            .take(b"PUT /body", taken.block, taken.payload)
+            .take(ticket.number(), taken.tag, taken.block, taken.payload)
             .expect(rt, "a block");
         let code = match received {
             Received::More(_) => CONTINUE,
@@ -68,10 +71,11 @@ fn put(
             code,
             number: BLOCK1,
             block: taken.block,
+            tag: &[],
             payload: &[],
         };
         let mut room = [0u8; 1100];
-        let heard = ends.answer(rt, ticket, &response, &mut room);
+        let (heard, _) = ends.answer(rt, ticket, &response, &mut room);
         assert_eq!(rt; (heard.code, heard.block), (code, block));
         count = number + 1;
     }
@@ -92,6 +96,7 @@ fn get(
             code: GET,
             number: BLOCK2,
             block: asked,
+            tag: &[],
             payload: &[],
         };
         let mut room = [0u8; 1100];
@@ -102,12 +107,13 @@ fn get(
             code: CONTENT,
             number: BLOCK2,
             block,
+            tag: &[],
             payload,
         };
         let mut room = [0u8; 1100];
-        let heard = ends.answer(rt, ticket, &response, &mut room);
+        let (heard, number) = ends.answer(rt, ticket, &response, &mut room);
         match came
-            .take(b"ETag 1", heard.block, heard.payload)
+            .take(number, b"ETag 1", heard.block, heard.payload)
             .expect(rt, "a block")
         {
             Received::More(next) => asked = next,

@@ -14,12 +14,17 @@ const SECRET: [u8; 16] = [1, 2, 3, 4, 5, 6, 7, 8, 9, 10, 11, 12, 13, 14, 15, 16]
 
 const TOKEN: [u8; 2] = [0xb1, 0x0c];
 
-/// A message with one Block option: its code, the option's number, what the option says, and the payload.
+// RFC 9175, 3.2.1.
+const REQUEST_TAG: u16 = 292;
+
+/// A message with one Block option: its code, the option's number, what the option says, its Request-Tag, or no bytes if it has none, and
+/// the payload.
 #[derive(Clone, Copy)]
 pub struct Part<'a> {
     pub code: u8,
     pub number: u16,
     pub block: Block,
+    pub tag: &'a [u8],
     pub payload: &'a [u8],
 }
 
@@ -54,6 +59,11 @@ fn write(rt: &impl Abort, kind: Kind, part: &Part<'_>, out: &mut [u8]) -> usize 
     writer
         .option(part.number, value.as_slice())
         .expect(rt, "room for an option");
+    if !part.tag.is_empty() {
+        writer
+            .option(REQUEST_TAG, part.tag)
+            .expect(rt, "room for the tag");
+    }
     writer
         .payload(part.payload)
         .expect(rt, "room for a payload");
@@ -64,6 +74,14 @@ fn write(rt: &impl Abort, kind: Kind, part: &Part<'_>, out: &mut [u8]) -> usize 
 fn block_in(rt: &impl Abort, options: Options<'_>, number: u16) -> Block {
     let value = options.first(number).expect(rt, "a Block option");
     Block::read(value).expect(rt, "a block")
+}
+
+/// Returns the value of Request-Tag, or no bytes if there is none.
+fn tag_in(options: Options<'_>) -> &[u8] {
+    match options.first(REQUEST_TAG) {
+        Some(tag) => tag,
+        None => &[],
+    }
 }
 
 impl Ends {
@@ -84,6 +102,11 @@ impl Ends {
         }
     }
 
+    /// Returns the number of the client's next request.
+    pub fn upcoming(&self, rt: &impl Abort) -> Piv {
+        Piv::new(self.client.next()).expect(rt, "a number")
+    }
+
     /// Has the client seal a request, which the server delivers.
     pub fn ask<'b>(
         &mut self,
@@ -95,16 +118,25 @@ impl Ends {
         self.take_request(rt, part.number, &mut room[..len])
     }
 
-    /// Has the server seal the reply to a request, which the client delivers.
+    /// Has the server seal the reply to a request, which the client delivers. Returns the number of the request too.
     pub fn answer<'b>(
         &mut self,
         rt: &impl Abort,
         ticket: Ticket,
         part: &Part<'_>,
         room: &'b mut [u8; 1100],
-    ) -> Part<'b> {
+    ) -> (Part<'b>, Piv) {
         let len = self.reply(rt, ticket, part, room);
         self.take_response(rt, part.number, &mut room[..len])
+    }
+
+    /// Has the client seal a request, and give up on the response. Returns how many bytes it takes at the front of `out`.
+    pub fn send_once(&mut self, rt: &impl Abort, part: &Part<'_>, out: &mut [u8]) -> usize
+        ensures { result ≤ length out.new }
+    {
+        let len = self.send(rt, part, out);
+        let _pending = self.client.forget(&TOKEN);
+        len
     }
 
     /// Has the client seal a request. Returns how many bytes it takes at the front of `out`.
@@ -118,7 +150,7 @@ impl Ends {
     }
 
     /// Passes a request to the server, which delivers it.
-    fn take_request<'b>(
+    pub fn take_request<'b>(
         &mut self,
         rt: &impl Abort,
         number: u16,
@@ -140,6 +172,7 @@ impl Ends {
             code: opened.code,
             number,
             block: block_in(rt, opened.inner(), number),
+            tag: tag_in(opened.inner()),
             payload: opened.payload,
         };
         (part, ticket)
@@ -164,15 +197,17 @@ impl Ends {
         rt: &impl Abort,
         number: u16,
         datagram: &'b mut [u8],
-    ) -> Part<'b> {
-        let ClientOutcome::Deliver(opened, _) = self.client.take(0, datagram) else {
+    ) -> (Part<'b>, Piv) {
+        let ClientOutcome::Deliver(opened, request) = self.client.take(0, datagram) else {
             rt.abort();
         };
-        Part {
+        let part = Part {
             code: opened.code,
             number,
             block: block_in(rt, opened.inner(), number),
+            tag: tag_in(opened.inner()),
             payload: opened.payload,
-        }
+        };
+        (part, request)
     }
 }
