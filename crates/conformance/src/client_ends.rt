@@ -42,6 +42,15 @@ impl<const N: usize> ClientEnd for Client<N> {
     fn next(&self) -> Made<u64> {
         Ok(Client::next(self))
     }
+
+    fn other(&mut self, step: &Step<'_>) -> Made<&'static str> {
+        if step.verb != "skip" {
+            return Err(Refusal::Bad);
+        }
+        step.fields.count(1);
+        let skipped = self.skip(step.fields.number(0));
+        skipped.map_err(Refusal::TooFewLeft).map(|()| "skipped")
+    }
 }
 
 impl ClientEnd for KeptClient<Memory<'_>, 2> {

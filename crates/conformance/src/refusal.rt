@@ -1,7 +1,7 @@
 //! Why an end doesn't make a step.
 
 use crate::answer::Answer;
-use osc_endpoint::{ReplyError, RequestError, RestartError};
+use osc_endpoint::{ReplyError, RequestError, RestartError, SkipError, TooFewLeft};
 use osc_handle::{AddRefusal, ReplyRefusal};
 use osc_kept::KeptError;
 use osc_kept_handle::{KeptRefusal, KeptReplyRefusal, KeptRequestRefusal};
@@ -11,6 +11,8 @@ use osc_kept_handle::{KeptRefusal, KeptReplyRefusal, KeptRequestRefusal};
 pub(crate) enum Refusal {
     Add(AddRefusal),
     Restart(RestartError),
+    Skip(SkipError),
+    TooFewLeft(TooFewLeft),
     Kept(KeptError),
     Take(KeptRefusal),
     Reply(KeptReplyRefusal),
@@ -48,6 +50,8 @@ impl Refusal {
             Refusal::Add(AddRefusal::Refused(refusal)) => answer.refused(refusal),
             Refusal::Add(AddRefusal::SameSender) => answer.refused("SameSender"),
             Refusal::Restart(refusal) => answer.refused(refusal),
+            Refusal::Skip(refusal) => answer.refused(refusal),
+            Refusal::TooFewLeft(refusal) => answer.refused(refusal),
             Refusal::Kept(refusal) => answer.refused(refusal),
             Refusal::Reply(KeptReplyRefusal::Refused(refusal)) => answer.refused(refusal),
             Refusal::Reply(KeptReplyRefusal::TicketSpent) => answer.refused("TicketSpent"),

@@ -63,6 +63,11 @@ impl ServerEnd for Server {
                 let is_open = self.is_open(step.fields.index(0));
                 Ok(if is_open { "open" } else { "closed" })
             }
+            "skip" => {
+                step.fields.count(2);
+                let skipped = self.skip(step.fields.index(0), step.fields.number(1));
+                skipped.map_err(Refusal::Skip).map(|()| "skipped")
+            }
             _ => Err(Refusal::Bad),
         }
     }

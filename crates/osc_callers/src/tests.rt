@@ -2,6 +2,8 @@
 //! row can say.
 
 mod blocks;
+mod checks;
+mod faults;
 mod file;
 mod folder;
 mod kept;

@@ -2,7 +2,7 @@
 -- are checked; the condition of each row includes that no earlier row's condition holds. h is a history, s its context, d a datagram, r a
 -- pending request, n the number of pending requests that there is room for, clock the clock after the event's own moment, m a message, own
 -- a response's own Partial IV or none.
-use Rattle.std.specs.Prelude.{◌≡◌, ℕ, ◌<◌, ◌≤◌, ◌^◌, ◌↔◌, ◌&&◌, List, Contains, length, max, Bool, true, false, Option, Some, None}
+use Rattle.std.specs.Prelude.{◌≡◌, ℕ, ◌+◌, ◌<◌, ◌≤◌, ◌^◌, ◌↔◌, ◌&&◌, List, Contains, length, max, Bool, true, false, Option, Some, None}
 use Rattle.osc_coap.specs.Code.{is_response}
 use Rattle.osc_coap.specs.Datagram.{Parts, IsDatagram}
 use Rattle.osc_coap.specs.Fault.{HasFault}
@@ -19,7 +19,7 @@ use Rattle.osc_client.specs.declared.client_outcome.RequestError.TheVariants.{No
 use Rattle.osc_client.specs.declared.pending.Wait.{Wait}
 use Rattle.osc_observe.specs.Observing.{is_notification, place_of}
 use Rattle.osc_observe.specs.Received.{Receives}
-use Rattle.osc_client.specs.ClientHistory.{History, Event, Entry, Answer, Asked, Request, Datagram, Forget, Restart, Advance, Malformed, NotResponse, UnknownToken, Unprotected, Undecodable, BadTag, BadInner, Old, Notified, Deliver, Sent, NotSent, Took, Forgot, Restarted, Advanced, context, next, clock, first_place, observes, pending, pending_at}
+use Rattle.osc_client.specs.ClientHistory.{History, Event, Entry, Answer, Asked, Request, Datagram, Forget, Restart, Skip, Advance, Malformed, NotResponse, UnknownToken, Unprotected, Undecodable, BadTag, BadInner, Old, Notified, Deliver, Sent, NotSent, Took, Forgot, Restarted, Skipped, NotSkipped, Advanced, context, next, clock, first_place, observes, pending, pending_at}
 
 -- a request with this token is among these (RFC 7252, 5.3.2)
 abbrev pub IsAmong : List ℕ → List Asked → Type 0
@@ -97,12 +97,19 @@ RequestAnswer n h clock p room (NotSent NoRoom) = CanAsk n h clock p × RefusesT
 RequestAnswer n h clock p room (Sent bytes) = CanAsk n h clock p × SealsRequest (context h) (next h) p bytes × (length bytes ≤ room)
 RequestAnswer n h clock p room entry = ⊥
 
+-- the answer to Skip: no number from 2 ^ 40 on is passed over (RFC 8613, 7.2.1)
+abbrev pub SkipAnswer : History → ℕ → Entry → Type 0
+SkipAnswer h count NotSkipped = 2 ^ 40 < next h + count
+SkipAnswer h count Skipped = next h + count ≤ 2 ^ 40
+SkipAnswer h count entry = ⊥
+
 -- the entry is the answer to the event by a client with room for n pending requests (RFC 8613, 8.1 and 8.4)
 abbrev pub ClientAnswer : ℕ → History → Event → Entry → Type 0
 ClientAnswer n h (Request now p room) entry = RequestAnswer n h (max (clock h) now) p room entry
 ClientAnswer n h (Datagram now d) (Took answer) = ResponseAnswer h (max (clock h) now) d answer
 ClientAnswer n h (Forget token) (Forgot was_pending) = (was_pending ≡ true) ↔ IsAmong token (pending h)
 ClientAnswer n h (Restart first) Restarted = Unit {0}
+ClientAnswer n h (Skip count) entry = SkipAnswer h count entry
 ClientAnswer n h (Advance now) Advanced = Unit {0}
 ClientAnswer n h event entry = ⊥
 

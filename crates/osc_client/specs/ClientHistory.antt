@@ -37,12 +37,14 @@ abbrev pub after_place : ℕ → Wait → Wait
 after_place place Once = Once
 after_place place (Observing from) = Observing (place + 1)
 
--- what happens to a client; room is the length of the buffer for a request, Advance only moves the clock (own rule)
+-- what happens to a client; room is the length of the buffer for a request, Skip passes over so many Sender Sequence Numbers, since another end of the same
+-- Sender Key has them, Advance only moves the clock (own rule)
 pub data Event : Type 0 where
   Request : (now : ℕ) (plain : Parts) (room : ℕ) → Event
   Datagram : (now : ℕ) (bytes : List ℕ) → Event
   Forget : (token : List ℕ) → Event
   Restart : (next : ℕ) → Event
+  Skip : (count : ℕ) → Event
   Advance : (now : ℕ) → Event
 
 -- the answer to a datagram (own rule)
@@ -65,6 +67,8 @@ pub data Entry : Type 0 where
   Took : (answer : Answer) → Entry
   Forgot : (was_pending : Bool) → Entry
   Restarted : Entry
+  Skipped : Entry
+  NotSkipped : Entry
   Advanced : Entry
 
 -- a history: a new client with its context, its first number and how long a request is pending, or one more event and its entry (own rule)
@@ -94,11 +98,12 @@ abbrev pub clock : History → ℕ
 clock (New s first ms) = 0
 clock (Then h event entry) = clock_by event (clock h)
 
--- the next number: the one at the start or at the last restart, plus how many requests were sealed since (RFC 8613, 7.2.1)
+-- the next number: the one at the start or at the last restart, plus how many requests were sealed since, and how many numbers were passed over (RFC 8613, 7.2.1)
 abbrev pub next : History → ℕ
 next (New s first ms) = first
 next (Then h (Request now plain room) (Sent bytes)) = next h + 1
 next (Then h (Restart first) entry) = first
+next (Then h (Skip count) Skipped) = next h + count
 next (Then h event entry) = next h
 
 -- the requests without those of this token (RFC 7252, 5.3.2)

@@ -6,6 +6,7 @@ use Rattle.osc_protect.specs.Views.{message_of, opened_number}
 use Rattle.osc_client.specs.declared.client_outcome.ClientOutcome.{ClientOutcome}
 use Rattle.osc_client.specs.declared.client_outcome.ClientOutcome.TheVariants as client_outcomes
 use Rattle.osc_client.specs.declared.client_outcome.RequestError.{RequestError}
+use Rattle.osc_client.specs.declared.client_outcome.TooFewLeft.{TooFewLeft}
 use Rattle.osc_client.specs.declared.pending.Pending.{Pending}
 use Rattle.osc_client.specs.ClientHistory as client
 use Rattle.osc_observe.specs.Views.{received_of}
@@ -39,3 +40,8 @@ client_hearing_of outcome = None
 abbrev pub request_entry : Result ℕ RequestError → List ℕ → client.Entry
 request_entry (Ok n) out = client.Sent (take n out)
 request_entry (Err e) out = client.NotSent e
+
+-- the entry of a Skip (how the code is seen)
+abbrev pub skipped_entry : Result Unit TooFewLeft → client.Entry
+skipped_entry (Ok x) = client.Skipped
+skipped_entry (Err e) = client.NotSkipped

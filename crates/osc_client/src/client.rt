@@ -1,8 +1,10 @@
 //! The client: one context, and the requests that wait for their responses.
 
-ghost use Rattle.std.specs.Prelude.{◌≡◌, ◌≤◌, ◌^◌};
+ghost use Rattle.std.specs.Prelude.{◌≡◌, ◌≤◌, ◌^◌, OnErr};
 ghost use Rattle.osc_context.specs.Views.{as_client, number_of};
 
+use crate::client_outcome::TooFewLeft;
+use crate::client_parts::OWN_LIMIT;
 use crate::pending::{Pending, drop_expired, find_request};
 use arrayvec::ArrayVec;
 use osc_context::{Context, Piv};
@@ -24,7 +26,8 @@ pub struct Client<const N: usize> {
 impl<const N: usize> Client<N> {
     ghost use Rattle.osc_client.specs.Agrees.{ClientAgrees, HasTokensApart, client_parts};
     ghost use Rattle.osc_client.specs.ClientAnswer.{ClientAnswer};
-    ghost use Rattle.osc_client.specs.ClientHistory.{History, New, Then, Advance, Advanced, Forget, Forgot, Restart, Restarted, next};
+    ghost use Rattle.osc_client.specs.ClientHistory.{History, New, Then, Advance, Advanced, Forget, Forgot, Restart, Restarted, Skip, next};
+    ghost use Rattle.osc_client.specs.Views.{skipped_entry};
 
     /// Makes a client with nothing pending. Its requests are pending for `life_ms` milliseconds and no longer, except a registration that
     /// was notified.
@@ -58,6 +61,21 @@ impl<const N: usize> Client<N> {
     {
         let Client { next, .. } = self;
         *next
+    }
+
+    /// Passes over the next `count` Sender Sequence Numbers: another end of the same Sender Key has used them, as a server that shares
+    /// the context, and this client never will (RFC 8613, 3.1 and 7.2.1). A refusal changes nothing.
+    pub fn skip(&mut self, count: u64) -> Result<(), TooFewLeft>
+        ensures answered { (h : History) → ClientAgrees self.old h → ClientAnswer N h (Skip count) (skipped_entry result) }
+        ensures follows { (h : History) → ClientAgrees self.old h → ClientAgrees self.new (Then h (Skip count) (skipped_entry result)) }
+        ensures apart { HasTokensApart self.old → HasTokensApart self.new }
+        ensures unchanged { OnErr result (self.new ≡ self.old) }
+    {
+        if count > OWN_LIMIT - self.next {
+            return Err(TooFewLeft);
+        }
+        self.next += count;
+        Ok(())
     }
 
     /// Moves the clock to `now`, in milliseconds, if that is later. Drops the requests whose time has passed.

@@ -50,6 +50,22 @@ impl fmt::Display for RequestError {
 
 impl Error for RequestError {}
 
+/// Fewer Sender Sequence Numbers below 2^40 are left than are to be passed over (RFC 8613, 7.2.1).
+#[derive(Clone, Copy, Debug, PartialEq, Eq)]
+pub struct TooFewLeft;
+
+impl fmt::Display for TooFewLeft {
+    ghost use Rattle.std.specs.Prelude.{Some, codes};
+
+    ghost output = { λ error. Some (codes "TooFewLeft") };
+
+    fn fmt<W: fmt::Write>(&self, f: &mut fmt::Formatter<W>) -> fmt::Result {
+        f.write_str("TooFewLeft")
+    }
+}
+
+impl Error for TooFewLeft {}
+
 /// What a client makes of a datagram: the first of these variants whose condition holds.
 #[derive(Debug, Drop)]
 pub enum ClientOutcome<'b> {

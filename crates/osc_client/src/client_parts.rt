@@ -11,7 +11,7 @@ use osc_context::{Context, Piv};
 use osc_protect::KeyedContext;
 
 /// The first number that can't be a Sender Sequence Number (RFC 8613, 7.2.1).
-const OWN_LIMIT: u64 = 1 << 40;
+pub(crate) const OWN_LIMIT: u64 = 1 << 40;
 
 impl<const N: usize> Client<N> {
     ghost use Rattle.osc_client.specs.Agrees.{client_parts, next_of};

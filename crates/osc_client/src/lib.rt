@@ -10,7 +10,7 @@ mod decision;
 mod pending;
 
 pub use client::Client;
-pub use client_outcome::{ClientOutcome, RequestError};
+pub use client_outcome::{ClientOutcome, RequestError, TooFewLeft};
 pub use decision::ClientDecision;
 
 /// A client's requests as values, for the crates that keep a client elsewhere. If you have a client, you need none of it.

@@ -35,12 +35,14 @@ use Rattle.osc_life.specs.Judging.{IsAskerOf, IsNamed, IsNamedAt, LooksUp}
 use Rattle.osc_endpoint.specs.Table.{NamedAnswer, TableJudges}
 use Rattle.osc_life.specs.Life.{Life, Mark, marked}
 use Rattle.osc_life.specs.declared.server_error.ReplyError.{ReplyError}
+use Rattle.osc_life.specs.declared.server_error.SkipError.{SkipError}
 use Rattle.osc_life.specs.Replies.{as_reply, error_message, no_context}
 use Rattle.osc_endpoint.specs.Replying.{marks_at}
+use Rattle.osc_endpoint.specs.Restarting.{skip_marks}
 use Rattle.osc_life.specs.LifeAnswer.{Arrival}
 use Rattle.osc_endpoint.specs.ServerAnswer.{TakeAnswer, arrival}
 use Rattle.osc_life.specs.ServerHistory as server
-use Rattle.osc_life.specs.Views.{reply_entry}
+use Rattle.osc_life.specs.Views.{reply_entry, skipped_entry}
 use Rattle.osc_life.proofs.Judgments.{says_error}
 use Rattle.osc_endpoint.proofs.KeptContexts.{one_marked}
 use Rattle.osc_endpoint.proofs.Places.{same_life, slot_at}
@@ -230,3 +232,15 @@ agrees_notified old new h t room plain (Err e) out a clock len table =
     let same : (i : ℕ) → option_map (marked None) (server.life h i) ≡ server.life h i = λ i. same_life (server.life h i) None refl in
     agrees_marked old new h (server.Then h (server.Notify t plain room) (server.NotReplied e)) (λ i. None) a clock len refl refl (λ i. sym (same i))
     (record { at = λ i. subst (λ (o : Option Life). PlaceAgrees (slice_get new.slots.items i) o) (same i) (table.at i) })
+
+-- the server after numbers are passed over, or after that is refused
+pub agrees_skipped : (old new : Server) (h : server.History) (i count : ℕ) (result : Result Unit SkipError)
+    → Agrees old h → new.clock ≡ old.clock → length new.slots.items ≡ length old.slots.items
+    → TableAgrees new.slots.items (λ j. option_map (marked (skip_marks result j i count)) (server.life h j))
+    → Agrees new (server.Then h (server.Skip i count) (skipped_entry result))
+agrees_skipped old new h i count (Ok x) a clock len table =
+    agrees_marked old new h (server.Then h (server.Skip i count) server.Skipped) (λ j. server.skip_mark_at j i count) a clock len refl refl (λ j. refl) table
+agrees_skipped old new h i count (Err e) a clock len table =
+    let same : (j : ℕ) → option_map (marked None) (server.life h j) ≡ server.life h j = λ j. same_life (server.life h j) None refl in
+    agrees_marked old new h (server.Then h (server.Skip i count) (server.NotSkipped e)) (λ j. None) a clock len refl refl (λ j. sym (same j))
+    (record { at = λ j. subst (λ (o : Option Life). PlaceAgrees (slice_get new.slots.items j) o) (same j) (table.at j) })

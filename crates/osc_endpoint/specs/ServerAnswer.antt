@@ -15,8 +15,8 @@ use Rattle.osc_life.specs.declared.server_error.AddError.TheVariants.{Full, Same
 use Rattle.osc_life.specs.declared.server_error.ReplyError.TheVariants.{StaleTicket, NotObserving}
 use Rattle.osc_life.specs.Replies.{SaysError, as_reply, undecodable, no_context, replay, bad_tag}
 use Rattle.osc_life.specs.Life.{Life, Admits}
-use Rattle.osc_life.specs.ServerHistory.{History, Event, Entry, Answer, TicketValues, Add, Datagram, Reply, Notify, Restart, Advance, Malformed, NotRequest, Plain, Undecodable, NoContext, Replay, BadTag, Challenge, Added, NotAdded, Took, NotReplied, Advanced, clock, added, life}
-use Rattle.osc_life.specs.LifeAnswer.{Arrival, SaysChallenge, MeetsLifeRow, LifeReply, as_notification, LifeNotify, LifeRestart}
+use Rattle.osc_life.specs.ServerHistory.{History, Event, Entry, Answer, TicketValues, Add, Datagram, Reply, Notify, Restart, Skip, Advance, Malformed, NotRequest, Plain, Undecodable, NoContext, Replay, BadTag, Challenge, Added, NotAdded, Took, NotReplied, Advanced, clock, added, life}
+use Rattle.osc_life.specs.LifeAnswer.{Arrival, SaysChallenge, MeetsLifeRow, LifeReply, as_notification, LifeNotify, LifeRestart, LifeSkip}
 
 -- the context's identifiers are short enough for a nonce, and differ (RFC 8613, 3.3)
 pub record IsContext (s : SecurityContext) : Type 0 where
@@ -107,6 +107,7 @@ ServerAnswer h (Datagram now echo mid d) (Took answer reply) = TakeAnswer h (arr
 ServerAnswer h (Reply t own mid plain room) entry = ReplyAnswer h t own (as_reply t.kind t.message_id t.token mid plain) room entry
 ServerAnswer h (Notify t plain room) entry = NotifyAnswer h t (as_notification t.token plain) room entry
 ServerAnswer h (Restart i next) entry = LifeRestart (life h i) entry
+ServerAnswer h (Skip i count) entry = LifeSkip (life h i) count entry
 ServerAnswer h (Advance now) Advanced = Unit {0}
 ServerAnswer h event entry = ⊥
 

@@ -10,15 +10,16 @@ mod server_notify;
 mod server_reply;
 mod server_restart;
 mod server_run;
+mod server_skip;
 mod server_take;
 mod table;
 
 pub use client_event::{ClientEntry, ClientEvent};
 pub use client_run::{run_client, run_client_on};
-pub use osc_client::{Client, ClientDecision, ClientOutcome, RequestError};
+pub use osc_client::{Client, ClientDecision, ClientOutcome, RequestError, TooFewLeft};
 pub use osc_life::{
-    AddError, Decided, Decision, Fresh, Outcome, ReplyError, RestartError, Seen, Start, Taken,
-    Ticket,
+    AddError, Decided, Decision, Fresh, Outcome, ReplyError, RestartError, Seen, SkipError, Start,
+    Taken, Ticket,
 };
 pub use server::Server;
 pub use server_event::{Answering, Arrival, Notifying, ServerEntry, ServerEvent};

@@ -92,6 +92,14 @@ where
         Ok((name, number))
     }
 
+    /// The file holds this number, which was saved last.
+    fn confirm(&mut self, number: u64)
+        ensures held { held_number self.new.held ≡ number }
+        ensures failures { self.new.failures ≡ self.old.failures }
+    {
+        self.held = Ok(Held::Number(number));
+    }
+
     /// Counts a failure, keeps why it came, and returns the error.
     fn failed(&mut self, trouble: FileTrouble) -> KeeperError
         ensures counted { self.new.failures.value ≡ self.old.failures.value + 1 }
@@ -130,7 +138,7 @@ where
         };
         match done {
             Ok(()) => {
-                self.held = Ok(Held::Number(next));
+                self.confirm(next);
                 Ok(())
             }
             Err(trouble) => Err(self.failed(trouble)),

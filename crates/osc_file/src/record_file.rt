@@ -218,9 +218,18 @@ where
         self.tried = Some(next);
         let both = store_both(self.rt, self.name.as_str(), places.older(), &next)?;
         catch_up(counter, both.generation)?;
+        self.confirm(both);
+        Ok(())
+    }
+
+    /// The record that was written to both places is what was saved last.
+    fn confirm(&mut self, both: Record)
+        ensures saved { self.new.saved ≡ both }
+        ensures seen { (self.new.seen.newest ≡ both) × (self.new.seen.damaged ≡ None) }
+        ensures failures { self.new.failures ≡ self.old.failures }
+    {
         self.saved = both;
         self.seen = Seen::both(both);
-        Ok(())
     }
 
     /// Counts a failure, keeps why it came, and returns the error.

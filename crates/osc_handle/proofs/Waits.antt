@@ -15,7 +15,7 @@ use Rattle.osc_life.proofs.Lives.{closed_bare}
 use Rattle.osc_endpoint.proofs.Places.{same_life, slice_get-set_other}
 use Rattle.osc_life.specs.Deciding.{Decides}
 use Rattle.osc_laws.specs.Laws.{AllAnswers}
-use Rattle.osc_life.specs.Life.{Admits, Answered, Challenged, Delivered, Life, Mark, Spoiled, is_open, marked, opened, spent}
+use Rattle.osc_life.specs.Life.{Admits, Answered, Challenged, Delivered, Life, Mark, PassedOver, Spoiled, is_open, marked, opened, spent}
 use Rattle.osc_observe.specs.Received.{Received}
 use Rattle.osc_endpoint.specs.ServerAnswer.{ServerAnswer}
 use Rattle.osc_life.specs.ServerHistory as server
@@ -38,6 +38,7 @@ all_before P fresh (Spoiled n) marks h = all_shut (opened fresh marks) h where
   all_shut false k = k
 all_before P fresh (Challenged echo issued) marks h = h
 all_before P fresh Answered marks h = h
+all_before P fresh (PassedOver count) marks h = h
 
 life_marked : (u : UnansweredHandle) (of : Life) (m : Option Mark) (w : ℕ → Bool) → RemembersLife u of w → RemembersLife u (marked m of) w
 life_marked u of None w r = r

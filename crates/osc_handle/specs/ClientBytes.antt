@@ -2,7 +2,7 @@
 use Rattle.std.specs.Prelude.{◌≡◌, ℕ, ◌≤◌, ◌<◌, ◌==◌, ◌^◌, List, Some, map, slice_get, take, if◌then◌else◌}
 use Rattle.osc_client.specs.Agrees.{ClientParts, TokensDiffer}
 use Rattle.osc_client.specs.ClientHistory.{Asked, History, clock, context, life_ms, next, pending}
-use Rattle.osc_laws.specs.ClientLaws.{AllClientAnswers, RequestsCountUp, RequestsHaveTwoNonces, first_number, restarts, sealed, sealed_after}
+use Rattle.osc_laws.specs.ClientLaws.{AllClientAnswers, RequestNumbersAre, RequestsHaveTwoNonces, sealed}
 use Rattle.osc_laws.specs.Laws.{Pairwise}
 use Rattle.osc_client.specs.declared.pending.Wait.{Wait}
 use Rattle.osc_client.specs.declared.pending.Wait.TheVariants.{Once, Observing}
@@ -67,6 +67,6 @@ pub record Asks (c : ClientHandle) (h : History) : Type 0 where
 abbrev pub NoncesOnceIn : Type 0
 NoncesOnceIn = (c : ClientHandle) (h : History) → Asks c h → Pairwise (RequestsHaveTwoNonces (context h)) (sealed h)
 
--- the numbers since the start or the last restart are consecutive, and none is used twice (RFC 8613, 7.2.1)
+-- the numbers since the start or the last restart rise, so none is used twice, and are consecutive where none was passed over (RFC 8613, 7.2.1)
 abbrev pub NumbersOnceIn : Type 0
-NumbersOnceIn = (c : ClientHandle) (h : History) → Asks c h → RequestsCountUp (context h) (first_number h) (sealed_after (restarts h) (sealed h))
+NumbersOnceIn = (c : ClientHandle) (h : History) → Asks c h → RequestNumbersAre h

@@ -12,8 +12,8 @@ pub fn client_nonces_once()
     nonces_once();
 }
 
-/// States that the numbers of a client's requests between two restarts are consecutive, and that none is used twice (RFC 8613,
-/// 7.2.1).
+/// States that the numbers of a client's requests between two restarts rise, so that none is used twice. They are consecutive where none
+/// was passed over (RFC 8613, 7.2.1).
 pub fn client_numbers_once()
     ensures { NumbersOnceIn }
 {

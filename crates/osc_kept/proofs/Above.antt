@@ -36,6 +36,7 @@ client_below h (client.Request now p room) (client.Sent bytes) ds restarts below
     omega (arith, same)
 client_below h (client.Request now p room) (client.Sent bytes) ds restarts below r (inr k) = let less = below r k in omega (arith, less)
 client_below h (client.Restart first) entry ds restarts below r k = restarts r k
+client_below h (client.Skip count) client.Skipped ds restarts below r k = let less = below r k in omega (arith, less)
 client_below h event entry ds restarts below r k = below r k
 
 -- all requests that were sealed have numbers below the next one of the client that runs
@@ -118,6 +119,7 @@ own_low s ds h (server.Notify t q room) (server.Replied bytes) own p only a e =
     subst (λ x. x < 2 ^ 40) (use_is (next_own (life_in s ds)) own e) less
 own_low s ds h (server.Reply t false mid q room) (server.Replied bytes) own p only a e = cc
 own_low s ds h (server.Restart c next) server.Restarted own p only a e = cc
+own_low s ds h (server.Skip c count) server.Skipped own p only a e = cc
 own_low s ds h event entry own p only a e = cc
 
 -- the server's Sender Sequence Numbers are below the next one of its life, and below 2 ^ 40
@@ -151,6 +153,7 @@ server_below s ds h (server.Notify t q room) (server.Replied bytes) p only a ren
     record { below = λ m k. let l = one_more (owns ds) next m x.below k in omega (arith, l); small = λ m k. also_small (owns ds) next m less x.small k }
 server_below s ds h (server.Reply t false mid q room) (server.Replied bytes) p only a renews x = record { below = x.below; small = x.small }
 server_below s ds h (server.Restart c next) server.Restarted p only a renews x = record { below = λ m k. let l = renews m k in omega (arith, l); small = x.small }
+server_below s ds h (server.Skip c count) server.Skipped p only a renews x = record { below = λ m k. let l = x.below m k in omega (arith, l); small = x.small }
 server_below s ds h event entry p only a renews x = record { below = x.below; small = x.small }
 
 client_below_owns : (s : SecurityContext) (o : Option client.History) (event : client.Event) (entry : client.Entry) (ds : List Deed) → OwnsBelow s ds → OwnsBelow s (client_deed o event entry ∷ ds)

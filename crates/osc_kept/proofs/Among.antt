@@ -10,7 +10,7 @@ use Rattle.osc_laws.specs.Laws.{AllAnswers}
 use Rattle.osc_endpoint.specs.Tickets.{AreLeft, TakesTickets}
 use Rattle.osc_laws.specs.OneContext.{ContextsStandAlone, share}
 use Rattle.osc_life.specs.Replies.{as_reply}
-use Rattle.osc_life.specs.LifeAnswer.{Arrival, LifeRestart, as_notification}
+use Rattle.osc_life.specs.LifeAnswer.{Arrival, LifeRestart, LifeSkip, as_notification}
 use Rattle.osc_endpoint.specs.ServerAnswer.{MeetsNamedRow, MeetsRow, NamesNone, NotifyAnswer, ReplyAnswer, SaysReply, ServerAnswer, TakeAnswer, arrival}
 use Rattle.osc_life.specs.ServerHistory as server
 use Rattle.osc_kept.specs.Among.{AnswersAmong, EachContext, IsAdded, IsShare, SetsClock}
@@ -61,6 +61,7 @@ module _ (f g : server.History) (here : (j : ℕ) → server.life f j ≡ server
   like_answer same (server.Reply t own mid p room) entry isnt row = ticket_row t own (as_reply t.kind t.message_id t.token mid p) room entry row
   like_answer same (server.Notify t p room) entry isnt row = notify_row t (as_notification t.token p) room entry row
   like_answer same (server.Restart i next) entry isnt row = subst (λ o. LifeRestart o entry) (here i) row
+  like_answer same (server.Skip i count) entry isnt row = subst (λ o. LifeSkip o count entry) (here i) row
   like_answer same event entry isnt row = row
 
 pub like_left : (f g : server.History) → ((ts : List server.TicketValues) → AreLeft f ts → AreLeft g ts) → (event : server.Event) (entry : server.Entry) (ts : List server.TicketValues)

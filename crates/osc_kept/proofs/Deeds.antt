@@ -11,7 +11,7 @@ use Rattle.osc_context.specs.SecurityContext.{SecurityContext}
 use Rattle.osc_context.specs.Views.{number_of}
 use Rattle.osc_life.specs.declared.start.Start.{Start}
 use Rattle.osc_life.specs.declared.start.Start.TheVariants as starts
-use Rattle.osc_life.specs.Life.{Life, Mark, Delivered, Spoiled, Challenged, Answered, Passes, born, challenge, first_delivered, floor, is_open, opened, renewed, spent}
+use Rattle.osc_life.specs.Life.{Life, Mark, Delivered, Spoiled, Challenged, Answered, PassedOver, Passes, born, challenge, first_delivered, floor, is_open, opened, renewed, spent}
 use Rattle.osc_observe.specs.Observing.{is_notification}
 use Rattle.osc_life.specs.ServerHistory.{TicketValues}
 use Rattle.osc_window.specs.declared.window_size.WindowSize.{WindowSize}
@@ -22,6 +22,7 @@ pub data Deed : Type 0 where
   Sends : (number : ℕ) (message : InnerParts) → Deed
   Begins : (start : Start) (size : WindowSize) → Deed
   Renews : (next : ℕ) → Deed
+  Skips : (count : ℕ) → Deed
   Spoils : (number : ℕ) → Deed
   Challenges : (number : ℕ) (echo : List ℕ) (issued own : ℕ) (message : InnerParts) → Deed
   Delivers : (ticket : TicketValues) (message : InnerParts) → Deed
@@ -53,6 +54,7 @@ abbrev pub life_in : SecurityContext → List Deed → Life
 life_in s [] = record { context = s; size = Places32; count = 0; open_at_birth = false; least = 0; first = 0; marks = [] }
 life_in s (Begins start size ∷ ds) = born s start size
 life_in s (Renews next ∷ ds) = renewed next (life_in s ds)
+life_in s (Skips count ∷ ds) = with_mark (PassedOver count) (life_in s ds)
 life_in s (Spoils n ∷ ds) = with_mark (Spoiled n) (life_in s ds)
 life_in s (Challenges n echo issued own m ∷ ds) = with_mark (Challenged echo issued) (life_in s ds)
 life_in s (Delivers t m ∷ ds) = with_mark (Delivered t.number) (life_in s ds)
@@ -141,6 +143,7 @@ here (Delivered n ∷ marks) = n ∷ here marks
 here (Spoiled n ∷ marks) = here marks
 here (Challenged echo issued ∷ marks) = here marks
 here (Answered ∷ marks) = here marks
+here (PassedOver count ∷ marks) = here marks
 
 closed_here : (fresh : Bool) (marks : List Mark) (n : ℕ) → opened fresh marks ≡ false → Has n (here marks) → ⊥
 closed_here fresh [] n e h = h
@@ -148,6 +151,7 @@ closed_here fresh (Delivered m ∷ marks) n e h = let f : true ≡ false = e in 
 closed_here fresh (Spoiled m ∷ marks) n e h = closed_here fresh marks n e h
 closed_here fresh (Challenged echo issued ∷ marks) n e h = closed_here fresh marks n e h
 closed_here fresh (Answered ∷ marks) n e h = closed_here fresh marks n e h
+closed_here fresh (PassedOver count ∷ marks) n e h = closed_here fresh marks n e h
 
 spoiled_spent : (b : Bool) (n m : ℕ) (ms : List ℕ) → Has n ms → Has n (cond b (m ∷ ms) ms)
 spoiled_spent true n m ms h = inr h
@@ -160,6 +164,7 @@ here_spent fresh (Delivered m ∷ marks) n (inr h) = inr (here_spent fresh marks
 here_spent fresh (Spoiled m ∷ marks) n h = spoiled_spent (opened fresh marks) n m (spent fresh marks) (here_spent fresh marks n h)
 here_spent fresh (Challenged echo issued ∷ marks) n h = here_spent fresh marks n h
 here_spent fresh (Answered ∷ marks) n h = here_spent fresh marks n h
+here_spent fresh (PassedOver count ∷ marks) n h = here_spent fresh marks n h
 
 -- a restarted life is open exactly if something was delivered in it
 none_closed : (marks : List Mark) → first_delivered marks ≡ None → opened false marks ≡ false
@@ -168,6 +173,7 @@ none_closed (Delivered m ∷ marks) e = cc
 none_closed (Spoiled m ∷ marks) e = none_closed marks e
 none_closed (Challenged echo issued ∷ marks) e = none_closed marks e
 none_closed (Answered ∷ marks) e = none_closed marks e
+none_closed (PassedOver count ∷ marks) e = none_closed marks e
 
 cases_option : {A : Type 0} (o : Option A) → (o ≡ None) ⊎ ((x : A) × (o ≡ Some x))
 cases_option None = inl refl

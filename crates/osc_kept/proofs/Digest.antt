@@ -12,7 +12,7 @@ use Rattle.osc_life.specs.Replies.{challenge_message}
 use Rattle.osc_life.specs.LifeAnswer.{own_number}
 use Rattle.osc_life.specs.ServerHistory as server
 use Rattle.osc_kept.specs.World.{World, Event, Begin, Then, ServerStarts, AtClient, AtServer, Request, client_history, server_life, response_in, sent, answered, delivered}
-use Rattle.osc_kept.proofs.Deeds.{Deed, Sends, Begins, Renews, Spoils, Challenges, Delivers, Replies, Notifies, Nothing, sends, delivers, answers}
+use Rattle.osc_kept.proofs.Deeds.{Deed, Sends, Begins, Renews, Skips, Spoils, Challenges, Delivers, Replies, Notifies, Nothing, sends, delivers, answers}
 
 abbrev pub client_deed : Option client.History → client.Event → client.Entry → Deed
 client_deed (Some h) (client.Request now p room) (client.Sent bytes) = Sends (client.next h) (inside p)
@@ -32,6 +32,7 @@ notify_deed (Some of) t p = Notifies t (next_own of) (inside (as_notified p))
 
 abbrev pub server_deed : Option Life → server.Event → server.Entry → Deed
 server_deed l (server.Restart i next) server.Restarted = Renews next
+server_deed l (server.Skip i count) server.Skipped = Skips count
 server_deed l (server.Datagram now echo mid d) (server.Took (server.BadInner i n) reply) = Spoils n
 server_deed l (server.Datagram now echo mid d) (server.Took (server.Challenge i n given issued) reply) = challenge_deed l n given issued
 server_deed l (server.Datagram now echo mid d) (server.Took (server.Deliver received ticket) reply) = Delivers ticket received.message
@@ -68,6 +69,7 @@ sends_server None (server.Reply t own mid p room) (server.Replied bytes) ds = re
 sends_server (Some of) (server.Notify t p room) (server.Replied bytes) ds = refl
 sends_server None (server.Notify t p room) (server.Replied bytes) ds = refl
 sends_server o (server.Restart i next) server.Restarted ds = refl
+sends_server o (server.Skip i count) server.Skipped ds = refl
 sends_server o event entry ds = refl
 
 pub sent_is : (s : SecurityContext) (w : World) → sent s w ≡ sends (digest s w)
@@ -92,6 +94,7 @@ delivers_server w None (server.Reply t own mid p room) (server.Replied bytes) ds
 delivers_server w (Some of) (server.Notify t p room) (server.Replied bytes) ds e = e
 delivers_server w None (server.Notify t p room) (server.Replied bytes) ds e = e
 delivers_server w o (server.Restart i next) server.Restarted ds e = e
+delivers_server w o (server.Skip i count) server.Skipped ds e = e
 delivers_server w o event entry ds e = e
 
 pub delivered_is : (s : SecurityContext) (w : World) → delivered w ≡ delivers (digest s w)
@@ -119,6 +122,7 @@ answers_server s w (Some of) (server.Notify t p room) (server.Replied bytes) ds 
     ap (λ x. response_in x t.number true (as_notified p) ++ answered s w) f ∙ ap (λ rs. record { number = t.number; own = Some (next_own of); message = inside (as_notified p) } ∷ rs) e
 answers_server s w None (server.Notify t p room) (server.Replied bytes) ds e f = ap (λ x. response_in x t.number true (as_notified p) ++ answered s w) f ∙ e
 answers_server s w o (server.Restart i next) server.Restarted ds e f = e
+answers_server s w o (server.Skip i count) server.Skipped ds e f = e
 answers_server s w o event entry ds e f = e
 
 pub answered_is : (s : SecurityContext) (w : World) → answered s w ≡ answers (digest s w)

@@ -24,7 +24,7 @@ use Rattle.osc_kept.specs.InWorld.{IsUnseen}
 use Rattle.osc_kept.specs.Premises.{AtEach, Answers, BeginsAbove, EchoIsNew, IsLawful}
 use Rattle.osc_kept.specs.World.{World, Event, Begin, Then, Server, ServerStarts, ClientStarts, AtClient, AtServer, Draws, Reserves, Has, Request, Response, answered, client_history, heard, heard_in, sent, server_history, server_life}
 use Rattle.osc_kept.proofs.Above.{own_low, owns_below}
-use Rattle.osc_kept.proofs.Deeds.{Deed, Begins, Challenges, Delivers, Notifies, Nothing, Renews, Replies, Sends, Spoils, answers, born_challenge, carried, life_in, owns, replied_challenge}
+use Rattle.osc_kept.proofs.Deeds.{Deed, Begins, Challenges, Delivers, Notifies, Nothing, Renews, Skips, Replies, Sends, Spoils, answers, born_challenge, carried, life_in, owns, replied_challenge}
 use Rattle.osc_kept.proofs.Digest.{answered_is, client_deed, deed, digest, server_deed}
 use Rattle.osc_kept.proofs.Fitting.{again_or_new, same_life, still_in_force}
 use Rattle.osc_kept.proofs.Lives.{OnlyFirst, Stands, life_known, some_is, stands}
@@ -70,6 +70,7 @@ last_numbered s (Challenges n echo issued own m ∷ ds) c a e = elim a.1.1 [
 ]
 last_numbered s (Replies t own m ∷ ds) c a e = numbered_more (Replies t own m) ds c.0 (last_numbered s ds c a.0 (sym (replied_challenge own (life_in s ds)) ∙ e))
 last_numbered s (Notifies t own m ∷ ds) c a e = numbered_more (Notifies t own m) ds c.0 (last_numbered s ds c a.0 e)
+last_numbered s (Skips count ∷ ds) c a e = last_numbered s ds c a.0 e
 last_numbered s (Spoils n ∷ ds) c a e = last_numbered s ds c a.0 e
 last_numbered s (Delivers t m ∷ ds) c a e = last_numbered s ds c a.0 e
 last_numbered s (Sends n m ∷ ds) c a e = last_numbered s ds c a.0 e
@@ -129,6 +130,7 @@ server_makes n s w (server.Datagram now echo mid d) (server.Took (server.Challen
 server_makes n s w (server.Reply t own mid p room) (server.Replied bytes) all answer makes without = without
 server_makes n s w (server.Notify t p room) (server.Replied bytes) all answer makes without = without
 server_makes n s w (server.Restart i next) server.Restarted all answer makes without = tt
+server_makes n s w (server.Skip i count) server.Skipped all answer makes without = tt
 server_makes n s w event entry all answer makes without = tt
 
 client_makes : (s : SecurityContext) (ds : List Deed) (o : Option client.History) (event : client.Event) (entry : client.Entry) → Makes s ds (client_deed o event entry)

@@ -237,6 +237,7 @@ fits_server laws n s w (server.Datagram now echo mid d) (server.Took (server.Cha
 fits_server laws n s w (server.Reply t own mid p room) (server.Replied bytes) y = fits_reply laws n s w t own mid room p bytes y
 fits_server laws n s w (server.Notify t p room) (server.Replied bytes) y = fits_notify laws n s w t room p bytes y
 fits_server laws n s w (server.Restart i next) server.Restarted y = tt
+fits_server laws n s w (server.Skip i count) server.Skipped y = tt
 fits_server laws n s w event entry y = tt
 
 pub fits_client : (n : ℕ) (s : SecurityContext) (w : World) (o : Option client.History) (event : client.Event) (entry : client.Entry) → client_history s w ≡ o

@@ -53,6 +53,7 @@ client_same s w o event entry = refl
 server_same : (s : SecurityContext) (w : World) (l : Life) (event : server.Event) (entry : server.Entry) → challenge (life_in s (digest s w)).marks ≡ last_challenge w
     → challenge (life_in s (server_deed (Some l) event entry ∷ digest s w)).marks ≡ last_challenge (Then w (AtServer event entry))
 server_same s w l (server.Restart i next) server.Restarted e = refl
+server_same s w l (server.Skip i count) server.Skipped e = e
 server_same s w l (server.Datagram now echo mid d) (server.Took (server.Challenge i n given issued) reply) e = refl
 server_same s w l (server.Reply t true mid p room) (server.Replied bytes) e = e
 server_same s w l (server.Reply t false mid p room) (server.Replied bytes) e = e

@@ -27,7 +27,7 @@ use Rattle.osc_kept.specs.Premises.{Answers, AtEach, EchoIsNew, IsKept, IsNoAdd,
 use Rattle.osc_kept.specs.World.{World, Begin, Then, End, Client, Server, ClientStarts, ServerStarts, Draws, Reserves, AtClient, AtServer, Has, answered, client_history, numbers, sent, server_history}
 use Rattle.osc_kept.proofs.Beginning.{more_kept}
 use Rattle.osc_kept.proofs.GoingOn.{client_begins, client_goes_on, client_is, client_none, load_is, no_load, server_begins, server_goes_on, server_is, server_none}
-use Rattle.osc_kept.proofs.Lives.{Stands, no_took, some_is, stands}
+use Rattle.osc_kept.proofs.Lives.{Stands, no_skip, no_took, some_is, stands}
 use Rattle.osc_kept.proofs.Rising.{limit_above}
 use Rattle.osc_kept.proofs.Saving.{fresh_by_saving, saved_still}
 
@@ -47,6 +47,7 @@ tickets_step s w h (server.Add context start size) (server.Took (server.Deliver 
 tickets_step s w h (server.Reply t own mid q room) (server.Took (server.Deliver received u) reply) p a x = absurd a.2
 tickets_step s w h (server.Notify t q room) (server.Took (server.Deliver received u) reply) p a x = absurd a.1.2
 tickets_step s w h (server.Restart c next) (server.Took (server.Deliver received t) reply) p a x = absurd (no_took (server.life h c) (server.Deliver received t) reply a)
+tickets_step s w h (server.Skip c count) (server.Took (server.Deliver received t) reply) p a x = absurd (no_skip (server.life h c) count (server.Deliver received t) reply a)
 tickets_step s w h (server.Advance now) (server.Took (server.Deliver received t) reply) p a x = absurd a
 tickets_step s w h (server.Reply t own mid q room) (server.Replied bytes) p a x = (p.1, (p.0, p.2, p.3))
 tickets_step s w h (server.Notify t q room) (server.Replied bytes) p a x = (p.0, (p.2, (p.3.0, p.3.1, p.3.2)))
@@ -170,6 +171,7 @@ fresh_before h (server.Datagram now echo mid d) (server.Took answer reply) i of 
 fresh_before h (server.Reply t own mid p room) (server.Replied bytes) i of a e f = fresh_marked (server.reply_mark_at i t own) (server.life h i) of e f
 fresh_before h (server.Notify t p room) (server.Replied bytes) i of a e f = fresh_marked (server.reply_mark_at i t true) (server.life h i) of e f
 fresh_before h (server.Restart context next) server.Restarted i of a e f = fresh_renewed (i == context) next (server.life h i) of e f
+fresh_before h (server.Skip context count) server.Skipped i of a e f = fresh_marked (server.skip_mark_at i context count) (server.life h i) of e f
 fresh_before h event entry i of a e f = (of, e, f)
 
 saved_by_draw : (of : End) (s : SecurityContext) (w v : World) → IsDrawn of w v → AtEach (NumbersAreKept s) v → HasSavedFirst s w → HasSavedFirst s v

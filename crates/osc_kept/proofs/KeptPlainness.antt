@@ -16,7 +16,7 @@ use Rattle.osc_kept.specs.Premises.{AtEach, Answers}
 use Rattle.osc_kept.specs.World.{World, Begin, Then, ClientStarts, ServerStarts, AtClient, AtServer, Has, client_history, server_history}
 use Rattle.osc_kept.proofs.Digest.{digest}
 use Rattle.osc_kept.proofs.Fitting.{all_at, context_in, has_middle, left_given, same_life}
-use Rattle.osc_kept.proofs.Lives.{Stands, no_took, some_is, stands}
+use Rattle.osc_kept.proofs.Lives.{Stands, no_skip, no_took, some_is, stands}
 use Rattle.osc_kept.proofs.Owned.{runs}
 
 abbrev AllPlain : List server.TicketValues → Type 0
@@ -50,6 +50,7 @@ module _ (ends : EndsArePlain) (n : ℕ) (s : SecurityContext) (off : s.features
   given_step g (server.Reply t own mid p room) (server.Took (server.Deliver received u) reply) plain row all = absurd row.2
   given_step g (server.Notify t p room) (server.Took (server.Deliver received u) reply) plain row all = absurd row.1.2
   given_step g (server.Restart c next) (server.Took (server.Deliver received t) reply) plain row all = absurd (no_took (server.life g c) (server.Deliver received t) reply row)
+  given_step g (server.Skip c count) (server.Took (server.Deliver received t) reply) plain row all = absurd (no_skip (server.life g c) count (server.Deliver received t) reply row)
   given_step g (server.Advance now) (server.Took (server.Deliver received t) reply) plain row all = absurd row
   given_step g event entry plain row all = all
 

@@ -10,6 +10,7 @@ pub mod Claims
 pub mod Freshness
 pub mod Hearing
 pub mod Saving
+pub mod Receiving
 pub mod GoingOn
 pub mod InWorld
 pub mod EchoNumbers

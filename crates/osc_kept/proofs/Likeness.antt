@@ -9,12 +9,12 @@ use Rattle.osc_laws.specs.Laws.{AllAnswers}
 use Rattle.osc_endpoint.specs.Tickets.{AreLeft}
 use Rattle.osc_life.specs.Life.{Life, born, marked, renewed}
 use Rattle.osc_laws.specs.OneContext.{ContextsStandAlone, share}
-use Rattle.osc_life.specs.ServerHistory.{Add, Added, Advance, Advanced, Begin, Datagram, Deliver, Entry, Event, History, Notify, Replied, Reply, Restart, Restarted, Then, TicketValues, Took, added, clock, clock_by, life, mark_at, reply_mark_at}
+use Rattle.osc_life.specs.ServerHistory.{Add, Added, Advance, Advanced, Begin, Datagram, Deliver, Entry, Event, History, Notify, Replied, Reply, Restart, Restarted, Skip, Skipped, Then, TicketValues, Took, added, clock, clock_by, life, mark_at, reply_mark_at, skip_mark_at}
 use Rattle.osc_laws.proofs.DeliveredNumbers.{none_beyond}
 use Rattle.osc_laws.proofs.Shares.{none_yet}
 use Rattle.osc_kept.specs.Among.{IsLike, StaysLike}
 use Rattle.osc_kept.proofs.Among.{like_left}
-use Rattle.osc_kept.proofs.Lives.{no_took}
+use Rattle.osc_kept.proofs.Lives.{no_skip, no_took}
 
 -- ---- before the context is added
 
@@ -36,6 +36,7 @@ none_left (Then f (Add context start size) (Took (Deliver received t) reply)) ts
 none_left (Then f (Reply t own mid p room) (Took (Deliver received u) reply)) ts all none left = absurd all.1.2
 none_left (Then f (Notify t p room) (Took (Deliver received u) reply)) ts all none left = absurd all.1.1.2
 none_left (Then f (Restart c next) (Took (Deliver received t) reply)) ts all none left = absurd (no_took (life f c) (Deliver received t) reply all.1)
+none_left (Then f (Skip c count) (Took (Deliver received t) reply)) ts all none left = absurd (no_skip (life f c) count (Deliver received t) reply all.1)
 none_left (Then f (Advance now) (Took (Deliver received t) reply)) ts all none left = absurd all.1
 none_left (Then f (Reply t own mid p room) (Replied bytes)) ts all none left = absurd (never f t.context all.1.0 all.0 none all.1.1.0)
 none_left (Then f (Notify t p room) (Replied bytes)) ts all none left = absurd (never f t.context all.1.1.0 all.0 none all.1.1.1.0)
@@ -54,6 +55,7 @@ like_life f g (Datagram now echo mid d) (Took answer reply) here j = ap (option_
 like_life f g (Reply t own mid p room) (Replied bytes) here j = ap (option_map (marked (reply_mark_at j t own))) (here j)
 like_life f g (Notify t p room) (Replied bytes) here j = ap (option_map (marked (reply_mark_at j t true))) (here j)
 like_life f g (Restart context next) Restarted here j = ap (λ (o : Option Life). if j == context then option_map (renewed next) o else o) (here j)
+like_life f g (Skip context count) Skipped here j = ap (option_map (marked (skip_mark_at j context count))) (here j)
 like_life f g event entry here j = here j
 
 like_on : (f g : History) (event : Event) (entry : Entry) → IsLike f g → IsLike (Then f event entry) (Then g event entry)

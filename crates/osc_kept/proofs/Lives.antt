@@ -7,9 +7,9 @@ use Rattle.osc_context.specs.SecurityContext.{SecurityContext}
 use Rattle.osc_window.specs.declared.window_size.WindowSize.{WindowSize}
 use Rattle.osc_life.specs.declared.start.Start.{Start}
 use Rattle.osc_laws.specs.Laws.{AllAnswers, delivered, answered}
-use Rattle.osc_life.specs.Life.{Life, Mark, Spoiled, Challenged, Delivered, Answered, born, marked, next_own, renewed}
+use Rattle.osc_life.specs.Life.{Life, Mark, Spoiled, Challenged, Delivered, Answered, PassedOver, born, marked, next_own, renewed}
 use Rattle.osc_endpoint.specs.ServerAnswer.{ServerAnswer, TakeAnswer}
-use Rattle.osc_life.specs.LifeAnswer.{LifeRestart, Arrival, own_number}
+use Rattle.osc_life.specs.LifeAnswer.{LifeRestart, LifeSkip, Arrival, own_number}
 use Rattle.osc_client.specs.ClientHistory as client
 use Rattle.osc_observe.specs.Received.{Received}
 use Rattle.osc_life.specs.ServerHistory as server
@@ -39,6 +39,7 @@ was_there h (server.Datagram now echo mid d) (server.Took answer reply) i of a e
 was_there h (server.Reply t own mid p room) (server.Replied bytes) i of a e = from_map (marked (server.reply_mark_at i t own)) (server.life h i) of e
 was_there h (server.Notify t p room) (server.Replied bytes) i of a e = from_map (marked (server.reply_mark_at i t true)) (server.life h i) of e
 was_there h (server.Restart context next) server.Restarted i of a e = from_choice (i == context) (renewed next) (server.life h i) of e
+was_there h (server.Skip context count) server.Skipped i of a e = from_map (marked (server.skip_mark_at i context count)) (server.life h i) of e
 was_there h event entry i of a e = (of, e)
 
 only_step : (h : server.History) (event : server.Event) (entry : server.Entry) → IsNoAdd event → OnlyFirst h → OnlyFirst (server.Then h event entry)
@@ -81,6 +82,14 @@ restart_there : (o : Option Life) → LifeRestart o server.Restarted → (x : Li
 restart_there None a = absurd a
 restart_there (Some x) a = (x, refl)
 
+skip_there : (o : Option Life) (count : ℕ) → LifeSkip o count server.Skipped → (x : Life) × (o ≡ Some x)
+skip_there None count a = absurd a
+skip_there (Some x) count a = (x, refl)
+
+pub no_skip : (o : Option Life) (count : ℕ) (answer : server.Answer) (reply : List ℕ) → LifeSkip o count (server.Took answer reply) → ⊥
+no_skip None count answer reply a = a
+no_skip (Some x) count answer reply a = a
+
 pub no_took : (o : Option Life) (answer : server.Answer) (reply : List ℕ) → LifeRestart o (server.Took answer reply) → ⊥
 no_took None answer reply a = a
 no_took (Some x) answer reply a = a
@@ -103,6 +112,9 @@ present_step s ds h (server.Notify t q room) (server.Replied bytes) p z n a = ma
 present_step s ds h (server.Restart c next) server.Restarted p z n a =
     let x = restart_there (server.life h c) a in
     renew_here (server.life h 0) (life_in s ds) c next p (z c x.0 x.1)
+present_step s ds h (server.Skip c count) server.Skipped p z n a =
+    let x = skip_there (server.life h c) count a in
+    marks_here (server.life h 0) (life_in s ds) (PassedOver count) c p (z c x.0 x.1)
 present_step s ds h event entry p z n a = p
 
 -- ---- its tickets
@@ -114,6 +126,7 @@ given_step l ds h (server.Add context start size) (server.Took (server.Deliver r
 given_step l ds h (server.Reply t own mid q room) (server.Took (server.Deliver received u) reply) a e = absurd a.2
 given_step l ds h (server.Notify t q room) (server.Took (server.Deliver received u) reply) a e = absurd a.1.2
 given_step l ds h (server.Restart c next) (server.Took (server.Deliver received t) reply) a e = absurd (no_took (server.life h c) (server.Deliver received t) reply a)
+given_step l ds h (server.Skip c count) (server.Took (server.Deliver received t) reply) a e = absurd (no_skip (server.life h c) count (server.Deliver received t) reply a)
 given_step l ds h (server.Advance now) (server.Took (server.Deliver received t) reply) a e = absurd a
 given_step l ds h event entry a e = e
 
@@ -123,6 +136,7 @@ taken_step l ds h (server.Reply t own mid q room) (server.Replied bytes) e = ap 
 taken_step l ds h (server.Datagram now echo mid d) (server.Took (server.Deliver received t) reply) e = e
 taken_step l ds h (server.Notify t q room) (server.Replied bytes) e = e
 taken_step l ds h (server.Restart c next) server.Restarted e = e
+taken_step l ds h (server.Skip c count) server.Skipped e = e
 taken_step l ds h event entry e = e
 
 -- ---- its Sender Sequence Numbers
@@ -145,6 +159,7 @@ effect_step s ds h (server.Reply t false mid q room) (server.Replied bytes) p z 
 effect_step s ds h (server.Notify t q room) (server.Replied bytes) p z a =
     ap (λ x. use_of (option_map next_own (server.life h x))) (z t.context a.1.0 a.1.1.0) ∙ ap (λ x. use_of (option_map next_own x)) p
 effect_step s ds h (server.Restart c next) server.Restarted p z a = refl
+effect_step s ds h (server.Skip c count) server.Skipped p z a = refl
 effect_step s ds h event entry p z a = refl
 
 -- ---- all of it, of each world

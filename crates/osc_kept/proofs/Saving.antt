@@ -8,7 +8,7 @@ use Rattle.osc_context.specs.Views.{number_of}
 use Rattle.osc_window.specs.declared.window_size.WindowSize.{WindowSize}
 use Rattle.osc_life.specs.declared.start.Start.{Start}
 use Rattle.osc_life.specs.declared.start.Start.TheVariants as starts
-use Rattle.osc_life.specs.Life.{Life, Mark, Admits, Delivered, Spoiled, Challenged, Answered, born, challenge, is_open, opened}
+use Rattle.osc_life.specs.Life.{Life, Mark, Admits, Delivered, Spoiled, Challenged, Answered, PassedOver, born, challenge, is_open, opened}
 use Rattle.osc_observe.specs.Received.{Received}
 use Rattle.osc_life.specs.ServerHistory as server
 use Rattle.osc_kept_ends.specs.Numbering.{Own, Effect, Reserve, after, Allowed}
@@ -52,6 +52,7 @@ any_here (Delivered n ∷ marks) e = (n, inl refl)
 any_here (Spoiled n ∷ marks) e = any_here marks e
 any_here (Challenged echo issued ∷ marks) e = any_here marks e
 any_here (Answered ∷ marks) e = any_here marks e
+any_here (PassedOver count ∷ marks) e = any_here marks e
 
 replied_marks : (own : Option ℕ) (l : Life) (n : ℕ) → Has n (here (replied own l).marks) → Has n (here l.marks)
 replied_marks None l n h = h

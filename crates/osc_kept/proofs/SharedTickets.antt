@@ -5,8 +5,8 @@ use Rattle.osc_laws.proofs.Shares.{of_chosen}
 use Rattle.osc_laws.specs.Laws.{AllAnswers}
 use Rattle.osc_endpoint.specs.Tickets.{AreLeft, TakesTickets}
 use Rattle.osc_laws.specs.OneContext.{share, ticket_alone}
-use Rattle.osc_life.specs.ServerHistory.{Add, Added, Advance, Advanced, BadInner, Begin, Challenge, Datagram, Deliver, History, Notify, Replied, Reply, Restart, Restarted, Then, TicketValues, Took, life}
-use Rattle.osc_kept.proofs.Lives.{no_took}
+use Rattle.osc_life.specs.ServerHistory.{Add, Added, Advance, Advanced, BadInner, Begin, Challenge, Datagram, Deliver, History, Notify, Replied, Reply, Restart, Restarted, Skip, Skipped, Then, TicketValues, Took, life}
+use Rattle.osc_kept.proofs.Lives.{no_skip, no_took}
 
 -- those of this context, as tickets of a server that has it alone
 abbrev of_context : ℕ → List TicketValues → List TicketValues
@@ -65,10 +65,14 @@ left_share i (Then h (Notify t p room) (Replied bytes)) ts all (left, (front, ba
 left_share i (Then h (Restart c next) Restarted) ts all left =
     let rest = left_share i h ts all.0 left in
     of_chosen (λ g. AreLeft g (of_context i ts)) (i == c) (Then (share i h) (Restart 0 next) Restarted) (share i h) (λ e. rest) (λ e. rest)
+left_share i (Then h (Skip c count) Skipped) ts all left =
+    let rest = left_share i h ts all.0 left in
+    of_chosen (λ g. AreLeft g (of_context i ts)) (i == c) (Then (share i h) (Skip 0 count) Skipped) (share i h) (λ e. rest) (λ e. rest)
 left_share i (Then h (Add context start size) (Took (Deliver received t) reply)) ts all left = absurd all.1.1
 left_share i (Then h (Reply t own mid p room) (Took (Deliver received u) reply)) ts all left = absurd all.1.2
 left_share i (Then h (Notify t p room) (Took (Deliver received u) reply)) ts all left = absurd all.1.1.2
 left_share i (Then h (Restart c next) (Took (Deliver received t) reply)) ts all left = absurd (no_took (life h c) (Deliver received t) reply all.1)
+left_share i (Then h (Skip c count) (Took (Deliver received t) reply)) ts all left = absurd (no_skip (life h c) count (Deliver received t) reply all.1)
 left_share i (Then h (Advance now) (Took (Deliver received t) reply)) ts all left = absurd all.1
 left_share i (Then h event entry) ts all left = left_share i h ts all.0 left
 

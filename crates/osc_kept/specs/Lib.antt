@@ -2,6 +2,7 @@
 pub mod World
 pub mod Premises
 pub mod Freshness
+pub mod Receiving
 pub mod Claims
 pub mod Among
 pub mod KeptPlainness

@@ -9,6 +9,7 @@ ghost use Rattle.osc_kept.specs.GoingOn.{ClientBegins, ClientGoesOn, FreshBySavi
 ghost use Rattle.osc_kept.specs.InWorld.{ClientInWorld, ClientStartsInWorld, ServerInWorld, ServerStartsInWorld};
 ghost use Rattle.osc_kept.specs.KeptPlainness.{KeptEndsArePlain};
 ghost use Rattle.osc_kept.specs.Premises.{KeptBeginAbove};
+ghost use Rattle.osc_kept.specs.Receiving.{ReceivedBySaving};
 ghost use Rattle.osc_kept.specs.RunsInWorld.{ClientRunInWorld, ServerRunInWorld};
 
 use osc_coap::one_datagram;
@@ -92,6 +93,14 @@ pub fn kept_ends_begin()
 /// while nothing was delivered (RFC 8613, B.1.1 and B.1.2).
 pub fn fresh_by_saving()
     ensures { FreshBySaving }
+{}
+
+/// States that a server whose numbers of received requests are kept starts fresh only while nothing was delivered, and open only above all
+/// that was, if a greater number is kept before each delivery reaches the application, and each start is by what is kept. That
+/// is the premise of `both_ends` on starts: so no request is delivered in two lives, and from the life after its first delivery on the server
+/// needs no challenge (RFC 8613, 7.4, 7.5 and B.1.2).
+pub fn received_by_saving()
+    ensures { ReceivedBySaving }
 {}
 
 /// States that the premises can be met. An exchange, a restart of both ends, and a challenge with a delivery through it meet them

@@ -14,7 +14,7 @@ pub use in_world::{
 pub use laws::{
     both_ends, each_context, echo_by_numbers, fresh_by_saving, kept_ends_are_plain,
     kept_ends_begin, kept_ends_go_on, kept_ends_in_world, kept_runs_in_world, premises_are_needed,
-    premises_can_be_met, shares_stay_like,
+    premises_can_be_met, received_by_saving, shares_stay_like,
 };
 pub use osc_kept_ends::{KeptClient, KeptError, KeptServer};
 pub use osc_kept_runs::{

@@ -18,7 +18,7 @@ use Rattle.osc_life.specs.declared.decision.Decision.{Decision}
 use Rattle.osc_life.specs.declared.decision.Decision.TheVariants as decisions
 use Rattle.osc_endpoint.specs.Agrees.{Agrees, PlaceAgrees}
 use Rattle.osc_life.specs.Deciding.{Decides}
-use Rattle.osc_life.specs.Life.{Life, Mark, Delivered, Spoiled, Challenged, Answered, HasOwn, born, marked, next_own, is_open_life, renewed}
+use Rattle.osc_life.specs.Life.{Life, Mark, Delivered, Spoiled, Challenged, Answered, PassedOver, HasOwn, born, marked, next_own, is_open_life, renewed}
 use Rattle.osc_endpoint.specs.ServerAnswer.{ServerAnswer}
 use Rattle.osc_life.specs.LifeAnswer.{LifeRestart}
 use Rattle.osc_life.specs.ServerHistory.{History, Begin, Then, Add, Added, Answer, TicketValues, Datagram, Notify, Reply, Advance, Took, Replied, NotReplied, Restart, Restarted, NotRestarted, Advanced, Malformed, NotRequest, Plain, Undecodable, NoContext, Replay, BadTag, BadInner, Challenge, SequenceExhausted, Deliver, added, life, mark_at, reply_mark_at}
@@ -35,6 +35,7 @@ spends (Some (Delivered n)) = 0
 spends (Some (Spoiled n)) = 0
 spends (Some (Challenged echo issued)) = 1
 spends (Some Answered) = 1
+spends (Some (PassedOver count)) = count
 
 next_behind : (m : Option Mark) (l : Life) → next_own (marked m l) ≡ next_own l + spends m
 next_behind None l = omega arith
@@ -42,6 +43,7 @@ next_behind (Some (Delivered n)) l = omega arith
 next_behind (Some (Spoiled n)) l = omega arith
 next_behind (Some (Challenged echo issued)) l = omega arith
 next_behind (Some Answered) l = omega arith
+next_behind (Some (PassedOver count)) l = omega arith
 
 pub next_marked : (m : Option Mark) (o : Option Life) (next : ℕ) → option_map next_own o ≡ Some next → option_map next_own (option_map (marked m) o) ≡ Some (next + spends m)
 next_marked m None next is = absurd (let e : None ≡ Some next = is in cc)

@@ -6,7 +6,7 @@ use Rattle.osc_client.specs.declared.pending.Wait.{Wait}
 use Rattle.osc_client.specs.declared.pending.Wait.TheVariants.{Once, Observing}
 use Rattle.osc_observe.specs.Observing.{place_of, registers}
 use Rattle.osc_coap.specs.Datagram.{Parts}
-use Rattle.osc_client.specs.ClientHistory.{Asked, Datagram, Deliver, Entry, Event, Forget, History, New, Notified, Request, Restart, Sent, Then, Took, after_place, after_response, alive, asked, clock, context, is_alive, life_ms, next, observes, wait_of}
+use Rattle.osc_client.specs.ClientHistory.{Asked, Datagram, Deliver, Entry, Event, Forget, History, New, Notified, Request, Restart, Sent, Skip, Skipped, Then, Took, after_place, after_response, alive, asked, clock, context, is_alive, life_ms, next, observes, wait_of}
 
 -- the fact about a request
 abbrev Of : (ℕ → List ℕ → Bool → Type 0) → Asked → Type 0
@@ -52,6 +52,9 @@ numbers_below (Then h (Restart first) entry) = All-nil (λ (r : Asked). r.number
 numbers_below (Then h (Request now plain room) (Sent bytes)) =
     asked_after (λ k t o. k < next h + 1) h (Request now plain room) (Sent bytes) (omega arith)
     (All-weaker (λ (r : Asked). r.number < next h) (λ (r : Asked). r.number < next h + 1) (λ r f. omega (arith, f)) (asked h) (numbers_below h))
+numbers_below (Then h (Skip count) Skipped) =
+    asked_after (λ k t o. k < next h + count) h (Skip count) Skipped tt
+    (All-weaker (λ (r : Asked). r.number < next h) (λ (r : Asked). r.number < next h + count) (λ r f. omega (arith, f)) (asked h) (numbers_below h))
 numbers_below (Then h (Forget token) entry) = asked_after (λ k t o. k < next h) h (Forget token) entry tt (numbers_below h)
 numbers_below (Then h event entry) = asked_after (λ k t o. k < next h) h event entry tt (numbers_below h)
 

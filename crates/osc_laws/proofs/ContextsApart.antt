@@ -5,7 +5,7 @@ use Rattle.osc_context.specs.SecurityContext.{SecurityContext}
 use Rattle.osc_endpoint.specs.Agrees.{OneEach}
 use Rattle.osc_laws.specs.Laws.{AllAnswers}
 use Rattle.osc_endpoint.specs.ServerAnswer.{HaveSameLookup, ServerAnswer}
-use Rattle.osc_life.specs.ServerHistory.{Add, Added, Begin, Datagram, Entry, Event, History, Notify, Replied, Reply, Restart, Restarted, Then, Took, life, mark_at, reply_mark_at}
+use Rattle.osc_life.specs.ServerHistory.{Add, Added, Begin, Datagram, Entry, Event, History, Notify, Replied, Reply, Restart, Restarted, Skip, Skipped, Then, Took, life, mark_at, reply_mark_at, skip_mark_at}
 use Rattle.osc_endpoint.proofs.Additions.{HasBy, OneBy, lookup_turned, one_more}
 use Rattle.osc_endpoint.proofs.KeptContexts.{marked_by, one_kept, restarted_context}
 
@@ -24,6 +24,8 @@ one_after R turned h (Notify ticket plain room) (Replied bytes) free each =
     marked_by R h (Then h (Notify ticket plain room) (Replied bytes)) (λ i. reply_mark_at i ticket true) (λ i. refl) each
 one_after R turned h (Restart context next) Restarted free each =
     one_kept R h (Then h (Restart context next) Restarted) (λ i. restarted_context (i == context) next (life h i)) each
+one_after R turned h (Skip context count) Skipped free each =
+    marked_by R h (Then h (Skip context count) Skipped) (λ i. skip_mark_at i context count) (λ i. refl) each
 one_after R turned h event entry free each = each
 
 pub one_at_first : (R : SecurityContext → SecurityContext → Type 0) → OneBy R Begin

@@ -7,11 +7,11 @@ use Rattle.std.proofs.lemmas.Bool.{cases_Bool, cond-false, cond_both, eq-eqb, eq
 use Rattle.std.proofs.lemmas.List.Elements.{All-head, All-nil, All-tail}
 use Rattle.osc_coap.specs.Inner.{InnerParts}
 use Rattle.osc_laws.specs.Laws.{AllAnswers, AreApart, DeliveredOnce, Pairwise, delivered}
-use Rattle.osc_life.specs.Life.{Admits, Answered, Challenged, Delivered, Life, Mark, Spoiled, born, is_open, marked, opened, renewed, spent}
+use Rattle.osc_life.specs.Life.{Admits, Answered, Challenged, Delivered, Life, Mark, PassedOver, Spoiled, born, is_open, marked, opened, renewed, spent}
 use Rattle.osc_observe.specs.Received.{Received}
-use Rattle.osc_life.specs.LifeAnswer.{LifeRestart}
+use Rattle.osc_life.specs.LifeAnswer.{LifeRestart, LifeSkip}
 use Rattle.osc_endpoint.specs.ServerAnswer.{ServerAnswer}
-use Rattle.osc_life.specs.ServerHistory.{Add, Added, Advance, Answer, Begin, Datagram, Deliver, Entry, Event, History, Notify, Replied, Reply, Restart, Restarted, Then, TicketValues, Took, added, clock, life, mark_at, reply_mark_at}
+use Rattle.osc_life.specs.ServerHistory.{Add, Added, Advance, Answer, Begin, Datagram, Deliver, Entry, Event, History, Notify, Replied, Reply, Restart, Restarted, Skip, Skipped, Then, TicketValues, Took, added, clock, life, mark_at, reply_mark_at, skip_mark_at}
 use Rattle.osc_life.proofs.Lives.{closed_bare}
 
 -- ---- numbers that are spent
@@ -33,6 +33,7 @@ still_among fresh (Spoiled k) marks n h =
     cond_both (opened fresh marks) (k ∷ spent fresh marks) (spent fresh marks) (λ ms. IsAmong ms n) (λ e. among_more n k (spent fresh marks) h) (λ e. h)
 still_among fresh (Challenged echo issued) marks n h = h
 still_among fresh Answered marks n h = h
+still_among fresh (PassedOver count) marks n h = h
 
 -- a number that is admitted isn't spent
 unspent : (of : Life) (clock n : ℕ) (m : InnerParts) → Admits of clock n m → All (λ k. k ≢ n) (spent of.open_at_birth of.marks)
@@ -83,6 +84,7 @@ none_after h (Reply ticket own mid plain room) (Replied bytes) row none i beyond
 none_after h (Notify ticket plain room) (Replied bytes) row none i beyond = ap (option_map (marked (reply_mark_at i ticket true))) (none i beyond)
 none_after h (Restart context next) Restarted row none i beyond =
     cond_both (i == context) (option_map (renewed next) (life h i)) (life h i) (λ o. o ≡ None) (λ e. ap (option_map (renewed next)) (none i beyond)) (λ e. none i beyond)
+none_after h (Skip context count) Skipped row none i beyond = ap (option_map (marked (skip_mark_at i context count))) (none i beyond)
 none_after h event (Added index) row none i beyond = let later : added h + 1 ≤ i = beyond in none i (omega (arith, later))
 none_after h event entry row none i beyond = none i beyond
 
@@ -105,6 +107,7 @@ still_spent h (Notify ticket plain room) (Replied bytes) row none t before = spe
 still_spent h (Restart context next) Restarted row none t before =
     cond_both (t.context == context) (option_map (renewed next) (life h t.context)) (life h t.context) (λ o. IsSpentIn o t)
     (λ e. spent_renewed (life h t.context) next t before) (λ e. before)
+still_spent h (Skip context count) Skipped row none t before = spent_marked (life h t.context) (skip_mark_at t.context context count) t before
 still_spent h event entry row none t before = before
 
 -- what was delivered before is apart from a number that is admitted
@@ -123,6 +126,10 @@ restart_takes_none : (o : Option Life) (answer : Answer) (reply : List ℕ) → 
 restart_takes_none None answer reply row = row
 restart_takes_none (Some of) answer reply row = row
 
+skip_takes_none : (o : Option Life) (count : ℕ) (answer : Answer) (reply : List ℕ) → LifeSkip o count (Took answer reply) → ⊥
+skip_takes_none None count answer reply row = row
+skip_takes_none (Some of) count answer reply row = row
+
 pub first_delivery : (h : History) (event : Event) (received : Received) (ticket : TicketValues) (reply : List ℕ)
     → ServerAnswer h event (Took (Deliver received ticket) reply) → IsFirst h (Then h event (Took (Deliver received ticket) reply)) ticket
 first_delivery h (Datagram now echo mid d) received ticket reply ((i, n, of, request, (receives, admits, values)), none) =
@@ -138,6 +145,7 @@ first_delivery h (Add s start size) received ticket reply row = absurd row.1
 first_delivery h (Reply t own mid plain room) received ticket reply row = absurd row.2
 first_delivery h (Notify t plain room) received ticket reply row = absurd row.1.2
 first_delivery h (Restart i next) received ticket reply row = absurd (restart_takes_none (life h i) (Deliver received ticket) reply row)
+first_delivery h (Skip i count) received ticket reply row = absurd (skip_takes_none (life h i) count (Deliver received ticket) reply row)
 first_delivery h (Advance now) received ticket reply row = absurd row
 
 -- ---- histories

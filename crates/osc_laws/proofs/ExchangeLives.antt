@@ -8,7 +8,7 @@ use Rattle.osc_context.specs.SecurityContext.{SecurityContext}
 use Rattle.osc_window.specs.Views.{places_of}
 use Rattle.osc_client.specs.ClientHistory as client
 use Rattle.osc_laws.specs.Exchange.{Request, AtClient, AtServer, Brings, Exchange, Starts, Then, AreInStep, IsElsewhere, IsHonest, IsOfThese, LeavesNew, StaysOpen, client_of, sent, server_of, tickets}
-use Rattle.osc_life.specs.Life.{Life, Mark, Answered, Challenged, Delivered, IsNewIn, Spoiled, born, is_open, marked, renewed, spent}
+use Rattle.osc_life.specs.Life.{Life, Mark, Answered, Challenged, Delivered, IsNewIn, PassedOver, Spoiled, born, is_open, marked, renewed, spent}
 use Rattle.osc_endpoint.specs.ServerAnswer.{ServerAnswer}
 use Rattle.osc_life.specs.ServerHistory as server
 use Rattle.osc_laws.proofs.DeliveredNumbers.{HasNoneBeyond}
@@ -66,6 +66,7 @@ after_mark (Some (Delivered n)) s first of h f = record { same = f.same; new = �
 after_mark (Some (Spoiled n)) s first of h f = absurd h
 after_mark (Some (Challenged echo issued)) s first of h f = record { same = f.same; new = f.new }
 after_mark (Some Answered) s first of h f = record { same = f.same; new = f.new }
+after_mark (Some (PassedOver count)) s first of h f = record { same = f.same; new = f.new }
 
 pub after_restart : (s : SecurityContext) (first next : ℕ) (of : Life) → Fits s first of → Fits s first (renewed next of)
 after_restart s first next of f = record { same = f.same; new = λ is k above. absurd (let never : false ≡ true = is in cc) }
@@ -86,6 +87,9 @@ elsewhere i first answer apart = tt
 
 pub replies : (i first : ℕ) (t : server.TicketValues) (own : Bool) → Allowed first (server.reply_mark_at i t own)
 replies i first t own = allowed_if (own && (i == t.context)) first Answered (λ e. tt)
+
+pub skips : (i first context count : ℕ) → Allowed first (server.skip_mark_at i context count)
+skips i first context count = allowed_if (i == context) first (PassedOver count) (λ e. tt)
 
 -- a life that is there, and fits
 abbrev pub IsFitting : SecurityContext → ℕ → Option Life → Type 0
@@ -112,6 +116,8 @@ at_server i s first g ts (server.Notify t p room) (server.Replied bytes) none ro
 at_server i s first g ts (server.Restart j next) server.Restarted none row of_these (of, is, f) =
     cond_both (i == j) (option_map (renewed next) (server.life g i)) (server.life g i) (IsFitting s first)
     (λ e. (renewed next of, ap (option_map (renewed next)) is, after_restart s first next of f)) (λ e. (of, is, f))
+at_server i s first g ts (server.Skip context count) server.Skipped none row of_these f =
+    marked_fits s first (server.life g i) (server.skip_mark_at i context count) (skips i first context count) f
 at_server i s first g ts event entry none row of_these f = f
 
 -- ---- what is new in a window that stays open
@@ -150,6 +156,8 @@ still_wide (Some (Spoiled n)) i first ts o h w = absurd h
 still_wide (Some (Challenged echo issued)) i first ts o h w =
     record { life = marked (Some (Challenged echo issued)) w.life; is = ap (option_map (marked (Some (Challenged echo issued)))) w.is; open_is = w.open_is; new = w.new }
 still_wide (Some Answered) i first ts o h w = record { life = marked (Some Answered) w.life; is = ap (option_map (marked (Some Answered))) w.is; open_is = w.open_is; new = w.new }
+still_wide (Some (PassedOver count)) i first ts o h w =
+    record { life = marked (Some (PassedOver count)) w.life; is = ap (option_map (marked (Some (PassedOver count)))) w.is; open_is = w.open_is; new = w.new }
 
 pub wide_by_one : (b : Bool) (i first : ℕ) (t : server.TicketValues) (ts : List server.TicketValues) (o : Option Life) → (i == t.context) ≡ b → IsWide i first ts o
     → IsWide i first (t ∷ ts) (option_map (marked (if b then Some (Delivered t.number) else None)) o)
@@ -188,4 +196,6 @@ wide_at_server i first x (server.Notify t p room) (server.Replied bytes) none ro
 wide_at_server i first x (server.Restart j next) server.Restarted none row of_these is (stays, apart) =
     cond_both (i == j) (option_map (renewed next) (server.life (server_of x) i)) (server.life (server_of x) i) (IsWide i first (tickets x))
     (λ e. absurd (apart (eqb-true i j e))) (λ e. is stays)
+wide_at_server i first x (server.Skip context count) server.Skipped none row of_these is stays =
+    still_wide (server.skip_mark_at i context count) i first (tickets x) (server.life (server_of x) i) (skips i 0 context count) (is stays)
 wide_at_server i first x event entry none row of_these is stays = is stays

@@ -11,10 +11,10 @@ use Rattle.osc_window.specs.Gate.{challenge_in_force}
 use Rattle.osc_life.specs.declared.start.Start.{Start}
 use Rattle.osc_life.specs.declared.start.Start.TheVariants.{Fresh, Received, Restarted as ByRestart}
 use Rattle.osc_laws.specs.Laws.{AllAnswers}
-use Rattle.osc_life.specs.Life.{Answered, Challenged, Delivered, Life, Mark, Spoiled, born, challenge, in_force, is_open, marked, renewed}
+use Rattle.osc_life.specs.Life.{Answered, Challenged, Delivered, Life, Mark, PassedOver, Spoiled, born, challenge, in_force, is_open, marked, renewed}
 use Rattle.osc_endpoint.specs.ServerAnswer.{MeetsRow, arrival}
 use Rattle.osc_life.specs.LifeAnswer.{challenge_given}
-use Rattle.osc_life.specs.ServerHistory.{Add, Added, Answer, BadInner, Begin, Challenge, Datagram, Deliver, History, Notify, Replied, Reply, Restart, Restarted, Then, TicketValues, Took, clock, life, mark_at, reply_mark_at}
+use Rattle.osc_life.specs.ServerHistory.{Add, Added, Answer, BadInner, Begin, Challenge, Datagram, Deliver, History, Notify, Replied, Reply, Restart, Restarted, Skip, Skipped, Then, TicketValues, Took, clock, life, mark_at, reply_mark_at}
 
 -- where the mark is a challenge, it serves from this moment on until its time is over
 abbrev Serves : Option (List ℕ × ℕ) → ℕ → Mark → Type 0
@@ -71,6 +71,7 @@ other : (mark : Mark) (marks : List Mark) (from : ℕ) → IsOther mark → AllS
 other (Delivered n) marks from is h = All-cons (Serves (challenge marks) from) (Delivered n) marks tt h
 other (Spoiled n) marks from is h = All-cons (Serves (challenge marks) from) (Spoiled n) marks tt h
 other Answered marks from is h = All-cons (Serves (challenge marks) from) Answered marks tt h
+other (PassedOver count) marks from is h = All-cons (Serves (challenge marks) from) (PassedOver count) marks tt h
 other (Challenged value issued) marks from is h = absurd is
 
 -- ---- lives
@@ -143,6 +144,8 @@ all_serve (Then h (Reply t own mid plain room) (Replied bytes)) all i = replied 
 all_serve (Then h (Notify t plain room) (Replied bytes)) all i = replied i t true (life h i) (clock h) (all_serve h all.0 i)
 all_serve (Then h (Restart context next) Restarted) all i =
     cond_both (i == context) (option_map (renewed next) (life h i)) (life h i) (λ o. LifeServes o (clock h)) (λ e. renewed_serves (life h i) next (clock h)) (λ e. all_serve h all.0 i)
+all_serve (Then h (Skip context count) Skipped) all i =
+    marked_if (i == context) (life h i) (PassedOver count) (clock h) (λ e. marked_other (life h i) (PassedOver count) (clock h) tt (all_serve h all.0 i)) (all_serve h all.0 i)
 all_serve (Then h event entry) all i = life_later (life h i) (clock h) (clock (Then h event entry)) (omega arith) (all_serve h all.0 i)
 
 -- the value of each challenge of a closed life is in force for its time

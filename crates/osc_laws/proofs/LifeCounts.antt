@@ -10,28 +10,34 @@ use Rattle.osc_protect.specs.Laws.{ProtectionsShowHeads}
 use Rattle.osc_protect.specs.Protection.{responses_to}
 use Rattle.osc_protect.specs.Sealed.{IsSealed}
 use Rattle.osc_life.specs.declared.server_error.RestartError.{RestartError}
+use Rattle.osc_life.specs.declared.server_error.SkipError.{SkipError}
 use Rattle.osc_life.specs.declared.start.Start.{Start}
 use Rattle.osc_life.specs.declared.start.Start.TheVariants as starts
 use Rattle.osc_laws.specs.AnswerLaws.{SealedHeads}
-use Rattle.osc_laws.specs.Laws.{Text, HasOwnNumber, texts, text_in, answered}
-use Rattle.osc_life.specs.Life.{HasOwn, Mark, Delivered, Spoiled, Challenged, Answered, Life, own_count, next_own, marked, born, renewed}
+use Rattle.osc_laws.specs.Laws.{Text, HasOwnNumber, texts, text_in, answered, passed_over}
+use Rattle.osc_life.specs.Life.{HasOwn, Mark, Delivered, Spoiled, Challenged, Answered, PassedOver, Life, own_count, next_own, marked, born, renewed}
 use Rattle.osc_endpoint.specs.ServerAnswer.{IsContext, ServerAnswer}
-use Rattle.osc_life.specs.LifeAnswer.{LifeRestart}
-use Rattle.osc_life.specs.ServerHistory.{History, Then, Event, Entry, TicketValues, Add, Datagram, Reply, Notify, Restart, Advance, BadInner, Challenge, Deliver, Added, NotAdded, Took, Replied, NotReplied, Restarted, NotRestarted, Advanced, added, life}
+use Rattle.osc_life.specs.LifeAnswer.{LifeRestart, LifeSkip}
+use Rattle.osc_life.specs.ServerHistory.{History, Then, Event, Entry, TicketValues, Add, Datagram, Reply, Notify, Restart, Skip, Advance, BadInner, Challenge, Deliver, Added, NotAdded, Took, Replied, NotReplied, Restarted, NotRestarted, Skipped, NotSkipped, Advanced, added, life}
 
--- of a life: its context, how many were before it, its first Sender Sequence Number, and how many it used
+-- of a life: its context, how many were before it, its first Sender Sequence Number, how many are behind that, and how many of those were passed over
 pub record Kept : Type 0 where
   pub context : SecurityContext
   pub count : ℕ
   pub first : ℕ
   pub used : ℕ
+  pub passed : ℕ
 
 abbrev pub kept : Life → Kept
-kept l = record { context = l.context; count = l.count; first = l.first; used = own_count l.marks }
+kept l = record { context = l.context; count = l.count; first = l.first; used = own_count l.marks; passed = passed_over l.marks }
 
 -- one Sender Sequence Number more is used
 abbrev pub used_one : Kept → Kept
-used_one k = record { context = k.context; count = k.count; first = k.first; used = k.used + 1 }
+used_one k = record { context = k.context; count = k.count; first = k.first; used = k.used + 1; passed = k.passed }
+
+-- so many are passed over
+abbrev pub skipped : ℕ → Kept → Kept
+skipped n k = record { context = k.context; count = k.count; first = k.first; used = k.used + n; passed = k.passed + n }
 
 -- of a history: how many contexts were added, their lives, what was sealed, and the tickets of all accepted replies
 pub record Image : Type 0 where
@@ -59,6 +65,7 @@ pub record IsAddition (a b : Image) : Type 0 where
   pub first : Kept
   pub context : IsContext first.context
   pub used : first.used ≡ 0
+  pub passed : first.passed ≡ 0
   pub added : b.added ≡ a.added + 1
   pub changes : Changes a b a.added first
   pub texts : b.texts ≡ a.texts
@@ -70,7 +77,17 @@ pub record IsRestart (a b : Image) : Type 0 where
   pub was : a.lives index ≡ Some old
   pub next : ℕ
   pub added : b.added ≡ a.added
-  pub changes : Changes a b index (record { context = old.context; count = old.count + 1; first = next; used = 0 })
+  pub changes : Changes a b index (record { context = old.context; count = old.count + 1; first = next; used = 0; passed = 0 })
+  pub texts : b.texts ≡ a.texts
+  pub answered : b.answered ≡ a.answered
+
+pub record IsSkip (a b : Image) : Type 0 where
+  pub index : ℕ
+  pub old : Kept
+  pub was : a.lives index ≡ Some old
+  pub over : ℕ
+  pub added : b.added ≡ a.added
+  pub changes : Changes a b index (skipped over old)
   pub texts : b.texts ≡ a.texts
   pub answered : b.answered ≡ a.answered
 
@@ -114,6 +131,7 @@ pub data Steps (a b : Image) : Type 0 where
   Stays : IsSame a b → Steps a b
   Adds : IsAddition a b → Steps a b
   Restarts : IsRestart a b → Steps a b
+  Skips : IsSkip a b → Steps a b
   Numbers : SealsNumbered a b → Steps a b
   Replies : SealsPlain a b → Steps a b
 
@@ -125,12 +143,14 @@ UsesNone (Some (Delivered n)) = Unit {0}
 UsesNone (Some (Spoiled n)) = Unit {0}
 UsesNone (Some (Challenged echo issued)) = ⊥
 UsesNone (Some Answered) = ⊥
+UsesNone (Some (PassedOver count)) = ⊥
 
 abbrev UsesOne : Mark → Type 0
 UsesOne (Delivered n) = ⊥
 UsesOne (Spoiled n) = ⊥
 UsesOne (Challenged echo issued) = Unit {0}
 UsesOne Answered = Unit {0}
+UsesOne (PassedOver count) = ⊥
 
 kept_same : (o : Option Life) (m : Option Mark) → UsesNone m → option_map kept (option_map (marked m) o) ≡ option_map kept o
 kept_same None m u = refl
@@ -139,6 +159,7 @@ kept_same (Some l) (Some (Delivered n)) u = refl
 kept_same (Some l) (Some (Spoiled n)) u = refl
 kept_same (Some l) (Some (Challenged echo issued)) u = absurd u
 kept_same (Some l) (Some Answered) u = absurd u
+kept_same (Some l) (Some (PassedOver count)) u = absurd u
 
 uses_none : (b : Bool) (m : Mark) → UsesNone (Some m) → UsesNone (if b then Some m else None)
 uses_none true m u = u
@@ -149,11 +170,17 @@ kept_used (Delivered n) l u = absurd u
 kept_used (Spoiled n) l u = absurd u
 kept_used (Challenged echo issued) l u = refl
 kept_used Answered l u = refl
+kept_used (PassedOver count) l u = absurd u
 
 kept_here : (b : Bool) (m : Mark) (o : Option Life) (l : Life) → (b ≡ true → o ≡ Some l) → UsesOne m
     → option_map kept (option_map (marked (if b then Some m else None)) o) ≡ (if b then Some (used_one (kept l)) else option_map kept o)
 kept_here true m o l is u = ap (λ (x : Option Life). option_map kept (option_map (marked (Some m)) x)) (is refl) ∙ ap (λ (k : Kept). Some k) (kept_used m l u)
 kept_here false m o l is u = kept_same o None tt
+
+kept_skipped : (b : Bool) (count : ℕ) (o : Option Life) (l : Life) → (b ≡ true → o ≡ Some l)
+    → option_map kept (option_map (marked (if b then Some (PassedOver count) else None)) o) ≡ (if b then Some (skipped count (kept l)) else option_map kept o)
+kept_skipped true count o l is = ap (λ (x : Option Life). option_map kept (option_map (marked (Some (PassedOver count))) x)) (is refl)
+kept_skipped false count o l is = kept_same o None tt
 
 kept_restarted : (b : Bool) (next : ℕ) (o : Option Life) (l : Life) → (b ≡ true → o ≡ Some l)
     → option_map kept (if b then option_map (renewed next) o else o) ≡ (if b then Some (kept (renewed next l)) else option_map kept o)
@@ -173,6 +200,11 @@ born_unused : (s : SecurityContext) (start : Start) (size : WindowSize) → own_
 born_unused s (starts.Fresh next) size = refl
 born_unused s (starts.Restarted next) size = refl
 born_unused s (starts.Received next highest) size = refl
+
+born_over : (s : SecurityContext) (start : Start) (size : WindowSize) → passed_over (born s start size).marks ≡ 0
+born_over s (starts.Fresh next) size = refl
+born_over s (starts.Restarted next) size = refl
+born_over s (starts.Received next highest) size = refl
 
 -- ---- each answer is a step
 
@@ -211,6 +243,24 @@ restarted h i next l is = Restarts (record {
   answered = refl;
 })
 
+skip_rows : (o : Option Life) (count : ℕ) (entry : Entry) → LifeSkip o count entry → ((l : Life) × (o ≡ Some l) × (entry ≡ Skipped)) ⊎ ((e : SkipError) × (entry ≡ NotSkipped e))
+skip_rows None count (NotSkipped e) r = inr (e, refl)
+skip_rows (Some l) count (NotSkipped e) r = inr (e, refl)
+skip_rows (Some l) count Skipped r = inl (l, refl, refl)
+skip_rows o count entry r = absurd r
+
+over : (h : History) (i count : ℕ) (l : Life) → life h i ≡ Some l → Steps (image h) (image (Then h (Skip i count) Skipped))
+over h i count l is = Skips (record {
+  index = i;
+  old = kept l;
+  was = ap (option_map kept) is;
+  over = count;
+  added = refl;
+  changes = λ j. kept_skipped (j == i) count (life h j) l (λ e. ap (life h) (eqb-true j i e) ∙ is);
+  texts = refl;
+  answered = refl;
+})
+
 -- what is sealed in a life that is there
 text_at : (h : History) (i n : ℕ) (own : Bool) (l : Life) (bytes : List ℕ) → life h i ≡ Some l → text_in (life h i) i n own bytes ++ texts h ≡ text_in (Some l) i n own bytes ++ texts h
 text_at h i n own l bytes is = ap (λ (o : Option Life). text_in o i n own bytes ++ texts h) is
@@ -220,6 +270,7 @@ steps shows h (Add s start size) (Added index) (context, (room, free, is)) = Add
   first = kept (born s start size);
   context = subst IsContext (sym (born_context s start size)) context;
   used = born_unused s start size;
+  passed = born_over s start size;
   added = refl;
   changes = λ j. kept_added (j == index) (born s start size) (life h j) ∙ ap (λ (n : ℕ). if j == n then Some (kept (born s start size)) else option_map kept (life h j)) is;
   texts = refl;
@@ -309,6 +360,12 @@ steps shows h (Restart i next) entry row = elim (restart_rows (life h i) entry r
   | inl r ↦ subst (λ (x : Entry). Steps (image h) (image (Then h (Restart i next) x))) (sym r.2) (restarted h i next r.0 r.1)
   | inr r ↦
       subst (λ (x : Entry). Steps (image h) (image (Then h (Restart i next) x))) (sym r.1)
+      (same (image h))
+]
+steps shows h (Skip i count) entry row = elim (skip_rows (life h i) count entry row) [
+  | inl r ↦ subst (λ (x : Entry). Steps (image h) (image (Then h (Skip i count) x))) (sym r.2) (over h i count r.0 r.1)
+  | inr r ↦
+      subst (λ (x : Entry). Steps (image h) (image (Then h (Skip i count) x))) (sym r.1)
       (same (image h))
 ]
 steps shows h (Advance now) Advanced row = same (image h)

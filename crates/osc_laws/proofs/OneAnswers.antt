@@ -17,8 +17,9 @@ use Rattle.osc_laws.specs.Laws.{OneServerAnswer}
 use Rattle.osc_life.specs.Life.{Life}
 use Rattle.osc_life.specs.Replies.{as_reply, bad_tag, no_context, replay, undecodable}
 use Rattle.osc_endpoint.specs.ServerAnswer.{AddAnswer, IsPresent, IsRequestOf, MeetsNamedRow, MeetsRow, NamesNone, NotifyAnswer, OfTicket, ReplyAnswer, SaysReply, ServerAnswer, TakeAnswer, arrival}
-use Rattle.osc_life.specs.LifeAnswer.{Arrival, LifeNotify, LifeReply, LifeRestart, MeetsLifeRow, SaysChallenge, as_notification}
-use Rattle.osc_life.specs.ServerHistory.{Add, Added, Advance, Advanced, Answer, BadTag, Challenge, Datagram, Entry, Event, History, Malformed, NoContext, NotAdded, NotReplied, NotRequest, NotRestarted, Notify, Plain, Replay, Reply, Restart, Restarted, TicketValues, Took, Undecodable, life}
+use Rattle.osc_life.specs.declared.server_error.SkipError.TheVariants as skips
+use Rattle.osc_life.specs.LifeAnswer.{Arrival, LifeNotify, LifeReply, LifeRestart, LifeSkip, MeetsLifeRow, SaysChallenge, as_notification}
+use Rattle.osc_life.specs.ServerHistory.{Add, Added, Advance, Advanced, Answer, BadTag, Challenge, Datagram, Entry, Event, History, Malformed, NoContext, NotAdded, NotReplied, NotRequest, NotRestarted, NotSkipped, Notify, Plain, Replay, Reply, Restart, Restarted, Skip, Skipped, TicketValues, Took, Undecodable, life}
 use Rattle.osc_endpoint.proofs.Deliveries.{IsSame, same_named}
 use Rattle.osc_laws.proofs.ContextsApart.{contexts_differ}
 use Rattle.osc_laws.proofs.LifeAnswers.{one_challenge, one_error, one_life_row}
@@ -51,6 +52,17 @@ one_restart None (NotRestarted NoSuchContext) entry x y = absurd y
 one_restart (Some of) (NotRestarted LivesExhausted) entry x y = absurd y
 one_restart (Some of) Restarted entry x y = absurd y
 one_restart o entry other x y = absurd x
+
+one_skip : (o : Option Life) (count : ℕ) (x y : Entry) → LifeSkip o count x → LifeSkip o count y → x ≡ y
+one_skip None count (NotSkipped skips.NoSuchContext) (NotSkipped skips.NoSuchContext) x y = refl
+one_skip (Some of) count (NotSkipped skips.TooFewLeft) (NotSkipped skips.TooFewLeft) x y = refl
+one_skip (Some of) count (NotSkipped skips.TooFewLeft) Skipped x y = absurd (omega (arith, x, y))
+one_skip (Some of) count Skipped (NotSkipped skips.TooFewLeft) x y = absurd (omega (arith, x, y))
+one_skip (Some of) count Skipped Skipped x y = refl
+one_skip None count (NotSkipped skips.NoSuchContext) entry x y = absurd y
+one_skip (Some of) count (NotSkipped skips.TooFewLeft) entry x y = absurd y
+one_skip (Some of) count Skipped entry x y = absurd y
+one_skip o count entry other x y = absurd x
 
 -- ---- replies
 
@@ -228,6 +240,7 @@ one_answer laws h (Datagram now echo mid d) x y each row other = absurd row
 one_answer laws h (Reply t own mid plain room) x y each row other = one_reply laws h t own (as_reply t.kind t.message_id t.token mid plain) room x y row other
 one_answer laws h (Notify t plain room) x y each row other = one_notify laws h t (as_notification t.token plain) room x y row other
 one_answer laws h (Restart i next) x y each row other = one_restart (life h i) x y row other
+one_answer laws h (Skip i count) x y each row other = one_skip (life h i) count x y row other
 one_answer laws h (Advance now) Advanced Advanced each row other = refl
 one_answer laws h (Advance now) Advanced y each row other = absurd other
 one_answer laws h (Advance now) x y each row other = absurd row

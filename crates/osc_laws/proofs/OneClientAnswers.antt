@@ -3,8 +3,8 @@ use Rattle.std.proofs.Common.{◌≡◌, ℕ, sym, ap, subst, refl, arith, Bool,
 use Rattle.std.specs.Prelude.{◌↔◌, max}
 use Rattle.osc_client.specs.Agrees.{TokensDiffer}
 use Rattle.osc_laws.specs.AnswerLaws.{ClientAnswerLaws}
-use Rattle.osc_client.specs.ClientAnswer.{ClientAnswer}
-use Rattle.osc_client.specs.ClientHistory.{Advance, Advanced, Asked, Datagram, Deliver, Entry, Event, Forget, Forgot, History, New, Notified, Request, Restart, Restarted, Sent, Then, Took, asked, clock, life_ms, context, next, pending, pending_at, wait_of, without}
+use Rattle.osc_client.specs.ClientAnswer.{ClientAnswer, SkipAnswer}
+use Rattle.osc_client.specs.ClientHistory.{Advance, Advanced, Asked, Datagram, Deliver, Entry, Event, Forget, Forgot, History, New, NotSkipped, Notified, Request, Restart, Restarted, Sent, Skip, Skipped, Then, Took, asked, clock, context, life_ms, next, pending, pending_at, wait_of, without}
 use Rattle.osc_laws.specs.ClientLaws.{AllClientAnswers, OneClientAnswer}
 use Rattle.osc_observe.specs.Observing.{place_of}
 use Rattle.osc_client.proofs.Asking.{differ_filter, differ_heard, differ_later, ended, heard_alive}
@@ -37,6 +37,7 @@ tokens_differ n (Then h (Datagram now d) entry) a = differ_later h now (tokens_d
 tokens_differ n (Then h (Forget token) entry) a =
     subst TokensDiffer (ended h (clock h) token) (differ_without h (clock h) token (tokens_differ n h a.0))
 tokens_differ n (Then h (Restart first) entry) a = none_differ
+tokens_differ n (Then h (Skip count) entry) a = tokens_differ n h a.0
 tokens_differ n (Then h (Advance now) entry) a = differ_later h now (tokens_differ n h a.0)
 
 one_test : (x y : Bool) (P : Type 0) → (x ≡ true) ↔ P → (y ≡ true) ↔ P → x ≡ y
@@ -44,6 +45,15 @@ one_test true true P a b = refl
 one_test true false P a b = sym (b.1 (a.0 refl))
 one_test false true P a b = a.1 (b.0 refl)
 one_test false false P a b = refl
+
+one_skip : (h : History) (count : ℕ) (x y : Entry) → SkipAnswer h count x → SkipAnswer h count y → x ≡ y
+one_skip h count Skipped Skipped row other = refl
+one_skip h count NotSkipped NotSkipped row other = refl
+one_skip h count Skipped NotSkipped row other = absurd (omega (arith, row, other))
+one_skip h count NotSkipped Skipped row other = absurd (omega (arith, row, other))
+one_skip h count Skipped y row other = absurd other
+one_skip h count NotSkipped y row other = absurd other
+one_skip h count x y row other = absurd row
 
 one_answer : ClientAnswerLaws → (n : ℕ) (h : History) (event : Event) (x y : Entry) → TokensDiffer (pending h) → ClientAnswer n h event x → ClientAnswer n h event y → x ≡ y
 one_answer laws n h (Request now p room) x y differ row other = one_request_answer laws n h (max (clock h) now) p room x y row other
@@ -56,6 +66,7 @@ one_answer laws n h (Forget token) x y differ row other = absurd row
 one_answer laws n h (Restart first) Restarted Restarted differ row other = refl
 one_answer laws n h (Restart first) Restarted y differ row other = absurd other
 one_answer laws n h (Restart first) x y differ row other = absurd row
+one_answer laws n h (Skip count) x y differ row other = one_skip h count x y row other
 one_answer laws n h (Advance now) Advanced Advanced differ row other = refl
 one_answer laws n h (Advance now) Advanced y differ row other = absurd other
 one_answer laws n h (Advance now) x y differ row other = absurd row

@@ -1,14 +1,14 @@
--- The Sender Sequence Numbers of each life: its texts count up from its first one. a is what a history shows, b what it shows one answer later, k a life,
+-- The Sender Sequence Numbers of each life: those of its texts rise from its first one, and count up where none was passed over. a is what a history shows, b what it shows one answer later, k a life,
 -- i the index of a context, c the count of its lives before one, ts texts, newest first.
 use Rattle.std.proofs.Common.{◌≡◌, ℕ, ◌+◌, ◌<◌, ◌≤◌, ◌∙◌, sym, ap, subst, refl, arith, Bool, true, false, cond, Option, Some, None, List, [], ◌∷◌, length, option_map, is_some, ◌==◌, ◌&&◌, ◌⊎◌, inl, inr}
 use Rattle.std.proofs.lemmas.Bool.{and_from, and_left, and_right, cases_eq, eq-eqb, ne_eqb}
 use Rattle.std.proofs.lemmas.Option.{none-some, same_Some}
 use Rattle.std.specs.List.{AllByRecursion}
 use Rattle.osc_laws.specs.AnswerLaws.{SealedHeads}
-use Rattle.osc_laws.specs.Laws.{AllAnswers, CountsUp, HasOwnNumber, OwnNumbersOnce, Text, own_texts}
+use Rattle.osc_laws.specs.Laws.{AllAnswers, CountsUp, HasOwnNumber, OwnNumbersOnce, Rises, Text, own_texts}
 use Rattle.osc_endpoint.specs.ServerAnswer.{IsContext}
 use Rattle.osc_life.specs.ServerHistory.{History, Begin, Then}
-use Rattle.osc_laws.proofs.LifeCounts.{Kept, kept, used_one, Image, image, Changes, IsSame, IsAddition, IsRestart, SealsNumbered, SealsPlain, Steps, Stays, Adds, Restarts, Numbers, Replies, steps}
+use Rattle.osc_laws.proofs.LifeCounts.{Kept, kept, used_one, Image, image, Changes, IsSame, IsAddition, IsRestart, IsSkip, SealsNumbered, SealsPlain, Steps, Stays, Adds, Restarts, Skips, Numbers, Replies, skipped, steps}
 
 -- ---- lists
 
@@ -48,9 +48,14 @@ pub record IsOfLife (lives : ℕ → Option Kept) (t : Text) : Type 0 where
   pub within : t.life ≤ present.count
   pub keys : t.keys ≡ present.context
 
--- the texts have the life's Sender Sequence Numbers, all that it used
+-- the texts have Sender Sequence Numbers of the life that rise, and where none was passed over all that it used
 abbrev pub IsNumbered : Kept → List Text → Type 0
-IsNumbered k ts = CountsUp k.first ts × (length ts ≡ k.used)
+IsNumbered k ts = Rises k.first (k.first + k.used) ts × (k.passed ≡ 0 → CountsUp k.first ts × (length ts ≡ k.used))
+
+-- so they do below a greater limit
+rises_below : (first limit more : ℕ) (ts : List Text) → limit ≤ more → Rises first limit ts → Rises first more ts
+rises_below first limit more [] less rises = tt
+rises_below first limit more (t ∷ ts) less (n, has, least, below, earlier) = (n, has, least, omega (arith, below, less), earlier)
 
 pub record IsCounted (a : Image) : Type 0 where
   pub beyond : (i : ℕ) → a.added ≤ i → a.lives i ≡ None
@@ -104,9 +109,9 @@ module _ (a b : Image) (i : ℕ) (k : Kept) (changes : Changes a b i k) where
   ]
 
 -- a life that begins, of a context that is added or was there
-begun : (a b : Image) (i : ℕ) (k : Kept) → Changes a b i k → IsCounted a → a.added ≤ b.added → (b.added ≤ i → ⊥) → IsContext k.context → k.used ≡ 0
+begun : (a b : Image) (i : ℕ) (k : Kept) → Changes a b i k → IsCounted a → a.added ≤ b.added → (b.added ≤ i → ⊥) → IsContext k.context → k.used ≡ 0 → k.passed ≡ 0
     → ((l : Kept) → a.lives i ≡ Some l → (l.count < k.count) × (l.context ≡ k.context)) → b.texts ≡ a.texts → IsCounted b
-begun a b i k changes c more within context unused follows same = record {
+begun a b i k changes c more within context unused unpassed follows same = record {
   beyond = kept_beyond a b i k changes c more within;
   contexts = kept_contexts a b i k changes c context;
   told =
@@ -115,7 +120,7 @@ begun a b i k changes c more within context unused follows same = record {
   numbered = λ j l is. elim (place a b i k changes j) [
     | inl p ↦
         let none : own_texts i k.count b.texts ≡ [] = ap (own_texts i k.count) same ∙ none_yet a.lives i k.count a.texts c.told (λ m e. (follows m e).0) in
-        let first : IsNumbered k (own_texts i k.count b.texts) = subst (IsNumbered k) (sym none) (tt, sym unused) in
+        let first : IsNumbered k (own_texts i k.count b.texts) = subst (IsNumbered k) (sym none) (tt, λ e. (tt, sym unused)) in
         subst (λ (x : Kept). IsNumbered x (own_texts j x.count b.texts)) (same_Some k l (sym p.1 ∙ is))
         (subst (λ (x : ℕ). IsNumbered k (own_texts x k.count b.texts)) (sym p.0) first)
     | inr p ↦ subst (λ (ts : List Text). IsNumbered l (own_texts j l.count ts)) (sym same) (c.numbered j l (sym p.1 ∙ is))
@@ -137,14 +142,14 @@ stays a b c s = record {
 adds : (a b : Image) → IsCounted a → IsAddition a b → IsCounted b
 adds a b c s =
     let more = s.added in
-    begun a b a.added s.first s.changes c (omega arith) (λ past. omega arith) s.context s.used
+    begun a b a.added s.first s.changes c (omega arith) (λ past. omega arith) s.context s.used s.passed
     (λ l is. absurd (none-some l (sym (c.beyond a.added (omega arith)) ∙ is))) s.texts
 
 restarts : (a b : Image) → IsCounted a → IsRestart a b → IsCounted b
 restarts a b c s =
     let same = s.added in
-    let begins : Kept = record { context = s.old.context; count = s.old.count + 1; first = s.next; used = 0 } in
-    begun a b s.index begins s.changes c (omega arith) (λ past. none-some s.old (sym (c.beyond s.index (omega arith)) ∙ s.was)) (c.contexts s.index s.old s.was) refl
+    let begins : Kept = record { context = s.old.context; count = s.old.count + 1; first = s.next; used = 0; passed = 0 } in
+    begun a b s.index begins s.changes c (omega arith) (λ past. none-some s.old (sym (c.beyond s.index (omega arith)) ∙ s.was)) (c.contexts s.index s.old s.was) refl refl
     (λ l is. let e : s.old ≡ l = same_Some s.old l (sym s.was ∙ is) in (subst (λ (x : Kept). x.count < s.old.count + 1) e (omega arith), sym (ap (λ (x : Kept). x.context) e))) s.texts
 
 numbers : (a b : Image) → IsCounted a → SealsNumbered a b → IsCounted b
@@ -166,14 +171,41 @@ numbers a b c s =
         | inl p ↦
             let more : own_texts s.index k.count b.texts ≡ s.text ∷ own_texts s.index k.count a.texts =
             ap (own_texts s.index k.count) s.texts ∙ one_more s.index k.count s.text a.texts s.of.context s.of.life (ap is_some s.own.own) in
-            let now : IsNumbered k (s.text ∷ own_texts s.index k.count a.texts) =
-            ((subst (λ (n : ℕ). HasOwnNumber s.text (s.old.first + n)) (sym before.1) s.own, before.0), let e = before.1 in omega arith) in
+            let now : IsNumbered k (s.text ∷ own_texts s.index k.count a.texts) = (
+              (s.old.first + s.old.used, s.own, omega arith, omega arith, before.0),
+              λ over.
+                  let counts = before.1 over in
+                  ((subst (λ (n : ℕ). HasOwnNumber s.text (s.old.first + n)) (sym counts.1) s.own, counts.0), let e = counts.1 in omega (arith, e)),
+            ) in
             subst (λ (x : Kept). IsNumbered x (own_texts j x.count b.texts)) (same_Some k l (sym p.1 ∙ is))
             (subst (λ (x : ℕ). IsNumbered k (own_texts x k.count b.texts)) (sym p.0) (subst (IsNumbered k) (sym more) now))
         | inr p ↦
             let over : own_texts j l.count b.texts ≡ own_texts j l.count a.texts =
             ap (own_texts j l.count) s.texts ∙ other_context j l.count s.text a.texts (λ e. p.0 (sym e ∙ s.of.context)) in
             subst (IsNumbered l) (sym over) (c.numbered j l (sym p.1 ∙ is))
+      ];
+    }
+
+skips : (a b : Image) → IsCounted a → IsSkip a b → IsCounted b
+skips a b c s =
+    let same = s.added in
+    let k : Kept = skipped s.over s.old in
+    let grows : (l : Kept) → a.lives s.index ≡ Some l → (l.count ≤ k.count) × (l.context ≡ k.context) =
+    λ l is. let e : s.old ≡ l = same_Some s.old l (sym s.was ∙ is) in (subst (λ (x : Kept). x.count ≤ s.old.count) e (omega arith), sym (ap (λ (x : Kept). x.context) e)) in
+    let before = c.numbered s.index s.old s.was in
+    record {
+      beyond = kept_beyond a b s.index k s.changes c (omega arith) (λ past. none-some s.old (sym (c.beyond s.index (omega arith)) ∙ s.was));
+      contexts = kept_contexts a b s.index k s.changes c (c.contexts s.index s.old s.was);
+      told = subst (AllByRecursion (IsOfLife b.lives)) (sym s.texts) (all_weaker (IsOfLife a.lives) (IsOfLife b.lives) (kept_text a b s.index k s.changes grows) a.texts c.told);
+      numbered = λ j l is. elim (place a b s.index k s.changes j) [
+        | inl p ↦
+            let now : IsNumbered k (own_texts s.index k.count a.texts) = (
+              rises_below s.old.first (s.old.first + s.old.used) (s.old.first + (s.old.used + s.over)) _ (omega arith) before.0,
+              λ none. let counts = before.1 (omega (arith, none)) in (counts.0, let e = counts.1 in omega (arith, e, none)),
+            ) in
+            subst (λ (x : Kept). IsNumbered x (own_texts j x.count b.texts)) (same_Some k l (sym p.1 ∙ is))
+            (subst (λ (x : ℕ). IsNumbered k (own_texts x k.count b.texts)) (sym p.0) (subst (λ (ts : List Text). IsNumbered k (own_texts s.index k.count ts)) (sym s.texts) now))
+        | inr p ↦ subst (λ (ts : List Text). IsNumbered l (own_texts j l.count ts)) (sym s.texts) (c.numbered j l (sym p.1 ∙ is))
       ];
     }
 
@@ -194,6 +226,7 @@ counted_on : (a b : Image) → IsCounted a → Steps a b → IsCounted b
 counted_on a b c (Stays s) = stays a b c s
 counted_on a b c (Adds s) = adds a b c s
 counted_on a b c (Restarts s) = restarts a b c s
+counted_on a b c (Skips s) = skips a b c s
 counted_on a b c (Numbers s) = numbers a b c s
 counted_on a b c (Replies s) = replies a b c s
 
@@ -201,6 +234,8 @@ pub counted : SealedHeads → (h : History) → AllAnswers h → IsCounted (imag
 counted shows Begin a = record { beyond = λ i past. refl; contexts = λ i k is. absurd (none-some k is); told = tt; numbered = λ i k is. absurd (none-some k is) }
 counted shows (Then h event entry) a = counted_on (image h) (image (Then h event entry)) (counted shows h a.0) (steps shows h event entry a.1)
 
--- the Sender Sequence Numbers of a life are consecutive
+-- the Sender Sequence Numbers of a life rise, and are consecutive where none was passed over
 pub own_numbers : SealedHeads → OwnNumbersOnce
-own_numbers shows h i of a is = ((counted shows h a).numbered i (kept of) (ap (option_map kept) is)).0
+own_numbers shows h i of a is =
+    let numbered = (counted shows h a).numbered i (kept of) (ap (option_map kept) is) in
+    record { rise = numbered.0; count_up = λ none. (numbered.1 none).0 }

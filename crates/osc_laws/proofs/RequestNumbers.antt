@@ -8,8 +8,8 @@ use Rattle.osc_context.specs.OscoreValue.{IsOscoreValue}
 use Rattle.osc_context.specs.SecurityContext.{SecurityContext}
 use Rattle.osc_protect.specs.Laws.{RequestsShowHeads}
 use Rattle.osc_protect.specs.Sealed.{SealsRequest}
-use Rattle.osc_client.specs.ClientHistory.{History, New, Request, Restart, Sent, Then, context, next}
-use Rattle.osc_laws.specs.ClientLaws.{AllClientAnswers, ClientNoncesOnce, HasNumber, RequestNumbersOnce, RequestsCountUp, RequestsHaveTwoNonces, SealedRequest, first_number, restarts, sealed, sealed_after}
+use Rattle.osc_client.specs.ClientHistory.{History, New, Request, Restart, Sent, Skip, Skipped, Then, context, next}
+use Rattle.osc_laws.specs.ClientLaws.{AllClientAnswers, ClientNoncesOnce, HasNumber, RequestNumbersOnce, RequestsCountUp, RequestsHaveTwoNonces, RequestsRise, SealedRequest, first_number, passed_over, restarts, sealed, sealed_after}
 use Rattle.osc_laws.proofs.OwnNumbers.{all_weaker}
 
 -- the request was sealed before the next number came up
@@ -20,8 +20,15 @@ record IsEarlier (c k : ℕ) (r : SealedRequest) : Type 0 where
 
 record AreCounted (h : History) : Type 0 where
   pub earlier : AllByRecursion (IsEarlier (restarts h) (next h)) (sealed h)
-  pub counts : RequestsCountUp (context h) (first_number h) (sealed_after (restarts h) (sealed h))
-  pub used : first_number h + length (sealed_after (restarts h) (sealed h)) ≡ next h
+  pub begun : first_number h ≤ next h
+  pub rise : RequestsRise (context h) (first_number h) (next h) (sealed_after (restarts h) (sealed h))
+  pub counts : passed_over h ≡ 0
+      → RequestsCountUp (context h) (first_number h) (sealed_after (restarts h) (sealed h)) × (first_number h + length (sealed_after (restarts h) (sealed h)) ≡ next h)
+
+-- requests whose numbers rise do so below a greater limit
+rise_below : (s : SecurityContext) (first limit more : ℕ) (rs : List SealedRequest) → limit ≤ more → RequestsRise s first limit rs → RequestsRise s first more rs
+rise_below s first limit more [] less rise = tt
+rise_below s first limit more (r ∷ rs) less (has, least, below, earlier) = (has, least, omega (arith, below, less), earlier)
 
 -- behind a restart there is none at first
 none_yet : (c k : ℕ) (rs : List SealedRequest) → AllByRecursion (IsEarlier c k) rs → sealed_after (c + 1) rs ≡ []
@@ -48,23 +55,28 @@ has_number shows s r p number is seals =
     }
 
 counted : RequestsShowHeads → (n : ℕ) (h : History) → AllClientAnswers n h → AreCounted h
-counted shows n (New s first ms) a = record { earlier = tt; counts = tt; used = omega arith }
+counted shows n (New s first ms) a = record { earlier = tt; begun = omega arith; rise = tt; counts = λ none. (tt, omega arith) }
 counted shows n (Then h (Request now p room) (Sent bytes)) a =
     let old = counted shows n h a.0 in
     let r : SealedRequest = record { restarts = restarts h; number = next h; bytes = bytes } in
     let less : next h < 2 ^ 40 = a.1.0.2 in
     let more = one_more (restarts h) r (sealed h) refl in
-    let used = old.used in
+    let begun = old.begun in
+    let has : (number : ℕ) → next h ≡ number → HasNumber (context h) r number = λ number is. has_number shows (context h) r p number is a.1.1 in
     record {
       earlier = (
         record { begun = omega arith; less = less; below = λ e. omega arith },
         all_weaker (IsEarlier (restarts h) (next h)) (IsEarlier (restarts h) (next h + 1))
             (λ q is. record { begun = is.begun; less = is.less; below = λ e. let b = is.below e in omega (arith, b) }) (sealed h) old.earlier,
       );
-      counts =
-          subst (RequestsCountUp (context h) (first_number h)) (sym more)
-          (has_number shows (context h) r p (first_number h + length (sealed_after (restarts h) (sealed h))) (sym used) a.1.1, old.counts);
-      used = ap (λ (rs : List SealedRequest). first_number h + length rs) more ∙ omega (arith, used);
+      begun = omega (arith, begun);
+      rise = subst (RequestsRise (context h) (first_number h) (next h + 1)) (sym more) (has (next h) refl, begun, omega arith, old.rise);
+      counts = λ none.
+          let before = old.counts none in
+          let used = before.1 in (
+            subst (RequestsCountUp (context h) (first_number h)) (sym more) (has (first_number h + length (sealed_after (restarts h) (sealed h))) (sym used), before.0),
+            ap (λ (rs : List SealedRequest). first_number h + length rs) more ∙ omega (arith, used),
+          );
     }
 counted shows n (Then h (Restart first) entry) a =
     let old = counted shows n h a.0 in
@@ -73,13 +85,30 @@ counted shows n (Then h (Restart first) entry) a =
       earlier =
           all_weaker (IsEarlier (restarts h) (next h)) (IsEarlier (restarts h + 1) first)
           (λ q is. let begun = is.begun in record { begun = omega (arith, begun); less = is.less; below = λ e. absurd (omega (arith, begun, e)) }) (sealed h) old.earlier;
-      counts = subst (RequestsCountUp (context h) first) (sym none) tt;
-      used = ap (λ (rs : List SealedRequest). first + length rs) none ∙ omega arith;
+      begun = omega arith;
+      rise = subst (RequestsRise (context h) first first) (sym none) tt;
+      counts = λ _. (subst (RequestsCountUp (context h) first) (sym none) tt, ap (λ (rs : List SealedRequest). first + length rs) none ∙ omega arith);
     }
-counted shows n (Then h event entry) a = let old = counted shows n h a.0 in record { earlier = old.earlier; counts = old.counts; used = old.used }
+counted shows n (Then h (Skip count) Skipped) a =
+    let old = counted shows n h a.0 in
+    let begun = old.begun in
+    record {
+      earlier =
+          all_weaker (IsEarlier (restarts h) (next h)) (IsEarlier (restarts h) (next h + count))
+          (λ q is. record { begun = is.begun; less = is.less; below = λ e. let b = is.below e in omega (arith, b) }) (sealed h) old.earlier;
+      begun = omega (arith, begun);
+      rise = rise_below (context h) (first_number h) (next h) (next h + count) _ (omega arith) old.rise;
+      counts = λ none.
+          let before = old.counts (omega (arith, none)) in
+          let used = before.1 in
+          (before.0, omega (arith, used, none));
+    }
+counted shows n (Then h event entry) a = let old = counted shows n h a.0 in record { earlier = old.earlier; begun = old.begun; rise = old.rise; counts = old.counts }
 
 pub request_numbers : RequestsShowHeads → RequestNumbersOnce
-request_numbers shows n h a = (counted shows n h a).counts
+request_numbers shows n h a =
+    let c = counted shows n h a in
+    record { rise = c.rise; count_up = λ none. (c.counts none).0 }
 
 -- a request by the next number, and an earlier one
 apart : OneNonce → (s : SecurityContext) (c k : ℕ) (r q : SealedRequest) → length s.client ≤ 7 → r.restarts ≡ c → r.number ≡ k → k < 2 ^ 40 → IsEarlier c k q → RequestsHaveTwoNonces s r q

@@ -1,6 +1,6 @@
 -- The nonces of what a server seals: two in one life of a context differ. a is what a history shows, b what it shows one answer later, t and u
 -- texts, x and y their own Partial IVs, n and m the numbers of their requests, s a security context, ws tickets.
-use Rattle.std.proofs.Common.{◌≡◌, ◌≢◌, ℕ, ◌+◌, ◌<◌, ◌≤◌, ◌^◌, ◌∙◌, sym, ap, subst, refl, arith, Bool, false, Option, Some, None, IfSome, List, [], ◌∷◌, ◌++◌, length, is_some, le_of_eq, ◌==◌, ◌&&◌, ◌⊎◌, inl, inr}
+use Rattle.std.proofs.Common.{◌≡◌, ◌≢◌, ℕ, ◌+◌, ◌<◌, ◌≤◌, ◌^◌, ◌∙◌, sym, ap, subst, refl, arith, Bool, false, Option, Some, None, IfSome, List, [], ◌∷◌, ◌++◌, is_some, ◌==◌, ◌&&◌, ◌⊎◌, inl, inr}
 use Rattle.std.proofs.lemmas.Bool.{cases_Bool, eq-eqb}
 use Rattle.std.proofs.lemmas.Option.{none-some, same_Some}
 use Rattle.std.specs.List.{AllByRecursion}
@@ -8,12 +8,12 @@ use Rattle.osc_context.specs.Laws.{OneNonce, ValueNumberInRange}
 use Rattle.osc_context.specs.SecurityContext.{SecurityContext}
 use Rattle.osc_protect.specs.Protection.{requests, response_nonce}
 use Rattle.osc_laws.specs.AnswerLaws.{SealedHeads}
-use Rattle.osc_laws.specs.Laws.{AllAnswers, AreApart, CountsUp, DeliveredOnce, HaveTwoNonces, Pairwise, ServerNoncesOnce, Text, answered, delivered, nonce_of_text, own_texts, texts}
+use Rattle.osc_laws.specs.Laws.{AllAnswers, AreApart, DeliveredOnce, HaveTwoNonces, Pairwise, Rises, ServerNoncesOnce, Text, answered, delivered, nonce_of_text, own_texts, texts}
 use Rattle.osc_life.specs.Life.{Life}
 use Rattle.osc_endpoint.specs.ServerAnswer.{IsContext}
-use Rattle.osc_life.specs.LifeAnswer.{LifeRestart}
-use Rattle.osc_life.specs.ServerHistory.{History, Begin, Then, Add, Datagram, Reply, Notify, Restart, Advance, Deliver, Took, Answer, TicketValues, life}
-use Rattle.osc_laws.proofs.LifeCounts.{Kept, Image, image, SealsNumbered, SealsPlain, Steps, Stays, Adds, Restarts, Numbers, Replies, steps}
+use Rattle.osc_life.specs.LifeAnswer.{LifeRestart, LifeSkip}
+use Rattle.osc_life.specs.ServerHistory.{History, Begin, Then, Add, Datagram, Reply, Notify, Restart, Skip, Advance, Deliver, Took, Answer, TicketValues, life}
+use Rattle.osc_laws.proofs.LifeCounts.{Kept, Image, image, SealsNumbered, SealsPlain, Steps, Stays, Adds, Restarts, Skips, Numbers, Replies, steps}
 use Rattle.osc_laws.proofs.OwnNumbers.{IsCounted, IsOfLife, all_weaker, counted, is_own, passed_over, taken_up}
 use Rattle.osc_laws.proofs.Tickets.{all_answered, all_behind, pairs_behind, tickets_once}
 
@@ -66,17 +66,20 @@ own_cases i c t ts = elim (cases_Bool (is_own i c t)) [
       )
 ]
 
-all_below : (i c first n : ℕ) (ts : List Text) → CountsUp first (own_texts i c ts) → length (own_texts i c ts) ≤ n → AllByRecursion (IsBelow i c (first + n)) ts
-all_below i c first n [] counts fits = tt
-all_below i c first n (t ∷ ts) counts fits = elim (own_cases i c t ts) [
+own_below : (i c n m : ℕ) → n ≤ m → (u : Text) → IsBelow i c n u → IsBelow i c m u
+own_below i c n m less u below = λ e f. own_less u.own (below e f)
+  where
+    own_less : (o : Option ℕ) → IfSome o (λ own. own < n) → IfSome o (λ own. own < m)
+    own_less None h = tt
+    own_less (Some own) h = omega (arith, h, less)
+
+all_below : (i c first limit : ℕ) (ts : List Text) → Rises first limit (own_texts i c ts) → AllByRecursion (IsBelow i c limit) ts
+all_below i c first limit [] rises = tt
+all_below i c first limit (t ∷ ts) rises = elim (own_cases i c t ts) [
   | inl up ↦
-      let now : CountsUp first (t ∷ own_texts i c ts) = subst (CountsUp first) up counts in
-      let room : length (t ∷ own_texts i c ts) ≤ n = subst (λ (us : List Text). length us ≤ n) up fits in
-      (λ e f. subst (λ (o : Option ℕ). IfSome o (λ own. own < first + n)) (sym now.0.own) (omega arith), all_below i c first n ts now.1 (omega arith))
-  | inr over ↦ (
-    λ e f. subst (λ (o : Option ℕ). IfSome o (λ own. own < first + n)) (sym (over.1 e f)) tt,
-    all_below i c first n ts (subst (CountsUp first) over.0 counts) (subst (λ (us : List Text). length us ≤ n) over.0 fits),
-  )
+      let (n, has, least, less, earlier) = subst (Rises first limit) up rises in
+      (λ e f. subst (λ (o : Option ℕ). IfSome o (λ own. own < limit)) (sym has.own) less, all_weaker (IsBelow i c n) (IsBelow i c limit) (own_below i c n limit (omega (arith, less))) ts (all_below i c first n ts earlier))
+  | inr over ↦ (λ e f. subst (λ (o : Option ℕ). IfSome o (λ own. own < limit)) (sym (over.1 e f)) tt, all_below i c first limit ts (subst (Rises first limit) over.0 rises))
 ]
 
 -- ---- tickets
@@ -179,7 +182,7 @@ numbered_sound : OneNonce → (a b : Image) → IsCounted a → SealsNumbered a 
 numbered_sound one a b c s before fine =
     let old = before (fine_behind s.more a.answered (subst AreFine s.answered fine)) in
     let counts = c.numbered s.index s.old s.was in
-    let below = all_below s.index s.old.count s.old.first s.old.used a.texts counts.0 (le_of_eq counts.1) in
+    let below = all_below s.index s.old.count s.old.first (s.old.first + s.old.used) a.texts counts.0 in
     let IsOld : Text → Type 0 = λ u. IsSound a.answered u × IsBelow s.index s.old.count (s.old.first + s.old.used) u in
     let known = all_both (IsSound a.answered) (IsBelow s.index s.old.count (s.old.first + s.old.used)) a.texts old.each below in
     let apart : AllByRecursion (HaveTwoNonces s.text) a.texts =
@@ -214,6 +217,7 @@ sound_on : OneNonce → (a b : Image) → IsCounted a → Steps a b → (AreFine
 sound_on one a b c (Stays s) = same_sound a b s.texts s.answered
 sound_on one a b c (Adds s) = same_sound a b s.texts s.answered
 sound_on one a b c (Restarts s) = same_sound a b s.texts s.answered
+sound_on one a b c (Skips s) = same_sound a b s.texts s.answered
 sound_on one a b c (Numbers s) = numbered_sound one a b c s
 sound_on one a b c (Replies s) = plain_sound one a b c s
 
@@ -232,6 +236,10 @@ no_restart : (o : Option Life) (answer : Answer) (reply : List ℕ) → LifeRest
 no_restart None answer reply row = row
 no_restart (Some l) answer reply row = row
 
+no_skip : (o : Option Life) (count : ℕ) (answer : Answer) (reply : List ℕ) → LifeSkip o count (Took answer reply) → ⊥
+no_skip None count answer reply row = row
+no_skip (Some l) count answer reply row = row
+
 pub all_for : ValueNumberInRange → (h : History) → AllAnswers h → AllByRecursion IsFor (delivered h)
 all_for range Begin a = tt
 all_for range (Then h (Datagram now echo mid d) (Took (Deliver received ticket) reply)) (before, ((i, n, of, request, (receives, admits, values)), none)) =
@@ -240,6 +248,7 @@ all_for range (Then h (Add s start size) (Took (Deliver received ticket) reply))
 all_for range (Then h (Reply t own mid plain room) (Took (Deliver received ticket) reply)) a = absurd a.1.2
 all_for range (Then h (Notify t plain room) (Took (Deliver received ticket) reply)) a = absurd a.1.1.2
 all_for range (Then h (Restart i next) (Took (Deliver received ticket) reply)) a = absurd (no_restart (life h i) (Deliver received ticket) reply a.1)
+all_for range (Then h (Skip i count) (Took (Deliver received ticket) reply)) a = absurd (no_skip (life h i) count (Deliver received ticket) reply a.1)
 all_for range (Then h (Advance now) (Took (Deliver received ticket) reply)) a = absurd a.1
 all_for range (Then h event entry) a = all_for range h a.0
 

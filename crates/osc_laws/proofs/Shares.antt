@@ -11,8 +11,8 @@ use Rattle.osc_laws.specs.Laws.{AllAnswers}
 use Rattle.osc_life.specs.Life.{Life, Mark, born, marked, renewed}
 use Rattle.osc_life.specs.Replies.{as_reply}
 use Rattle.osc_endpoint.specs.ServerAnswer.{AddAnswer, IsTaken, MeetsNamedRow, MeetsRow, NamesNone, NotifyAnswer, ReplyAnswer, SaysReply, TakeAnswer, arrival}
-use Rattle.osc_life.specs.LifeAnswer.{Arrival, LifeRestart, MeetsLifeRow, as_notification}
-use Rattle.osc_life.specs.ServerHistory.{Add, Added, Advance, Advanced, Answer, BadInner, BadTag, Begin, Challenge, Datagram, Deliver, Entry, History, Malformed, NoContext, NotReplied, NotRequest, Notify, Plain, Replay, Replied, Reply, Restart, Restarted, SequenceExhausted, Then, TicketValues, Took, Undecodable, added, clock, life, mark_at, reply_mark_at}
+use Rattle.osc_life.specs.LifeAnswer.{Arrival, LifeRestart, LifeSkip, MeetsLifeRow, as_notification}
+use Rattle.osc_life.specs.ServerHistory.{Add, Added, Advance, Advanced, Answer, BadInner, BadTag, Begin, Challenge, Datagram, Deliver, Entry, History, Malformed, NoContext, NotReplied, NotRequest, Notify, Plain, Replay, Replied, Reply, Restart, Restarted, Skip, Skipped, SequenceExhausted, Then, TicketValues, Took, Undecodable, added, clock, life, mark_at, reply_mark_at, skip_mark_at}
 use Rattle.osc_life.specs.declared.server_error.ReplyError.TheVariants.{NotObserving, StaleTicket}
 use Rattle.osc_laws.proofs.DeliveredNumbers.{none_beyond}
 use Rattle.osc_endpoint.proofs.Places.{same_life}
@@ -42,6 +42,12 @@ no_reply_mark : (i : ℕ) (ticket : TicketValues) (own : Bool) → (i == ticket.
 no_reply_mark i ticket true e = rw e refl
 no_reply_mark i ticket false e = refl
 
+same_skip_mark : (i context count : ℕ) → (i == context) ≡ true → skip_mark_at 0 0 count ≡ skip_mark_at i context count
+same_skip_mark i context count e = rw e refl
+
+no_skip_mark : (i context count : ℕ) → (i == context) ≡ false → skip_mark_at i context count ≡ None
+no_skip_mark i context count e = rw e refl
+
 -- ---- clock, lives and count of a share
 
 -- what holds of either of two histories holds of the one that a test chooses
@@ -66,12 +72,16 @@ clock_share i (Then h (Notify ticket plain room) (Replied bytes)) all =
 clock_share i (Then h (Restart context next) Restarted) all =
     let before = clock_share i h all.0 in
     of_chosen (λ g. clock g ≡ clock h) (i == context) (Then (share i h) (Restart 0 next) Restarted) (share i h) (λ e. before) (λ e. before)
+clock_share i (Then h (Skip context count) Skipped) all =
+    let before = clock_share i h all.0 in
+    of_chosen (λ g. clock g ≡ clock h) (i == context) (Then (share i h) (Skip 0 count) Skipped) (share i h) (λ e. before) (λ e. before)
 clock_share i (Then h (Advance now) Advanced) all = ap (λ (c : ℕ). max c now) (clock_share i h all.0)
 clock_share i (Then h (Add context start size) entry) all = clock_share i h all.0
 clock_share i (Then h (Datagram now echo mid d) entry) all = absurd all.1
 clock_share i (Then h (Reply ticket own mid plain room) entry) all = clock_share i h all.0
 clock_share i (Then h (Notify ticket plain room) entry) all = clock_share i h all.0
 clock_share i (Then h (Restart context next) entry) all = clock_share i h all.0
+clock_share i (Then h (Skip context count) entry) all = clock_share i h all.0
 clock_share i (Then h (Advance now) entry) all = absurd all.1
 
 -- one test chooses a history and a life
@@ -97,6 +107,10 @@ life_share i (Then h (Notify ticket plain room) (Replied bytes)) =
     (λ e. life_share i h ∙ sym (same_life (life h i) (reply_mark_at i ticket true) (no_reply_mark i ticket true e)))
 life_share i (Then h (Restart context next) Restarted) =
     life_chosen (i == context) (Then (share i h) (Restart 0 next) Restarted) (share i h) (option_map (renewed next) (life h i)) (life h i) (λ e. ap (option_map (renewed next)) (life_share i h)) (λ e. life_share i h)
+life_share i (Then h (Skip context count) Skipped) =
+    of_chosen (λ g. life g 0 ≡ option_map (marked (skip_mark_at i context count)) (life h i)) (i == context) (Then (share i h) (Skip 0 count) Skipped) (share i h)
+    (λ e. ap (λ (m : Option Mark). option_map (marked m) (life (share i h) 0)) (same_skip_mark i context count e) ∙ ap (option_map (marked (skip_mark_at i context count))) (life_share i h))
+    (λ e. life_share i h ∙ sym (same_life (life h i) (skip_mark_at i context count) (no_skip_mark i context count e)))
 life_share i (Then h (Advance now) Advanced) = life_share i h
 life_share i (Then h event entry) = life_share i h
 
@@ -121,6 +135,9 @@ none_else i j (Then h (Notify ticket plain room) (Replied bytes)) =
 none_else i j (Then h (Restart context next) Restarted) =
     of_chosen (λ g. life g (suc j) ≡ None) (i == context) (Then (share i h) (Restart 0 next) Restarted) (share i h)
     (λ e. cond-false (suc j == 0) (option_map (renewed next) (life (share i h) (suc j))) (life (share i h) (suc j)) (not_first j) ∙ none_else i j h) (λ e. none_else i j h)
+none_else i j (Then h (Skip context count) Skipped) =
+    of_chosen (λ g. life g (suc j) ≡ None) (i == context) (Then (share i h) (Skip 0 count) Skipped) (share i h)
+    (λ e. ap (option_map (marked (skip_mark_at (suc j) 0 count))) (none_else i j h)) (λ e. none_else i j h)
 none_else i j (Then h (Advance now) Advanced) = none_else i j h
 none_else i j (Then h event entry) = none_else i j h
 
@@ -144,6 +161,9 @@ none_yet i (Then h (Notify ticket plain room) (Replied bytes)) all early =
 none_yet i (Then h (Restart context next) Restarted) all early =
     let before = none_yet i h all.0 early in
     of_chosen (λ g. added g ≡ 0) (i == context) (Then (share i h) (Restart 0 next) Restarted) (share i h) (λ e. before) (λ e. before)
+none_yet i (Then h (Skip context count) Skipped) all early =
+    let before = none_yet i h all.0 early in
+    of_chosen (λ g. added g ≡ 0) (i == context) (Then (share i h) (Skip 0 count) Skipped) (share i h) (λ e. before) (λ e. before)
 none_yet i (Then h event (Added index)) all early = let later : added h + 1 ≤ i = early in none_yet i h all.0 (omega (arith, later))
 none_yet i (Then h event entry) all early = none_yet i h all.0 early
 
@@ -254,6 +274,9 @@ answers_share i (Then h (Notify ticket plain room) (Replied bytes)) all =
 answers_share i (Then h (Restart context next) Restarted) all =
     of_chosen AllAnswers (i == context) (Then (share i h) (Restart 0 next) Restarted) (share i h)
     (λ e. (answers_share i h all.0, subst (λ o. LifeRestart o Restarted) (sym (life_share i h ∙ ap (life h) (eqb-true i context e))) all.1)) (λ e. answers_share i h all.0)
+answers_share i (Then h (Skip context count) Skipped) all =
+    of_chosen AllAnswers (i == context) (Then (share i h) (Skip 0 count) Skipped) (share i h)
+    (λ e. (answers_share i h all.0, subst (λ o. LifeSkip o count Skipped) (sym (life_share i h ∙ ap (life h) (eqb-true i context e))) all.1)) (λ e. answers_share i h all.0)
 answers_share i (Then h (Advance now) Advanced) all = (answers_share i h all.0, tt)
 answers_share i (Then h event entry) all = answers_share i h all.0
 
@@ -270,4 +293,5 @@ contexts_stand_alone h i all = record {
   notify = λ ticket plain room entry e row.
       notify_row h (share i h) i (life_share i h) (λ j. none_else i j h) ticket (as_notification ticket.token plain) room entry e row;
   restart = λ next entry row. subst (λ o. LifeRestart o entry) (sym (life_share i h)) row;
+  skip = λ count entry row. subst (λ o. LifeSkip o count entry) (sym (life_share i h)) row;
 }

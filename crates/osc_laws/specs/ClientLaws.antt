@@ -1,6 +1,6 @@
 -- To be believed: what holds for every history of a client whose entries are all its answers: contracts of laws.rt. n is the number of
 -- pending requests that there is room for, h a history, s a security context, c how many restarts there were, r and q sealed requests.
-use Rattle.std.specs.Prelude.{◌≡◌, ◌≢◌, ℕ, ◌+◌, ◌≤◌, ◌==◌, List, [], ◌∷◌, length, if◌then◌else◌}
+use Rattle.std.specs.Prelude.{◌≡◌, ◌≢◌, ℕ, ◌+◌, ◌<◌, ◌≤◌, ◌==◌, List, [], ◌∷◌, length, if◌then◌else◌}
 use Rattle.osc_coap.specs.Datagram.{Parts, IsDatagram}
 use Rattle.osc_coap.specs.OptionNumbers.{oscore}
 use Rattle.osc_coap.specs.Search.{values_at}
@@ -9,7 +9,7 @@ use Rattle.osc_context.specs.OscoreValue.{IsOscoreValue}
 use Rattle.osc_context.specs.SecurityContext.{SecurityContext}
 use Rattle.osc_protect.specs.Usage.{value_of_request}
 use Rattle.osc_client.specs.ClientAnswer.{ClientAnswer}
-use Rattle.osc_client.specs.ClientHistory.{History, New, Then, Event, Entry, Request, Restart, Sent, context, next}
+use Rattle.osc_client.specs.ClientHistory.{History, New, Then, Event, Entry, Request, Restart, Sent, Skip, Skipped, context, next}
 use Rattle.osc_laws.specs.Laws.{Pairwise}
 
 -- each entry is the client's answer to its event (own rule)
@@ -64,9 +64,26 @@ abbrev pub RequestsCountUp : SecurityContext → ℕ → List SealedRequest → 
 RequestsCountUp s first [] = Unit {0}
 RequestsCountUp s first (r ∷ rs) = HasNumber s r (first + length rs) × RequestsCountUp s first rs
 
--- the numbers since the start or the last restart are consecutive, and none is used twice (RFC 8613, 7.2.1)
+-- the requests have numbers that rise: each is at least first, above those of all earlier requests, and below the limit (RFC 8613, 7.2.1)
+abbrev pub RequestsRise : SecurityContext → ℕ → ℕ → List SealedRequest → Type 0
+RequestsRise s first limit [] = Unit {0}
+RequestsRise s first limit (r ∷ rs) = HasNumber s r r.number × (first ≤ r.number) × (r.number < limit) × RequestsRise s first r.number rs
+
+-- how many numbers were passed over since the start or the last restart, since another end of the same Sender Key has them (RFC 8613, 7.2.1)
+abbrev pub passed_over : History → ℕ
+passed_over (New s first ms) = 0
+passed_over (Then h (Restart first) entry) = 0
+passed_over (Then h (Skip count) Skipped) = passed_over h + count
+passed_over (Then h event entry) = passed_over h
+
+-- the numbers since the start or the last restart rise, so none is used twice; where none was passed over they are consecutive (RFC 8613, 7.2.1)
+pub record RequestNumbersAre (h : History) : Type 0 where
+  pub rise : RequestsRise (context h) (first_number h) (next h) (sealed_after (restarts h) (sealed h))
+  pub count_up : passed_over h ≡ 0 → RequestsCountUp (context h) (first_number h) (sealed_after (restarts h) (sealed h))
+
+-- this holds after each history of answers (RFC 8613, 7.2.1)
 abbrev pub RequestNumbersOnce : Type 0
-RequestNumbersOnce = (n : ℕ) (h : History) → AllClientAnswers n h → RequestsCountUp (context h) (first_number h) (sealed_after (restarts h) (sealed h))
+RequestNumbersOnce = (n : ℕ) (h : History) → AllClientAnswers n h → RequestNumbersAre h
 
 -- two requests with no restart between them have different nonces (RFC 8613, 5.2)
 abbrev pub RequestsHaveTwoNonces : SecurityContext → SealedRequest → SealedRequest → Type 0

@@ -1,6 +1,6 @@
 -- To be believed: what holds for every history of a server whose entries are all its answers: the contracts of laws.rt. h is a history, i
 -- the index of a context, c how many lives the context had before a given one, ts tickets or texts, newest first.
-use Rattle.std.specs.Prelude.{◌≡◌, ◌≢◌, ℕ, ◌+◌, ◌==◌, ◌&&◌, List, [], ◌∷◌, ◌++◌, length, Bool, true, Option, Some, None, is_some, if◌then◌else◌}
+use Rattle.std.specs.Prelude.{◌≡◌, ◌≢◌, ℕ, ◌+◌, ◌<◌, ◌≤◌, ◌==◌, ◌&&◌, List, [], ◌∷◌, ◌++◌, length, Bool, true, Option, Some, None, is_some, if◌then◌else◌}
 use Rattle.std.specs.List.{AllByRecursion}
 use Rattle.osc_coap.specs.Datagram.{Parts, IsDatagram}
 use Rattle.osc_coap.specs.OptionNumbers.{oscore}
@@ -9,7 +9,7 @@ use Rattle.osc_context.specs.OscoreValue.{IsOscoreValue}
 use Rattle.osc_context.specs.SecurityContext.{SecurityContext}
 use Rattle.osc_protect.specs.Protection.{response_nonce}
 use Rattle.osc_protect.specs.Usage.{value_of_response}
-use Rattle.osc_life.specs.Life.{Life}
+use Rattle.osc_life.specs.Life.{Life, Mark, PassedOver, next_own}
 use Rattle.osc_endpoint.specs.ServerAnswer.{ServerAnswer}
 use Rattle.osc_life.specs.LifeAnswer.{own_number}
 use Rattle.osc_endpoint.specs.Tickets.{TakesTickets}
@@ -84,9 +84,25 @@ abbrev pub CountsUp : ℕ → List Text → Type 0
 CountsUp first [] = Unit {0}
 CountsUp first (t ∷ ts) = HasOwnNumber t (first + length ts) × CountsUp first ts
 
--- the Sender Sequence Numbers of a life are consecutive, and none is used twice (RFC 8613, 7.2.1)
+-- the texts have Sender Sequence Numbers that rise: each is at least first, above those of all earlier texts, and below the limit (RFC 8613, 7.2.1)
+abbrev pub Rises : ℕ → ℕ → List Text → Type 0
+Rises first limit [] = Unit {0}
+Rises first limit (t ∷ ts) = (n : ℕ) × HasOwnNumber t n × (first ≤ n) × (n < limit) × Rises first n ts
+
+-- how many Sender Sequence Numbers were passed over, since another end of the same Sender Key has them (RFC 8613, 7.2.1)
+abbrev pub passed_over : List Mark → ℕ
+passed_over [] = 0
+passed_over (PassedOver count ∷ marks) = passed_over marks + count
+passed_over (mark ∷ marks) = passed_over marks
+
+-- the Sender Sequence Numbers of a life rise, so none is used twice; where none was passed over they are consecutive (RFC 8613, 7.2.1)
+pub record OwnNumbersAre (of : Life) (ts : List Text) : Type 0 where
+  pub rise : Rises of.first (next_own of) ts
+  pub count_up : passed_over of.marks ≡ 0 → CountsUp of.first ts
+
+-- this holds of each life of each context (RFC 8613, 7.2.1)
 abbrev pub OwnNumbersOnce : Type 0
-OwnNumbersOnce = (h : History) (i : ℕ) (of : Life) → AllAnswers h → life h i ≡ Some of → CountsUp of.first (own_texts i of.count (texts h))
+OwnNumbersOnce = (h : History) (i : ℕ) (of : Life) → AllAnswers h → life h i ≡ Some of → OwnNumbersAre of (own_texts i of.count (texts h))
 
 -- the tickets of all accepted replies (own rule)
 abbrev pub answered : History → List TicketValues

@@ -5,7 +5,7 @@ use Rattle.osc_coap.specs.Datagram.{Parts}
 use Rattle.osc_laws.specs.Laws.{AllAnswers}
 use Rattle.osc_life.specs.Life.{Life}
 use Rattle.osc_endpoint.specs.ServerAnswer.{IsRequestOf, ServerAnswer}
-use Rattle.osc_life.specs.ServerHistory.{Add, Added, Advance, Advanced, Answer, BadInner, Begin, Challenge, Datagram, Deliver, Entry, History, Notify, Replied, Reply, Restart, Restarted, Then, TicketValues, Took, clock, life}
+use Rattle.osc_life.specs.ServerHistory.{Add, Added, Advance, Advanced, Answer, BadInner, Begin, Challenge, Datagram, Deliver, Entry, History, Notify, Replied, Reply, Restart, Restarted, Skip, Skipped, Then, TicketValues, Took, clock, life}
 
 -- the answer leaves something in the life of this context (own rule)
 abbrev pub concerns : ℕ → Answer → Bool
@@ -36,6 +36,7 @@ share i (Then h (Reply ticket own mid plain room) (Replied bytes)) =
 share i (Then h (Notify ticket plain room) (Replied bytes)) =
     if i == ticket.context then Then (share i h) (Notify (ticket_alone ticket) plain room) (Replied bytes) else share i h
 share i (Then h (Restart context next) Restarted) = if i == context then Then (share i h) (Restart 0 next) Restarted else share i h
+share i (Then h (Skip context count) Skipped) = if i == context then Then (share i h) (Skip 0 count) Skipped else share i h
 share i (Then h (Advance now) Advanced) = Then (share i h) (Advance now) Advanced
 share i (Then h event entry) = share i h
 
@@ -56,6 +57,7 @@ pub record AnswersAlone (h : History) (i : ℕ) : Type 0 where
   pub notify : (ticket : TicketValues) (plain : Parts) (room : ℕ) (entry : Entry) → ticket.context ≡ i
       → ServerAnswer h (Notify ticket plain room) entry → ServerAnswer (share i h) (Notify (ticket_alone ticket) plain room) entry
   pub restart : (next : ℕ) (entry : Entry) → ServerAnswer h (Restart i next) entry → ServerAnswer (share i h) (Restart 0 next) entry
+  pub skip : (count : ℕ) (entry : Entry) → ServerAnswer h (Skip i count) entry → ServerAnswer (share i h) (Skip 0 count) entry
 
 -- each context of a server is answered as if it were alone under the server's clock (own rule)
 abbrev pub ContextsStandAlone : Type 0

@@ -48,8 +48,8 @@ pub fn delivered_once()
     ensures { DeliveredOnce }
 {}
 
-/// States that the Sender Sequence Numbers of a life are consecutive, and that none is used twice. The same holds for those of a
-/// client's requests between two restarts (RFC 8613, 7.2.1).
+/// States that the Sender Sequence Numbers of a life rise, so that none is used twice, and that they are consecutive where none was passed
+/// over. The same holds for those of a client's requests between two restarts (RFC 8613, 7.2.1).
 pub fn own_numbers_once()
     ensures server { OwnNumbersOnce }
     ensures client { RequestNumbersOnce }

@@ -8,7 +8,7 @@ use Rattle.osc_window.specs.declared.gate.Gate.TheVariants as gates
 use Rattle.osc_window.specs.Taken.{AgreesWith}
 use Rattle.osc_window.specs.Views.{IsOpenAnd}
 use Rattle.osc_life.specs.Agrees.{GateAgrees}
-use Rattle.osc_life.specs.Life.{Mark, Delivered, Spoiled, Challenged, Answered, Life, opened, first_delivered, floor, spent, marked}
+use Rattle.osc_life.specs.Life.{Mark, Delivered, Spoiled, Challenged, Answered, PassedOver, Life, opened, first_delivered, floor, spent, marked}
 
 -- the words of a closed life
 pub record IsBare (fresh : Bool) (marks : List Mark) : Type 0 where
@@ -28,6 +28,9 @@ closed_bare fresh (Challenged echo issued ∷ marks) h =
 closed_bare fresh (Answered ∷ marks) h =
     let b = closed_bare fresh marks h in
     record { fresh_is = b.fresh_is; first_is = b.first_is; spent_is = b.spent_is }
+closed_bare fresh (PassedOver count ∷ marks) h =
+    let b = closed_bare fresh marks h in
+    record { fresh_is = b.fresh_is; first_is = b.first_is; spent_is = b.spent_is }
 
 open_first : (marks : List Mark) (n : ℕ) → opened false marks ≡ true → unwrap_or (first_delivered marks) n ≡ unwrap_or (first_delivered marks) 0
 open_first [] n h = cc
@@ -35,6 +38,7 @@ open_first (Delivered m ∷ marks) n h = refl
 open_first (Spoiled m ∷ marks) n h = open_first marks n h
 open_first (Challenged echo issued ∷ marks) n h = open_first marks n h
 open_first (Answered ∷ marks) n h = open_first marks n h
+open_first (PassedOver count ∷ marks) n h = open_first marks n h
 
 -- a delivery in an open life leaves the floor, and in a closed one makes it
 pub floor_open : (least : ℕ) (fresh : Bool) (marks : List Mark) (n : ℕ) → opened fresh marks ≡ true → floor least fresh (Delivered n ∷ marks) ≡ floor least fresh marks

@@ -14,12 +14,14 @@ use Rattle.osc_coap.specs.Interpreted.{interpreted}
 use Rattle.osc_life.specs.declared.start.Start.{Start}
 use Rattle.osc_life.specs.declared.start.Start.TheVariants.{Fresh, Restarted, Received}
 
--- what an answer leaves: a delivered number, the number of a bad plaintext, a challenge, or a reply or notification with a Partial IV of its own (own rule)
+-- what an answer leaves: a delivered number, the number of a bad plaintext, a challenge, a reply or notification with a Partial IV of its own, or Sender Sequence
+-- Numbers that were passed over, since another end of the same Sender Key has them (own rule)
 pub data Mark : Type 0 where
   Delivered : (number : ℕ) → Mark
   Spoiled : (number : ℕ) → Mark
   Challenged : (echo : List ℕ) (issued : ℕ) → Mark
   Answered : Mark
+  PassedOver : (count : ℕ) → Mark
 
 -- a life: its context and window size, how many lives came before it, whether it is open at its birth, as a life that was added fresh is, and
 -- from which number on, its first Sender Sequence Number, and its marks (RFC 8613, 3.1)
@@ -61,11 +63,13 @@ challenge [] = None
 challenge (Challenged echo issued ∷ marks) = Some (echo, issued)
 challenge (mark ∷ marks) = challenge marks
 
--- how many Sender Sequence Numbers were used: one for each challenge, each notification, and each reply that asked for one (RFC 8613, 7.2.1)
+-- how many Sender Sequence Numbers were used or passed over: one for each challenge, each notification, and each reply that asked for one, and those that
+-- another end has (RFC 8613, 7.2.1)
 abbrev pub own_count : List Mark → ℕ
 own_count [] = 0
 own_count (Challenged echo issued ∷ marks) = own_count marks + 1
 own_count (Answered ∷ marks) = own_count marks + 1
+own_count (PassedOver count ∷ marks) = own_count marks + count
 own_count (mark ∷ marks) = own_count marks
 
 -- requests are checked by their number (RFC 8613, B.1.2)

@@ -13,11 +13,12 @@ use Rattle.osc_protect.specs.SealRefusals.{IsPlainResponse, RefusesPlainResponse
 use Rattle.osc_protect.specs.declared.protect_error.ProtectError.TheVariants as seals
 use Rattle.osc_life.specs.declared.server_error.ReplyError.TheVariants.{NotThatKind, Unsupported, NotNotification, SequenceExhausted as NoOwnLeft, TooLong, NoRoom}
 use Rattle.osc_life.specs.declared.server_error.RestartError.TheVariants.{NoSuchContext, LivesExhausted}
+use Rattle.osc_life.specs.declared.server_error.SkipError.TheVariants as skips
 use Rattle.osc_observe.specs.Observing.{is_notification, registers}
 use Rattle.osc_observe.specs.Received.{Receives}
 use Rattle.osc_life.specs.Replies.{as_reply, challenge_message}
 use Rattle.osc_life.specs.Life.{Life, Passes, Admits, Carries, HasOwn, IsNewIn, is_open, in_force, next_own}
-use Rattle.osc_life.specs.ServerHistory.{Entry, Answer, TicketValues, Replay, BadTag, BadInner, Challenge, SequenceExhausted, Deliver, Replied, NotReplied, Restarted, NotRestarted}
+use Rattle.osc_life.specs.ServerHistory.{Entry, Answer, TicketValues, Replay, BadTag, BadInner, Challenge, SequenceExhausted, Deliver, Replied, NotReplied, Restarted, NotRestarted, Skipped, NotSkipped}
 
 -- a datagram that arrived: the clock after the datagram's moment, the fresh Echo value and Message ID, and its bytes (own rule)
 pub record Arrival : Type 0 where
@@ -99,3 +100,10 @@ LifeRestart None (NotRestarted NoSuchContext) = Unit {0}
 LifeRestart (Some of) (NotRestarted LivesExhausted) = 2 ^ 64 ≤ of.count + 1
 LifeRestart (Some of) Restarted = of.count + 1 < 2 ^ 64
 LifeRestart of entry = ⊥
+
+-- the answer to Skip, from the present life of the context, if it is there: no number from 2 ^ 40 on is passed over (RFC 8613, 7.2.1)
+abbrev pub LifeSkip : Option Life → ℕ → Entry → Type 0
+LifeSkip None count (NotSkipped skips.NoSuchContext) = Unit {0}
+LifeSkip (Some of) count (NotSkipped skips.TooFewLeft) = 2 ^ 40 < next_own of + count
+LifeSkip (Some of) count Skipped = next_own of + count ≤ 2 ^ 40
+LifeSkip of count entry = ⊥

@@ -5,6 +5,8 @@ use Rattle.osc_life.specs.declared.server_error.AddError.{AddError}
 use Rattle.osc_life.specs.declared.server_error.AddError.TheVariants.{Full, SameLookup}
 use Rattle.osc_life.specs.declared.server_error.RestartError.{RestartError}
 use Rattle.osc_life.specs.declared.server_error.RestartError.TheVariants.{NoSuchContext, LivesExhausted}
+use Rattle.osc_life.specs.declared.server_error.SkipError.{SkipError}
+use Rattle.osc_life.specs.declared.server_error.SkipError.TheVariants as skips
 use Rattle.osc_life.specs.declared.server_error.ReplyError.{ReplyError}
 use Rattle.osc_life.specs.declared.server_error.ReplyError.TheVariants.{KeeperFailed, StaleTicket, NotObserving, NotThatKind, Unsupported, NotNotification, SequenceExhausted, TooLong, NoRoom}
 
@@ -17,6 +19,11 @@ add_error_text SameLookup = codes "SameLookup"
 abbrev pub restart_error_text : RestartError → List ℕ
 restart_error_text NoSuchContext = codes "NoSuchContext"
 restart_error_text LivesExhausted = codes "LivesExhausted"
+
+-- how a refusal to pass over numbers prints (own rule)
+abbrev pub skip_error_text : SkipError → List ℕ
+skip_error_text skips.NoSuchContext = codes "NoSuchContext"
+skip_error_text skips.TooFewLeft = codes "TooFewLeft"
 
 -- how a refusal to reply or to notify prints, an unsupported option with its number (own rule)
 abbrev pub reply_error_text : ReplyError → List ℕ

@@ -8,6 +8,7 @@ use Rattle.osc_life.specs.declared.outcome.Outcome.{Outcome}
 use Rattle.osc_life.specs.declared.outcome.Outcome.TheVariants as outcomes
 use Rattle.osc_life.specs.declared.server_error.ReplyError.{ReplyError}
 use Rattle.osc_life.specs.declared.server_error.RestartError.{RestartError}
+use Rattle.osc_life.specs.declared.server_error.SkipError.{SkipError}
 use Rattle.osc_life.specs.declared.seen.Seen.{Seen}
 use Rattle.osc_life.specs.declared.seen.Seen.TheVariants as seen
 use Rattle.osc_life.specs.ServerHistory as server
@@ -46,6 +47,11 @@ seen_delivery x = None
 abbrev pub restarted_entry : Result Unit RestartError → server.Entry
 restarted_entry (Ok x) = server.Restarted
 restarted_entry (Err e) = server.NotRestarted e
+
+-- the entry of a Skip (how the code is seen)
+abbrev pub skipped_entry : Result Unit SkipError → server.Entry
+skipped_entry (Ok x) = server.Skipped
+skipped_entry (Err e) = server.NotSkipped e
 
 -- the entry of a reply or a notification whose text stands at the front of the buffer (how the code is seen)
 abbrev pub reply_entry : Result ℕ ReplyError → List ℕ → server.Entry

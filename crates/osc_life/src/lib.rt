@@ -23,7 +23,7 @@ mod ticket_places;
 pub use decision::{Decided, Decision};
 pub use outcome::{Outcome, Taken};
 pub use seen::Seen;
-pub use server_error::{AddError, ReplyError, RestartError};
+pub use server_error::{AddError, ReplyError, RestartError, SkipError};
 pub use start::{Fresh, Start};
 pub use ticket::Ticket;
 
@@ -34,7 +34,8 @@ pub mod siblings {
     pub use crate::error_reply::{ErrorReply, write_error};
     pub use crate::judging::{Named, is_replay, refuse_replay};
     pub use crate::place::{
-        is_for, is_open_place, judge_place, next_of_place, notify_place, reply_place, restart_place,
+        is_for, is_open_place, judge_place, next_of_place, notify_place, reply_place,
+        restart_place, skip_place,
     };
     pub use crate::slot::Slot;
     pub use crate::ticket_places::{make_places, put_back, take_out, ticket_at};

@@ -8,18 +8,19 @@ ghost use Rattle.osc_life.specs.Agrees.{HoldsLife};
 ghost use Rattle.osc_life.specs.Deciding.{CanShow, Leaves};
 ghost use Rattle.osc_life.specs.Judging.{IsAskerOf, IsNamedAt, JudgesTo, LooksUp};
 ghost use Rattle.osc_life.specs.Life.{Life, is_open, marked, next_own};
-ghost use Rattle.osc_life.specs.LifeAnswer.{LifeRestart, as_notification};
+ghost use Rattle.osc_life.specs.LifeAnswer.{LifeRestart, LifeSkip, as_notification};
 ghost use Rattle.osc_life.specs.Replies.{as_reply};
 ghost use Rattle.osc_life.specs.Replying.{PlaceNotify, PlaceReply, reply_mark};
-ghost use Rattle.osc_life.specs.Restarting.{life_after};
-ghost use Rattle.osc_life.specs.Views.{reply_entry, restarted_entry, values_of};
+ghost use Rattle.osc_life.specs.Restarting.{life_after, skip_mark};
+ghost use Rattle.osc_life.specs.Views.{reply_entry, restarted_entry, skipped_entry, values_of};
 ghost use Rattle.osc_life.specs.declared.server_error.ReplyError.TheVariants.{KeeperFailed, StaleTicket};
 ghost use Rattle.osc_life.specs.declared.server_error.RestartError.TheVariants.{NoSuchContext};
+ghost use Rattle.osc_life.specs.declared.server_error.SkipError.TheVariants as skips;
 ghost use Rattle.osc_life.specs.declared.slot.Slot.{Slot};
 
 use crate::decision::Decided;
 use crate::judging::Named;
-use crate::server_error::{ReplyError, RestartError};
+use crate::server_error::{ReplyError, RestartError, SkipError};
 use crate::slot::Slot;
 use crate::ticket::Ticket;
 use osc_coap::Message;
@@ -169,5 +170,18 @@ pub fn restart_place(place: &mut Option<Slot>, next: Piv) -> Result<(), RestartE
             Ok(())
         }
         None => Err(RestartError::NoSuchContext),
+    }
+}
+
+/// Passes over Sender Sequence Numbers of the context in a place.
+pub fn skip_place(place: &mut Option<Slot>, count: u64) -> Result<(), SkipError>
+    ensures answered { (l : Life) → HoldsLife place.old l → LifeSkip (Some l) count (skipped_entry result) }
+    ensures kept { (l : Life) → HoldsLife place.old l → HoldsLife place.new (marked (skip_mark result count) l) }
+    ensures same { OnErr result (place.new ≡ place.old) }
+    ensures none { IfNone place.old (result ≡ Err skips.NoSuchContext) }
+{
+    match place {
+        Some(slot) => slot.skip(count),
+        None => Err(SkipError::NoSuchContext),
     }
 }

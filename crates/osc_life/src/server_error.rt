@@ -53,6 +53,31 @@ impl fmt::Display for RestartError {
 
 impl Error for RestartError {}
 
+/// Why Sender Sequence Numbers aren't passed over. The variants stand in the order in which they are checked.
+#[derive(Clone, Copy, Debug, PartialEq, Eq)]
+pub enum SkipError {
+    /// No context has this index.
+    NoSuchContext,
+    /// Fewer numbers below 2^40 are left (RFC 8613, 7.2.1).
+    TooFewLeft,
+}
+
+impl fmt::Display for SkipError {
+    ghost use Rattle.std.specs.Prelude.{Some};
+    ghost use Rattle.osc_life.specs.Text.{skip_error_text};
+
+    ghost output = { λ error. Some (skip_error_text error) };
+
+    fn fmt<W: fmt::Write>(&self, f: &mut fmt::Formatter<W>) -> fmt::Result {
+        match self {
+            SkipError::NoSuchContext => f.write_str("NoSuchContext"),
+            SkipError::TooFewLeft => f.write_str("TooFewLeft"),
+        }
+    }
+}
+
+impl Error for SkipError {}
+
 /// Why a reply or a notification isn't sealed. The variants stand in the order in which they are checked.
 #[derive(Clone, Copy, Debug, PartialEq, Eq)]
 pub enum ReplyError {

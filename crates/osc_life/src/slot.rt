@@ -1,14 +1,18 @@
 //! One context of a server, in its present life.
 
-ghost use Rattle.std.specs.Prelude.{◌≡◌, ◌≤◌, ◌<◌, ◌+◌, ◌^◌, Some, None, true, false};
+ghost use Rattle.std.specs.Prelude.{◌≡◌, ◌≤◌, ◌<◌, ◌+◌, ◌^◌, Some, None, OnErr, true, false};
 ghost use Rattle.osc_context.specs.Views.{number_of};
 ghost use Rattle.osc_window.specs.Views.{is_open as is_open_gate};
 ghost use Rattle.osc_protect.specs.Views.{message_of};
 
 use crate::echo::carries;
+use crate::server_error::SkipError;
 use osc_context::Piv;
 use osc_protect::{KeyedContext, Opened};
 use osc_window::{Gate, WindowSize};
+
+/// The first number that can't be a Sender Sequence Number (RFC 8613, 7.2.1).
+const OWN_LIMIT: u64 = 1 << 40;
 
 /// One context of a server, in its present life.
 #[derive(Drop)]
@@ -27,7 +31,9 @@ impl Slot {
     ghost use Rattle.osc_life.specs.Agrees.{SlotAgrees};
     ghost use Rattle.osc_life.specs.Judging.{GatePasses};
     ghost use Rattle.osc_life.specs.Life.{Life, Spoiled, Delivered, Challenged, Carries, is_open, in_force, marked};
-    ghost use Rattle.osc_life.specs.LifeAnswer.{challenge_given};
+    ghost use Rattle.osc_life.specs.LifeAnswer.{LifeSkip, challenge_given};
+    ghost use Rattle.osc_life.specs.Restarting.{skip_mark};
+    ghost use Rattle.osc_life.specs.Views.{skipped_entry};
 
     /// Spends a number if the gate is open.
     pub(crate) fn spoil(&mut self, number: Piv)
@@ -91,5 +97,18 @@ impl Slot {
                 (fresh, clock)
             }
         }
+    }
+
+    /// Passes over so many Sender Sequence Numbers.
+    pub(crate) fn skip(&mut self, count: u64) -> Result<(), SkipError>
+        ensures answered { (l : Life) → SlotAgrees self.old l → LifeSkip (Some l) count (skipped_entry result) }
+        ensures kept { (l : Life) → SlotAgrees self.old l → SlotAgrees self.new (marked (skip_mark result count) l) }
+        ensures same { OnErr result (self.new ≡ self.old) }
+    {
+        if count > OWN_LIMIT - self.next {
+            return Err(SkipError::TooFewLeft);
+        }
+        self.next += count;
+        Ok(())
     }
 }

@@ -72,7 +72,7 @@ line_of h (NotSent e) = not_done_line (request_error_text e)
 line_of h (Took answer) = answer_line answer
 line_of h (Forgot was_pending) = forgot_line was_pending
 line_of h Restarted = restarted_line
-line_of h Advanced = []
+line_of h entry = []
 
 module _ (law : OneClientAnswer) (one : DatagramIsOneMessage) (one_fault : DatagramHasOneFault) (no_fault : DatagramHasNoFault) where
   -- two lines of one event

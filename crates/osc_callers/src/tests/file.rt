@@ -1,11 +1,10 @@
 //! What no clause says: what a keeper does if another program changes its file or has its name, and what a refused step leaves.
 
-mod refusing;
-
+use super::checks::is;
+use super::faults::{CREATE, Fault, Faulty, RENAME, SYNC_FILE, SYNC_FOLDER, WRITE};
 use super::folder::{begin, end};
 use osc_context::{Keeper, KeeperError};
 use osc_file::{FileKeeper, TryLock};
-use refusing::{Refusing, Step};
 use std::fmt::Debug;
 use std::fs;
 use std::process::Abort;
@@ -21,7 +20,7 @@ fn loads<R: Files + Alloc>(
 where
     R::File: TryLock,
 {
-    assert_eq!(rt; keeper.load(), wanted, "{case:?}");
+    is(rt, &keeper.load(), &wanted, case);
 }
 
 /// Checks what a save of the keeper returns. A number below its floor isn't saved.
@@ -40,7 +39,7 @@ where
     } else {
         Err(KeeperError)
     };
-    assert_eq!(rt; saved, wanted, "{case:?}");
+    is(rt, &saved, &wanted, case);
 }
 
 /// Makes the file hold this text, or removes the file if the text is empty.
@@ -75,7 +74,7 @@ where
     put(rt, name, changed);
     loads(rt, keeper, Err(KeeperError), &changed);
     saves(rt, keeper, 256, Err(KeeperError), &changed);
-    assert!(rt; holds(rt, name, changed), "{changed:?}");
+    is(rt, &holds(rt, name, changed), &true, &changed);
     put(rt, name, kept);
     saves(rt, keeper, 192, Ok(()), &changed);
 }
@@ -85,71 +84,79 @@ fn insists_twice<R: Files + Alloc + Abort>(rt: &R, found: &str, number: u64, cha
 where
     R::File: TryLock,
 {
-    put(rt, "changes/number", found);
-    let mut keeper = FileKeeper::new(rt, "changes/number");
+    let name = "changes/number";
+    put(rt, name, found);
+    let mut keeper = FileKeeper::new(rt, name);
     loads(rt, &mut keeper, Ok(number), &found);
     insists(rt, &mut keeper, found, changed);
     loads(rt, &mut keeper, Ok(192), &found);
     insists(rt, &mut keeper, "192\n", changed);
 }
 
-// A file that another program changes, makes or removes. An empty text means that there is no file.
+// What a file holds, its number, and what it is changed to. An empty text means that there is no file.
+const CHANGES: [(&str, u64, &str); 7] = [
+    ("", 0, "0\n"),
+    ("", 0, "64\n"),
+    ("0\n", 0, ""),
+    ("64\n", 64, ""),
+    ("64\n", 64, "0\n"),
+    ("64\n", 64, "128\n"),
+    ("64\n", 64, "64"),
+];
+
+// A file that another program changes, makes or removes.
 #[test]
 fn a_file_that_changes(rt: HostRuntime) {
-    begin(&rt, "changes");
-    for (found, number, changed) in [
-        ("", 0, "0\n"),
-        ("", 0, "64\n"),
-        ("0\n", 0, ""),
-        ("64\n", 64, ""),
-        ("64\n", 64, "0\n"),
-        ("64\n", 64, "128\n"),
-        ("64\n", 64, "64"),
-    ] {
+    let folder = "changes";
+    begin(&rt, folder);
+    for (found, number, changed) in CHANGES {
         insists_twice(&rt, found, number, changed);
     }
-    end(&rt, "changes");
+    end(&rt, folder);
 }
 
 /// Checks that a second keeper of the name is refused.
-fn is_alone<R: Files + Alloc + Abort>(rt: &R)
+fn is_alone<R: Files + Alloc + Abort>(rt: &R, name: &str)
 where
     R::File: TryLock,
 {
-    let mut refused = FileKeeper::new(rt, "two/number");
-    loads(rt, &mut refused, Err(KeeperError), &"refused");
-    saves(rt, &mut refused, 64, Err(KeeperError), &"refused");
+    let case = "refused";
+    let mut refused = FileKeeper::new(rt, name);
+    loads(rt, &mut refused, Err(KeeperError), &case);
+    saves(rt, &mut refused, 64, Err(KeeperError), &case);
 }
 
 /// Takes the lock of a keeper away, and checks that of two keepers the first to save keeps its number.
-fn outruns<R: Files + Alloc + Abort>(rt: &R, first: &mut FileKeeper<'_, R>)
+fn outruns<R: Files + Alloc + Abort>(rt: &R, name: &str, first: &mut FileKeeper<'_, R>)
 where
     R::File: TryLock,
 {
+    let case = "second";
     fs::remove_file(rt, "two/number.lock").expect(rt, "a file");
-    let mut second = FileKeeper::new(rt, "two/number");
-    loads(rt, &mut second, Ok(0), &"second");
+    let mut second = FileKeeper::new(rt, name);
+    loads(rt, &mut second, Ok(0), &case);
     saves(rt, first, 64, Ok(()), &"first");
-    saves(rt, &mut second, 64, Err(KeeperError), &"second");
+    saves(rt, &mut second, 64, Err(KeeperError), &case);
 }
 
 /// Checks a keeper beside others of its name.
-fn take_turns<R: Files + Alloc + Abort>(rt: &R)
+fn take_turns<R: Files + Alloc + Abort>(rt: &R, name: &str)
 where
     R::File: TryLock,
 {
-    let mut first = FileKeeper::new(rt, "two/number");
+    let mut first = FileKeeper::new(rt, name);
     loads(rt, &mut first, Ok(0), &"first");
-    is_alone(rt);
-    outruns(rt, &mut first);
+    is_alone(rt, name);
+    outruns(rt, name, &mut first);
 }
 
 // Own rule: a name belongs to one keeper. If its lock is taken away, the keeper that saves second finds what it didn't read.
 #[test]
 fn two_keepers(rt: HostRuntime) {
-    begin(&rt, "two");
-    take_turns(&rt);
-    end(&rt, "two");
+    let folder = "two";
+    begin(&rt, folder);
+    take_turns(&rt, "two/number");
+    end(&rt, folder);
 }
 
 /// Checks what a load and a save return whose runtime refuses a step, and what the next run loads.
@@ -157,18 +164,14 @@ fn is_refused(
     stop: &impl Abort,
     rt: &HostRuntime,
     (folder, name): (&str, &str),
-    refused: Step,
+    fault: Fault,
     loaded: Result<u64, KeeperError>,
     number: u64,
 ) {
-    let case = (name, refused);
+    let case = (name, fault);
     fs::write(rt, name, "64\n").expect(stop, "a file");
-    let refusing = Refusing {
-        rt,
-        folder,
-        refused,
-    };
-    let mut keeper = FileKeeper::new(&refusing, name);
+    let faulty = Faulty::new(rt, folder, fault);
+    let mut keeper = FileKeeper::new(&faulty, name);
     loads(stop, &mut keeper, loaded, &case);
     saves(stop, &mut keeper, 128, Err(KeeperError), &case);
     drop(keeper);
@@ -177,23 +180,23 @@ fn is_refused(
 
 // What a load and a save return whose runtime refuses a step. A row says what the load returns. The save fails, and the next run loads the old
 // number if the step is the rename or an earlier one, and the new number if it is a later one.
-const STEPS: [(Step, Result<u64, KeeperError>, u64); 10] = [
-    (Step::Look, Err(KeeperError), 64),
-    (Step::Lock, Err(KeeperError), 64),
-    (Step::Open, Err(KeeperError), 64),
-    (Step::OpenFolder, Ok(64), 64),
-    (Step::Remove, Ok(64), 64),
-    (Step::Create, Ok(64), 64),
-    (Step::Write, Ok(64), 64),
-    (Step::SyncFile, Ok(64), 64),
-    (Step::Rename, Ok(64), 64),
-    (Step::SyncFolder, Ok(64), 128),
+const STEPS: [(Fault, Result<u64, KeeperError>, u64); 10] = [
+    (Fault::Look, Err(KeeperError), 64),
+    (Fault::Lock, Err(KeeperError), 64),
+    (Fault::Open, Err(KeeperError), 64),
+    (Fault::OpenFolder, Ok(64), 64),
+    (Fault::Remove, Ok(64), 64),
+    (Fault::Step(CREATE), Ok(64), 64),
+    (Fault::Step(WRITE), Ok(64), 64),
+    (Fault::Step(SYNC_FILE), Ok(64), 64),
+    (Fault::Step(RENAME), Ok(64), 64),
+    (Fault::Step(SYNC_FOLDER), Ok(64), 128),
 ];
 
 /// Checks each step, for one name.
 fn are_refused(stop: &impl Abort, rt: &HostRuntime, place: (&str, &str)) {
-    for (refused, loaded, number) in STEPS {
-        is_refused(stop, rt, place, refused, loaded, number);
+    for (fault, loaded, number) in STEPS {
+        is_refused(stop, rt, place, fault, loaded, number);
     }
 }
 
@@ -207,9 +210,10 @@ fn remove<R: Files + Alloc + Abort>(rt: &R) {
 // Each step is refused in turn, for a name in a folder and for one in the working folder.
 #[test]
 fn refused_steps(rt: HostRuntime) {
-    begin(&rt, "steps");
-    are_refused(&rt, &rt, ("steps", "steps/number"));
+    let folder = "steps";
+    begin(&rt, folder);
+    are_refused(&rt, &rt, (folder, "steps/number"));
     are_refused(&rt, &rt, (".", "steps_number"));
     remove(&rt);
-    end(&rt, "steps");
+    end(&rt, folder);
 }

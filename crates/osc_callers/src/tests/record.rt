@@ -1,19 +1,17 @@
 //! What no clause says of a keeper of a record: what it loads after a save that stopped at any step, after any bit of a place that
 //! flipped, and what it refuses by name.
 
-mod counting;
-mod stopping;
+mod counted;
 
+use super::checks::is;
+use super::faults::{Fault, Faulty, Stop};
 use super::folder::{begin, end};
-use counting::Counting;
 use osc_context::{KeeperError, KeptNumbers, RecordKeeper};
-use osc_file::{CountedRecord, Place, RecordFile, RecordTrouble, TryLock};
-use std::cell::Cell;
+use osc_file::{Place, RecordFile, RecordTrouble, TryLock};
 use std::fmt::Debug;
 use std::fs;
 use std::process::Abort;
 use std::rt::Files;
-use stopping::{Stop, Stopping};
 
 const FINGERPRINT: [u8; 8] = [0x01, 0x23, 0x45, 0x67, 0x89, 0xab, 0xcd, 0xef];
 
@@ -32,6 +30,15 @@ const LATER: KeptNumbers = KeptNumbers {
     received: 9,
 };
 
+/// A file beside a record: a place, the lock, or a copy of a place that a test keeps.
+#[derive(Clone, Copy)]
+enum Beside {
+    A,
+    B,
+    Lock,
+    Copy,
+}
+
 /// Checks what a save of the keeper returns. Numbers below its floors aren't saved.
 fn saves<R: Files + Alloc>(
     rt: &impl Abort,
@@ -49,7 +56,44 @@ where
     } else {
         Err(KeeperError)
     };
-    assert_eq!(rt; saved, wanted, "{case:?}");
+    is(rt, &saved, &wanted, case);
+}
+
+/// Checks what a load of the keeper returns.
+fn loads<R: Files + Alloc>(
+    rt: &impl Abort,
+    keeper: &mut RecordFile<'_, R>,
+    wanted: Result<KeptNumbers, KeeperError>,
+    case: &impl Debug,
+)
+where
+    R::File: TryLock,
+{
+    is(rt, &keeper.load(), &wanted, case);
+}
+
+/// Checks that a load of the keeper fails, and why.
+fn fails<R: Files + Alloc>(rt: &impl Abort, keeper: &mut RecordFile<'_, R>, why: RecordTrouble)
+where
+    R::File: TryLock,
+{
+    loads(rt, keeper, Err(KeeperError), &why);
+    is(rt, &keeper.trouble(), &Some(why), &why);
+}
+
+/// Checks the floors of the keeper, and which place is damaged.
+fn has<R: Files + Alloc>(
+    rt: &impl Abort,
+    keeper: &RecordFile<'_, R>,
+    numbers: KeptNumbers,
+    damaged: Option<Place>,
+    case: &impl Debug,
+)
+where
+    R::File: TryLock,
+{
+    is(rt, &keeper.numbers(), &numbers, case);
+    is(rt, &keeper.damaged(), &damaged, case);
 }
 
 /// Makes the first record of this name, and saves the old numbers in it.
@@ -59,6 +103,14 @@ where
 {
     let mut keeper = RecordFile::first(rt, name, FINGERPRINT).expect(rt, "a first record");
     saves(rt, &mut keeper, OLD, Ok(()), &name);
+}
+
+/// Opens the record of this name.
+fn opened<'a, R: Files + Alloc + Abort>(rt: &'a R, name: &str) -> RecordFile<'a, R>
+where
+    R::File: TryLock,
+{
+    RecordFile::open(rt, name, FINGERPRINT).expect(rt, "a record")
 }
 
 /// Checks what the next run finds, that it can save, and that both places are alike and whole afterwards.
@@ -72,40 +124,59 @@ fn goes_on<R: Files + Alloc + Abort>(
 where
     R::File: TryLock,
 {
-    let mut keeper = RecordFile::open(rt, name, FINGERPRINT).expect(rt, "a record");
-    assert_eq!(rt;
-        (keeper.numbers(), keeper.damaged()),
-        (numbers, damaged),
-        "{case:?}"
-    );
-    assert_eq!(rt; keeper.load(), Ok(numbers), "{case:?}");
+    let mut keeper = opened(rt, name);
+    has(rt, &keeper, numbers, damaged, case);
+    loads(rt, &mut keeper, Ok(numbers), case);
     saves(rt, &mut keeper, LATER, Ok(()), case);
-    assert_eq!(rt;
-        (keeper.load(), keeper.damaged()),
-        (Ok(LATER), None),
-        "{case:?}"
+    loads(rt, &mut keeper, Ok(LATER), case);
+    has(rt, &keeper, LATER, None, case);
+    are_alike(rt, name, case);
+}
+
+/// Checks that both places hold the same.
+fn are_alike<R: Files + Alloc + Abort>(rt: &R, name: &str, case: &impl Debug) {
+    is(
+        rt,
+        &text_of(rt, name, Beside::A),
+        &text_of(rt, name, Beside::B),
+        case,
     );
-    assert_eq!(rt; text_of(rt, name, "a"), text_of(rt, name, "b"), "{case:?}");
 }
 
-/// Returns what a place holds.
-fn text_of<R: Files + Alloc + Abort>(rt: &R, name: &str, place: &str) -> Vec<u8, R::A> {
-    let path = format!(in rt.alloc(); "{name}.{place}").expect(rt, "a name");
-    fs::read(rt, path.as_str()).expect(rt, "a place")
+/// Returns the name of a file beside a record.
+fn path<R: Alloc + Abort>(rt: &R, name: &str, file: Beside) -> String<R::A> {
+    let ending = match file {
+        Beside::A => "a",
+        Beside::B => "b",
+        Beside::Lock => "lock",
+        Beside::Copy => "copy",
+    };
+    format!(in rt.alloc(); "{name}.{ending}").expect(rt, "a name")
 }
 
-/// Makes a place hold these bytes.
-fn put(rt: &(impl Files + Alloc + Abort), name: &str, place: &str, bytes: &[u8]) {
-    let path = format!(in rt.alloc(); "{name}.{place}").expect(rt, "a name");
-    fs::write(rt, path.as_str(), bytes).expect(rt, "a place");
+/// Returns what a file holds.
+fn text_of<R: Files + Alloc + Abort>(rt: &R, name: &str, file: Beside) -> Vec<u8, R::A> {
+    fs::read(rt, path(rt, name, file).as_str()).expect(rt, "a file")
 }
 
-/// Removes the files of a name with these endings.
-fn remove(rt: &(impl Files + Alloc + Abort), name: &str, endings: &[&str]) {
-    for ending in endings {
-        let path = format!(in rt.alloc(); "{name}.{ending}").expect(rt, "a name");
-        fs::remove_file(rt, path.as_str()).expect(rt, "a file");
-    }
+/// Makes a file hold these bytes.
+fn put(rt: &(impl Files + Alloc + Abort), name: &str, file: Beside, bytes: &[u8]) {
+    fs::write(rt, path(rt, name, file).as_str(), bytes).expect(rt, "a file");
+}
+
+/// Makes a file hold nothing.
+fn empty(rt: &(impl Files + Alloc + Abort), name: &str, file: Beside) {
+    put(rt, name, file, b"");
+}
+
+/// Makes a file hold what another one holds.
+fn copy(rt: &(impl Files + Alloc + Abort), name: &str, from: Beside, to: Beside) {
+    put(rt, name, to, &text_of(rt, name, from));
+}
+
+/// Removes a file.
+fn remove(rt: &(impl Files + Alloc + Abort), name: &str, file: Beside) {
+    fs::remove_file(rt, path(rt, name, file).as_str()).expect(rt, "a file");
 }
 
 /// Checks why a record isn't opened.
@@ -119,7 +190,38 @@ where
     R::File: TryLock,
 {
     let why = RecordFile::open(rt, name, fingerprint).err();
-    assert_eq!(rt; why, Some(wanted), "{name:?}");
+    is(rt, &why, &Some(wanted), &name);
+}
+
+/// Stops a save at a step, and checks that what wasn't confirmed isn't the floor, whatever stands in the files. The same keeper may save
+/// again.
+fn stop_save(
+    rt: &impl Abort,
+    host: &HostRuntime,
+    name: &str,
+    (step, stop, again): (u64, Stop, bool),
+) {
+    let case = (step, stop, again);
+    let faulty = Faulty::new(host, "stops", Fault::From(step, stop));
+    let mut keeper = RecordFile::open(&faulty, name, FINGERPRINT).expect(rt, "a record");
+    saves(rt, &mut keeper, NEW, Err(KeeperError), &case);
+    loads(rt, &mut keeper, Ok(OLD), &case);
+    if again {
+        faulty.mend();
+        saves(rt, &mut keeper, NEW, Ok(()), &case);
+    }
+}
+
+/// What a save leaves that stops at a step: the numbers, and which place is damaged. The fourth step renames the first place, and the ninth
+/// the second one.
+fn left_by(step: u64, stop: Stop) -> (KeptNumbers, Option<Place>) {
+    match (step, stop) {
+        (4, Stop::Half) => (OLD, Some(Place::A)),
+        (9, Stop::Half) => (NEW, Some(Place::B)),
+        (4, Stop::After) => (NEW, None),
+        _ if step > 4 => (NEW, None),
+        _ => (OLD, None),
+    }
 }
 
 /// Stops a save at a step, and checks what is left. The tenth step is the last.
@@ -134,47 +236,31 @@ where
 {
     let case = (step, stop, again);
     begin_record(rt, name);
-    let stopping = Stopping {
-        rt: host,
-        folder: "stops",
-        left: Cell::new(step),
-        stop,
-    };
-    let mut keeper = RecordFile::open(&stopping, name, FINGERPRINT).expect(rt, "a record");
-    saves(rt, &mut keeper, NEW, Err(KeeperError), &case);
-    // What wasn't confirmed isn't the floor, whatever stands in the files.
-    assert_eq!(rt; keeper.load(), Ok(OLD), "{case:?}");
-    if again {
-        stopping.left.set(100);
-        saves(rt, &mut keeper, NEW, Ok(()), &case);
-    }
-    drop(keeper);
-    let renamed = step > 4 || (step == 4 && stop == Stop::After);
-    let torn = match (step, stop) {
-        (4, Stop::Half) => Some(Place::A),
-        (9, Stop::Half) => Some(Place::B),
-        _ => None,
-    };
-    if again {
-        goes_on(rt, name, NEW, None, &case);
+    stop_save(rt, host, name, case);
+    let (numbers, damaged) = if again {
+        (NEW, None)
     } else {
-        goes_on(rt, name, if renamed { NEW } else { OLD }, torn, &case);
-    }
-    remove(rt, name, &["a", "b", "lock"]);
+        left_by(step, stop)
+    };
+    goes_on(rt, name, numbers, damaged, &case);
+    remove(rt, name, Beside::A);
+    remove(rt, name, Beside::B);
+    remove(rt, name, Beside::Lock);
 }
 
 // A save that stops at each of its steps, five for each place: create, write, sync, rename, sync of the folder. The next run loads the old
 // numbers or the new ones, and the same keeper can save again.
 #[test]
 fn a_save_that_stops(rt: HostRuntime) {
-    begin(&rt, "stops");
+    let (folder, name) = ("stops", "stops/record");
+    begin(&rt, folder);
     for step in 1..11 {
         for stop in [Stop::Before, Stop::Half, Stop::After] {
-            stops(&rt, &rt, "stops/record", (step, stop, false));
-            stops(&rt, &rt, "stops/record", (step, stop, true));
+            stops(&rt, &rt, name, (step, stop, false));
+            stops(&rt, &rt, name, (step, stop, true));
         }
     }
-    end(&rt, "stops");
+    end(&rt, folder);
 }
 
 /// Flips a bit of a byte.
@@ -185,37 +271,31 @@ fn flip(bytes: &mut [u8], at: usize, bit: u32) {
 }
 
 /// Flips each bit of a place in turn, and checks that the other place is loaded.
-fn flips<R: Files + Alloc + Abort>(rt: &R, name: &str, place: &str, damaged: Place)
+fn flips<R: Files + Alloc + Abort>(rt: &R, name: &str, place: Beside, damaged: Place)
 where
     R::File: TryLock,
 {
-    let whole = text_of(rt, name, place);
+    begin_record(rt, name);
     let mut bytes = text_of(rt, name, place);
-    for at in 0..whole.len() {
+    for at in 0..bytes.len() {
         for bit in 0..8u32 {
             flip(&mut bytes, at, bit);
             put(rt, name, place, &bytes);
-            let keeper = RecordFile::open(rt, name, FINGERPRINT).expect(rt, "a record");
-            assert_eq!(rt;
-                (keeper.numbers(), keeper.damaged()),
-                (OLD, Some(damaged)),
-                "{at} {bit}"
-            );
+            has(rt, &opened(rt, name), OLD, Some(damaged), &(at, bit));
             flip(&mut bytes, at, bit);
         }
     }
-    goes_on(rt, name, OLD, Some(damaged), &place);
+    goes_on(rt, name, OLD, Some(damaged), &damaged);
 }
 
 // Each single bit of either place that flips is found, and the other place is loaded.
 #[test]
 fn a_flipped_bit(rt: HostRuntime) {
-    begin(&rt, "flips");
-    begin_record(&rt, "flips/one");
-    flips(&rt, "flips/one", "a", Place::A);
-    begin_record(&rt, "flips/other");
-    flips(&rt, "flips/other", "b", Place::B);
-    end(&rt, "flips");
+    let folder = "flips";
+    begin(&rt, folder);
+    flips(&rt, "flips/one", Beside::A, Place::A);
+    flips(&rt, "flips/other", Beside::B, Place::B);
+    end(&rt, folder);
 }
 
 /// Checks each call of a keeper while both places are damaged, and once one is whole again.
@@ -223,29 +303,26 @@ fn both_damaged<R: Files + Alloc + Abort>(rt: &R, name: &str)
 where
     R::File: TryLock,
 {
-    let whole = text_of(rt, name, "a");
-    let mut keeper = RecordFile::open(rt, name, FINGERPRINT).expect(rt, "a record");
-    put(rt, name, "a", b"");
-    put(rt, name, "b", b"1 64 7\n");
-    assert_eq!(rt; keeper.load(), Err(KeeperError));
-    assert_eq!(rt; keeper.trouble(), Some(RecordTrouble::Damaged));
-    saves(rt, &mut keeper, NEW, Err(KeeperError), &"damaged");
-    put(rt, name, "b", &whole);
-    assert_eq!(rt;
-        (keeper.load(), keeper.damaged()),
-        (Ok(OLD), Some(Place::A))
-    );
-    put(rt, name, "b", b"");
-    drop(keeper);
-    is_refused(rt, name, FINGERPRINT, RecordTrouble::Damaged);
+    let mut keeper = opened(rt, name);
+    copy(rt, name, Beside::A, Beside::Copy);
+    empty(rt, name, Beside::A);
+    put(rt, name, Beside::B, b"1 64 7\n");
+    fails(rt, &mut keeper, RecordTrouble::Damaged);
+    saves(rt, &mut keeper, NEW, Err(KeeperError), &name);
+    copy(rt, name, Beside::Copy, Beside::B);
+    loads(rt, &mut keeper, Ok(OLD), &name);
+    has(rt, &keeper, OLD, Some(Place::A), &name);
+    empty(rt, name, Beside::B);
 }
 
 #[test]
 fn both_places_damaged(rt: HostRuntime) {
-    begin(&rt, "damaged");
-    begin_record(&rt, "damaged/record");
-    both_damaged(&rt, "damaged/record");
-    end(&rt, "damaged");
+    let (folder, name) = ("damaged", "damaged/record");
+    begin(&rt, folder);
+    begin_record(&rt, name);
+    both_damaged(&rt, name);
+    is_refused(&rt, name, FINGERPRINT, RecordTrouble::Damaged);
+    end(&rt, folder);
 }
 
 /// Checks that an older record in one place never counts, and that a record which this keeper didn't write is told.
@@ -253,46 +330,63 @@ fn older_and_newer<R: Files + Alloc + Abort>(rt: &R, name: &str)
 where
     R::File: TryLock,
 {
-    let older = text_of(rt, name, "a");
-    let mut keeper = RecordFile::open(rt, name, FINGERPRINT).expect(rt, "a record");
+    let mut keeper = opened(rt, name);
+    copy(rt, name, Beside::A, Beside::Copy);
     saves(rt, &mut keeper, NEW, Ok(()), &name);
-    put(rt, name, "b", &older);
-    assert_eq!(rt; (keeper.load(), keeper.damaged()), (Ok(NEW), None));
-    put(rt, name, "a", &older);
-    assert_eq!(rt; keeper.load(), Err(KeeperError));
-    assert_eq!(rt; keeper.trouble(), Some(RecordTrouble::Changed));
+    copy(rt, name, Beside::Copy, Beside::B);
+    loads(rt, &mut keeper, Ok(NEW), &name);
+    has(rt, &keeper, NEW, None, &name);
+    copy(rt, name, Beside::Copy, Beside::A);
+    fails(rt, &mut keeper, RecordTrouble::Changed);
 }
 
 #[test]
 fn an_older_record(rt: HostRuntime) {
-    begin(&rt, "older");
-    begin_record(&rt, "older/record");
-    older_and_newer(&rt, "older/record");
-    end(&rt, "older");
+    let (folder, name) = ("older", "older/record");
+    begin(&rt, folder);
+    begin_record(&rt, name);
+    older_and_newer(&rt, name);
+    end(&rt, folder);
+}
+
+/// Checks that the record in a copied folder is told.
+fn copies_are_told<R: Files + Alloc + Abort>(rt: &R, name: &str, folder: &str)
+where
+    R::File: TryLock,
+{
+    begin(rt, folder);
+    let copy = format!(in rt.alloc(); "{folder}/record").expect(rt, "a name");
+    for file in [Beside::A, Beside::B, Beside::Lock] {
+        let from = path(rt, name, file);
+        fs::copy(rt, from.as_str(), path(rt, copy.as_str(), file).as_str()).expect(rt, "a copy");
+    }
+    is_refused(rt, copy.as_str(), FINGERPRINT, RecordTrouble::Copied);
+    end(rt, folder);
+}
+
+/// Checks that another name of each file is told.
+fn links_are_told<R: Files + Alloc + Abort>(rt: &R, name: &str, other: &str)
+where
+    R::File: TryLock,
+{
+    for file in [Beside::Lock, Beside::A, Beside::B] {
+        let to = path(rt, other, file);
+        fs::hard_link(rt, path(rt, name, file).as_str(), to.as_str()).expect(rt, "a link");
+        is_refused(rt, name, FINGERPRINT, RecordTrouble::HardLink);
+        fs::remove_file(rt, to.as_str()).expect(rt, "a link");
+    }
 }
 
 // A record of another end, a copied folder, another name of a file, and a keeper that is there already.
 #[test]
 fn whose_it_is(rt: HostRuntime) {
-    begin(&rt, "whose");
-    begin(&rt, "whose_copy");
-    begin_record(&rt, "whose/record");
-    is_refused(&rt, "whose/record", [0; 8], RecordTrouble::OtherContext);
-    for ending in ["a", "b", "lock"] {
-        let from = format!(in rt.alloc(); "whose/record.{ending}").expect(&rt, "a name");
-        let to = format!(in rt.alloc(); "whose_copy/record.{ending}").expect(&rt, "a name");
-        fs::copy(&rt, from.as_str(), to.as_str()).expect(&rt, "a copy");
-    }
-    is_refused(&rt, "whose_copy/record", FINGERPRINT, RecordTrouble::Copied);
-    for ending in ["lock", "a", "b"] {
-        let from = format!(in rt.alloc(); "whose/record.{ending}").expect(&rt, "a name");
-        let to = format!(in rt.alloc(); "whose/other.{ending}").expect(&rt, "a name");
-        fs::hard_link(&rt, from.as_str(), to.as_str()).expect(&rt, "a link");
-        is_refused(&rt, "whose/record", FINGERPRINT, RecordTrouble::HardLink);
-        fs::remove_file(&rt, to.as_str()).expect(&rt, "a link");
-    }
-    end(&rt, "whose_copy");
-    end(&rt, "whose");
+    let (folder, name) = ("whose", "whose/record");
+    begin(&rt, folder);
+    begin_record(&rt, name);
+    is_refused(&rt, name, [0; 8], RecordTrouble::OtherContext);
+    copies_are_told(&rt, name, "whose_copy");
+    links_are_told(&rt, name, "whose/other");
+    end(&rt, folder);
 }
 
 /// Checks that one keeper at a time has the name.
@@ -300,7 +394,7 @@ fn is_alone<R: Files + Alloc + Abort>(rt: &R, name: &str)
 where
     R::File: TryLock,
 {
-    let keeper = RecordFile::open(rt, name, FINGERPRINT).expect(rt, "a record");
+    let keeper = opened(rt, name);
     is_refused(rt, name, FINGERPRINT, RecordTrouble::Locked);
     drop(keeper);
     goes_on(rt, name, OLD, None, &name);
@@ -312,106 +406,43 @@ where
     R::File: TryLock,
 {
     let why = RecordFile::first(rt, name, FINGERPRINT).err();
-    assert_eq!(rt; why, Some(RecordTrouble::Present), "{name:?}");
+    is(rt, &why, &Some(RecordTrouble::Present), &name);
+}
+
+/// Checks a record that is lost, or a part of it, and then made anew.
+fn is_lost<R: Files + Alloc + Abort>(rt: &R, name: &str)
+where
+    R::File: TryLock,
+{
+    was_used(rt, name);
+    remove(rt, name, Beside::A);
+    remove(rt, name, Beside::B);
+    is_refused(rt, name, FINGERPRINT, RecordTrouble::Lost);
+    was_used(rt, name);
+    remove(rt, name, Beside::Lock);
+    is_refused(rt, name, FINGERPRINT, RecordTrouble::Lost);
+    empty(rt, name, Beside::B);
+    was_used(rt, name);
+    remove(rt, name, Beside::B);
+}
+
+/// Checks a record that is made, and no other keeper has.
+fn is_made<R: Files + Alloc + Abort>(rt: &R, name: &str)
+where
+    R::File: TryLock,
+{
+    is_refused(rt, name, FINGERPRINT, RecordTrouble::Lost);
+    begin_record(rt, name);
+    is_alone(rt, name);
 }
 
 // Never used and lost are two things: no record is ever made for one that is gone, and none is ever made twice.
 #[test]
 fn never_used_and_lost(rt: HostRuntime) {
-    begin(&rt, "lost");
-    let name = "lost/record";
-    is_refused(&rt, name, FINGERPRINT, RecordTrouble::Lost);
-    begin_record(&rt, name);
-    is_alone(&rt, name);
-    was_used(&rt, name);
-    remove(&rt, name, &["a", "b"]);
-    is_refused(&rt, name, FINGERPRINT, RecordTrouble::Lost);
-    was_used(&rt, name);
-    remove(&rt, name, &["lock"]);
-    is_refused(&rt, name, FINGERPRINT, RecordTrouble::Lost);
-    put(&rt, name, "b", b"");
-    was_used(&rt, name);
-    remove(&rt, name, &["b"]);
-    begin_record(&rt, name);
-    goes_on(&rt, name, OLD, None, &name);
-    end(&rt, "lost");
-}
-
-/// Checks what a save of a counted record returns.
-fn saves_counted<R: Files + Alloc>(
-    rt: &impl Abort,
-    keeper: &mut CountedRecord<'_, R, Counting>,
-    next: KeptNumbers,
-    wanted: Result<(), KeeperError>,
-)
-where
-    R::File: TryLock,
-{
-    let floors = keeper.file().numbers();
-    let saved = if floors.sender <= next.sender && floors.received <= next.received {
-        keeper.save(next)
-    } else {
-        Err(KeeperError)
-    };
-    assert_eq!(rt; saved, wanted);
-}
-
-/// Makes a counted record whose counter begins at 1,000, saves twice, and returns the counter.
-fn count_twice<R: Files + Alloc + Abort>(rt: &R, name: &str) -> Counting
-where
-    R::File: TryLock,
-{
-    let counter = Counting {
-        count: 1000,
-        last: u64::MAX,
-    };
-    let mut keeper = CountedRecord::first(rt, name, FINGERPRINT, counter).expect(rt, "a record");
-    saves_counted(rt, &mut keeper, OLD, Ok(()));
-    put(rt, name, "older", &text_of(rt, name, "a"));
-    saves_counted(rt, &mut keeper, NEW, Ok(()));
-    *keeper.counter()
-}
-
-/// Checks that a counter which fails leaves the floors, and that the next run has what was written.
-fn counter_fails<R: Files + Alloc + Abort>(rt: &R, name: &str, counter: Counting)
-where
-    R::File: TryLock,
-{
-    let stuck = Counting {
-        last: counter.count,
-        ..counter
-    };
-    let mut keeper = CountedRecord::open(rt, name, FINGERPRINT, stuck).expect(rt, "a record");
-    saves_counted(rt, &mut keeper, LATER, Err(KeeperError));
-    assert_eq!(rt; keeper.file().trouble(), Some(RecordTrouble::Counter));
-    assert_eq!(rt; (keeper.load(), keeper.file().numbers()), (Ok(NEW), NEW));
-    drop(keeper);
-    let mut keeper = CountedRecord::open(rt, name, FINGERPRINT, counter).expect(rt, "a record");
-    assert_eq!(rt; keeper.file().numbers(), LATER);
-    saves_counted(rt, &mut keeper, LATER, Ok(()));
-    // The counter comes up to the generation, however far behind it was.
-    assert_eq!(rt; keeper.counter().count, counter.count.saturating_add(2));
-}
-
-/// Puts an older copy back in both places, and checks that it is told.
-fn put_back<R: Files + Alloc + Abort>(rt: &R, name: &str, counter: Counting)
-where
-    R::File: TryLock,
-{
-    let older = text_of(rt, name, "older");
-    put(rt, name, "a", &older);
-    put(rt, name, "b", &older);
-    let why = CountedRecord::open(rt, name, FINGERPRINT, counter).err();
-    assert_eq!(rt; why, Some(RecordTrouble::Older));
-}
-
-// With a counter, an older copy of both places is told too.
-#[test]
-fn an_older_copy(rt: HostRuntime) {
-    begin(&rt, "counted");
-    let counter = count_twice(&rt, "counted/record");
-    assert_eq!(rt; counter.count, 1002);
-    counter_fails(&rt, "counted/record", counter);
-    put_back(&rt, "counted/record", counter);
-    end(&rt, "counted");
+    let (folder, name) = ("lost", "lost/record");
+    begin(&rt, folder);
+    is_made(&rt, name);
+    is_lost(&rt, name);
+    is_made(&rt, name);
+    end(&rt, folder);
 }

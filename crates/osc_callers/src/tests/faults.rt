@@ -1,4 +1,4 @@
-//! A runtime that stops in the middle of a save: at one of its steps, and for all that come after it.
+//! A runtime whose calls on files fail: one call, one step of a save, or a step and all that come after it.
 
 ghost use Rattle.std.specs.Prelude.{IsErr};
 
@@ -9,8 +9,36 @@ use std::fs::{self, File, Metadata, OpenFile, OpenOptions};
 use std::io::{self, ErrorKind, Read, Seek, SeekFrom, Write};
 use std::rt::Files;
 
+// A step is each call that changes a file or a folder, or syncs it. A save takes these for each file that it writes, so its second file
+// begins with step 6.
+pub const CREATE: u64 = 1;
+
+pub const WRITE: u64 = 2;
+
+pub const SYNC_FILE: u64 = 3;
+
+pub const RENAME: u64 = 4;
+
+pub const SYNC_FOLDER: u64 = 5;
+
+/// What fails.
+#[derive(Clone, Copy, Debug)]
+pub enum Fault {
+    Nothing,
+    /// The look whether a name is a link's.
+    Look,
+    Lock,
+    Open,
+    OpenFolder,
+    Remove,
+    /// This step alone.
+    Step(u64),
+    /// This step, which goes so, and all that come after it.
+    From(u64, Stop),
+}
+
 /// How a step goes at which everything stops.
-#[derive(Clone, Copy, Debug, PartialEq, Eq)]
+#[derive(Clone, Copy, Debug)]
 pub enum Stop {
     /// It isn't done.
     Before,
@@ -20,48 +48,77 @@ pub enum Stop {
     After,
 }
 
-/// A step is each call that changes a file or a folder, or syncs it. Each place takes five: create, write, sync, rename, sync of the folder.
-#[derive(Drop)]
-pub struct Stopping<'a> {
-    pub rt: &'a HostRuntime,
-    /// The folder that holds the places.
-    pub folder: &'a str,
-    /// The step that is still called, and stops.
-    pub left: Cell<u64>,
-    pub stop: Stop,
-}
-
-#[derive(Drop)]
-pub struct StoppingFile {
-    file: File,
-    write: Part,
-    sync: Part,
-}
-
 /// What is done of a step.
-#[derive(Clone, Copy, PartialEq, Eq)]
+#[derive(Clone, Copy)]
 enum Part {
     All,
     /// Nothing, or what `Stop` says.
     Stopped(Stop),
 }
 
-impl Stopping<'_> {
+#[derive(Drop)]
+pub struct Faulty<'a> {
+    rt: &'a HostRuntime,
+    /// The folder that holds the files.
+    folder: &'a str,
+    fault: Cell<Fault>,
+    /// How many steps were called.
+    passed: Cell<u64>,
+}
+
+#[derive(Drop)]
+pub struct FaultyFile {
+    file: File,
+    is_locked: bool,
+    write: Part,
+    sync: Part,
+}
+
+impl<'a> Faulty<'a> {
+    /// Returns a runtime over the files of the folder, in which this fails.
+    pub fn new(rt: &'a HostRuntime, folder: &'a str, fault: Fault) -> Faulty<'a> {
+        Faulty {
+            rt,
+            folder,
+            fault: Cell::new(fault),
+            passed: Cell::new(0),
+        }
+    }
+
+    /// From here on nothing fails.
+    pub fn mend(&self) {
+        self.fault.set(Fault::Nothing);
+    }
+
     /// What is done of the step that comes at this place from here on.
     fn part(&self, place: u64) -> Part {
-        let left = self.left.get();
-        if place < left {
-            Part::All
-        } else if place == left {
-            Part::Stopped(self.stop)
-        } else {
-            Part::Stopped(Stop::Before)
+        let step = self.passed.get().saturating_add(place);
+        match self.fault.get() {
+            Fault::Step(failing) if step == failing => Part::Stopped(Stop::Before),
+            Fault::From(first, stop) if step == first => Part::Stopped(stop),
+            Fault::From(first, _) if step > first => Part::Stopped(Stop::Before),
+            _ => Part::All,
         }
     }
 
     /// Goes on behind so many steps.
     fn pass(&self, steps: u64) {
-        self.left.set(self.left.get().saturating_sub(steps));
+        self.passed.set(self.passed.get().saturating_add(steps));
+    }
+
+    /// Makes a new file, which knows its next two steps.
+    fn create(&self, how: &OpenOptions, path: &str) -> io::Result<FaultyFile> {
+        let (write, sync) = (self.part(WRITE), self.part(SYNC_FILE));
+        if !matches!(self.part(CREATE), Part::All | Part::Stopped(Stop::After)) {
+            return stopped();
+        }
+        self.pass(SYNC_FILE);
+        Ok(FaultyFile {
+            file: how.open(self.rt, path)?,
+            is_locked: false,
+            write,
+            sync,
+        })
     }
 
     /// Puts the first half of the one file in the other.
@@ -82,7 +139,7 @@ fn unsupported<T>() -> io::Result<T> {
     Err(io::Error::from(ErrorKind::Unsupported))
 }
 
-impl Alloc for Stopping<'_> {
+impl Alloc for Faulty<'_> {
     type A = Global;
 
     fn alloc(&self) -> Global {
@@ -90,30 +147,31 @@ impl Alloc for Stopping<'_> {
     }
 }
 
-impl Files for Stopping<'_> {
-    type File = StoppingFile;
+impl Files for Faulty<'_> {
+    type File = FaultyFile;
 
-    type Dir = StoppingFile;
+    type Dir = FaultyFile;
 
-    fn open_file(&self, how: &OpenOptions, path: &str) -> io::Result<StoppingFile> {
-        let (write, sync) = if how.asks_create_new() {
-            if !matches!(self.part(1), Part::All | Part::Stopped(Stop::After)) {
-                return stopped();
-            }
-            (self.part(2), self.part(3))
-        } else if path == self.folder {
-            // The folder is opened before the first step, and synced in the fifth.
-            (Part::All, self.part(5))
-        } else {
-            (Part::All, Part::All)
-        };
+    fn open_file(&self, how: &OpenOptions, path: &str) -> io::Result<FaultyFile> {
         if how.asks_create_new() {
-            self.pass(3);
+            return self.create(how, path);
         }
-        Ok(StoppingFile {
+        let is_folder = path == self.folder;
+        match self.fault.get() {
+            Fault::OpenFolder if is_folder => return stopped(),
+            Fault::Open if !is_folder && !how.asks_write() => return stopped(),
+            _ => {}
+        }
+        Ok(FaultyFile {
             file: how.open(self.rt, path)?,
-            write,
-            sync,
+            is_locked: matches!(self.fault.get(), Fault::Lock),
+            write: Part::All,
+            // The folder is opened before the first step.
+            sync: if is_folder {
+                self.part(SYNC_FOLDER)
+            } else {
+                Part::All
+            },
         })
     }
 
@@ -135,7 +193,7 @@ impl Files for Stopping<'_> {
         }
     }
 
-    fn open_dir(&self, _path: &str) -> io::Result<StoppingFile> {
+    fn open_dir(&self, _path: &str) -> io::Result<FaultyFile> {
         unsupported()
     }
 
@@ -144,6 +202,9 @@ impl Files for Stopping<'_> {
     }
 
     fn symlink_metadata(&self, path: &str) -> io::Result<Metadata> {
+        if matches!(self.fault.get(), Fault::Look) {
+            return stopped();
+        }
         self.rt.symlink_metadata(path)
     }
 
@@ -153,6 +214,9 @@ impl Files for Stopping<'_> {
 
     // Most often there is nothing to remove, so it is no step.
     fn remove_file(&self, path: &str) -> io::Result<()> {
+        if matches!(self.fault.get(), Fault::Remove) {
+            return stopped();
+        }
         self.rt.remove_file(path)
     }
 
@@ -169,16 +233,7 @@ impl Files for Stopping<'_> {
     }
 }
 
-impl StoppingFile {
-    fn synced(&self) -> io::Result<()> {
-        match self.sync {
-            Part::All => self.file.sync_all(),
-            Part::Stopped(_) => stopped(),
-        }
-    }
-}
-
-impl OpenFile for StoppingFile {
+impl OpenFile for FaultyFile {
     fn metadata(&self) -> io::Result<Metadata> {
         self.file.metadata()
     }
@@ -188,27 +243,33 @@ impl OpenFile for StoppingFile {
     }
 
     fn sync_all(&self) -> io::Result<()> {
-        self.synced()
+        match self.sync {
+            Part::All => self.file.sync_all(),
+            Part::Stopped(_) => stopped(),
+        }
     }
 
     fn sync_data(&self) -> io::Result<()> {
-        self.synced()
+        self.sync_all()
     }
 }
 
-impl TryLock for StoppingFile {
+impl TryLock for FaultyFile {
     fn try_lock(&self) -> io::Result<()> {
+        if self.is_locked {
+            return stopped();
+        }
         TryLock::try_lock(&self.file)
     }
 }
 
-impl Read for StoppingFile {
+impl Read for FaultyFile {
     fn read(&mut self, buf: &mut [u8]) -> io::Result<usize> {
         self.file.read(buf)
     }
 }
 
-impl Write for StoppingFile {
+impl Write for FaultyFile {
     fn write(&mut self, buf: &[u8]) -> io::Result<usize> {
         match self.write {
             Part::All => self.file.write(buf),
@@ -229,7 +290,7 @@ impl Write for StoppingFile {
     }
 }
 
-impl Seek for StoppingFile {
+impl Seek for FaultyFile {
     fn seek(&mut self, to: SeekFrom) -> io::Result<u64> {
         self.file.seek(to)
     }

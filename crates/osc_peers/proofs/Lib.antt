@@ -1,0 +1,6 @@
+pub mod OneSource
+pub mod Senders
+pub mod Peering
+pub mod Crossing
+pub mod Meeting
+pub mod TwoSources
