@@ -87,7 +87,7 @@ fn make_other<C: ClientEnd>(client: &mut C, step: &Step<'_>, answer: &mut Answer
 }
 
 /// Makes a step of a client.
-fn make_step<C: ClientEnd>(
+pub(crate) fn make_step<C: ClientEnd>(
     client: &mut C,
     step: &Step<'_>,
     way: Way,

@@ -30,7 +30,7 @@ pub(crate) fn event_of(step: &Step<'_>) -> Option<ClientEvent> {
     let fields = &step.fields;
     match step.verb {
         "request" => Some(request(fields)),
-        "take" => Some(datagram(fields)),
+        "take" | "hear" => Some(datagram(fields)),
         "forget" => Some(ClientEvent::Forget {
             token: fields.copy(0),
         }),

@@ -109,6 +109,7 @@ impl<'t> Corpus<'t> {
             | "client"
             | "kept-server"
             | "kept-client"
+            | "kept-peer"
             | "kept-server-bytes"
             | "kept-client-bytes" => {
                 ends::make(row.verb, row.fields, contexts, &mut answer);

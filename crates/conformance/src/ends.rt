@@ -4,7 +4,7 @@ use crate::answer::Answer;
 use crate::fields::NamedContext;
 use crate::keeper::Memory;
 use crate::steps::{Step, Way, steps_of};
-use crate::{client, kept, server};
+use crate::{client, kept, peer, server};
 use osc_kept::{KeptClient, KeptServer};
 use osc_kept_handle::{KeptClientHandle, KeptServerHandle};
 use std::alloc::AllocError;
@@ -68,6 +68,7 @@ pub(crate) fn make<'t>(
         "client" => client::over_all(first, rest, answer),
         "kept-server" => kept::over_all::<KeptServer<Memory<'_>>>(&steps, answer),
         "kept-client" => kept::over_all::<KeptClient<Memory<'_>, 2>>(&steps, answer),
+        "kept-peer" => peer::over_both(&steps, answer),
         "kept-server-bytes" => in_both_ways::<KeptServerHandle>(first, rest, answer),
         "kept-client-bytes" => in_both_ways::<KeptClientHandle>(first, rest, answer),
         _ => answer.is_whole = false,

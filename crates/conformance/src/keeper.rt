@@ -8,12 +8,26 @@ use std::alloc::Global;
 
 /// How a call of a keeper ends.
 #[derive(Clone, Copy, PartialEq, Eq)]
-enum End {
+pub(crate) enum End {
     Works,
     /// The call fails, and what was kept stays.
     Fails,
     /// The call is stopped. A save has kept its number by then.
     Stops,
+}
+
+/// Returns how the next call ends. Each call takes a letter of the plan: `f` fails, `s` stops, and any other letter works, as all calls
+/// after the last letter do.
+pub(crate) fn next_end(plan: &mut &[u8]) -> End {
+    let Some((letter, rest)) = plan.split_first() else {
+        return End::Works;
+    };
+    *plan = rest;
+    match *letter {
+        b'f' => End::Fails,
+        b's' => End::Stops,
+        _ => End::Works,
+    }
 }
 
 /// A keeper in memory, how its calls end, and the numbers that it was asked to save.
@@ -22,7 +36,7 @@ pub(crate) struct Memory<'t> {
     kept: u64,
     // The last number whose save returned `Ok`.
     pub(crate) saved: u64,
-    // A letter for each call: `f` fails, `s` stops, and any other letter works. All calls after the last letter work.
+    // A letter for each call.
     plan: &'t [u8],
     saves: Vec<u64>,
     /// The name of the file whose keeper the command asked for.
@@ -43,30 +57,13 @@ impl<'t> Memory<'t> {
         }
     }
 
-    /// Returns how the next call ends.
-    fn next_end(&mut self) -> End
-        ensures saved { self.new.saved ≡ self.old.saved }
-        ensures kept { self.new.kept ≡ self.old.kept }
-        ensures failures { self.new.failures ≡ self.old.failures }
-    {
-        let Some((letter, rest)) = self.plan.split_first() else {
-            return End::Works;
-        };
-        self.plan = rest;
-        match *letter {
-            b'f' => End::Fails,
-            b's' => End::Stops,
-            _ => End::Works,
-        }
-    }
-
     /// Notes the number that is to be saved, and returns how the save ends.
     fn note(&mut self, next: u64) -> End
         ensures saved { self.new.saved ≡ self.old.saved }
         ensures kept { self.new.kept ≡ self.old.kept }
         ensures failures { self.new.failures ≡ self.old.failures }
     {
-        let end = self.next_end();
+        let end = next_end(&mut self.plan);
         if self.saves.push(next).is_err() {
             return End::Fails;
         }
@@ -96,7 +93,7 @@ impl<'t> Keeper for Memory<'t> {
     ghost loads = { λ old n new. n ≡ old.kept };
 
     fn load(&mut self) -> Result<u64, KeeperError> {
-        if self.next_end() == End::Works {
+        if next_end(&mut self.plan) == End::Works {
             return Ok(self.kept);
         }
         self.failures = Count::one_more(&self.failures);

@@ -9,7 +9,7 @@ use crate::fields::Fields;
 use crate::keeper::Memory;
 use crate::refusal::{Refusal, restarted, show_word};
 use crate::server_events::kept_server_event;
-use crate::steps::{Step, Way};
+use crate::steps::{Step, Way, up_to_start};
 use crate::{client_calls, client_entry, server_calls, server_entry};
 use osc_context::Context;
 use osc_kept::{
@@ -191,14 +191,6 @@ fn one_start<'t, E: KeptEnd<'t>>(
             }
             keeper
         }
-    }
-}
-
-/// Returns the steps up to the next start.
-fn up_to_start<'s, 't>(steps: &'s [Step<'t>]) -> &'s [Step<'t>] {
-    match steps.iter().position(|step| step.verb == "start") {
-        Some(place) => &steps[..place],
-        None => steps,
     }
 }
 

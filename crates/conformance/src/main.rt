@@ -21,6 +21,8 @@ mod fields;
 mod keeper;
 mod kept;
 mod numbers;
+mod peer;
+mod peer_record;
 mod protection;
 mod reading;
 mod refusal;

@@ -27,6 +27,7 @@ fn take<'a, S: ServerEnd>(
     let Taken { outcome, reply } = match way {
         Way::ByHalves => server.halves(at, bytes, out)?,
         Way::Counted => server.counted(at, bytes, out)?,
+        Way::CountedByHalves => server.counted_halves(at, bytes, out)?,
         _ => server.take(at, bytes, out)?,
     };
     let (seen, ticket) = outcome.part();
@@ -142,7 +143,11 @@ fn make_event<S: ServerEnd>(
         show_word(server.other(step), answer);
         return None;
     };
-    let way = if step.is_counted() { Way::Counted } else { way };
+    let way = if step.is_counted() {
+        way.counted()
+    } else {
+        way
+    };
     let ticket = match call(server, tickets, &mut event, way) {
         Ok((entry, ticket)) => {
             show(&entry, answer);
@@ -158,7 +163,7 @@ fn make_event<S: ServerEnd>(
 }
 
 /// Makes a step of a server. An event has a place for its ticket.
-fn make_step<S: ServerEnd>(
+pub(crate) fn make_step<S: ServerEnd>(
     server: &mut S,
     tickets: &mut Vec<Option<Ticket>>,
     step: &Step<'_>,

@@ -43,6 +43,16 @@ pub(crate) trait ServerEnd {
         Err(Refusal::Bad)
     }
 
+    /// Takes a datagram in this way by the two halves of that call, if the server has them.
+    fn counted_halves<'b>(
+        &mut self,
+        at: Moment,
+        bytes: &'b mut [u8],
+        out: &mut Room,
+    ) -> Made<Taken<'b>> {
+        self.counted(at, bytes, out)
+    }
+
     /// Replies to the request of a ticket.
     fn reply(&mut self, ticket: Ticket, reply: &Reply<'_>, out: &mut [u8]) -> Replied;
 

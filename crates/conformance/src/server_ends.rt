@@ -15,7 +15,7 @@ use osc_kept_handle::KeptServerHandle;
 use osc_window::WindowSize;
 
 /// Returns the length of a reply, or the ticket that a refusal gives back.
-fn answered(sealed: Result<usize, (ReplyError, Ticket)>) -> Replied {
+pub(crate) fn answered(sealed: Result<usize, (ReplyError, Ticket)>) -> Replied {
     match sealed {
         Ok(len) => (Ok(len), None),
         Err((refusal, ticket)) => (Err(Refusal::of_reply(refusal)), Some(ticket)),

@@ -15,6 +15,8 @@ pub(crate) enum Way {
     ByHalves,
     /// By the call that makes the Echo value of the next number.
     Counted,
+    /// By the two halves of that call.
+    CountedByHalves,
     ByRun,
     ByRunOn,
 }
@@ -23,6 +25,15 @@ impl Way {
     /// Returns whether these steps are made this way by calls, which is so if one of them is no event.
     pub(crate) fn calls(self, steps: &[Step<'_>]) -> bool {
         !matches!(self, Way::ByRun | Way::ByRunOn) || !are_events(steps)
+    }
+
+    /// Returns the way of a step whose Echo value is that of the next number.
+    pub(crate) fn counted(self) -> Way {
+        if self == Way::ByHalves {
+            Way::CountedByHalves
+        } else {
+            Way::Counted
+        }
     }
 }
 
@@ -74,6 +85,14 @@ impl Step<'_> {
 /// Returns whether all steps are events.
 pub(crate) fn are_events(steps: &[Step<'_>]) -> bool {
     steps.iter().all(|step| step.is_event())
+}
+
+/// Returns the steps up to the next start.
+pub(crate) fn up_to_start<'s, 't>(steps: &'s [Step<'t>]) -> &'s [Step<'t>] {
+    match steps.iter().position(|step| step.verb == "start") {
+        Some(place) => &steps[..place],
+        None => steps,
+    }
 }
 
 /// Returns the steps of a row, which are separated by semicolons.

@@ -1,6 +1,6 @@
 //! The Sender Sequence Numbers of a sender across all its lives (RFC 8613, 7.2.1 and B.1.1).
 
-ghost use Rattle.std.specs.Prelude.{◌≡◌, ℕ, ◌+◌, ◌<◌, ◌≤◌, ◌^◌, ◌↔◌, IsOk, IfOk, IsErrOf};
+ghost use Rattle.std.specs.Prelude.{◌≡◌, ◌⊎◌, ℕ, ◌+◌, ◌<◌, ◌≤◌, ◌^◌, ◌↔◌, IsOk, IfOk, IfSome, IfNone, IsErrOf};
 
 use crate::keeper::Keeper;
 use crate::partial_iv::{NUMBER_LIMIT, Piv};
@@ -48,9 +48,22 @@ impl Numbers {
         ensures worked { (IsErrOf result KeeperFailed → ⊥) → K.failures keeper.new ≡ K.failures keeper.old }
         ensures floor_stays { K.floor keeper.new ≡ K.floor keeper.old }
     {
-        let Ok(kept) = keeper.load() else {
-            return Err(NumbersError::KeeperFailed);
-        };
+        match keeper.load() {
+            Ok(kept) => Numbers::begin(kept),
+            Err(_) => Err(NumbersError::KeeperFailed),
+        }
+    }
+
+    /// Begins at a number that was loaded. No number is reserved yet. If it refuses, it returns the first reason in the order of
+    /// `NumbersError`.
+    #[doc(hidden)]
+    pub fn begin(kept: u64) -> Result<Numbers, NumbersError>
+        ensures begins { IfOk result (λ n. (next_of n ≡ kept) × (limit_of n ≡ kept)) }
+        ensures in_range { IsOk result → kept < 2 ^ 40 }
+        ensures exhausted { IsErrOf result NumbersExhausted → kept ≡ 2 ^ 40 }
+        ensures too_large { IsErrOf result KeptTooLarge → 2 ^ 40 < kept }
+        ensures no_keeper_failed { IsErrOf result KeeperFailed → ⊥ }
+    {
         if kept > NUMBER_LIMIT {
             return Err(NumbersError::KeptTooLarge);
         }
@@ -72,6 +85,56 @@ impl Numbers {
         *next
     }
 
+    /// Returns the number that has to be saved before the next one is given: the limit with 64 more reserved, or with as many as are left
+    /// below 2^40. Returns `None` if one is reserved, or none is left.
+    #[doc(hidden)]
+    #[must_use]
+    pub fn to_save(&self) -> Option<u64>
+        ensures some { IfSome result (λ limit. (next_of self.now ≡ limit_of self.now) × (limit_of self.now < 2 ^ 40) × (limit ≡ next_limit (limit_of self.now))) }
+        ensures none { IfNone result ((next_of self.now < limit_of self.now) ⊎ (next_of self.now ≡ 2 ^ 40)) }
+    {
+        if self.next < self.limit || self.limit == NUMBER_LIMIT {
+            return None;
+        }
+        Some((self.limit + STEP).min(NUMBER_LIMIT))
+    }
+
+    /// Reserves the numbers below what was saved, which is the number that `to_save` returned.
+    #[doc(hidden)]
+    pub fn reserve(&mut self, limit: u64)
+        requires { limit ≡ next_limit (limit_of self.old) }
+        ensures { (next_of self.new ≡ next_of self.old) × (limit_of self.new ≡ limit) }
+    {
+        self.limit = limit;
+    }
+
+    /// Returns the next number if it is reserved.
+    #[doc(hidden)]
+    pub fn give(&mut self) -> Option<Piv>
+        ensures some { IfSome result (λ p. (next_of self.old < limit_of self.old) × (number_of p ≡ next_of self.old) × (next_of self.new ≡ next_of self.old + 1)) }
+        ensures none { IfNone result ((next_of self.old ≡ limit_of self.old) × (next_of self.new ≡ next_of self.old)) }
+        ensures limit { limit_of self.new ≡ limit_of self.old }
+    {
+        if self.next == self.limit {
+            return None;
+        }
+        let Some(number) = Piv::new(self.next) else {
+            unreachable!()
+        };
+        self.next += 1;
+        Some(number)
+    }
+
+    /// Returns the first number that isn't reserved.
+    #[doc(hidden)]
+    #[must_use]
+    pub fn limit(&self) -> u64
+        ensures { result ≡ limit_of self.now }
+    {
+        let Numbers { limit, .. } = self;
+        *limit
+    }
+
     /// Returns the next number. If none is reserved, it first reserves 64 more, or as many as are left below 2^40. If
     /// that fails, the numbers don't change.
     pub fn next<K: Keeper>(&mut self, keeper: &mut K) -> Result<Piv, NumbersError>
@@ -90,21 +153,16 @@ impl Numbers {
         ensures unchanged { (IsOk result → ⊥) → (next_of self.new ≡ next_of self.old) × (limit_of self.new ≡ limit_of self.old)
             × (K.floor keeper.new ≡ K.floor keeper.old) }
     {
-        if self.next == self.limit {
-            if self.limit == NUMBER_LIMIT {
-                return Err(NumbersError::NumbersExhausted);
-            }
-            let limit = (self.limit + STEP).min(NUMBER_LIMIT);
+        if let Some(limit) = self.to_save() {
             let Ok(()) = keeper.save(limit) else {
                 return Err(NumbersError::KeeperFailed);
             };
-            self.limit = limit;
+            self.reserve(limit);
         }
-        let Some(number) = Piv::new(self.next) else {
-            unreachable!()
-        };
-        self.next += 1;
-        Ok(number)
+        match self.give() {
+            Some(number) => Ok(number),
+            None => Err(NumbersError::NumbersExhausted),
+        }
     }
 }
 

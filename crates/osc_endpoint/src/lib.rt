@@ -12,6 +12,7 @@ mod server_restart;
 mod server_run;
 mod server_skip;
 mod server_take;
+mod server_take_back;
 mod table;
 
 pub use client_event::{ClientEntry, ClientEvent};

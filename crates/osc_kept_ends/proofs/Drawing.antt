@@ -4,6 +4,7 @@ use Rattle.std.specs.Prelude.{unwrap_or}
 use Rattle.std.specs.Option.{ForSome, option_map}
 use Rattle.osc_context.specs.Views.{number_of}
 use Rattle.osc_context.specs.declared.partial_iv.Piv.{Piv}
+use Rattle.osc_kept_ends.specs.Views.{IsLastDrawn, IsUsedUp}
 use Rattle.osc_kept_ends.specs.Numbering.{Own, Reserve, Load, DrawsFrom, Draws, after, nothing_drawn, upcoming}
 
 -- with none in hand, the next number comes
@@ -55,3 +56,8 @@ reserved_first old mid none whole below (inr (inr (end, e))) = absurd (omega (ar
 pub first_draw : (old mid : Own) (floor n : ℕ) → old ≡ after (Load n) (nothing_drawn floor) → n < 2 ^ 40 → Draws true old mid → mid ≡ after Reserve (after (Load n) (nothing_drawn floor))
 first_draw old mid floor n is below d =
     reserved_first (after (Load n) (nothing_drawn floor)) mid refl refl below (subst (λ (o : Own). Draws true o mid) is d)
+
+-- a number in hand that is there still, or used, is the last that was drawn, if it was
+pub still_last : (old new : Option Piv) (next : ℕ) → IsUsedUp old new → IsLastDrawn old next → IsLastDrawn new next
+still_last old new next (inl same) last = subst (λ (h : Option Piv). IsLastDrawn h next) (sym same) last
+still_last old new next (inr none) last = λ p is. absurd (let e : None ≡ Some p = sym none ∙ is in cc)

@@ -1,3 +1,4 @@
 pub mod Drawing
 pub mod ServerSteps
 pub mod ClientSteps
+pub mod PeerSteps

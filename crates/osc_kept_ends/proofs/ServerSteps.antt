@@ -98,7 +98,7 @@ slot_of None l h = absurd h
 slot_of (Some s) l h = (s, refl)
 
 -- the context that is there has index 0
-only_first : (s : Server) (h : History) (i : ℕ) (of : Life) → Agrees s h → added h ≡ 1 → life h i ≡ Some of → i ≡ 0
+pub only_first : (s : Server) (h : History) (i : ℕ) (of : Life) → Agrees s h → added h ≡ 1 → life h i ≡ Some of → i ≡ 0
 only_first s h i of a one is =
     let (p, at) = slot_of (slice_get s.slots.items i) of (subst (λ o. PlaceAgrees (slice_get s.slots.items i) o) is (a.places.at i)) in
     let within : i < length s.slots.items = slice_get_within s.slots.items i p at in

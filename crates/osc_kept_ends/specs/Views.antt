@@ -1,6 +1,6 @@
 -- How the code is seen: the numbers of an end, given by its keeper's floor, its Numbers and the number in hand.
-use Rattle.std.specs.Prelude.{ℕ, List, Option, codes}
-use Rattle.std.specs.Option.{option_map}
+use Rattle.std.specs.Prelude.{◌≡◌, ◌⊎◌, ℕ, ◌+◌, List, Option, None, codes}
+use Rattle.std.specs.Option.{ForSome, option_map}
 use Rattle.osc_context.specs.Views.{limit_of, next_of, number_of}
 use Rattle.osc_context.specs.declared.numbers.Numbers.{Numbers}
 use Rattle.osc_context.specs.declared.numbers.NumbersError.{NumbersError}
@@ -10,9 +10,21 @@ use Rattle.osc_kept_ends.specs.declared.kept_error.KeptError.{KeptError}
 use Rattle.osc_kept_ends.specs.declared.kept_error.KeptError.TheVariants.{KeeperFailed, KeptTooLarge, NumbersExhausted, LivesExhausted}
 use Rattle.osc_kept_ends.specs.Numbering.{Own, upcoming}
 
+-- these numbers, with this one in hand or none (how the code is seen)
+abbrev pub own_at : ℕ → ℕ → ℕ → Option Piv → Own
+own_at floor next limit in_hand = record { floor = floor; next = next; limit = limit; hand = option_map number_of in_hand }
+
 -- the numbers of an end (how the code is seen)
 abbrev pub own_of : ℕ → Numbers → Option Piv → Own
-own_of floor numbers in_hand = record { floor = floor; next = next_of numbers; limit = limit_of numbers; hand = option_map number_of in_hand }
+own_of floor numbers in_hand = own_at floor (next_of numbers) (limit_of numbers) in_hand
+
+-- the number in hand is the last that was drawn (how the code is seen)
+abbrev pub IsLastDrawn : Option Piv → ℕ → Type 0
+IsLastDrawn in_hand next = ForSome in_hand (λ p. number_of p + 1 ≡ next)
+
+-- the number in hand is there still, or used (how the code is seen)
+abbrev pub IsUsedUp : Option Piv → Option Piv → Type 0
+IsUsedUp old new = (new ≡ old) ⊎ (new ≡ None)
 
 -- the number with which the end seals next; it doesn't depend on the floor (how the code is seen)
 abbrev pub upcoming_of : Numbers → Option Piv → ℕ

@@ -14,10 +14,11 @@ ghost use Rattle.osc_life.specs.declared.server_error.ReplyError.TheVariants.{Ke
 ghost use Rattle.osc_kept_ends.specs.KeptServing.{IsKept, KeptDecides, KeptStep};
 ghost use Rattle.osc_kept_ends.specs.Numbering.{Own, Draws, upcoming};
 ghost use Rattle.osc_kept_ends.specs.Owning.{own_in};
+ghost use Rattle.osc_kept_ends.specs.Views.{IsLastDrawn, IsUsedUp, own_at};
 
 use crate::source::Source;
 use osc_coap::Message;
-use osc_context::{Keeper, KeeperError};
+use osc_context::{Keeper, KeeperError, Piv};
 use osc_endpoint::{Decided, Decision, Fresh, ReplyError, Server, Ticket};
 
 /// Draws a number for a challenge, if the gate is closed.
@@ -62,17 +63,18 @@ pub(crate) fn draw_for_reply<K: Keeper>(
 }
 
 /// Decides the answer to a datagram, after the draw for it. A challenge uses the number in hand.
-pub(crate) fn decide_drawn<K: Keeper>(
+pub(crate) fn decide_drawn(
     server: &mut Server,
-    source: &mut Source<K>,
+    in_hand: &mut Option<Piv>,
     now: u64,
     fresh: Fresh,
     datagram: &mut [u8],
     out: &mut [u8; 64],
 ) -> Decided
-    ensures answered { (h : History) (old : Own) → IsKept server.old (upcoming old) h → Draws (not (is_open_life (life h 0))) old (own_in source.old)
-        → KeptDecides h now fresh datagram.old result datagram.new (take result.reply out.new) old (own_in source.new) server.new }
-    ensures keeper { source.new.keeper ≡ source.old.keeper }
+    ensures answered { (h : History) (old : Own) (floor next limit : ℕ) → IsKept server.old (upcoming old) h
+        → Draws (not (is_open_life (life h 0))) old (own_at floor next limit in_hand.old) → IsLastDrawn in_hand.old next
+        → KeptDecides h now fresh datagram.old result datagram.new (take result.reply out.new) old (own_at floor next limit in_hand.new) server.new }
+    ensures hand { IsUsedUp in_hand.old in_hand.new }
     ensures shown { CanShow result.decision datagram.new }
     ensures left { LeavesBy server.old result.decision datagram.old datagram.new }
     ensures within { result.reply ≤ 64 }
@@ -80,26 +82,27 @@ pub(crate) fn decide_drawn<K: Keeper>(
 {
     let decided = server.decide(now, fresh, datagram, out);
     if let Decision::Challenge { .. } = decided.decision {
-        let _own = source.spend();
+        *in_hand = None;
         return decided;
     }
     decided
 }
 
 /// Seals a reply, after the draw for it. A reply with a Partial IV of its own uses the number in hand.
-pub(crate) fn reply_drawn<K: Keeper>(
+pub(crate) fn reply_drawn(
     server: &mut Server,
-    source: &mut Source<K>,
+    in_hand: &mut Option<Piv>,
     ticket: Ticket,
     own: bool,
     mid: u16,
     plain: &Message<'_>,
     out: &mut [u8],
 ) -> Result<usize, (ReplyError, Ticket)>
-    ensures answered { (h : History) (old : Own) → IsKept server.old (upcoming old) h → Draws (asks_own (values_of ticket) own) old (own_in source.old)
+    ensures answered { (h : History) (old : Own) (floor next limit : ℕ) → IsKept server.old (upcoming old) h
+        → Draws (asks_own (values_of ticket) own) old (own_at floor next limit in_hand.old) → IsLastDrawn in_hand.old next
         → KeptStep h (Reply (values_of ticket) (asks_own (values_of ticket) own) mid (parts_of plain.now) (length out.old)) (server_entry result out.new)
-        old (own_in source.new) server.new }
-    ensures keeper { source.new.keeper ≡ source.old.keeper }
+        old (own_at floor next limit in_hand.new) server.new }
+    ensures hand { IsUsedUp in_hand.old in_hand.new }
     ensures back { IfErr result (λ e. e.1 ≡ ticket) }
     ensures within { IfOk result (λ n. n ≤ length out.new) }
     ensures behind { IfOk result (λ n. drop n out.new ≡ drop n out.old) }
@@ -112,23 +115,24 @@ pub(crate) fn reply_drawn<K: Keeper>(
         Err(refused) => return Err(refused),
     };
     if has_own {
-        let _own = source.spend();
+        *in_hand = None;
         return Ok(len);
     }
     Ok(len)
 }
 
 /// Seals a notification, after the draw for it. It uses the number in hand.
-pub(crate) fn notify_drawn<K: Keeper>(
+pub(crate) fn notify_drawn(
     server: &mut Server,
-    source: &mut Source<K>,
+    in_hand: &mut Option<Piv>,
     ticket: &Ticket,
     plain: &Message<'_>,
     out: &mut [u8],
 ) -> Result<usize, ReplyError>
-    ensures answered { (h : History) (old : Own) → IsKept server.old (upcoming old) h → Draws true old (own_in source.old)
-        → KeptStep h (Notify (values_of ticket.now) (parts_of plain.now) (length out.old)) (reply_entry result out.new) old (own_in source.new) server.new }
-    ensures keeper { source.new.keeper ≡ source.old.keeper }
+    ensures answered { (h : History) (old : Own) (floor next limit : ℕ) → IsKept server.old (upcoming old) h
+        → Draws true old (own_at floor next limit in_hand.old) → IsLastDrawn in_hand.old next
+        → KeptStep h (Notify (values_of ticket.now) (parts_of plain.now) (length out.old)) (reply_entry result out.new) old (own_at floor next limit in_hand.new) server.new }
+    ensures hand { IsUsedUp in_hand.old in_hand.new }
     ensures within { IfOk result (λ n. n ≤ length out.new) }
     ensures behind { IfOk result (λ n. drop n out.new ≡ drop n out.old) }
     ensures unchanged { OnErr result ((out.new ≡ out.old) × (server.new ≡ server.old)) }
@@ -138,6 +142,6 @@ pub(crate) fn notify_drawn<K: Keeper>(
         Ok(len) => len,
         Err(error) => return Err(error),
     };
-    let _own = source.spend();
+    *in_hand = None;
     Ok(len)
 }

@@ -136,8 +136,8 @@ impl<K: Keeper> KeptServer<K> {
             self.server.advance(now);
             return Err(KeeperError);
         };
-        let (server, source) = (&mut self.server, &mut self.source);
-        Ok(decide_drawn(server, source, now, fresh, datagram, out))
+        let (server, in_hand) = (&mut self.server, &mut self.source.in_hand);
+        Ok(decide_drawn(server, in_hand, now, fresh, datagram, out))
     }
 
     /// Takes a datagram in place, as `Server::take` does: it calls `decide`, and returns the decision as an outcome. KeeperFailed
@@ -205,8 +205,8 @@ impl<K: Keeper> KeptServer<K> {
         let Ok(()) = draw_for_reply(&ticket, own, &mut self.source) else {
             return Err((ReplyError::KeeperFailed, ticket));
         };
-        let (server, source) = (&mut self.server, &mut self.source);
-        reply_drawn(server, source, ticket, own, mid, plain, out)
+        let (server, in_hand) = (&mut self.server, &mut self.source.in_hand);
+        reply_drawn(server, in_hand, ticket, own, mid, plain, out)
     }
 
     /// Seals a notification as `Server::notify` does. It draws a number before anything else if none is in hand. If the keeper fails
@@ -231,8 +231,8 @@ impl<K: Keeper> KeptServer<K> {
         let Ok(()) = self.source.draw() else {
             return Err(ReplyError::KeeperFailed);
         };
-        let (server, source) = (&mut self.server, &mut self.source);
-        notify_drawn(server, source, ticket, plain, out)
+        let (server, in_hand) = (&mut self.server, &mut self.source.in_hand);
+        notify_drawn(server, in_hand, ticket, plain, out)
     }
 
     /// Returns the Sender Sequence Number with which the server seals next, or 2^40 if none is left.

@@ -13,6 +13,11 @@ abbrev pub GateAgrees : Gate → Life → Type 0
 GateAgrees (gates.Restarted kept) l = (is_open l ≡ false) × (kept ≡ challenge l.marks)
 GateAgrees (gates.Open window) l = (is_open l ≡ true) × AgreesWith window l.size (floor l.least l.open_at_birth l.marks) (spent l.open_at_birth l.marks)
 
+-- there is a gate, and it is as the life says (how the code is seen)
+abbrev pub HasGate : Option Gate → Life → Type 0
+HasGate None l = ⊥
+HasGate (Some gate) l = GateAgrees gate l
+
 -- a context of the server is as its present life says (RFC 8613, 3.1)
 pub record SlotAgrees (s : Slot) (l : Life) : Type 0 where
   pub context : as_server (context_of s.context) ≡ l.context

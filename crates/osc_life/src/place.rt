@@ -4,10 +4,10 @@ ghost use Rattle.std.specs.Prelude.{◌≡◌, ◌≢◌, ◌≤◌, ℕ, List, 
 ghost use Rattle.osc_context.specs.Views.{number_of};
 ghost use Rattle.osc_coap.specs.Views.{parts_of};
 ghost use Rattle.osc_protect.specs.Views.{shown};
-ghost use Rattle.osc_life.specs.Agrees.{HoldsLife};
+ghost use Rattle.osc_life.specs.Agrees.{GateAgrees, HasGate, HoldsLife};
 ghost use Rattle.osc_life.specs.Deciding.{CanShow, Leaves};
 ghost use Rattle.osc_life.specs.Judging.{IsAskerOf, IsNamedAt, JudgesTo, LooksUp};
-ghost use Rattle.osc_life.specs.Life.{Life, is_open, marked, next_own};
+ghost use Rattle.osc_life.specs.Life.{Delivered, Life, is_open, marked, next_own};
 ghost use Rattle.osc_life.specs.LifeAnswer.{LifeRestart, LifeSkip, as_notification};
 ghost use Rattle.osc_life.specs.Replies.{as_reply};
 ghost use Rattle.osc_life.specs.Replying.{PlaceNotify, PlaceReply, reply_mark};
@@ -25,6 +25,7 @@ use crate::slot::Slot;
 use crate::ticket::Ticket;
 use osc_coap::Message;
 use osc_context::Piv;
+use osc_window::Gate;
 
 /// Returns whether the context has this kid, and this kid context or none.
 pub fn is_for(place: &Option<Slot>, kid: &[u8], kid_context: Option<&[u8]>) -> bool
@@ -183,5 +184,26 @@ pub fn skip_place(place: &mut Option<Slot>, count: u64) -> Result<(), SkipError>
     match place {
         Some(slot) => slot.skip(count),
         None => Err(SkipError::NoSuchContext),
+    }
+}
+
+/// Returns the gate of the context in a place.
+pub fn gate_of_place(place: &Option<Slot>) -> Option<Gate>
+    ensures some { (l : Life) → HoldsLife place.now l → HasGate result l }
+    ensures none { IfNone place.now (result ≡ None) }
+{
+    match place {
+        Some(slot) => Some(slot.gate),
+        None => None,
+    }
+}
+
+/// Takes back the delivery of a request: the context in a place has the gate again that it had before.
+pub fn take_back_place(place: &mut Option<Slot>, gate: Gate)
+    ensures kept { (l : Life) (n : ℕ) → HoldsLife place.old (marked (Some (Delivered n)) l) → GateAgrees gate l → HoldsLife place.new l }
+    ensures none { IfNone place.old (place.new ≡ place.old) }
+{
+    if let Some(slot) = place {
+        slot.gate = gate;
     }
 }

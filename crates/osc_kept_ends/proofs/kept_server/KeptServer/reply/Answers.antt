@@ -2,6 +2,7 @@ use Rattle.std.proofs.Common.{◌∙◌, sym, ap, refl, Some}
 use Rattle.std.proofs.Math.Logic.{∥∥₁_map}
 use Rattle.osc_kept_ends.specs.Numbering.{upcoming}
 use Rattle.osc_kept_ends.specs.Owning.{own_in}
+use Rattle.osc_kept_ends.proofs.Drawing.{still_last}
 use Rattle.osc_kept_ends.proofs.kept_server.KeptServer.reply.Goals as goal
 
 pub invariant_of-self : goal.invariant_of-self
@@ -11,10 +12,13 @@ invariant_of-self g c = record {
 }
 
 pub invariant_of-self-2 : goal.invariant_of-self-2
-invariant_of-self-2 g c = record {
+invariant_of-self-2 g c = (c.draw_for_reply.new.source.covered, (still_last c.draw_for_reply.new.source.in_hand c.reply_drawn.new.in_hand _ c.reply_drawn.ensures.hand c.draw_for_reply.new.source.last_drawn, tt))
+
+pub invariant_of-self-3 : goal.invariant_of-self-3
+invariant_of-self-3 g c = record {
   kept = ∥∥₁_map c.args.self.now.kept (λ x.
-      (_, (c.reply_drawn.ensures.answered x.0 (own_in c.args.self.now.source) x.1 (c.in-Ok.ensures.drawn refl)).kept));
+      (_, (c.reply_drawn.ensures.answered x.0 (own_in c.args.self.now.source) _ _ _ x.1 (c.in-Ok.ensures.drawn refl) c.draw_for_reply.new.source.last_drawn).kept));
 }
 
 pub returns-clause-answered : goal.returns-clause-answered
-returns-clause-answered g c = λ worked h k. c.reply_drawn.ensures.answered h (own_in c.args.self.now.source) k (c.in-Ok.ensures.drawn refl)
+returns-clause-answered g c = λ worked h k. c.reply_drawn.ensures.answered h (own_in c.args.self.now.source) _ _ _ k (c.in-Ok.ensures.drawn refl) c.draw_for_reply.new.source.last_drawn

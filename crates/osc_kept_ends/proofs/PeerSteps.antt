@@ -1,0 +1,178 @@
+-- What a call of a peer leaves of its two roles: neither has reached the number with which the peer seals next. s is a server, c a client, h and k their
+-- histories, next is that number.
+use Rattle.std.proofs.Common.{◌≡◌, ℕ, ◌+◌, ◌<◌, ◌≤◌, ◌^◌, ◌∙◌, sym, ap, subst, refl, arith, List, Option, Some, None, Result, Ok, Err, IsOk, IsErr, inl, inr}
+use Rattle.std.specs.Prelude.{unwrap_or}
+use Rattle.std.specs.Option.{option_map}
+use Rattle.osc_context.specs.Views.{number_of}
+use Rattle.osc_context.specs.declared.partial_iv.Piv.{Piv}
+use Rattle.osc_context.specs.SecurityContext.{SecurityContext}
+use Rattle.osc_window.specs.declared.gate.Gate.{Gate}
+use Rattle.osc_window.specs.declared.window_size.WindowSize.{WindowSize}
+use Rattle.osc_client.specs.declared.client.Client.{Client}
+use Rattle.osc_client.specs.ClientHistory as client
+use Rattle.osc_endpoint.specs.declared.server.Server.{Server}
+use Rattle.osc_endpoint.specs.ServerAnswer.{ServerAnswer}
+use Rattle.osc_life.specs.declared.decision.Decided.{Decided}
+use Rattle.osc_life.specs.declared.decision.Decision.{Decision}
+use Rattle.osc_life.specs.declared.decision.Decision.TheVariants as decisions
+use Rattle.osc_life.specs.declared.outcome.Outcome.{Outcome}
+use Rattle.osc_life.specs.declared.outcome.Outcome.TheVariants as outcomes
+use Rattle.osc_life.specs.declared.ticket.Ticket.{Ticket}
+use Rattle.osc_life.specs.declared.start.Fresh.{Fresh}
+use Rattle.osc_life.specs.declared.start.Start.{Start}
+use Rattle.osc_life.specs.declared.start.Start.TheVariants as starts
+use Rattle.osc_life.specs.declared.server_error.AddError.{AddError}
+use Rattle.osc_life.specs.declared.server_error.AddError.TheVariants.{Full, SameLookup}
+use Rattle.osc_life.specs.declared.server_error.SkipError.{SkipError}
+use Rattle.osc_life.specs.declared.server_error.SkipError.TheVariants.{NoSuchContext, TooFewLeft}
+use Rattle.osc_life.specs.Deciding.{Decides}
+use Rattle.osc_life.specs.Life.{Life, born, next_own}
+use Rattle.osc_life.specs.LifeAnswer.{LifeSkip}
+use Rattle.osc_life.specs.ServerHistory as server
+use Rattle.osc_life.specs.Views.{Shows, values_of}
+use Rattle.osc_kept_ends.specs.KeptAsking as asking
+use Rattle.osc_kept_ends.specs.KeptServing as serving
+use Rattle.osc_kept_ends.specs.Numbering.{Load, Own, after, upcoming}
+use Rattle.osc_kept_ends.specs.Peering.{ClientIsBehind, DeliversBelow, IsKeptOn, IsPeerStart, ServerIsBehind, TakesBelow}
+use Rattle.osc_kept_ends.specs.TakingBack.{IsGateOf, IsTakenBack}
+use Rattle.osc_kept_ends.specs.Views.{IsLastDrawn, IsUsedUp, own_at}
+use Rattle.osc_kept_ends.proofs.ServerSteps.{only_first}
+
+-- ---- behind a number
+
+pub server_still : (s : Server) (h : server.History) (next more : ℕ) → next ≤ more → ServerIsBehind s next h → ServerIsBehind s more h
+server_still s h next more less b =
+    let least = b.least in
+    record { agrees = b.agrees; one = b.one; reached = b.reached; reached_is = b.reached_is; least = omega (arith, least, less) }
+
+pub client_still : {N : ℕ} (c : Client N) (k : client.History) (next more : ℕ) → next ≤ more → ClientIsBehind c next k → ClientIsBehind c more k
+client_still c k next more less b = let least = b.least in record { agrees = b.agrees; least = omega (arith, least, less) }
+
+-- behind a number that is the same
+pub server_at : (s : Server) (h : server.History) (next more : ℕ) → more ≡ next → ServerIsBehind s next h → ServerIsBehind s more h
+server_at s h next more same b = server_still s h next more (omega (arith, same)) b
+
+pub client_at : {N : ℕ} (c : Client N) (k : client.History) (next more : ℕ) → more ≡ next → ClientIsBehind c next k → ClientIsBehind c more k
+client_at c k next more same b = client_still c k next more (omega (arith, same)) b
+
+-- kept at a number that is the same
+pub kept_at : (s : Server) (h : server.History) (next more : ℕ) → more ≡ next → serving.IsKept s next h → serving.IsKept s more h
+kept_at s h next more same k = record { agrees = k.agrees; one = k.one; next_is = k.next_is ∙ ap Some (sym same) }
+
+pub asked_at : {N : ℕ} (c : Client N) (k : client.History) (next more : ℕ) → more ≡ next → asking.IsKept c next k → asking.IsKept c more k
+asked_at c k next more same i = record { agrees = i.agrees; next_is = i.next_is ∙ sym same }
+
+pub kept_behind : (s : Server) (h : server.History) (next : ℕ) → serving.IsKept s next h → ServerIsBehind s next h
+kept_behind s h next k = record { agrees = k.agrees; one = k.one; reached = next; reached_is = k.next_is; least = omega arith }
+
+pub asked_behind : {N : ℕ} (c : Client N) (k : client.History) (next : ℕ) → asking.IsKept c next k → ClientIsBehind c next k
+asked_behind c k next i = let same = i.next_is in record { agrees = i.agrees; least = omega (arith, same) }
+
+-- ---- the number with which the peer seals next
+
+hand_least : (old : Option Piv) (next : ℕ) → IsLastDrawn old next → unwrap_or (option_map number_of old) next ≤ next
+hand_least None next last = omega arith
+hand_least (Some p) next last = let e = last p refl in omega (arith, e)
+
+-- it never sinks
+pub rises : (floor next limit : ℕ) (old new : Option Piv) → IsUsedUp old new → IsLastDrawn old next → upcoming (own_at floor next limit old) ≤ upcoming (own_at floor next limit new)
+rises floor next limit old new (inl same) last = subst (λ (h : Option Piv). upcoming (own_at floor next limit old) ≤ upcoming (own_at floor next limit h)) (sym same) (omega arith)
+rises floor next limit old new (inr none) last = subst (λ (h : Option Piv). upcoming (own_at floor next limit old) ≤ upcoming (own_at floor next limit h)) (sym none) (hand_least old next last)
+
+-- ---- passing over
+
+pub some_is : {A : Type 0} {a b : A} → Some a ≡ Some b → a ≡ b
+some_is e = cc
+
+-- a context that is there lets numbers below 2 ^ 40 be passed over
+pub never_refused : (o : Option Life) (count reached : ℕ) (e : SkipError) → option_map next_own o ≡ Some reached → reached + count ≤ 2 ^ 40 → LifeSkip o count (server.NotSkipped e) → ⊥
+never_refused None count reached e there fits row = let f : None ≡ Some reached = there in cc
+never_refused (Some l) count reached NoSuchContext there fits row = row
+never_refused (Some l) count reached TooFewLeft there fits row =
+    let same : next_own l ≡ reached = some_is there in
+    omega (arith, same, fits, row)
+
+-- ---- a delivery that is taken back
+
+-- the context of a delivery is the one that is there
+pub delivers_first : (s : Server) (g : server.History) (next now mid : ℕ) (echo d reply : List ℕ) (received : _) (t : server.TicketValues) → serving.IsKept s next g
+    → ServerAnswer g (server.Datagram now echo mid d) (server.Took (server.Deliver received t) reply) → t.context ≡ 0
+delivers_first s g next now mid echo d reply received t k row =
+    ap (λ (v : server.TicketValues). v.context) row.0.4.2 ∙ only_first s g row.0.0 row.0.2 k.agrees k.one row.0.3.life_is
+
+-- the context is there
+pub life_there : (o : Option Life) (next : ℕ) → option_map next_own o ≡ Some next → (l : Life) × (o ≡ Some l)
+life_there None next is = absurd (let e : None ≡ Some next = is in cc)
+life_there (Some l) next is = (l, refl)
+
+-- a delivery was answered by a delivery of its ticket
+pub from_delivery : (x : _) (t : Ticket) (left : List ℕ) (answer : server.Answer) → Decides (decisions.Deliver x t) left answer
+    → (received : _) × (answer ≡ server.Deliver received (values_of t))
+from_delivery x t left (server.Deliver received ticket) d = (received, ap (server.Deliver received) (sym d.1))
+from_delivery x t left answer d = absurd d
+
+-- a record that keeps a number leaves the number with which the peer seals next
+pub upcoming_on : (mid new : Own) → IsKeptOn mid new → upcoming new ≡ upcoming mid
+upcoming_on mid new (inl same) = ap upcoming same
+upcoming_on mid new (inr saved) = ap upcoming saved
+
+-- a delivery that was taken back moved the clock alone
+pub waited : (s old new : Server) (gate : Option Gate) (g : server.History) (next more now : ℕ) (fresh : Fresh) (d : List ℕ) (result : Decided) (left reply : List ℕ) (before mid : Own)
+    → IsTakenBack result.decision gate old new → serving.IsKept s next g → IsGateOf gate g → serving.KeptDecides g now fresh d result left reply before mid old → next ≤ more
+    → ServerIsBehind new more (server.Then g (server.Advance now) server.Advanced)
+waited s old new gate g next more now fresh d result left reply before mid back k gates t less = record {
+  agrees = back s next g now fresh.mid fresh.echo d left reply t.answer k gates t.step.row t.decides t.step.kept.agrees;
+  one = k.one;
+  reached = next;
+  reached_is = k.next_is;
+  least = less;
+}
+
+-- whether its number could be kept or not, the server stays behind
+pub kept_or_back : {E : Type 0} (r : Result Unit E) (s old new : Server) (gate : Option Gate) (g : server.History) (next more now : ℕ) (fresh : Fresh) (d : List ℕ) (result : Decided) (left reply : List ℕ)
+    (before mid : Own) → (IsOk r → new ≡ old) → (IsErr r → IsTakenBack result.decision gate old new) → serving.IsKept s next g → IsGateOf gate g
+    → serving.KeptDecides g now fresh d result left reply before mid old → next ≤ more → upcoming mid ≤ more → (h : server.History) × ServerIsBehind new more h
+kept_or_back (Ok x) s old new gate g next more now fresh d result left reply before mid same back k gates t less least =
+    let h = server.Then g (server.Datagram now fresh.echo fresh.mid d) (server.Took t.answer reply) in
+    (h, server_still new h (upcoming mid) more least (subst (λ (z : Server). ServerIsBehind z (upcoming mid) h) (sym (same refl)) (kept_behind old h (upcoming mid) t.step.kept)))
+kept_or_back (Err e) s old new gate g next more now fresh d result left reply before mid same back k gates t less least =
+    (server.Then g (server.Advance now) server.Advanced, waited s old new gate g next more now fresh d result left reply before mid (back refl) k gates t less)
+
+-- ---- a delivery as an outcome
+
+-- what was answered by a delivery was decided as one
+decided_from : (decision : Decision) (left : List ℕ) (received : _) (ticket : server.TicketValues) → Decides decision left (server.Deliver received ticket)
+    → (x : _) × (t : Ticket) × (decision ≡ decisions.Deliver x t) × (values_of t ≡ ticket)
+decided_from (decisions.Deliver x t) left received ticket d = (x, t, refl, d.1)
+decided_from decision left received ticket d = absurd d
+
+-- the ticket that is shown has the number of the ticket that was decided
+pub shown_below : (decision : Decision) (left : List ℕ) (o : _) (u : Ticket) (answer : server.Answer) (floor : ℕ) → Decides decision left answer → Shows (outcomes.Deliver o u) answer
+    → DeliversBelow decision floor → (values_of u).number < floor
+shown_below decision left o u (server.Deliver received ticket) floor d s below =
+    let (x, t, is, same) = decided_from decision left received ticket d in
+    subst (λ (v : server.TicketValues). v.number < floor) (same ∙ sym s.1) (subst (λ (z : Decision). DeliversBelow z floor) is below)
+shown_below decision left o u answer floor d s below = absurd s
+
+pub takes_below : (outcome : Outcome) (floor : ℕ) → ((o : _) (t : Ticket) → outcome ≡ outcomes.Deliver o t → (values_of t).number < floor) → TakesBelow outcome floor
+takes_below (outcomes.Deliver o t) floor below = below o t refl
+takes_below outcome floor below = tt
+
+-- ---- a start
+
+-- a start that isn't fresh draws no number
+pub started_idle : (start : Start) (loaded : ℕ) (o : Own) → ((first : Piv) → start ≡ starts.Fresh first → ⊥) → serving.started start loaded o ≡ after (Load loaded) o
+started_idle (starts.Fresh first) loaded o other = absurd (other first refl)
+started_idle (starts.Restarted first) loaded o other = refl
+started_idle (starts.Received first highest) loaded o other = refl
+
+-- the life begins at the number that was loaded
+pub born_at : (c : SecurityContext) (start : Start) (size : WindowSize) (sender received : ℕ) → IsPeerStart start sender received → (born c start size).first ≡ sender
+born_at c (starts.Fresh first) size sender received is = is.0
+born_at c (starts.Restarted first) size sender received is = is.0
+born_at c (starts.Received first highest) size sender received is = is.0
+
+-- the first context of a server is added
+pub never_added : (s : SecurityContext) (start : Start) (size : WindowSize) (e : AddError) → ServerAnswer server.Begin (server.Add s start size) (server.NotAdded e) → ⊥
+never_added s start size Full row = omega (arith, row.1)
+never_added s start size SameLookup row = let none : None ≡ Some row.1.1.1 = row.1.1.2 in cc

@@ -1,0 +1,9 @@
+-- How the code is seen: the numbers of a peer, with the floor of its record.
+use Rattle.osc_context.specs.declared.record_keeper.RecordKeeper as keeper
+use Rattle.osc_kept_ends.specs.declared.peer_source.PeerSource.{PeerSource}
+use Rattle.osc_kept_ends.specs.Numbering.{Own}
+use Rattle.osc_kept_ends.specs.Views.{own_of}
+
+-- the numbers of a peer (how the code is seen)
+abbrev pub own_in : {R : Type 0} {g : keeper.Ghosts R} → PeerSource R g → Own
+own_in {g = g} s = own_of (g.sender_floor s.keeper) s.numbers s.in_hand

@@ -1,0 +1,231 @@
+//! An end of one context that both asks and answers, and keeps what it needs to do so over all its lives (RFC 8613, 3.1, 7.2.1, 7.4 and
+//! B.1).
+
+ghost use Rattle.std.specs.Prelude.{◌≡◌, ◌<◌, ◌≤◌, ◌^◌, ℕ, IfOk, IfErr};
+ghost use Rattle.osc_context.specs.Views.{as_client, as_server, number_of};
+ghost use Rattle.osc_client.specs.Agrees.{ClientAgrees};
+ghost use Rattle.osc_client.specs.ClientHistory as asked;
+ghost use Rattle.osc_endpoint.specs.Agrees.{Agrees};
+ghost use Rattle.osc_life.specs.Life.{born, is_open_life};
+ghost use Rattle.osc_life.specs.ServerHistory as served;
+ghost use Rattle.osc_life.specs.declared.start.Start.{Start as StartOf};
+ghost use Rattle.osc_kept_ends.specs.KeptAsking as asking;
+ghost use Rattle.osc_kept_ends.specs.KeptServing as serving;
+ghost use Rattle.osc_kept_ends.specs.Numbering.{Allowed, Load, nothing_drawn, upcoming};
+ghost use Rattle.osc_kept_ends.specs.PeerOwning.{own_in};
+ghost use Rattle.osc_kept_ends.specs.Peering.{ClientIsBehind, ClientPasses, IsPeerStart, ServerIsBehind, ServerPasses};
+ghost use Rattle.osc_kept_ends.specs.declared.kept_error.KeptError.TheVariants.{KeptTooLarge};
+ghost use Rattle.osc_kept_ends.specs.Refusals.{RefusesPeer};
+ghost use Rattle.osc_kept_ends.specs.Views.{upcoming_of};
+
+use crate::kept_error::KeptError;
+use crate::peer_source::PeerSource;
+use osc_context::{Context, IdContext, Kid, Piv, RecordKeeper};
+use osc_endpoint::{Client, Server, Start};
+use osc_window::WindowSize;
+
+/// An end of one context in both roles: a server and a client with one source of Sender Sequence Numbers, and a record that keeps its next
+/// number and what it received. It seals only with numbers that it has drawn, whichever role asks for them, and the record reserved each of
+/// them before. Before it delivers a request, the record has a greater number: so no later life delivers that request again.
+#[derive(Drop)]
+pub struct KeptPeer<R: RecordKeeper, const N: usize> {
+    pub(crate) server: Server,
+    pub(crate) client: Client<N>,
+    pub(crate) source: PeerSource<R>,
+    pub ghost served: { ∥ ((h : served.History) × ServerIsBehind server (upcoming_of source.numbers source.in_hand) h) ∥₁ },
+    pub ghost asked: { ∥ ((k : asked.History) × ClientIsBehind client (upcoming_of source.numbers source.in_hand) k) ∥₁ },
+}
+
+/// Makes an identifier once more.
+fn kid_of(kid: &Kid) -> Kid
+    ensures { result ≡ kid.now }
+{
+    match Kid::new(kid.bytes()) {
+        Some(copy) => copy,
+        None => unreachable!(),
+    }
+}
+
+/// Makes the ID Context of a context once more, if it has one.
+fn id_context_of(context: &Context) -> Option<IdContext>
+    ensures { result ≡ (as_client context.now).id_context }
+{
+    match context.id_context() {
+        Some(id_context) => match IdContext::new(id_context.bytes()) {
+            Some(copy) => Some(copy),
+            None => unreachable!(),
+        },
+        None => None,
+    }
+}
+
+/// Makes the same context once more, for the other role.
+fn copy_of(context: &Context) -> Context
+    ensures client { as_client result ≡ as_client context.now }
+    ensures server { as_server result ≡ as_server context.now }
+{
+    let made = Context::from_derived(
+        kid_of(context.sender()),
+        kid_of(context.recipient()),
+        id_context_of(context),
+        *context.sender_key(),
+        *context.recipient_key(),
+        *context.common_iv(),
+    );
+    let Some(copy) = made else { unreachable!() };
+    let copy = copy.with_features(context.features());
+    if context.is_constant_time() {
+        copy
+    } else {
+        copy.tables()
+    }
+}
+
+/// Passes over the numbers of a server's context that the client has used.
+pub(crate) fn pass_at_server(server: &mut Server, next: u64)
+    requires behind { ∥ ((h : served.History) × ServerIsBehind server.old next h) ∥₁ }
+    requires most { next ≤ 2 ^ 40 }
+    ensures { (h : served.History) → ServerIsBehind server.old next h
+        → (g : served.History) × ServerPasses h g × serving.IsKept server.new next g × (is_open_life (served.life g 0) ≡ is_open_life (served.life h 0)) }
+{
+    let Some(reached) = server.next(0) else {
+        unreachable!()
+    };
+    let Ok(()) = server.skip(0, next - reached) else {
+        unreachable!()
+    };
+}
+
+/// Passes over the numbers of a client that the server has used.
+pub(crate) fn pass_at_client<const N: usize>(client: &mut Client<N>, next: u64)
+    requires behind { ∥ ((k : asked.History) × ClientIsBehind client.old next k) ∥₁ }
+    requires most { next ≤ 2 ^ 40 }
+    ensures { (k : asked.History) → ClientIsBehind client.old next k
+        → (m : asked.History) × ClientPasses N k m × asking.IsKept client.new next m }
+{
+    let Ok(()) = client.skip(next - client.next()) else {
+        unreachable!()
+    };
+}
+
+/// Returns how a life begins with the two numbers that were loaded.
+fn start_at(first: Piv, received: u64) -> Result<Start, KeptError>
+    ensures begins { IfOk result (λ start. IsPeerStart start (number_of first) received) }
+    ensures refused { IfErr result (λ e. (e ≡ KeptTooLarge) × (2 ^ 40 < received)) }
+{
+    match received {
+        0 if first.number() == 0 => Ok(Start::Fresh(first)),
+        0 => Ok(Start::Restarted(first)),
+        received => match Piv::new(received - 1) {
+            Some(highest) => Ok(Start::Received {
+                next: first,
+                highest,
+            }),
+            None => Err(KeptError::KeptTooLarge),
+        },
+    }
+}
+
+/// Ends a source, and returns its record.
+fn keeper_of<R: RecordKeeper>(source: PeerSource<R>) -> R
+    ensures { result ≡ source.keeper }
+{
+    let PeerSource { keeper, .. } = source;
+    keeper
+}
+
+impl<R: RecordKeeper, const N: usize> KeptPeer<R, N> {
+    /// Starts a peer of a context with the two numbers that the record loads, and with nothing pending. If both are 0 it starts fresh, and
+    /// draws its first number before `start` returns, so that no later start is fresh. If no received number was kept, but numbers were, it
+    /// starts as after a restart: a challenge decides about the first request. Otherwise each request above what was received is new, and no
+    /// challenge is needed. Each request of its own is pending for `life_ms` milliseconds, except a registration that was notified. Returns
+    /// the first refusal in the order of `KeptError`; a refusal gives the record back and drops the context.
+    pub fn start(
+        context: Context,
+        keeper: R,
+        size: WindowSize,
+        life_ms: u64,
+    ) -> Result<KeptPeer<R, N>, (KeptError, R)>
+        ensures begins { IfOk result (λ p. (sender : ℕ) × (received : ℕ) × (mid : R) × (start : StartOf) × R.loads keeper sender received mid
+            × (R.received_floor keeper ≤ received) × (R.received_floor keeper ≤ R.received_floor p.source.keeper) × IsPeerStart start sender received
+            × (own_in p.source ≡ serving.started start sender (nothing_drawn (R.sender_floor keeper))) × Allowed (Load sender) (nothing_drawn (R.sender_floor keeper))
+            × (R.failures p.source.keeper ≡ R.failures keeper)
+            × ServerIsBehind p.server (upcoming (own_in p.source)) (served.Then served.Begin (served.Add (as_server context) start size) (served.Added 0))
+            × ClientIsBehind p.client (upcoming (own_in p.source)) (asked.New (as_client context) sender life_ms)) }
+        ensures refused { IfErr result (λ e. RefusesPeer R.loads R.failures keeper e.0 e.1) }
+    {
+        let (mut source, first, received) = PeerSource::start(keeper)?;
+        let start = match start_at(first, received) {
+            Ok(start) => start,
+            Err(error) => return Err((error, keeper_of(source))),
+        };
+        let Start::Fresh(_) = start else {
+            return Ok(KeptPeer::begin(context, source, start, first, size, life_ms));
+        };
+        let Ok(()) = source.draw() else {
+            return Err((KeptError::KeeperFailed, keeper_of(source)));
+        };
+        Ok(KeptPeer::begin(context, source, start, first, size, life_ms))
+    }
+
+    /// Makes a peer of a context that starts at the number with which the source goes on.
+    fn begin(
+        context: Context,
+        source: PeerSource<R>,
+        start: Start,
+        first: Piv,
+        size: WindowSize,
+        life_ms: u64,
+    ) -> KeptPeer<R, N>
+        requires next { upcoming (own_in source) ≡ number_of first }
+        requires first { (born (as_server context) start size).first ≡ number_of first }
+        ensures server { ServerIsBehind result.server (upcoming (own_in source)) (served.Then served.Begin (served.Add (as_server context) start size) (served.Added 0)) }
+        ensures client { ClientIsBehind result.client (upcoming (own_in source)) (asked.New (as_client context) (number_of first) life_ms) }
+        ensures source { result.source ≡ source }
+    {
+        let client = Client::new(copy_of(&context), first, life_ms);
+        let mut server = Server::new();
+        match server.add(context, start, size) {
+            Ok(_) => KeptPeer {
+                server,
+                client,
+                source,
+            },
+            Err(_) => unreachable!(),
+        }
+    }
+
+    /// Moves the clocks of both roles to `now`, in milliseconds, if that is later. Draws no number.
+    pub fn advance(&mut self, now: u64)
+        ensures server { (h : served.History) → Agrees self.old.server h → Agrees self.new.server (served.Then h (served.Advance now) served.Advanced) }
+        ensures client { (k : asked.History) → ClientAgrees self.old.client k → ClientAgrees self.new.client (asked.Then k (asked.Advance now) asked.Advanced) }
+        ensures source { self.new.source ≡ self.old.source }
+    {
+        self.server.advance(now);
+        self.client.advance(now);
+    }
+
+    /// Returns the Sender Sequence Number with which the peer seals next, in either role, or 2^40 if none is left.
+    #[must_use]
+    pub fn upcoming(&self) -> u64
+        ensures { result ≡ upcoming (own_in self.now.source) }
+    {
+        self.source.upcoming()
+    }
+
+    /// Returns whether requests are checked by their number: they are unless the peer started with its gate closed, until one is delivered.
+    #[must_use]
+    pub fn is_open(&self) -> bool
+        ensures { (h : served.History) → Agrees self.now.server h → result ≡ is_open_life (served.life h 0) }
+    {
+        self.server.is_open(0)
+    }
+
+    /// Ends the peer, and returns its record.
+    pub fn into_keeper(self) -> R
+        ensures { result ≡ self.source.keeper }
+    {
+        let KeptPeer { source, .. } = self;
+        keeper_of(source)
+    }
+}

@@ -1,0 +1,112 @@
+//! The numbers of a peer: its record, what it reserved, at most one number that was drawn and isn't used yet, and what it received.
+
+ghost use Rattle.std.specs.Prelude.{◌≡◌, ◌<◌, ◌≤◌, ◌+◌, ◌^◌, true, IsOk, IsErr, IfOk, IfErr};
+ghost use Rattle.osc_context.specs.Reserving.{Covers};
+ghost use Rattle.osc_context.specs.Views.{limit_of, next_of, number_of};
+ghost use Rattle.osc_kept_ends.specs.Numbering.{Draws, Goes, Load, nothing_drawn, upcoming};
+ghost use Rattle.osc_kept_ends.specs.Peering.{IsKeptOn};
+ghost use Rattle.osc_kept_ends.specs.Refusals.{RefusesPeer};
+ghost use Rattle.osc_kept_ends.specs.Views.{IsLastDrawn};
+
+use crate::kept_error::{KeptError, lift};
+use osc_context::{KeeperError, KeptNumbers, Numbers, Piv, RecordKeeper};
+
+/// The numbers of a peer.
+#[derive(Drop)]
+pub(crate) struct PeerSource<R: RecordKeeper> {
+    pub(crate) keeper: R,
+    pub(crate) numbers: Numbers,
+    // Drawn, and not used yet.
+    pub(crate) in_hand: Option<Piv>,
+    // Every request that was delivered has a number below it.
+    received: u64,
+    // What was saved of it since it was loaded, or 0.
+    saved: u64,
+    pub ghost covered: { Covers (R.sender_floor keeper) (next_of numbers) (limit_of numbers) },
+    pub ghost last_drawn: { IsLastDrawn in_hand (next_of numbers) },
+    pub ghost least: { R.received_floor keeper ≤ received },
+    pub ghost saved_is: { saved ≤ R.received_floor keeper },
+}
+
+impl<R: RecordKeeper> PeerSource<R> {
+    ghost use Rattle.osc_kept_ends.specs.PeerOwning.{own_in};
+
+    /// Begins at the numbers that the record loads, and returns the next number, and the one above all that was received. A refusal gives
+    /// the record back.
+    pub(crate) fn start(mut keeper: R) -> Result<(PeerSource<R>, Piv, u64), (KeptError, R)>
+        ensures loaded { IfOk result (λ r. R.loads keeper (number_of r.1) r.2 r.0.keeper × (R.failures r.0.keeper ≡ R.failures keeper)) }
+        ensures begins { IfOk result (λ r. Goes (Load (number_of r.1)) (nothing_drawn (R.sender_floor keeper)) (own_in r.0)) }
+        ensures least { IfOk result (λ r. (R.received_floor keeper ≤ r.2) × (R.received_floor r.0.keeper ≡ R.received_floor keeper)) }
+        ensures refused { IfErr result (λ e. RefusesPeer R.loads R.failures keeper e.0 e.1) }
+    {
+        let Ok(kept) = keeper.load() else {
+            return Err((KeptError::KeeperFailed, keeper));
+        };
+        let numbers = match Numbers::begin(kept.sender) {
+            Ok(numbers) => numbers,
+            Err(error) => return Err((lift(error), keeper)),
+        };
+        let Some(first) = Piv::new(kept.sender) else {
+            unreachable!()
+        };
+        let source = PeerSource {
+            keeper,
+            numbers,
+            in_hand: None,
+            received: kept.received,
+            saved: 0,
+        };
+        Ok((source, first, kept.received))
+    }
+
+    /// Returns the number with which the peer seals next, or 2^40 if none is left.
+    pub(crate) fn upcoming(&self) -> u64
+        ensures value { result ≡ upcoming (own_in self.now) }
+        ensures most { result ≤ 2 ^ 40 }
+    {
+        match self.in_hand {
+            Some(number) => number.number(),
+            None => self.numbers.upcoming(),
+        }
+    }
+
+    /// Draws the next number if none is in hand, unless none is left. If the record fails, the numbers don't change.
+    pub(crate) fn draw(&mut self) -> Result<(), KeeperError>
+        ensures drawn { IsOk result → Draws true (own_in self.old) (own_in self.new) }
+        ensures rises { R.received_floor self.old.keeper ≤ R.received_floor self.new.keeper }
+        ensures left { IsErr result → own_in self.new ≡ own_in self.old }
+        ensures failed { IsErr result → R.failures self.new.keeper ≡ R.failures self.old.keeper + 1 }
+        ensures worked { IsOk result → R.failures self.new.keeper ≡ R.failures self.old.keeper }
+    {
+        if self.in_hand.is_some() {
+            return Ok(());
+        }
+        if let Some(sender) = self.numbers.to_save() {
+            let received = self.received;
+            self.keeper.save(KeptNumbers { sender, received })?;
+            self.numbers.reserve(sender);
+        }
+        self.in_hand = self.numbers.give();
+        Ok(())
+    }
+
+    /// Keeps that a request with this number was received: the record then has a greater number. Call it before the request is delivered.
+    /// One save keeps both numbers. If the record fails, the numbers don't change.
+    pub(crate) fn receive(&mut self, number: Piv) -> Result<(), KeeperError>
+        ensures kept { IsOk result → number_of number < R.received_floor self.new.keeper }
+        ensures kept_on { IsKeptOn (own_in self.old) (own_in self.new) }
+        ensures rises { R.received_floor self.old.keeper ≤ R.received_floor self.new.keeper }
+        ensures failed { IsErr result → R.failures self.new.keeper ≡ R.failures self.old.keeper + 1 }
+        ensures worked { IsOk result → R.failures self.new.keeper ≡ R.failures self.old.keeper }
+    {
+        if number.number() < self.saved {
+            return Ok(());
+        }
+        let sender = self.numbers.limit();
+        let received = self.received.max(number.number() + 1);
+        self.keeper.save(KeptNumbers { sender, received })?;
+        self.received = received;
+        self.saved = received;
+        Ok(())
+    }
+}
