@@ -1,6 +1,6 @@
 //! What a peer asks: requests of its own, and what comes back (RFC 8613, 8.1 and 8.4).
 
-ghost use Rattle.std.specs.Prelude.{◌≡◌, ◌≢◌, ◌≤◌, IfErr, IfOk, OnErr, length, drop};
+ghost use Rattle.std.specs.Prelude.{◌≡◌, ◌≢◌, ◌≤◌, ◌+◌, IfErr, IfOk, OnErr, length, drop};
 ghost use Rattle.osc_coap.specs.Views.{parts_of};
 ghost use Rattle.osc_client.specs.Agrees.{ClientAgrees};
 ghost use Rattle.osc_client.specs.ClientAnswer.{ClientAnswer};
@@ -31,7 +31,9 @@ impl<R: RecordKeeper, const N: usize> KeptPeer<R, N> {
             (own_in self.old.source) (own_in self.new.source) self.new.client }
         ensures failed { IfErr result (λ e. e ≡ KeeperFailed → (own_in self.new.source ≡ own_in self.old.source)
             × ((k : asked.History) → ClientIsBehind self.old.client (upcoming (own_in self.old.source)) k
-            → ClientIsBehind self.new.client (upcoming (own_in self.new.source)) (asked.Then k (asked.Advance now) asked.Advanced))) }
+            → ClientIsBehind self.new.client (upcoming (own_in self.new.source)) (asked.Then k (asked.Advance now) asked.Advanced))
+            × (R.failures self.new.source.keeper ≡ R.failures self.old.source.keeper + 1)) }
+        ensures worked { IfErr result (λ e. e ≢ KeeperFailed) → R.failures self.new.source.keeper ≡ R.failures self.old.source.keeper }
         ensures rises { R.received_floor self.old.source.keeper ≤ R.received_floor self.new.source.keeper }
         ensures server { self.new.server ≡ self.old.server }
         ensures within { IfOk result (λ n. n ≤ length out.new) }

@@ -126,6 +126,8 @@ impl<R: RecordKeeper, const N: usize> KeptPeer<R, N> {
         ensures waits { result.outcome ≡ outcomes.KeeperFailed → (h : served.History) → ServerIsBehind self.old.server (upcoming (own_in self.old.source)) h
             → ServerWaits h now (upcoming (own_in self.new.source)) self.new.server }
         ensures client { self.new.client ≡ self.old.client }
+        ensures failed { result.outcome ≡ outcomes.KeeperFailed → R.failures self.new.source.keeper ≡ R.failures self.old.source.keeper + 1 }
+        ensures worked { result.outcome ≢ outcomes.KeeperFailed → R.failures self.new.source.keeper ≡ R.failures self.old.source.keeper }
         ensures within { result.reply ≤ 64 }
     {
         match self.decide(now, mid, datagram, out) {
@@ -154,7 +156,9 @@ impl<R: RecordKeeper, const N: usize> KeptPeer<R, N> {
         ensures answered { IfErr result (λ e. e.0 ≢ replies.KeeperFailed) → (h : served.History) → ServerIsBehind self.old.server (upcoming (own_in self.old.source)) h
             → PeerStep h (served.Reply (values_of ticket) (asks_own (values_of ticket) own) mid (parts_of plain.now) (length out.old)) (server_entry result out.new)
             (own_in self.old.source) (own_in self.new.source) self.new.server }
-        ensures failed { IfErr result (λ e. e.0 ≡ replies.KeeperFailed → (self.new.server ≡ self.old.server) × (own_in self.new.source ≡ own_in self.old.source)) }
+        ensures failed { IfErr result (λ e. e.0 ≡ replies.KeeperFailed → (self.new.server ≡ self.old.server) × (own_in self.new.source ≡ own_in self.old.source)
+            × (R.failures self.new.source.keeper ≡ R.failures self.old.source.keeper + 1)) }
+        ensures worked { IfErr result (λ e. e.0 ≢ replies.KeeperFailed) → R.failures self.new.source.keeper ≡ R.failures self.old.source.keeper }
         ensures rises { R.received_floor self.old.source.keeper ≤ R.received_floor self.new.source.keeper }
         ensures client { self.new.client ≡ self.old.client }
         ensures back { IfErr result (λ e. e.1 ≡ ticket) }
@@ -183,7 +187,9 @@ impl<R: RecordKeeper, const N: usize> KeptPeer<R, N> {
         ensures answered { IfErr result (λ e. e ≢ replies.KeeperFailed) → (h : served.History) → ServerIsBehind self.old.server (upcoming (own_in self.old.source)) h
             → PeerStep h (served.Notify (values_of ticket.now) (parts_of plain.now) (length out.old)) (reply_entry result out.new)
             (own_in self.old.source) (own_in self.new.source) self.new.server }
-        ensures failed { IfErr result (λ e. e ≡ replies.KeeperFailed → (self.new.server ≡ self.old.server) × (own_in self.new.source ≡ own_in self.old.source)) }
+        ensures failed { IfErr result (λ e. e ≡ replies.KeeperFailed → (self.new.server ≡ self.old.server) × (own_in self.new.source ≡ own_in self.old.source)
+            × (R.failures self.new.source.keeper ≡ R.failures self.old.source.keeper + 1)) }
+        ensures worked { IfErr result (λ e. e ≢ replies.KeeperFailed) → R.failures self.new.source.keeper ≡ R.failures self.old.source.keeper }
         ensures rises { R.received_floor self.old.source.keeper ≤ R.received_floor self.new.source.keeper }
         ensures client { self.new.client ≡ self.old.client }
         ensures within { IfOk result (λ n. n ≤ length out.new) }

@@ -27,6 +27,7 @@ returns-in_default-clause-failed g c = λ is.
     let left = c.in_default.ensures.left refl in (
       left,
       λ k b. client_at c.advance.new.self _ (upcoming (own_in c.args.self.now.source)) (upcoming (own_in c.draw.new.self)) (ap upcoming left) (record { agrees = c.advance.ensures.follows k b.agrees; least = b.least }),
+      c.in_default.ensures.failed refl,
     )
 
 pub pass_at_client-requires : goal.pass_at_client-requires
