@@ -260,7 +260,7 @@ drawn_numbered s w b (inr (inl e)) i = subst (EchoesAreNumbers s) (sym e) (recor
 drawn_numbered s w b (inr (inr e)) i = subst (EchoesAreNumbers s) (sym e) (record { makes = (i.makes, tt); echoes = (i.echoes, tt); without = (i.without, tt) })
 
 -- it gives the value of its own number where it gives a new one
-counted_makes : (s : SecurityContext) (b : World) (h : server.History) (now next mid : ℕ) (d : List ℕ) (entry : server.Entry) → OnlyFirst h → server_history s b ≡ Some h
+pub counted_makes : (s : SecurityContext) (b : World) (h : server.History) (now next mid : ℕ) (d : List ℕ) (entry : server.Entry) → OnlyFirst h → server_history s b ≡ Some h
     → option_map next_own (server.life h 0) ≡ Some next → ServerAnswer h (server.Datagram now (echo_of next) mid d) entry
     → MakesEcho s b (AtServer (server.Datagram now (echo_of next) mid d) entry)
 counted_makes s b h now next mid d (server.Took (server.Challenge i k given issued) reply) only e f answer = λ g of g_is life_is none.

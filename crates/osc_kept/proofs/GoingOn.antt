@@ -26,7 +26,7 @@ IsNoLoad (Load n) = ⊥
 IsNoLoad e = Unit {0}
 
 -- what can happen to the ones can to the others, where none is loaded below the floor
-allowed_alike : (e : Effect) (o p : Own) → AreAlike o p → ((n : ℕ) → e ≡ Load n → o.floor ≤ n) → Allowed e p → Allowed e o
+pub allowed_alike : (e : Effect) (o p : Own) → AreAlike o p → ((n : ℕ) → e ≡ Load n → o.floor ≤ n) → Allowed e p → Allowed e o
 allowed_alike Stay o p x l a = a
 allowed_alike Draw o p x l a =
     let next : o.next ≡ p.next = x.next_is in
@@ -41,7 +41,7 @@ allowed_alike (Load n) o p x l a = (l n refl, a.1)
 allowed_alike (Use n) o p x l a = x.hand_is ∙ a
 
 -- and leaves them alike
-after_alike : (e : Effect) (o p : Own) → AreAlike o p → AreAlike (after e o) (after e p)
+pub after_alike : (e : Effect) (o p : Own) → AreAlike o p → AreAlike (after e o) (after e p)
 after_alike Stay o p x = x
 after_alike Draw o p x = record { next_is = ap (λ n. n + 1) x.next_is; limit_is = x.limit_is; hand_is = ap (λ n. Some n) x.next_is }
 after_alike Reserve o p x = record { next_is = ap (λ n. n + 1) x.next_is; limit_is = ap next_limit x.limit_is; hand_is = ap (λ n. Some n) x.next_is }
@@ -67,7 +67,7 @@ no_load (Some n) = tt
 loads_none : (e : Effect) (floor : ℕ) → IsNoLoad e → (n : ℕ) → e ≡ Load n → floor ≤ n
 loads_none e floor i n f = absurd (subst IsNoLoad f i)
 
-alike_to : (o p q : Own) → AreAlike o p → q ≡ p → AreAlike o q
+pub alike_to : (o p q : Own) → AreAlike o p → q ≡ p → AreAlike o q
 alike_to o p q x e = subst (AreAlike o) (sym e) x
 
 -- ---- the draw

@@ -3,7 +3,7 @@ use Rattle.std.proofs.Common.{◌≡◌, ℕ, ◌<◌, ◌≤◌, ◌^◌, ◌�
 use Rattle.std.specs.Prelude.{max, unwrap_or}
 use Rattle.std.specs.Option.{option_map, option_and_then}
 use Rattle.osc_context.specs.Reserving.{next_limit}
-use Rattle.osc_context.specs.SecurityContext.{SecurityContext}
+use Rattle.osc_context.specs.SecurityContext.{SecurityContext, IsUsable}
 use Rattle.osc_context.specs.Views.{number_of}
 use Rattle.osc_context.specs.declared.partial_iv.Piv.{Piv}
 use Rattle.osc_coap.specs.Datagram.{Parts}
@@ -40,18 +40,29 @@ had_tickets n s (Then w (AtServer event entry)) h a e =
     subst TakesTickets (some_is (sym (ap (λ x. option_map (λ g. server.Then g event entry) x) a.1.1) ∙ e)) a.1.4
 had_tickets n s (Then w event) h a e = had_tickets n s w h a.0 e
 
-tickets_step : (s : SecurityContext) (w : World) (h : server.History) (event : server.Event) (entry : server.Entry) → ServerTrusts s w h event entry → ServerAnswer h event entry
-    → TakesTickets h → TakesTickets (server.Then h event entry)
-tickets_step s w h (server.Datagram now echo mid d) (server.Took (server.Deliver received t) reply) p a x = (t ∷ x.0, (x.0, x.1, refl))
-tickets_step s w h (server.Add context start size) (server.Took (server.Deliver received t) reply) p a x = absurd a.1
-tickets_step s w h (server.Reply t own mid q room) (server.Took (server.Deliver received u) reply) p a x = absurd a.2
-tickets_step s w h (server.Notify t q room) (server.Took (server.Deliver received u) reply) p a x = absurd a.1.2
-tickets_step s w h (server.Restart c next) (server.Took (server.Deliver received t) reply) p a x = absurd (no_took (server.life h c) (server.Deliver received t) reply a)
-tickets_step s w h (server.Skip c count) (server.Took (server.Deliver received t) reply) p a x = absurd (no_skip (server.life h c) count (server.Deliver received t) reply a)
-tickets_step s w h (server.Advance now) (server.Took (server.Deliver received t) reply) p a x = absurd a
-tickets_step s w h (server.Reply t own mid q room) (server.Replied bytes) p a x = (p.1, (p.0, p.2, p.3))
-tickets_step s w h (server.Notify t q room) (server.Replied bytes) p a x = (p.0, (p.2, (p.3.0, p.3.1, p.3.2)))
-tickets_step s w h event entry p a x = x
+-- a reply or a notification that is sealed has a ticket that is held
+abbrev pub HasTicket : server.History → server.Event → server.Entry → Type 0
+HasTicket h (server.Reply t own mid p room) (server.Replied bytes) = IsHeld h t
+HasTicket h (server.Notify t p room) (server.Replied bytes) = IsHeld h t
+HasTicket h event entry = Unit {0}
+
+has_ticket : (s : SecurityContext) (w : World) (h : server.History) (event : server.Event) (entry : server.Entry) → ServerTrusts s w h event entry → HasTicket h event entry
+has_ticket s w h (server.Reply t own mid p room) (server.Replied bytes) x = x
+has_ticket s w h (server.Notify t p room) (server.Replied bytes) x = x
+has_ticket s w h event entry x = tt
+
+pub tickets_step : (h : server.History) (event : server.Event) (entry : server.Entry) → HasTicket h event entry → ServerAnswer h event entry → TakesTickets h
+    → TakesTickets (server.Then h event entry)
+tickets_step h (server.Datagram now echo mid d) (server.Took (server.Deliver received t) reply) p a x = (t ∷ x.0, (x.0, x.1, refl))
+tickets_step h (server.Add context start size) (server.Took (server.Deliver received t) reply) p a x = absurd a.1
+tickets_step h (server.Reply t own mid q room) (server.Took (server.Deliver received u) reply) p a x = absurd a.2
+tickets_step h (server.Notify t q room) (server.Took (server.Deliver received u) reply) p a x = absurd a.1.2
+tickets_step h (server.Restart c next) (server.Took (server.Deliver received t) reply) p a x = absurd (no_took (server.life h c) (server.Deliver received t) reply a)
+tickets_step h (server.Skip c count) (server.Took (server.Deliver received t) reply) p a x = absurd (no_skip (server.life h c) count (server.Deliver received t) reply a)
+tickets_step h (server.Advance now) (server.Took (server.Deliver received t) reply) p a x = absurd a
+tickets_step h (server.Reply t own mid q room) (server.Replied bytes) p a x = (p.1, (p.0, p.2, p.3))
+tickets_step h (server.Notify t q room) (server.Replied bytes) p a x = (p.0, (p.2, (p.3.0, p.3.1, p.3.2)))
+tickets_step h event entry p a x = x
 
 -- ---- a draw changes no premise
 
@@ -232,7 +243,7 @@ server_lawful n s w v h event entry old new i e on plain a p =
     let stood : Stands s _ h = stands n s b h at.lawful.answers known in
     let same : sent s b ≡ sent s w = same_sent Server s w b on.drawn in (
       subst (IsKept n s) (sym on.ends) (more_kept n s b (AtServer event entry) at
-          (h, known, a, plain, tickets_step s w h event entry p a (had_tickets n s b h at.lawful.answers known)) (forges_at s w b h event entry same p)
+          (h, known, a, plain, tickets_step h event entry (has_ticket s w h event entry p) a (had_tickets n s b h at.lawful.answers known)) (forges_at s w b h event entry same p)
           (new_at s w b h event entry same known stood.only a p) tt kept),
       λ x. subst (HasSavedFirst s) (sym on.ends) (server_saved s b h event entry known plain kept (saved_by_draw Server s w b on.drawn kept.0 x)),
     )
@@ -308,14 +319,14 @@ client_in_world claims n s w h event entry old new i r a m p =
 none_there : (s : SecurityContext) → IsTaken server.Begin s → ⊥
 none_there s x = let f : None ≡ Some x.1 = x.2 in cc
 
-added_alone : (n : ℕ) (s : SecurityContext) (w : World) (start : Start) (size : WindowSize) → IsKept n s w → ServerAnswer server.Begin (server.Add s start size) (server.Added 0)
-added_alone n s w start size i = (record { client = i.lawful.usable.client_fits; server = i.lawful.usable.server_fits; differ = i.lawful.usable.differ }, (omega arith, λ x. none_there s x, refl))
+pub added_alone : (s : SecurityContext) (start : Start) (size : WindowSize) → IsUsable s → ServerAnswer server.Begin (server.Add s start size) (server.Added 0)
+added_alone s start size u = (record { client = u.client_fits; server = u.server_fits; differ = u.differ }, (omega arith, λ x. none_there s x, refl))
 
 first_lawful : (n : ℕ) (s : SecurityContext) (w : World) (start : Start) (size : WindowSize) → IsKept n s w → HasSavedFirst s w → AtEach (NumbersAreKept s) (Then w (ServerStarts start size))
     → SavesFirst s w (ServerStarts start size) → IsKept n s (Then w (ServerStarts start size))
 first_lawful n s w start size i x k f =
-    let answers : AtEach (Answers n s) (Then w (ServerStarts start size)) = (i.lawful.answers, added_alone n s w start size i) in
-    more_kept n s w (ServerStarts start size) i (added_alone n s w start size i) tt tt (fresh_by_saving n s (Then w (ServerStarts start size)) answers k (x.each, f)).1 k
+    let answers : AtEach (Answers n s) (Then w (ServerStarts start size)) = (i.lawful.answers, added_alone s start size i.lawful.usable) in
+    more_kept n s w (ServerStarts start size) i (added_alone s start size i.lawful.usable) tt tt (fresh_by_saving n s (Then w (ServerStarts start size)) answers k (x.each, f)).1 k
 
 fresh_in : (claims : TwoEnds) (n : ℕ) (s : SecurityContext) (w : World) (first : Piv) (size : WindowSize) → IsKept n s w → HasSavedFirst s w → number_of first ≡ 0
     → AtEach (NumbersAreKept s) (server_started (starts.Fresh first) size w) → IsAsClaimed n s w (server_started (starts.Fresh first) size w)

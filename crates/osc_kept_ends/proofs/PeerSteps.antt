@@ -1,6 +1,6 @@
 -- What a call of a peer leaves of its two roles: neither has reached the number with which the peer seals next. s is a server, c a client, h and k their
 -- histories, next is that number.
-use Rattle.std.proofs.Common.{◌≡◌, ℕ, ◌+◌, ◌<◌, ◌≤◌, ◌^◌, ◌∙◌, sym, ap, subst, refl, arith, List, Option, Some, None, Result, Ok, Err, IsOk, IsErr, inl, inr}
+use Rattle.std.proofs.Common.{◌≡◌, ℕ, ◌+◌, ◌<◌, ◌≤◌, ◌^◌, ◌∙◌, sym, ap, subst, refl, arith, Bool, true, false, List, Option, Some, None, Result, Ok, Err, IsOk, IsErr, inl, inr}
 use Rattle.std.specs.Prelude.{unwrap_or}
 use Rattle.std.specs.Option.{option_map}
 use Rattle.osc_context.specs.Views.{number_of}
@@ -32,9 +32,9 @@ use Rattle.osc_life.specs.ServerHistory as server
 use Rattle.osc_life.specs.Views.{Shows, values_of}
 use Rattle.osc_kept_ends.specs.KeptAsking as asking
 use Rattle.osc_kept_ends.specs.KeptServing as serving
-use Rattle.osc_kept_ends.specs.Numbering.{Load, Own, after, upcoming}
-use Rattle.osc_kept_ends.specs.Peering.{ClientIsBehind, DeliversBelow, IsKeptOn, IsPeerStart, ServerIsBehind, TakesBelow}
-use Rattle.osc_kept_ends.specs.TakingBack.{IsGateOf, IsTakenBack}
+use Rattle.osc_kept_ends.specs.Numbering.{Draws, Goes, Load, Own, Stay, Steps, after, upcoming}
+use Rattle.osc_kept_ends.specs.Peering.{ClientIsBehind, DeliversBelow, IsKeptOn, IsPeerStart, MayDraw, ServerIsBehind, TakesBelow}
+use Rattle.osc_kept_ends.specs.TakingBack.{IsDelivery, IsGateOf, IsTakenBack}
 use Rattle.osc_kept_ends.specs.Views.{IsLastDrawn, IsUsedUp, own_at}
 use Rattle.osc_kept_ends.proofs.ServerSteps.{only_first}
 
@@ -110,6 +110,17 @@ pub from_delivery : (x : _) (t : Ticket) (left : List ℕ) (answer : server.Answ
     → (received : _) × (answer ≡ server.Deliver received (values_of t))
 from_delivery x t left (server.Deliver received ticket) d = (received, ap (server.Deliver received) (sym d.1))
 from_delivery x t left answer d = absurd d
+
+drawn_alone : (asked : Bool) (old mid new : Own) → Draws asked old mid → Goes Stay mid new → MayDraw old new
+drawn_alone true old mid new d g = inr (subst (Draws true old) (sym g.1) d)
+drawn_alone false old mid new d g = inl (g.1 ∙ d)
+
+-- a delivery uses no number
+pub delivery_draws : (decision : Decision) (left : List ℕ) (answer : server.Answer) (h : server.History) (now mid : ℕ) (echo d reply : List ℕ) (asked : Bool) (old new : Own) → IsDelivery decision
+    → Decides decision left answer → Steps asked (serving.uses h (server.Datagram now echo mid d) (server.Took answer reply)) old new → MayDraw old new
+delivery_draws (decisions.Deliver x t) left (server.Deliver received ticket) h now mid echo d reply asked old new is decides steps = drawn_alone asked old steps.0 new steps.1 steps.2
+delivery_draws (decisions.Deliver x t) left answer h now mid echo d reply asked old new is decides steps = absurd decides
+delivery_draws decision left answer h now mid echo d reply asked old new is decides steps = absurd is
 
 -- a record that keeps a number leaves the number with which the peer seals next
 pub upcoming_on : (mid new : Own) → IsKeptOn mid new → upcoming new ≡ upcoming mid

@@ -1,7 +1,7 @@
 -- To be believed: an end that asks and answers under one context, with one source of numbers for both roles (RFC 8613, 3.1, 7.2.1, 7.4 and B.1): a role passes
 -- over the numbers that the other one has before it seals, and the number of a request is kept before the request is delivered. h and g are histories of its
 -- server, k and m of its client, next is the number with which the end seals next, old, mid and new are its numbers.
-use Rattle.std.specs.Prelude.{◌≡◌, ◌≢◌, ◌⊎◌, ℕ, ◌+◌, ◌<◌, ◌≤◌, List, Some}
+use Rattle.std.specs.Prelude.{◌≡◌, ◌≢◌, ◌⊎◌, ℕ, ◌+◌, ◌<◌, ◌≤◌, List, Some, true}
 use Rattle.std.specs.Option.{option_map}
 use Rattle.osc_context.specs.Views.{number_of}
 use Rattle.osc_client.specs.declared.client.Client.{Client}
@@ -24,7 +24,7 @@ use Rattle.osc_life.specs.ServerHistory as server
 use Rattle.osc_life.specs.Views.{values_of}
 use Rattle.osc_kept_ends.specs.KeptAsking as asking
 use Rattle.osc_kept_ends.specs.KeptServing as serving
-use Rattle.osc_kept_ends.specs.Numbering.{Own}
+use Rattle.osc_kept_ends.specs.Numbering.{Own, Draws, upcoming}
 
 -- the server has the one context, and every number that it used or passed over is below this one (RFC 8613, 7.2.1)
 pub record ServerIsBehind (s : Server) (next : ℕ) (h : server.History) : Type 0 where
@@ -75,9 +75,18 @@ pub record PeerTakes (h : server.History) (now : ℕ) (fresh : Fresh) (d : List 
   pub takes : serving.KeptTakes g now fresh d outcome reply old mid s
   pub kept_on : IsKeptOn mid new
 
--- a call whose record failed moves the clock alone, and may have passed over numbers (RFC 8613, B.1.1)
-abbrev pub ServerWaits : server.History → ℕ → ℕ → Server → Type 0
-ServerWaits h now next s = (g : server.History) × ((g ≡ h) ⊎ ServerPasses h g) × ServerIsBehind s next (server.Then g (server.Advance now) server.Advanced)
+-- a number is drawn, or none (own rule: a call that fails afterwards leaves it in hand)
+abbrev pub MayDraw : Own → Own → Type 0
+MayDraw old new = (new ≡ old) ⊎ Draws true old new
+
+-- a call whose record failed moves the clock alone; it may have passed over numbers, and drawn one, which is in hand still (RFC 8613, B.1.1)
+pub record ServerWaits (h : server.History) (now : ℕ) (old new : Own) (s : Server) : Type 0 where
+  pub g : server.History
+  pub passes : (g ≡ h) ⊎ ServerPasses h g
+  pub mid : Own
+  pub drawn : MayDraw old mid
+  pub kept_on : IsKeptOn mid new
+  pub behind : ServerIsBehind s (upcoming new) (server.Then g (server.Advance now) server.Advanced)
 
 -- if it is a delivery, its number is below this one (RFC 8613, 7.4)
 abbrev pub DeliversBelow : Decision → ℕ → Type 0

@@ -6,6 +6,7 @@ use Rattle.osc_endpoint.specs.declared.server.Server.{Server}
 use Rattle.osc_endpoint.specs.Agrees.{Agrees}
 use Rattle.osc_endpoint.specs.ServerAnswer.{ServerAnswer}
 use Rattle.osc_life.specs.declared.decision.Decision.{Decision}
+use Rattle.osc_life.specs.declared.decision.Decision.TheVariants.{Deliver}
 use Rattle.osc_life.specs.Agrees.{HasGate}
 use Rattle.osc_life.specs.Deciding.{Decides}
 use Rattle.osc_life.specs.Life.{Life}
@@ -21,3 +22,8 @@ abbrev pub IsTakenBack : Decision → Option Gate → Server → Server → Type
 IsTakenBack decision gate old new = (s : Server) (next : ℕ) (g : History) (now mid : ℕ) (echo d left reply : List ℕ) (answer : Answer) → IsKept s next g → IsGateOf gate g
     → ServerAnswer g (Datagram now echo mid d) (Took answer reply) → Decides decision left answer → Agrees old (Then g (Datagram now echo mid d) (Took answer reply))
     → Agrees new (Then g (Advance now) Advanced)
+
+-- the decision is a delivery (how the code is seen)
+abbrev pub IsDelivery : Decision → Type 0
+IsDelivery (Deliver x ticket) = Unit {0}
+IsDelivery decision = ⊥

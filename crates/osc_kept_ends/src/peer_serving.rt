@@ -15,7 +15,7 @@ ghost use Rattle.osc_kept_ends.specs.EchoNumber.{echo_of};
 ghost use Rattle.osc_kept_ends.specs.Numbering.{Draws, upcoming};
 ghost use Rattle.osc_kept_ends.specs.PeerOwning.{own_in};
 ghost use Rattle.osc_kept_ends.specs.Peering.{DeliversBelow, IsKeptOn, PeerDecides, PeerStep, PeerTakes, ServerIsBehind, ServerWaits, TakesBelow};
-ghost use Rattle.osc_kept_ends.specs.TakingBack.{IsTakenBack};
+ghost use Rattle.osc_kept_ends.specs.TakingBack.{IsDelivery, IsTakenBack};
 
 use crate::drawn::{decide_drawn, notify_drawn, reply_drawn};
 use crate::kept_peer::{KeptPeer, pass_at_server};
@@ -51,6 +51,7 @@ fn keep_delivery<R: RecordKeeper>(
 ) -> Result<(), KeeperError>
     ensures kept { IsOk result → DeliversBelow decision.now (R.received_floor source.new.keeper) }
     ensures same { IsOk result → server.new ≡ server.old }
+    ensures delivers { IsErr result → IsDelivery decision.now }
     ensures taken_back { IsErr result → IsTakenBack decision.now gate server.old server.new }
     ensures kept_on { IsKeptOn (own_in source.old) (own_in source.new) }
     ensures rises { R.received_floor source.old.keeper ≤ R.received_floor source.new.keeper }
@@ -87,7 +88,7 @@ impl<R: RecordKeeper, const N: usize> KeptPeer<R, N> {
         ensures kept { IfOk result (λ d. DeliversBelow d.decision (R.received_floor self.new.source.keeper)) }
         ensures rises { R.received_floor self.old.source.keeper ≤ R.received_floor self.new.source.keeper }
         ensures waits { IsErr result → (h : served.History) → ServerIsBehind self.old.server (upcoming (own_in self.old.source)) h
-            → ServerWaits h now (upcoming (own_in self.new.source)) self.new.server }
+            → ServerWaits h now (own_in self.old.source) (own_in self.new.source) self.new.server }
         ensures client { self.new.client ≡ self.old.client }
         ensures failed { IsErr result → R.failures self.new.source.keeper ≡ R.failures self.old.source.keeper + 1 }
         ensures worked { IsOk result → R.failures self.new.source.keeper ≡ R.failures self.old.source.keeper }
@@ -124,7 +125,7 @@ impl<R: RecordKeeper, const N: usize> KeptPeer<R, N> {
         ensures kept { TakesBelow result.outcome (R.received_floor self.new.source.keeper) }
         ensures rises { R.received_floor self.old.source.keeper ≤ R.received_floor self.new.source.keeper }
         ensures waits { result.outcome ≡ outcomes.KeeperFailed → (h : served.History) → ServerIsBehind self.old.server (upcoming (own_in self.old.source)) h
-            → ServerWaits h now (upcoming (own_in self.new.source)) self.new.server }
+            → ServerWaits h now (own_in self.old.source) (own_in self.new.source) self.new.server }
         ensures client { self.new.client ≡ self.old.client }
         ensures failed { result.outcome ≡ outcomes.KeeperFailed → R.failures self.new.source.keeper ≡ R.failures self.old.source.keeper + 1 }
         ensures worked { result.outcome ≢ outcomes.KeeperFailed → R.failures self.new.source.keeper ≡ R.failures self.old.source.keeper }

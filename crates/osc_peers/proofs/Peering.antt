@@ -101,7 +101,7 @@ begins_at n s w (AtServer (server.Restart i first) server.Restarted) a c v =
     above_own n s w first a.0 (subst (λ e. LoadsAbove e (used Server s w)) (ap (λ o. server_effect o (server.Restart i first) server.Restarted) a.1.1) v)
 begins_at n s w event a c v = tt
 
-forth_begins : (n : ℕ) (s : SecurityContext) (w : Peers) → AtEach (Answers n s) (forth w) → SourcesAreKept s w → AtEach (BeginsAbove s) (forth w)
+pub forth_begins : (n : ℕ) (s : SecurityContext) (w : Peers) → AtEach (Answers n s) (forth w) → SourcesAreKept s w → AtEach (BeginsAbove s) (forth w)
 forth_begins n s Nothing a k = tt
 forth_begins n s (More w (Back event)) a k = forth_begins n s w a k.0
 forth_begins n s (More w (Forth event)) a k =
@@ -112,7 +112,7 @@ forth_begins n s (More w (Forth event)) a k =
           (loads_above (effect Server s (forth w) event) (far_effects s w) (used Server s (forth w)) far.0 far.1 (far_answered s w)),
     )
 
-back_begins : (n : ℕ) (s : SecurityContext) (w : Peers) → AtEach (Answers n (turned s)) (back w) → SourcesAreKept s w → AtEach (BeginsAbove (turned s)) (back w)
+pub back_begins : (n : ℕ) (s : SecurityContext) (w : Peers) → AtEach (Answers n (turned s)) (back w) → SourcesAreKept s w → AtEach (BeginsAbove (turned s)) (back w)
 back_begins n s Nothing a k = tt
 back_begins n s (More w (Forth event)) a k = back_begins n s w a k.0
 back_begins n s (More w (Back event)) a k =

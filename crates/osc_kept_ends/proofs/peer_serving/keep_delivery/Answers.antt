@@ -7,8 +7,15 @@ use Rattle.osc_life.specs.Deciding.{Decides}
 use Rattle.osc_life.specs.ServerHistory.{Answer, Datagram, Then, Took, life}
 use Rattle.osc_life.specs.Views.{values_of}
 use Rattle.osc_life.specs.declared.decision.Decision.{Decision}
+use Rattle.osc_kept_ends.specs.TakingBack.{IsDelivery}
 use Rattle.osc_kept_ends.proofs.PeerSteps.{delivers_first, from_delivery, life_there}
 use Rattle.osc_kept_ends.proofs.peer_serving.keep_delivery.Goals as goal
+
+pub returns-in-Some-clause-delivers : goal.returns-in-Some-clause-delivers
+returns-in-Some-clause-delivers g c = λ failed. subst IsDelivery (sym c.in-Deliver.is) tt
+
+pub returns-in_default-gate-clause-delivers : goal.returns-in_default-gate-clause-delivers
+returns-in_default-gate-clause-delivers g c = λ failed. subst IsDelivery (sym c.in-Deliver.is) tt
 
 pub returns-in-Some-clause-taken_back : goal.returns-in-Some-clause-taken_back
 returns-in-Some-clause-taken_back g c = λ failed s next h now mid echo d left reply answer k gates row decides a.

@@ -12,7 +12,7 @@ use Rattle.osc_life.specs.ServerHistory.{Then, Advance, Advanced, life}
 use Rattle.osc_kept_ends.specs.Numbering.{Draws, upcoming}
 use Rattle.osc_kept_ends.specs.PeerOwning.{own_in}
 use Rattle.osc_kept_ends.proofs.Drawing.{still_last, upcoming_stays}
-use Rattle.osc_kept_ends.proofs.PeerSteps.{client_at, client_still, kept_at, kept_or_back, rises, server_at, upcoming_on, waited}
+use Rattle.osc_kept_ends.proofs.PeerSteps.{client_at, client_still, delivery_draws, kept_at, kept_or_back, rises, server_at, upcoming_on, waited}
 use Rattle.osc_kept_ends.proofs.kept_peer.KeptPeer.decide.Goals as goal
 
 pub invariant_of-self : goal.invariant_of-self
@@ -29,12 +29,16 @@ invariant_of-self g c =
 
 pub returns-in_default-clause-waits : goal.returns-in_default-clause-waits
 returns-in_default-clause-waits g c = λ failed h b.
-    let same = ap upcoming (c.in_default.ensures.left refl) in (
-      h,
-      inl refl,
-      server_at c.advance.new.self _ (upcoming (own_in c.args.self.now.source)) (upcoming (own_in c.draw_for_request.new.source)) same
-          (record { agrees = c.advance.ensures h b.agrees; one = b.one; reached = b.reached; reached_is = b.reached_is; least = b.least }),
-    )
+    let left = c.in_default.ensures.left refl in
+    record {
+      g = h;
+      passes = inl refl;
+      mid = own_in c.args.self.now.source;
+      drawn = inl refl;
+      kept_on = inl left;
+      behind = server_at c.advance.new.self _ (upcoming (own_in c.args.self.now.source)) (upcoming (own_in c.draw_for_request.new.source)) (ap upcoming left)
+          (record { agrees = c.advance.ensures h b.agrees; one = b.one; reached = b.reached; reached_is = b.reached_is; least = b.least });
+    }
 
 pub pass_at_server-requires-clause-behind : goal.pass_at_server-requires-clause-behind
 pass_at_server-requires-clause-behind g c =
@@ -90,12 +94,17 @@ returns-in_err-keep_delivery-clause-waits g c = λ failed before b.
     let (h, passes, kept, is_open) = c.pass_at_server.ensures before (server_at c.args.self.now.server before (upcoming old) c.upcoming-next.result same b) in
     let at = kept_at c.pass_at_server.new.server h c.upcoming-next.result (upcoming old) (sym same) kept in
     let t = c.decide_drawn-decided.ensures.answered h old (g.R.RecordKeeper.sender_floor source.keeper) (next_of source.numbers) (limit_of source.numbers) at
-    (subst (λ o. Draws (not o) old (own_in source)) (sym is_open) drawn) source.last_drawn in (
-      h,
-      inr passes,
-      waited c.pass_at_server.new.server c.decide_drawn-decided.new.server c.keep_delivery.new.server c.gate-gate.result h (upcoming old) (upcoming (own_in c.keep_delivery.new.source)) c.args.now
-          _ _ c.decide_drawn-decided.result _ _ old used (c.in_err-keep_delivery.ensures.taken_back refl) at (λ l is. c.gate-gate.ensures h l at.agrees is) t (omega (arith, stays, behind, kept_on)),
-    )
+    (subst (λ o. Draws (not o) old (own_in source)) (sym is_open) drawn) source.last_drawn in
+    record {
+      g = h;
+      passes = inr passes;
+      mid = used;
+      drawn = delivery_draws c.decide_drawn-decided.result.decision c.decide_drawn-decided.new.datagram t.answer h c.args.now c.args.mid c.to_be_bytes-echo.result c.args.datagram.now (take c.decide_drawn-decided.result.reply c.decide_drawn-decided.new.out) (not (is_open_life (life h 0))) old used
+          (c.in_err-keep_delivery.ensures.delivers refl) t.decides t.step.numbers;
+      kept_on = c.keep_delivery.ensures.kept_on;
+      behind = waited c.pass_at_server.new.server c.decide_drawn-decided.new.server c.keep_delivery.new.server c.gate-gate.result h (upcoming old) (upcoming (own_in c.keep_delivery.new.source)) c.args.now
+          _ _ c.decide_drawn-decided.result _ _ old used (c.in_err-keep_delivery.ensures.taken_back refl) at (λ l is. c.gate-gate.ensures h l at.agrees is) t (omega (arith, stays, behind, kept_on));
+    }
 
 pub returns-clause-answered : goal.returns-clause-answered
 returns-clause-answered g c = λ before b.

@@ -1,0 +1,6 @@
+mod CountedPeers
+mod OneMore
+mod ServerSteps
+mod ClientSteps
+mod PeerStarts
+mod CallLemmas

@@ -1,0 +1,34 @@
+//! What holds of devices that both ask and answer, and make their Echo values of their Sender Sequence Numbers. These functions exist only
+//! for their contracts.
+
+ghost use Rattle.osc_peer_calls.specs.Counting.{PeersAreAlike, PeersByNumbers};
+ghost use Rattle.osc_peer_calls.specs.GoingOn.{AnswersInList, AsksInList, StartsInList};
+
+use osc_kept::echo_by_numbers;
+use osc_peers::two_peers;
+
+/// States that two devices need no random source (RFC 9175, A, method 3): if both make their Echo values of their numbers, requests carry
+/// only Echo values that were heard, and no reply or notification has one (`AreCounted`), then no value comes again, and all is as
+/// `two_peers` says.
+pub fn peers_by_numbers()
+    ensures { PeersByNumbers }
+{
+    two_peers();
+    echo_by_numbers();
+}
+
+/// States that the premises are the same for both devices: the list as the far device sees it meets them too. So what is said of the near
+/// device's calls is said of the far device's as well.
+pub fn peers_are_alike()
+    ensures { PeersAreAlike }
+{}
+
+/// States that what one device does, in either role, and each of its starts, extends a list that meets the premises to one that does so too,
+/// if others do their part (`ServerTrusts`, `ClientTrusts`); so all of it is as `two_peers` says.
+pub fn peer_calls_in_list()
+    ensures answers { AnswersInList }
+    ensures asks { AsksInList }
+    ensures starts { StartsInList }
+{
+    peers_by_numbers();
+}

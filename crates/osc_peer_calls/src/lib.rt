@@ -1,0 +1,13 @@
+//! The calls of a peer within the list of what happens at two devices that both ask and answer under one security context (RFC 8613, 3.1,
+//! 7.2.1, 7.4, 8 and B.1), and the laws on which that stands. Each function makes one call of a peer, or exists only for its contract.
+#![tactic(auto)]
+
+mod answering;
+mod asking;
+mod beginning;
+mod laws;
+
+pub use answering::{decide_in_list, notify_in_list, reply_in_list, take_in_list};
+pub use asking::{decide_response_in_list, forget_in_list, hear_in_list, request_in_list};
+pub use beginning::{advance_in_list, start_in_list};
+pub use laws::{peer_calls_in_list, peers_are_alike, peers_by_numbers};
