@@ -1,0 +1,58 @@
+//! What happens in a run to a peer, and what comes of it.
+
+use osc_endpoint::{Answering, ClientEntry, Notifying, ServerEntry};
+
+/// A datagram that may be a request. It arrives at `now`, in milliseconds, with the Message ID of a reply that isn't an ACK, and room for
+/// the reply. The peer makes the Echo value of a challenge itself, of the number with which it seals next.
+#[derive(Drop)]
+pub struct PeerArrival {
+    pub now: u64,
+    pub mid: u16,
+    pub bytes: Vec<u8>,
+    pub out: [u8; 64],
+}
+
+/// One event of a peer's run.
+#[derive(Drop)]
+pub enum PeerEvent {
+    /// A datagram arrives that may be a request.
+    Datagram(PeerArrival),
+    /// The application answers a request.
+    Reply(Answering),
+    /// The application notifies a request that registers an observation.
+    Notify(Notifying),
+    /// The application drops the ticket of the event at an index: an observation is over.
+    Drop {
+        of: usize,
+    },
+    /// The application makes a request at `now`, in milliseconds. `plain` is the plain message, and `out` is room for the request.
+    Request {
+        now: u64,
+        plain: Vec<u8>,
+        out: Vec<u8>,
+    },
+    /// A datagram arrives at `now`, in milliseconds, that may be a response.
+    Response {
+        now: u64,
+        bytes: Vec<u8>,
+    },
+    /// The application stops waiting for the response to the request with this token.
+    Forget {
+        token: Vec<u8>,
+    },
+    /// The clocks of both roles move to `now`, in milliseconds, if that is later.
+    Advance {
+        now: u64,
+    },
+}
+
+/// The result of one event of a peer's run.
+#[derive(Debug, Drop)]
+pub enum PeerEntry<'a> {
+    /// What became of a datagram, a reply, a notification or a ticket to drop, as in a server's run. KeeperFailed is possible too.
+    Served(ServerEntry<'a>),
+    /// What became of a request, a response or a forgotten token, as in a client's run. KeeperFailed is possible too.
+    Asked(ClientEntry<'a>),
+    /// The clocks were moved.
+    Advanced,
+}

@@ -1,0 +1,98 @@
+//! A peer over a list of events.
+
+ghost use Rattle.std.specs.Prelude.{◌≡◌, ◌<◌, [], List, Option, length, take, drop, vec_len, OnOk, OnErr};
+ghost use Rattle.osc_client.specs.ClientHistory as asked;
+ghost use Rattle.osc_life.specs.ServerHistory as served;
+ghost use Rattle.osc_peer_runs.specs.PeerCalls.{Calls, IsBehind};
+ghost use Rattle.osc_peer_runs.specs.PeerRuns.{PeerRun, peer_state};
+
+use crate::asking::make_request;
+use crate::peer_event::{PeerEntry, PeerEvent};
+use crate::serving::{drop_ticket, serve_datagram, serve_notification, serve_reply};
+use osc_context::RecordKeeper;
+use osc_endpoint::siblings::make_places;
+use osc_endpoint::{ClientEntry, Ticket};
+use osc_kept_ends::KeptPeer;
+use std::alloc::{AllocError, Global};
+use std::mem;
+
+/// Runs one event, and returns its entry, and the ticket that it gives, if it gives one. The entry borrows from the event.
+fn run_event<'a, R: RecordKeeper, const N: usize>(
+    peer: &mut KeptPeer<R, N>,
+    event: &'a mut PeerEvent,
+    tickets: &mut [Option<Ticket>],
+) -> (PeerEntry<'a>, Option<Ticket>)
+    ensures { Calls peer.old tickets.old event.old result.0 peer.new tickets.new result.1 }
+{
+    match event {
+        PeerEvent::Datagram(arrival) => serve_datagram(peer, arrival, tickets),
+        PeerEvent::Reply(answering) => (serve_reply(peer, answering, tickets), None),
+        PeerEvent::Notify(notifying) => (serve_notification(peer, notifying, tickets), None),
+        PeerEvent::Drop { of } => (PeerEntry::Served(drop_ticket(tickets, *of)), None),
+        PeerEvent::Request { now, plain, out } => {
+            (PeerEntry::Asked(make_request(peer, *now, plain, out)), None)
+        }
+        PeerEvent::Response { now, bytes } => {
+            let outcome = peer.hear(*now, bytes);
+            (PeerEntry::Asked(ClientEntry::Took(outcome)), None)
+        }
+        PeerEvent::Forget { token } => {
+            let was_pending = peer.forget(token);
+            (PeerEntry::Asked(ClientEntry::Forgot(was_pending)), None)
+        }
+        PeerEvent::Advance { now } => {
+            peer.advance(*now);
+            (PeerEntry::Advanced, None)
+        }
+    }
+}
+
+/// Runs a peer over events. The log gets the entry of each event, at the event's index, and the entries borrow from the events. The run
+/// keeps the tickets: an event names one by the index of the event that gave it. The run stops early only if memory for an entry is
+/// refused. In that case the log has the entries of the events before, and `events` is what is left of them, as it was passed in.
+pub fn run_kept_peer_on<'a, R: RecordKeeper, const N: usize>(
+    alloc: Global,
+    peer: &mut KeptPeer<R, N>,
+    events: &mut &'a mut [PeerEvent],
+    log: &mut Vec<PeerEntry<'a>>,
+) -> Result<(), AllocError>
+    requires { log.old.items ≡ [] }
+    ensures run { (h : served.History) (k : asked.History) → IsBehind peer.old h k → (g : served.History) × (m : asked.History) × (us : List (Option served.TicketValues))
+        × PeerRun N (peer_state h k peer.old.source []) (take (vec_len log.new) events.old.now) log.new.items (peer_state g m peer.new.source us) × IsBehind peer.new g m }
+    ensures rest { events.new.now ≡ drop (vec_len log.new) events.old.now }
+    ensures all { OnOk result (vec_len log.new ≡ length events.old.now) }
+    ensures fewer { OnErr result (vec_len log.new < length events.old.now) }
+{
+    let mut tickets = Vec::new(alloc);
+    let mut rest = mem::take(events);
+    while !rest.is_empty() {
+        if let Err(error) = make_places(log, &mut tickets) {
+            *events = rest;
+            return Err(error);
+        }
+        let (front, tail) = rest.split_at_mut(1);
+        let (entry, ticket) = run_event(peer, &mut front[0], &mut tickets);
+        log.push_reserved(entry);
+        tickets.push_reserved(ticket);
+        rest = tail;
+    }
+    *events = rest;
+    Ok(())
+}
+
+/// Runs a peer over events, as [`run_kept_peer_on`] does. It doesn't return what is left of them.
+pub fn run_kept_peer<'a, R: RecordKeeper, const N: usize>(
+    alloc: Global,
+    peer: &mut KeptPeer<R, N>,
+    events: &'a mut [PeerEvent],
+    log: &mut Vec<PeerEntry<'a>>,
+) -> Result<(), AllocError>
+    requires { log.old.items ≡ [] }
+    ensures run { (h : served.History) (k : asked.History) → IsBehind peer.old h k → (g : served.History) × (m : asked.History) × (us : List (Option served.TicketValues))
+        × PeerRun N (peer_state h k peer.old.source []) (take (vec_len log.new) events.old) log.new.items (peer_state g m peer.new.source us) × IsBehind peer.new g m }
+    ensures all { OnOk result (vec_len log.new ≡ length events.old) }
+    ensures fewer { OnErr result (vec_len log.new < length events.old) }
+{
+    let mut rest = events;
+    run_kept_peer_on(alloc, peer, &mut rest, log)
+}

@@ -1,0 +1,160 @@
+//! The events of a run that a peer serves: datagrams that may be requests, replies, notifications and dropped tickets.
+
+ghost use Rattle.std.specs.Prelude.{◌≡◌, None, length};
+ghost use Rattle.std.specs.Option.{option_map};
+ghost use Rattle.osc_life.specs.ServerHistory.{History};
+ghost use Rattle.osc_life.specs.Views.{values_of};
+ghost use Rattle.osc_endpoint.specs.ServerRun.{DropStep, values_in};
+ghost use Rattle.osc_kept_ends.specs.Numbering.{upcoming};
+ghost use Rattle.osc_kept_ends.specs.Peering.{ServerIsBehind};
+ghost use Rattle.osc_kept_ends.specs.PeerOwning.{own_in};
+ghost use Rattle.osc_peer_runs.specs.PeerCalls.{Calls};
+ghost use Rattle.osc_peer_runs.specs.PeerRuns.{ArrivalStep, NotifyStep, ReplyStep};
+
+use crate::peer_event::{PeerArrival, PeerEntry, PeerEvent};
+use osc_coap::parse;
+use osc_context::RecordKeeper;
+use osc_endpoint::siblings::{put_back, take_out, ticket_at};
+use osc_endpoint::{Answering, Notifying, Outcome, Seen, ServerEntry, Taken, Ticket};
+use osc_kept_ends::KeptPeer;
+
+/// Takes a datagram. The entry borrows from its arrival.
+fn take_arrival<'a, R: RecordKeeper, const N: usize>(
+    peer: &mut KeptPeer<R, N>,
+    arrival: &'a mut PeerArrival,
+) -> (ServerEntry<'a>, Option<Ticket>)
+    ensures served { (h : History) → ServerIsBehind peer.old.server (upcoming (own_in peer.old.source)) h
+        → (g : History) × ArrivalStep h peer.old.source arrival.old result.0 g peer.new.source (option_map values_of result.1)
+        × ServerIsBehind peer.new.server (upcoming (own_in peer.new.source)) g }
+    ensures client { peer.new.client ≡ peer.old.client }
+{
+    let PeerArrival {
+        now,
+        mid,
+        bytes,
+        out,
+    } = arrival;
+    let Taken { outcome, reply } = peer.take(*now, *mid, bytes, out);
+    if let Outcome::KeeperFailed = outcome {
+        let entry = ServerEntry::Took {
+            seen: Seen::KeeperFailed,
+            reply: &[],
+        };
+        return (entry, None);
+    }
+    let (seen, ticket) = outcome.part();
+    let entry = ServerEntry::Took {
+        seen,
+        reply: &out[..reply],
+    };
+    (entry, ticket)
+}
+
+/// Serves a datagram that may be a request. The entry borrows from its arrival.
+pub(crate) fn serve_datagram<'a, R: RecordKeeper, const N: usize>(
+    peer: &mut KeptPeer<R, N>,
+    arrival: &'a mut PeerArrival,
+    tickets: &[Option<Ticket>],
+) -> (PeerEntry<'a>, Option<Ticket>)
+    ensures { Calls peer.old tickets.now (PeerEvent.Datagram arrival.old) result.0 peer.new tickets.now result.1 }
+{
+    let (entry, ticket) = take_arrival(peer, arrival);
+    (PeerEntry::Served(entry), ticket)
+}
+
+/// Seals a reply by the ticket at an index. The entry borrows from the room for the reply.
+fn reply_at<'a, R: RecordKeeper, const N: usize>(
+    peer: &mut KeptPeer<R, N>,
+    tickets: &mut [Option<Ticket>],
+    of: usize,
+    own: bool,
+    mid: u16,
+    plain: &[u8],
+    out: &'a mut [u8],
+) -> ServerEntry<'a>
+    ensures served { (h : History) → ServerIsBehind peer.old.server (upcoming (own_in peer.old.source)) h
+        → (g : History) × ReplyStep h peer.old.source (values_in tickets.old) of own mid plain.now (length out.old) result g peer.new.source (values_in tickets.new)
+        × ServerIsBehind peer.new.server (upcoming (own_in peer.new.source)) g }
+    ensures client { peer.new.client ≡ peer.old.client }
+{
+    let Some(ticket) = take_out(tickets, of) else {
+        return ServerEntry::NoTicket;
+    };
+    let message = match parse(plain) {
+        Ok(message) => message,
+        Err(error) => {
+            put_back(tickets, of, ticket);
+            return ServerEntry::BadPlain(error);
+        }
+    };
+    match peer.reply(ticket, own, mid, &message, out) {
+        Ok(len) => ServerEntry::Replied(Ok(&out[..len])),
+        Err((error, ticket)) => {
+            put_back(tickets, of, ticket);
+            ServerEntry::Replied(Err(error))
+        }
+    }
+}
+
+/// Serves a reply. The entry borrows from the room for the reply.
+pub(crate) fn serve_reply<'a, R: RecordKeeper, const N: usize>(
+    peer: &mut KeptPeer<R, N>,
+    answering: &'a mut Answering,
+    tickets: &mut [Option<Ticket>],
+) -> PeerEntry<'a>
+    ensures { Calls peer.old tickets.old (PeerEvent.Reply answering.old) result peer.new tickets.new None }
+{
+    let Answering {
+        of,
+        own,
+        mid,
+        plain,
+        out,
+    } = answering;
+    PeerEntry::Served(reply_at(peer, tickets, *of, *own, *mid, plain, out))
+}
+
+/// Seals a notification by the ticket at an index, which stays there. The entry borrows from the room for the notification.
+fn notify_at<'a, R: RecordKeeper, const N: usize>(
+    peer: &mut KeptPeer<R, N>,
+    tickets: &[Option<Ticket>],
+    of: usize,
+    plain: &[u8],
+    out: &'a mut [u8],
+) -> ServerEntry<'a>
+    ensures served { (h : History) → ServerIsBehind peer.old.server (upcoming (own_in peer.old.source)) h
+        → (g : History) × NotifyStep h peer.old.source (values_in tickets.now) of plain.now (length out.old) result g peer.new.source
+        × ServerIsBehind peer.new.server (upcoming (own_in peer.new.source)) g }
+    ensures client { peer.new.client ≡ peer.old.client }
+{
+    let Some(ticket) = ticket_at(tickets, of) else {
+        return ServerEntry::NoTicket;
+    };
+    let message = match parse(plain) {
+        Ok(message) => message,
+        Err(error) => return ServerEntry::BadPlain(error),
+    };
+    match peer.notify(ticket, &message, out) {
+        Ok(len) => ServerEntry::Replied(Ok(&out[..len])),
+        Err(error) => ServerEntry::Replied(Err(error)),
+    }
+}
+
+/// Serves a notification. The entry borrows from the room for the notification.
+pub(crate) fn serve_notification<'a, R: RecordKeeper, const N: usize>(
+    peer: &mut KeptPeer<R, N>,
+    notifying: &'a mut Notifying,
+    tickets: &[Option<Ticket>],
+) -> PeerEntry<'a>
+    ensures { Calls peer.old tickets.now (PeerEvent.Notify notifying.old) result peer.new tickets.now None }
+{
+    let Notifying { of, plain, out } = notifying;
+    PeerEntry::Served(notify_at(peer, tickets, *of, plain, out))
+}
+
+/// Drops the ticket at an index; the peer isn't told. The entry borrows nothing.
+pub(crate) fn drop_ticket<'a>(tickets: &mut [Option<Ticket>], of: usize) -> ServerEntry<'a>
+    ensures { (h : History) → DropStep h (values_in tickets.old) of result h (values_in tickets.new) }
+{
+    ServerEntry::Dropped(take_out(tickets, of).is_some())
+}
