@@ -1,1 +1,3 @@
+pub mod DeliveriesKept
+pub mod PeerCallLemmas
 pub mod PeerRunLemmas

@@ -23,13 +23,11 @@ use Rattle.osc_life.specs.declared.seen.Seen.TheVariants as seen
 use Rattle.osc_life.specs.declared.server_error.ReplyError.{ReplyError}
 use Rattle.osc_life.specs.declared.server_error.ReplyError.TheVariants as replies
 use Rattle.osc_life.specs.declared.slot.Slot.{Slot}
-use Rattle.osc_life.specs.declared.ticket.Ticket.{Ticket}
 use Rattle.osc_life.specs.Life.{Life, next_own}
 use Rattle.osc_life.specs.LifeAnswer.{asks_own}
 use Rattle.osc_life.specs.Logged.{Logs, ticket_of}
 use Rattle.osc_life.specs.ServerHistory as server
 use Rattle.osc_life.specs.Views.{Shows}
-use Rattle.osc_kept_ends.specs.declared.kept_peer.KeptPeer.{KeptPeer}
 use Rattle.osc_kept_ends.specs.declared.peer_source.PeerSource.{PeerSource}
 use Rattle.osc_kept_ends.specs.EchoNumber.{echo_of}
 use Rattle.osc_kept_ends.specs.Numbering.{Own, Draws, upcoming}
@@ -40,7 +38,6 @@ use Rattle.osc_kept_ends.proofs.PeerSteps.{asked_behind, client_at, kept_behind,
 use Rattle.osc_peer_runs.specs.declared.peer_event.PeerArrival.{PeerArrival}
 use Rattle.osc_peer_runs.specs.declared.peer_event.PeerEvent.{PeerEvent}
 use Rattle.osc_peer_runs.specs.declared.peer_event.PeerEntry.{PeerEntry}
-use Rattle.osc_peer_runs.specs.PeerCalls.{Calls}
 use Rattle.osc_peer_runs.specs.PeerRuns.{AreBehind, ArrivalStep, Asks, NotifyStep, PeerRun, PeerState, ReplyStep, RequestStep, RunStep, SealsAbove, Serves, Takes, Worked, peer_state}
 
 -- ---- a role that a call leaves as it is
@@ -221,8 +218,3 @@ run_on n s mid t all i j log reserved after e x run step events_are entries_are 
 pub run_same : {R : Type 0} {r : keeper.Ghosts R} (n : ℕ) (s t : PeerState r) (all : List PeerEvent) (i j : ℕ) (log after : List PeerEntry)
     → PeerRun n s (take i all) log t → j ≡ i → after ≡ log → PeerRun n s (take j all) after t
 run_same n s t all i j log after run same is = subst (λ z. PeerRun n s (take z all) after t) (sym same) (subst (λ xs. PeerRun n s (take i all) xs t) (sym is) run)
-
--- the call of an event is that of an equal one
-pub calls_same : {R : Type 0} {r : keeper.Ghosts R} {N : ℕ} (old new : KeptPeer R N r) (ts us : List (Option Ticket)) (o : Option Ticket) (e d : PeerEvent) (x : PeerEntry)
-    → e ≡ d → Calls old ts d x new us o → Calls old ts e x new us o
-calls_same old new ts us o e d x is calls = subst (λ (z : PeerEvent). Calls old ts z x new us o) (sym is) calls

@@ -166,3 +166,8 @@ PeerRun n s [] [] t = t ≡ s
 PeerRun n s [] (x ∷ xs) t = ⊥
 PeerRun n s (e ∷ es) [] t = ⊥
 PeerRun {r = r} n s (e ∷ es) (x ∷ xs) t = (mid : PeerState r) × RunStep n s e x mid × PeerRun n mid es xs t
+
+-- if the entry is a delivery, the number of its request is below this one (RFC 8613, 7.4)
+abbrev pub DeliversBelow : ℕ → PeerEntry → Type 0
+DeliversBelow floor (entries.Served (served.Took (seen.Deliver opened context number) reply)) = number_of number < floor
+DeliversBelow floor entry = Unit {0}

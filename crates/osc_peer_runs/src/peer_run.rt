@@ -1,10 +1,10 @@
 //! A peer over a list of events.
 
-ghost use Rattle.std.specs.Prelude.{◌≡◌, ◌<◌, [], List, Option, length, take, drop, vec_len, OnOk, OnErr};
+ghost use Rattle.std.specs.Prelude.{◌≡◌, ◌<◌, ◌≤◌, [], All, List, Option, length, take, drop, vec_len, OnOk, OnErr};
 ghost use Rattle.osc_client.specs.ClientHistory as asked;
 ghost use Rattle.osc_life.specs.ServerHistory as served;
 ghost use Rattle.osc_peer_runs.specs.PeerCalls.{Calls, IsBehind};
-ghost use Rattle.osc_peer_runs.specs.PeerRuns.{PeerRun, peer_state};
+ghost use Rattle.osc_peer_runs.specs.PeerRuns.{DeliversBelow, PeerRun, peer_state};
 
 use crate::asking::make_request;
 use crate::peer_event::{PeerEntry, PeerEvent};
@@ -49,7 +49,8 @@ fn run_event<'a, R: RecordKeeper, const N: usize>(
 
 /// Runs a peer over events. The log gets the entry of each event, at the event's index, and the entries borrow from the events. The run
 /// keeps the tickets: an event names one by the index of the event that gave it. The run stops early only if memory for an entry is
-/// refused. In that case the log has the entries of the events before, and `events` is what is left of them, as it was passed in.
+/// refused. In that case the log has the entries of the events before, and `events` is what is left of them, as it was passed in. Each
+/// request that the log delivers has a number below what the record holds at the end: no later life delivers it again.
 pub fn run_kept_peer_on<'a, R: RecordKeeper, const N: usize>(
     alloc: Global,
     peer: &mut KeptPeer<R, N>,
@@ -59,6 +60,8 @@ pub fn run_kept_peer_on<'a, R: RecordKeeper, const N: usize>(
     requires { log.old.items ≡ [] }
     ensures run { (h : served.History) (k : asked.History) → IsBehind peer.old h k → (g : served.History) × (m : asked.History) × (us : List (Option served.TicketValues))
         × PeerRun N (peer_state h k peer.old.source []) (take (vec_len log.new) events.old.now) log.new.items (peer_state g m peer.new.source us) × IsBehind peer.new g m }
+    ensures kept { All (DeliversBelow (R.received_floor peer.new.source.keeper)) log.new.items }
+    ensures rises { R.received_floor peer.old.source.keeper ≤ R.received_floor peer.new.source.keeper }
     ensures rest { events.new.now ≡ drop (vec_len log.new) events.old.now }
     ensures all { OnOk result (vec_len log.new ≡ length events.old.now) }
     ensures fewer { OnErr result (vec_len log.new < length events.old.now) }
@@ -90,6 +93,8 @@ pub fn run_kept_peer<'a, R: RecordKeeper, const N: usize>(
     requires { log.old.items ≡ [] }
     ensures run { (h : served.History) (k : asked.History) → IsBehind peer.old h k → (g : served.History) × (m : asked.History) × (us : List (Option served.TicketValues))
         × PeerRun N (peer_state h k peer.old.source []) (take (vec_len log.new) events.old) log.new.items (peer_state g m peer.new.source us) × IsBehind peer.new g m }
+    ensures kept { All (DeliversBelow (R.received_floor peer.new.source.keeper)) log.new.items }
+    ensures rises { R.received_floor peer.old.source.keeper ≤ R.received_floor peer.new.source.keeper }
     ensures all { OnOk result (vec_len log.new ≡ length events.old) }
     ensures fewer { OnErr result (vec_len log.new < length events.old) }
 {

@@ -10,7 +10,8 @@ use Rattle.osc_peer_runs.specs.declared.peer_event.PeerEvent.{PeerEvent}
 use Rattle.osc_peer_runs.specs.declared.peer_event.PeerEvent.TheVariants as events
 use Rattle.osc_peer_runs.specs.declared.peer_event.PeerEntry.TheVariants as entries
 use Rattle.osc_peer_runs.specs.PeerRuns.{RequestStep, RunStep, peer_state}
-use Rattle.osc_peer_runs.proofs.PeerRunLemmas.{above, asked_alone, both_advance, calls_same}
+use Rattle.osc_peer_runs.proofs.PeerRunLemmas.{above, asked_alone, both_advance}
+use Rattle.osc_peer_runs.proofs.PeerCallLemmas.{calls_same}
 use Rattle.osc_peer_runs.proofs.peer_run.run_event.Goals as goal
 
 pub returns-in-Response : goal.returns-in-Response

@@ -9,6 +9,7 @@ use Rattle.osc_life.specs.Views.{values_of}
 use Rattle.osc_endpoint.proofs.EventsLeft.{after_is, one_more}
 use Rattle.osc_endpoint.proofs.Runs.{values_more}
 use Rattle.osc_peer_runs.specs.PeerRuns.{RunStep, peer_state}
+use Rattle.osc_peer_runs.proofs.DeliveriesKept.{deliveries_kept, floor_rises}
 use Rattle.osc_peer_runs.proofs.PeerRunLemmas.{run_on, run_same}
 use Rattle.osc_peer_runs.proofs.peer_run.run_kept_peer_on.Goals as goal
 
@@ -58,3 +59,15 @@ returns-clause-run g c = λ h k b.
 
 pub returns-clause-all : goal.returns-clause-all
 returns-clause-all g c = grind (arith, common_steps)
+
+pub returns-in-Err-clause-kept : goal.returns-in-Err-clause-kept
+returns-in-Err-clause-kept g c = deliveries_kept c.args.peer.now c.loop-log.peer (take (vec_len c.make_places.new.log) c.args.events.now.now) c.make_places.new.log.items (returns-in-Err-clause-run g c)
+
+pub returns-in-Err-clause-rises : goal.returns-in-Err-clause-rises
+returns-in-Err-clause-rises g c = floor_rises c.args.peer.now c.loop-log.peer (take (vec_len c.make_places.new.log) c.args.events.now.now) c.make_places.new.log.items (returns-in-Err-clause-run g c)
+
+pub returns-clause-kept : goal.returns-clause-kept
+returns-clause-kept g c = deliveries_kept c.args.peer.now c.loop-log.peer (take (vec_len c.loop-log.log) c.args.events.now.now) c.loop-log.log.items (returns-clause-run g c)
+
+pub returns-clause-rises : goal.returns-clause-rises
+returns-clause-rises g c = floor_rises c.args.peer.now c.loop-log.peer (take (vec_len c.loop-log.log) c.args.events.now.now) c.loop-log.log.items (returns-clause-run g c)

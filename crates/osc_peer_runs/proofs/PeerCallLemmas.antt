@@ -1,0 +1,72 @@
+-- The calls of a run: what the answer to a call says, as a step of the run. old and new are the peer before and after, ts and us the
+-- tickets, e is the event.
+use Rattle.std.proofs.Common.{◌≡◌, ℕ, sym, subst, refl, List, [], ◌∷◌, ◌++◌, length, Option, None}
+use Rattle.std.specs.Option.{option_map}
+use Rattle.osc_context.specs.declared.record_keeper.RecordKeeper as keeper
+use Rattle.osc_client.specs.ClientHistory as client
+use Rattle.osc_endpoint.specs.declared.server_event.Answering.{Answering}
+use Rattle.osc_endpoint.specs.declared.server_event.Notifying.{Notifying}
+use Rattle.osc_endpoint.specs.declared.server_event.ServerEntry.{ServerEntry}
+use Rattle.osc_endpoint.specs.ServerRun.{values_in}
+use Rattle.osc_life.specs.declared.ticket.Ticket.{Ticket}
+use Rattle.osc_life.specs.ServerHistory as server
+use Rattle.osc_life.specs.Views.{values_of}
+use Rattle.osc_kept_ends.specs.declared.kept_peer.KeptPeer.{KeptPeer}
+use Rattle.osc_kept_ends.specs.Numbering.{upcoming}
+use Rattle.osc_kept_ends.specs.Peering.{ServerIsBehind}
+use Rattle.osc_kept_ends.specs.PeerOwning.{own_in}
+use Rattle.osc_peer_runs.specs.declared.peer_event.PeerArrival.{PeerArrival}
+use Rattle.osc_peer_runs.specs.declared.peer_event.PeerEvent.{PeerEvent}
+use Rattle.osc_peer_runs.specs.declared.peer_event.PeerEvent.TheVariants as events
+use Rattle.osc_peer_runs.specs.declared.peer_event.PeerEntry.{PeerEntry}
+use Rattle.osc_peer_runs.specs.declared.peer_event.PeerEntry.TheVariants as entries
+use Rattle.osc_peer_runs.specs.PeerCalls.{Calls, IsBehind}
+use Rattle.osc_peer_runs.specs.PeerRuns.{ArrivalStep, NotifyStep, ReplyStep}
+use Rattle.osc_peer_runs.proofs.PeerRunLemmas.{above, client_carried}
+
+-- the call of an event is that of an equal one
+pub calls_same : {R : Type 0} {r : keeper.Ghosts R} {N : ℕ} (old new : KeptPeer R N r) (ts us : List (Option Ticket)) (o : Option Ticket) (e d : PeerEvent) (x : PeerEntry)
+    → e ≡ d → Calls old ts d x new us o → Calls old ts e x new us o
+calls_same old new ts us o e d x is calls = subst (λ (z : PeerEvent). Calls old ts z x new us o) (sym is) calls
+
+-- the peer stays behind if its server is behind, and its client is as it was
+served_alone : {R : Type 0} {r : keeper.Ghosts R} {N : ℕ} (old new : KeptPeer R N r) (h g : server.History) (k : client.History) → IsBehind old h k
+    → ServerIsBehind new.server (upcoming (own_in new.source)) g → new.client ≡ old.client → IsBehind new g k
+served_alone old new h g k b behind same =
+    record { server = behind; client = client_carried old.client new.client k (upcoming (own_in old.source)) (upcoming (own_in new.source)) b.client same new.asked }
+
+-- a datagram that may be a request
+pub datagram_called : {R : Type 0} {r : keeper.Ghosts R} {N : ℕ} (old new : KeptPeer R N r) (ts : List (Option Ticket)) (a : PeerArrival) (x : ServerEntry) (o : Option Ticket)
+    → ((h : server.History) → ServerIsBehind old.server (upcoming (own_in old.source)) h
+    → (g : server.History) × ArrivalStep h old.source a x g new.source (option_map values_of o) × ServerIsBehind new.server (upcoming (own_in new.source)) g)
+    → new.client ≡ old.client → Calls old ts (events.Datagram a) (entries.Served x) new ts o
+datagram_called old new ts a x o answered same = λ h k b.
+    let (g, step, behind) = answered h b.server in
+    let both = served_alone old new h g k b behind same in
+    (g, k, ((option_map values_of o, step, refl, refl), above new.server new.client new.source g k (values_in ts ++ option_map values_of o ∷ []) both), both)
+
+-- a reply
+pub reply_called : {R : Type 0} {r : keeper.Ghosts R} {N : ℕ} (old new : KeptPeer R N r) (ts us : List (Option Ticket)) (a : Answering) (plain out : List ℕ) (x : ServerEntry)
+    → plain ≡ a.plain.items → out ≡ a.out.items
+    → ((h : server.History) → ServerIsBehind old.server (upcoming (own_in old.source)) h
+    → (g : server.History) × ReplyStep h old.source (values_in ts) a.of a.own a.mid plain (length out) x g new.source (values_in us) × ServerIsBehind new.server (upcoming (own_in new.source)) g)
+    → new.client ≡ old.client → Calls old ts (events.Reply a) (entries.Served x) new us None
+reply_called old new ts us a plain out x plain_is out_is answered same = λ h k b.
+    let (g, step, behind) = answered h b.server in
+    let both = served_alone old new h g k b behind same in
+    let given = subst (λ (d : List ℕ). ReplyStep h old.source (values_in ts) a.of a.own a.mid d (length out) x g new.source (values_in us)) plain_is step in
+    let whole = subst (λ (d : List ℕ). ReplyStep h old.source (values_in ts) a.of a.own a.mid a.plain.items (length d) x g new.source (values_in us)) out_is given in
+    (g, k, ((values_in us, whole, refl, refl), above new.server new.client new.source g k (values_in us ++ None ∷ []) both), both)
+
+-- a notification
+pub notify_called : {R : Type 0} {r : keeper.Ghosts R} {N : ℕ} (old new : KeptPeer R N r) (ts : List (Option Ticket)) (a : Notifying) (plain out : List ℕ) (x : ServerEntry)
+    → plain ≡ a.plain.items → out ≡ a.out.items
+    → ((h : server.History) → ServerIsBehind old.server (upcoming (own_in old.source)) h
+    → (g : server.History) × NotifyStep h old.source (values_in ts) a.of plain (length out) x g new.source × ServerIsBehind new.server (upcoming (own_in new.source)) g)
+    → new.client ≡ old.client → Calls old ts (events.Notify a) (entries.Served x) new ts None
+notify_called old new ts a plain out x plain_is out_is answered same = λ h k b.
+    let (g, step, behind) = answered h b.server in
+    let both = served_alone old new h g k b behind same in
+    let given = subst (λ (d : List ℕ). NotifyStep h old.source (values_in ts) a.of d (length out) x g new.source) plain_is step in
+    let whole = subst (λ (d : List ℕ). NotifyStep h old.source (values_in ts) a.of a.plain.items (length d) x g new.source) out_is given in
+    (g, k, ((whole, refl, refl), above new.server new.client new.source g k (values_in ts ++ None ∷ []) both), both)
