@@ -56,7 +56,7 @@ request_rises n s t now plain room (asked.BadPlain e) step = unchanged s.source 
 request_rises n s t now plain room x step = absurd step
 
 event_rises : {R : Type 0} {r : keeper.Ghosts R} (n : ℕ) (s t : PeerState r) (e : PeerEvent) (x : PeerEntry) → EventStep n s e x t → r.received_floor s.source.keeper ≤ r.received_floor t.source.keeper
-event_rises n s t (events.Datagram a) (entries.Served (served.Took seen.KeeperFailed reply)) step = step.1.3.1
+event_rises n s t (events.Datagram a) (entries.Served (served.Took seen.KeeperFailed reply)) step = step.1.6.1
 event_rises n s t (events.Datagram a) (entries.Served (served.Took x reply)) step = step.1.2.6.1
 event_rises n s t (events.Datagram a) (entries.Served x) step = absurd step.1
 event_rises n s t (events.Reply a) (entries.Served x) step = reply_rises s.served s.source s.tickets _ _ _ _ _ x t.served t.source step.0 step.1

@@ -29,7 +29,7 @@ use Rattle.osc_kept_ends.specs.EchoNumber.{echo_of}
 use Rattle.osc_kept_ends.specs.KeptAsking as asking
 use Rattle.osc_kept_ends.specs.KeptServing as serving
 use Rattle.osc_kept_ends.specs.Numbering.{Own, Steps, upcoming}
-use Rattle.osc_kept_ends.specs.Peering.{ClientIsBehind, ClientPasses, IsKeptOn, ServerIsBehind, ServerPasses}
+use Rattle.osc_kept_ends.specs.Peering.{ClientIsBehind, ClientPasses, IsKeptOn, MayDraw, ServerIsBehind, ServerPasses}
 use Rattle.osc_kept_ends.specs.PeerOwning.{own_in}
 use Rattle.osc_peer_runs.specs.declared.peer_event.PeerArrival.{PeerArrival}
 use Rattle.osc_peer_runs.specs.declared.peer_event.PeerEvent.{PeerEvent}
@@ -82,10 +82,10 @@ Takes h event entry old g new = (before : server.History) × ServerPasses h befo
     × Steps (serving.draws before event) (serving.uses before event entry) (own_in old) mid × IsKeptOn mid (own_in new) × Worked old new
 
 -- a datagram's entry, and the ticket that it gives; the number of a delivery is below what the record holds; if the record failed, the server may have passed over
--- numbers, and only its clock moved (RFC 8613, 7.4, 8.2 and B.1; RFC 9175, A)
+-- numbers, a number that was drawn is in hand still, and only the clock moved (RFC 8613, 7.4, 8.2 and B.1; RFC 9175, A)
 abbrev pub ArrivalStep : {R : Type 0} {r : keeper.Ghosts R} → server.History → PeerSource R r → PeerArrival → ServerEntry → server.History → PeerSource R r → Option server.TicketValues → Type 0
 ArrivalStep h old a (served.Took seen.KeeperFailed reply) g new o = (before : server.History) × ((before ≡ h) ⊎ ServerPasses h before)
-    × (g ≡ server.Then before (server.Advance a.now) server.Advanced) × Failed old new × (reply.now ≡ []) × (o ≡ None)
+    × (g ≡ server.Then before (server.Advance a.now) server.Advanced) × (mid : Own) × MayDraw (own_in old) mid × IsKeptOn mid (own_in new) × Failed old new × (reply.now ≡ []) × (o ≡ None)
 ArrivalStep {r = r} h old a (served.Took x reply) g new o = (answer : server.Answer) × logged.Logs x answer
     × Takes h (server.Datagram a.now (echo_of (upcoming (own_in old))) a.mid a.bytes.items) (server.Took answer reply.now) old g new
     × (o ≡ logged.ticket_of answer) × ForSome o (λ ticket. ticket.number < r.received_floor new.keeper)

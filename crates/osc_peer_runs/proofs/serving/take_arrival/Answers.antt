@@ -12,8 +12,8 @@ use Rattle.osc_peer_runs.proofs.serving.take_arrival.Goals as goal
 pub returns-in-KeeperFailed-clause-served : goal.returns-in-KeeperFailed-clause-served
 returns-in-KeeperFailed-clause-served g c = λ h b.
     let failed = c.in-KeeperFailed.is in
-    let (before, passed, behind) = c.take-outcome.ensures.waits failed h b in
-    (Then before (Advance c.args.arrival.now.now) Advanced, (before, passed, refl, (c.take-outcome.ensures.failed failed, c.take-outcome.ensures.rises), refl, refl), behind)
+    let w = c.take-outcome.ensures.waits failed h b in
+    (Then w.g (Advance c.args.arrival.now.now) Advanced, (w.g, w.passes, refl, w.mid, w.drawn, w.kept_on, (c.take-outcome.ensures.failed failed, c.take-outcome.ensures.rises), refl, refl), w.behind)
 
 pub returns-clause-served : goal.returns-clause-served
 returns-clause-served g c = λ h b.
