@@ -130,6 +130,7 @@ impl<R: RecordKeeper, const N: usize> KeptPeer<R, N> {
         ensures failed { result.outcome ≡ outcomes.KeeperFailed → R.failures self.new.source.keeper ≡ R.failures self.old.source.keeper + 1 }
         ensures worked { result.outcome ≢ outcomes.KeeperFailed → R.failures self.new.source.keeper ≡ R.failures self.old.source.keeper }
         ensures within { result.reply ≤ 64 }
+        ensures silent { result.outcome ≡ outcomes.KeeperFailed → result.reply ≡ 0 }
     {
         match self.decide(now, mid, datagram, out) {
             Ok(Decided { decision, reply }) => {

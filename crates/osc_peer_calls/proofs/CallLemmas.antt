@@ -1,12 +1,11 @@
 -- What the calls of a peer have in common: one of them adds its event to the list, and the peer is its near device still. w is the list before, old and new are
 -- the peer before and after.
-use Rattle.std.proofs.Common.{◌≡◌, ℕ, ◌+◌, ◌<◌, ◌≤◌, ◌∙◌, sym, ap, subst, refl, arith, Bool, true, false, List, Option, Some, None, Result, Ok, Err, IfOk, IfErr, inl, inr}
+use Rattle.std.proofs.Common.{◌≡◌, ℕ, ◌+◌, ◌<◌, ◌≤◌, sym, ap, subst, refl, arith, Bool, true, false, List, Option, Some, None, Result, Ok, Err, IfOk, IfErr, inl, inr}
 use Rattle.std.proofs.Math.Nat.{le-max_left}
 use Rattle.std.specs.Prelude.{max, unwrap_or}
-use Rattle.std.specs.Option.{option_map}
 use Rattle.osc_coap.specs.Datagram.{Parts}
 use Rattle.osc_context.specs.SecurityContext.{SecurityContext}
-use Rattle.osc_context.specs.Views.{next_of, number_of}
+use Rattle.osc_context.specs.Views.{next_of}
 use Rattle.osc_context.specs.declared.record_keeper.RecordKeeper as keeper
 use Rattle.osc_protect.specs.Protection.{as_notified}
 use Rattle.osc_window.specs.declared.window_size.WindowSize.{WindowSize}
@@ -20,7 +19,7 @@ use Rattle.osc_endpoint.specs.Views.{server_entry}
 use Rattle.osc_endpoint.specs.declared.server.Server.{Server}
 use Rattle.osc_life.specs.Deciding as deciding
 use Rattle.osc_life.specs.ServerHistory as server
-use Rattle.osc_life.specs.Views.{Shows, reply_entry, values_of}
+use Rattle.osc_life.specs.Views.{Shows, reply_entry}
 use Rattle.osc_life.specs.declared.decision.Decision.{Decision}
 use Rattle.osc_life.specs.declared.decision.Decision.TheVariants as decisions
 use Rattle.osc_life.specs.declared.outcome.Outcome.{Outcome}
@@ -39,8 +38,8 @@ use Rattle.osc_kept_ends.proofs.Drawing.{last_drawn}
 use Rattle.osc_kept_ends.proofs.PeerSteps.{client_still, server_still, upcoming_on}
 use Rattle.osc_kept.specs.EchoNumbers.{sealed_echo}
 use Rattle.osc_kept.specs.InWorld.{IsHeld}
-use Rattle.osc_kept.specs.World.{World, AtClient, AtServer, Has, delivered}
-use Rattle.osc_peers.specs.Peers.{Forth, Back, Peers, back, forth}
+use Rattle.osc_kept.specs.World.{World, Has, delivered}
+use Rattle.osc_peers.specs.Peers.{Peers, back, forth}
 use Rattle.osc_peers.specs.Roles.{turned}
 use Rattle.osc_peer_calls.specs.Counting.{AreCounted}
 use Rattle.osc_peer_calls.specs.GoingOn.{AnswersInList, AsksInList, ClientTrusts, DeliversUnder, HasEchoOf, IsAboveReceived, IsAsClaimed, IsOfClient, IsOfServer, MayPass, MayPassAsking, Moves, PeerRuns, ServerTrusts, peer_started}

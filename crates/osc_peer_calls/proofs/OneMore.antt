@@ -1,9 +1,9 @@
 -- One more event of two devices: what it needs, and a draw. w is the list before, old and new are the near device's numbers.
-use Rattle.std.proofs.Common.{◌≡◌, ℕ, sym, ap, subst, refl, Option, Some, None, inl, inr}
+use Rattle.std.proofs.Common.{◌≡◌, ℕ, sym, subst, refl, Option, Some, None, inl, inr}
 use Rattle.osc_context.specs.SecurityContext.{SecurityContext}
 use Rattle.osc_client.specs.ClientHistory as client
 use Rattle.osc_life.specs.ServerHistory as server
-use Rattle.osc_kept_ends.specs.Numbering.{Own, AreAlike, Allowed, Draw, DrawsFrom, Goes, Reserve, after}
+use Rattle.osc_kept_ends.specs.Numbering.{Own, AreAlike, Allowed, Draw, DrawsFrom, Goes, Reserve}
 use Rattle.osc_kept_ends.specs.Peering.{IsKeptOn, MayDraw}
 use Rattle.osc_kept.specs.EchoNumbers.{EchoesHeard, MakesEcho, RepliesWithoutEcho}
 use Rattle.osc_kept.specs.Premises.{Answers, NobodyForges, StartsAboveDelivered}

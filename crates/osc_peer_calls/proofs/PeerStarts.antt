@@ -4,17 +4,15 @@ use Rattle.osc_context.specs.SecurityContext.{SecurityContext}
 use Rattle.osc_context.specs.Views.{number_of}
 use Rattle.osc_window.specs.declared.window_size.WindowSize.{WindowSize}
 use Rattle.osc_life.specs.Life.{born}
-use Rattle.osc_life.specs.ServerHistory as server
-use Rattle.osc_client.specs.ClientHistory as client
 use Rattle.osc_life.specs.declared.start.Start.{Start}
 use Rattle.osc_life.specs.declared.start.Start.TheVariants as starts
-use Rattle.osc_kept_ends.specs.Numbering.{Load, Allowed, after}
+use Rattle.osc_kept_ends.specs.Numbering.{Load, Allowed}
 use Rattle.osc_kept_ends.specs.Peering.{IsPeerStart}
 use Rattle.osc_kept_ends.proofs.PeerSteps.{born_at}
 use Rattle.osc_kept.specs.Premises.{StartsAboveDelivered}
 use Rattle.osc_kept.specs.World.{Client, ClientStarts, ServerStarts, Has, Reserves, delivered}
 use Rattle.osc_kept.proofs.InWorld.{added_alone}
-use Rattle.osc_peers.specs.Peers.{Peers, More, Forth, Back, back, near_effect, near_numbers}
+use Rattle.osc_peers.specs.Peers.{Peers, More, Back, back, near_numbers}
 use Rattle.osc_peers.specs.Roles.{turned}
 use Rattle.osc_peers.proofs.Peering.{usable_turned}
 use Rattle.osc_peer_calls.specs.Counting.{AreCounted, PeersByNumbers}

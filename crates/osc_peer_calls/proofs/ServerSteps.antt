@@ -1,6 +1,6 @@
 -- What the near device answers to an event as a server, as a step of the list. w is the list before, b the one right before the event, h and g are the server's
 -- histories there.
-use Rattle.std.proofs.Common.{◌≡◌, ℕ, ◌<◌, ◌≤◌, ◌∙◌, sym, ap, subst, refl, arith, true, List, Option, Some, None, inl, inr}
+use Rattle.std.proofs.Common.{◌≡◌, ℕ, ◌<◌, ◌≤◌, ◌∙◌, sym, ap, subst, refl, arith, true, Option, Some, inl, inr}
 use Rattle.std.proofs.Math.Nat.{le-max_left, le-max_right}
 use Rattle.std.specs.Prelude.{max, unwrap_or}
 use Rattle.std.specs.Option.{option_map}
@@ -25,7 +25,7 @@ use Rattle.osc_kept.proofs.Lives.{OnlyFirst, stands}
 use Rattle.osc_peers.specs.Peers.{Back, Peers, More, back, near_effect, near_numbers}
 use Rattle.osc_peers.specs.Roles.{turned}
 use Rattle.osc_peer_calls.specs.Counting.{AreCounted, PeersByNumbers}
-use Rattle.osc_peer_calls.specs.GoingOn.{Adds, AnswersInList, DeliversUnder, HasEchoOf, IsAsClaimed, IsOfServer, IsPassed, MayPass, Moves, PeerRuns, ServerTrusts, StaysAbove, server_skip}
+use Rattle.osc_peer_calls.specs.GoingOn.{AnswersInList, DeliversUnder, HasEchoOf, IsOfServer, IsPassed, MayPass, Moves, PeerRuns, ServerTrusts, StaysAbove, server_skip}
 use Rattle.osc_peer_calls.proofs.OneMore.{Drawn, alike_on, back_more, may_draw}
 
 -- ---- the numbers

@@ -1,8 +1,7 @@
 -- To be believed: how what the near device does extends the list of what happens at two devices (RFC 8613, 3.1, 7.2.1, 7.4, 8 and B.1). w is the list before, v the
 -- list after, s the context as the near device asks under it, n how many pending requests it has room for; h and g are histories of its server, k and m of its
 -- client, old, mid and new are its numbers.
-use Rattle.std.specs.Prelude.{◌≡◌, ◌⊎◌, ℕ, ◌<◌, ◌≤◌, ◌^◌, List, Option, Some, None, max}
-use Rattle.osc_coap.specs.Datagram.{Parts}
+use Rattle.std.specs.Prelude.{◌≡◌, ◌⊎◌, ℕ, ◌<◌, ◌≤◌, ◌^◌, Option, Some, None, max}
 use Rattle.osc_context.specs.SecurityContext.{SecurityContext}
 use Rattle.osc_protect.specs.Protection.{as_notified}
 use Rattle.osc_window.specs.declared.window_size.WindowSize.{WindowSize}
@@ -20,7 +19,7 @@ use Rattle.osc_kept_ends.specs.Peering.{ClientPasses, IsKeptOn, IsPeerStart, May
 use Rattle.osc_kept.specs.EchoNumbers.{EchoesHeard, sealed_echo}
 use Rattle.osc_kept.specs.InWorld.{IsHeld}
 use Rattle.osc_kept.specs.Premises.{NobodyForgesRequests, NobodyForgesResponses}
-use Rattle.osc_kept.specs.World.{World, Client, Server, ClientStarts, ServerStarts, Draws, Reserves, AtClient, AtServer, Has, client_history, delivered, server_history}
+use Rattle.osc_kept.specs.World.{World, Client, ClientStarts, ServerStarts, Draws, Reserves, AtClient, AtServer, Has, client_history, delivered, server_history}
 use Rattle.osc_peers.specs.Peers.{PeerEvent, Forth, Back, Peers, More, BothPeers, back, forth, near_numbers}
 use Rattle.osc_peers.specs.Roles.{turned}
 use Rattle.osc_peer_calls.specs.Counting.{AreCounted}

@@ -1,6 +1,6 @@
 -- To be believed: the calls of a peer within the list of what happens at two devices (RFC 8613, 3.1, 7.4, 8.1 to 8.4 and B.1). w is the list before, v the list
 -- after, s the context as the device asks under it, old and new are the peer before and after.
-use Rattle.std.specs.Prelude.{◌≡◌, ℕ, ◌≤◌, List, Some, max}
+use Rattle.std.specs.Prelude.{◌≡◌, ℕ, List, Some, max}
 use Rattle.osc_context.specs.SecurityContext.{SecurityContext}
 use Rattle.osc_context.specs.declared.record_keeper.RecordKeeper as keeper
 use Rattle.osc_window.specs.declared.window_size.WindowSize.{WindowSize}
@@ -23,7 +23,7 @@ use Rattle.osc_kept_ends.specs.Peering.{ClientIsBehind, ServerIsBehind}
 use Rattle.osc_kept.specs.InWorld.{IsHeld}
 use Rattle.osc_kept.specs.Premises.{NobodyForgesRequests, NobodyForgesResponses}
 use Rattle.osc_kept.specs.World.{AtClient, AtServer, client_history, server_history}
-use Rattle.osc_peers.specs.Peers.{Forth, Back, Peers, More, back, forth, near_numbers}
+use Rattle.osc_peers.specs.Peers.{Forth, Back, Peers, back, forth}
 use Rattle.osc_peers.specs.Roles.{turned}
 use Rattle.osc_peer_calls.specs.GoingOn.{Adds, IsAboveReceived, IsAsClaimed, PeerRuns, client_skip, peer_started, server_skip}
 

@@ -26,8 +26,8 @@ pub fn peers_are_alike()
 /// States that what one device does, in either role, and each of its starts, extends a list that meets the premises to one that does so too,
 /// if others do their part (`ServerTrusts`, `ClientTrusts`); so all of it is as `two_peers` says.
 pub fn peer_calls_in_list()
-    ensures answers { AnswersInList }
-    ensures asks { AsksInList }
+    ensures server { AnswersInList }
+    ensures client { AsksInList }
     ensures starts { StartsInList }
 {
     peers_by_numbers();

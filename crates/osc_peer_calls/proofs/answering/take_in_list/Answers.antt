@@ -15,12 +15,12 @@ returns-clause-answered g c = λ worked s w counted runs forges.
     let is = server_at c.take.new.self.server _ (upcoming took.mid) (upcoming new) (upcoming_on took.mid new took.kept_on) (kept_behind _ _ _ step.kept) in (
       took.takes.answer,
       took.takes.shows,
-      answers_after c.peer_calls_in_list.ensures.answers s w c.args.peer.now c.take.new.self runs took.g _ _ counted (inr took.passes) tt refl step.row
+      answers_after c.peer_calls_in_list.ensures.server s w c.args.peer.now c.take.new.self runs took.g _ _ counted (inr took.passes) tt refl step.row
           (serves_on _ _ _ _ took.mid new _ step took.kept_on) forges is c.take.ensures.client (shown_under c.take.result.outcome took.takes.answer reply _ took.takes.shows c.take.ensures.kept),
     )
 
 pub returns-clause-clock_alone : goal.returns-clause-clock_alone
 returns-clause-clock_alone g c = λ failed s w counted runs.
     let waits = c.take.ensures.waits failed runs.h runs.server in
-    answers_after c.peer_calls_in_list.ensures.answers s w c.args.peer.now c.take.new.self runs waits.g (server.Advance c.args.now) server.Advanced counted waits.passes tt tt tt
+    answers_after c.peer_calls_in_list.ensures.server s w c.args.peer.now c.take.new.self runs waits.g (server.Advance c.args.now) server.Advanced counted waits.passes tt tt tt
     (waited (own_in c.args.peer.now.source) waits.mid (own_in c.take.new.self.source) waits.drawn waits.kept_on) tt waits.behind c.take.ensures.client tt

@@ -7,6 +7,6 @@ returns g c = λ s w counted runs forges.
     let decided = c.decide_response.ensures.answered runs.k runs.client.agrees in (
       decided.answer,
       decided.decides,
-      listens c.peer_calls_in_list.ensures.asks s w c.args.peer.now c.decide_response.new.self runs (client.Datagram c.args.now c.args.datagram.now) (client.Took decided.answer)
+      listens c.peer_calls_in_list.ensures.client s w c.args.peer.now c.decide_response.new.self runs (client.Datagram c.args.now c.args.datagram.now) (client.Took decided.answer)
           counted tt tt decided.row (forges runs.k runs.runs.client_is) decided.agrees c.decide_response.ensures.same,
     )

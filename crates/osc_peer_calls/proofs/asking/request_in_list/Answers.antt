@@ -10,13 +10,13 @@ use Rattle.osc_peer_calls.proofs.asking.request_in_list.Goals as goal
 pub returns-clause-answered : goal.returns-clause-answered
 returns-clause-answered g c = λ worked s w counted runs heard.
     let (k, passes, step) = c.request.ensures.answered worked runs.k runs.client in
-    asks_after c.peer_calls_in_list.ensures.asks s w c.args.peer.now c.request.new.self runs k (client.Request c.args.now (parts_of c.args.plain.now) (length c.args.out.now))
+    asks_after c.peer_calls_in_list.ensures.client s w c.args.peer.now c.request.new.self runs k (client.Request c.args.now (parts_of c.args.plain.now) (length c.args.out.now))
     (request_entry c.request.result c.request.new.out) counted (inr passes) tt step.row (asks _ _ _ _ _ _ step) heard (asked_behind _ _ _ step.kept) c.request.ensures.server
 
 pub returns-clause-clock_alone : goal.returns-clause-clock_alone
 returns-clause-clock_alone g c = one_err c.request.result (λ e failed bad s w counted runs.
     let (same, behind, count) = failed bad in
-    asks_after c.peer_calls_in_list.ensures.asks s w c.args.peer.now c.request.new.self runs runs.k (client.Advance c.args.now) client.Advanced counted (inl refl) tt tt
+    asks_after c.peer_calls_in_list.ensures.client s w c.args.peer.now c.request.new.self runs runs.k (client.Advance c.args.now) client.Advanced counted (inl refl) tt tt
     (idle (own_in c.args.peer.now.source) (own_in c.request.new.self.source) same) tt (behind runs.k runs.client) c.request.ensures.server) c.request.ensures.failed
 
 pub returns-clause-failed : goal.returns-clause-failed

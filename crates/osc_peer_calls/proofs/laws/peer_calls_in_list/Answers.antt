@@ -5,7 +5,7 @@ use Rattle.osc_peer_calls.proofs.laws.peer_calls_in_list.Goals as goal
 
 pub returns : goal.returns
 returns c = record {
-  answers = answers_in_list c.peers_by_numbers.ensures;
-  asks = asks_in_list c.peers_by_numbers.ensures;
+  server = answers_in_list c.peers_by_numbers.ensures;
+  client = asks_in_list c.peers_by_numbers.ensures;
   starts = starts_in_list c.peers_by_numbers.ensures;
 }
