@@ -1,14 +1,11 @@
 -- What came of an end whose numbers are kept is what is printed of it.
-use Rattle.std.proofs.Common.{◌≡◌, ◌≢◌, ◌⊎◌, ℕ, inl, inr, List, [], ◌∷◌, All, map, Option, Result, Ok, Err, IfOk, refl, subst, arith}
+use Rattle.std.proofs.Common.{◌≡◌, ◌⊎◌, ℕ, inl, inr, List, [], ◌∷◌, All, map, Option, Result, Ok, Err, IfOk, refl, subst, arith}
 use Rattle.std.proofs.lemmas.List.{take_all}
 use Rattle.std.proofs.lemmas.List.Elements.{All-head, All-tail}
 use Rattle.osc_context.specs.ContextRefusal.{context_error_text}
-use Rattle.osc_context.specs.declared.keeper.Keeper as keeper
 use Rattle.osc_context.specs.declared.parameters.Params.{Params}
-use Rattle.osc_kept_ends.specs.Refusals.{RefusesAt}
 use Rattle.osc_kept_ends.specs.Views.{kept_error_text}
 use Rattle.osc_kept_ends.specs.declared.kept_error.KeptError.{KeptError}
-use Rattle.osc_kept_ends.specs.declared.kept_error.KeptError.TheVariants.{LivesExhausted}
 use Rattle.osc_kept_runs.specs.KeptRuns.{RunOf}
 use Rattle.osc_text.specs.Contexts.{InContext, Told}
 use Rattle.osc_text.specs.Contexts.InContext.{in_context, no_context}
@@ -126,30 +123,30 @@ in_context_two g tells two lines n (in_context none text) = two lines n text
 
 -- ---- an end that begins
 
-module _ {K X S E : Type 0} (k : keeper.Ghosts K) (keeper : K) (Starts : S → Type 0) (contents : X → Option (List ℕ)) (spells : List ℕ → E → Type 0) (step : S → E → List ℕ → S → Type 0) (input : List ℕ) (before after : X) (r : Result ℕ Fault) where
+module _ {K X S E : Type 0} (Refuses : KeptError → K → Type 0) (Starts : S → Type 0) (contents : X → Option (List ℕ)) (spells : List ℕ → E → Type 0) (step : S → E → List ℕ → S → Type 0) (input : List ℕ) (before after : X) (r : Result ℕ Fault) where
   -- what is told around the input's text, before and after a context is derived
   abbrev Under : Type 0
-  Under = WroteAround spells step (StartText k keeper Starts) (BeginsBadly Starts spells input) input X contents before after r
+  Under = WroteAround spells step (StartText Refuses Starts) (BeginsBadly Starts spells input) input X contents before after r
 
   -- an end that started prints what its input says
   pub begun_told : (s : S) → Starts s → WroteBy contents (InputText spells step s input) (FrontText spells step s input) (IsFirstBadLine spells input) before after r → Under
-  begun_told s starts = start_told contents spells step input before after (StartText k keeper Starts) (BeginsBadly Starts spells input) r s (λ told lines n text. started s starts text) (λ n bad. (s, starts, bad))
+  begun_told s starts = start_told contents spells step input before after (StartText Refuses Starts) (BeginsBadly Starts spells input) r s (λ told lines n text. started s starts text) (λ n bad. (s, starts, bad))
 
   -- a refused start is printed
-  pub not_begun_told : (e : KeptError) (left : K) → RefusesAt k.loads k.failures keeper e left → e ≢ LivesExhausted → Writes (contents before) (contents after) (refused_line (kept_error_text e) ∷ []) r → IfOk r (λ n. n ≡ 2) → Under
-  not_begun_told e left refuses other = refusal_told contents spells step input before after (StartText k keeper Starts) (BeginsBadly Starts spells input) r (refused_line (kept_error_text e)) (λ told lines n text. not_started e left refuses other text.0 text.1)
+  pub not_begun_told : (e : KeptError) (left : K) → Refuses e left → Writes (contents before) (contents after) (refused_line (kept_error_text e) ∷ []) r → IfOk r (λ n. n ≡ 2) → Under
+  not_begun_told e left refuses = refusal_told contents spells step input before after (StartText Refuses Starts) (BeginsBadly Starts spells input) r (refused_line (kept_error_text e)) (λ told lines n text. not_started e left refuses text.0 text.1)
 
   -- a context is printed, or its refusal
   pub end_told : (g : Params) → RunsContext g (contents before) (contents after) r Under
-      → WroteAround spells step (λ told. InContext g (StartText k keeper Starts told)) (HasBadLineOf g Starts spells input) input X contents before after r
-  end_told g = context_told contents spells step input before after g (StartText k keeper Starts) (BeginsBadly Starts spells input) (HasBadLineOf g Starts spells input) r
+      → WroteAround spells step (λ told. InContext g (StartText Refuses Starts told)) (HasBadLineOf g Starts spells input) input X contents before after r
+  end_told g = context_told contents spells step input before after g (StartText Refuses Starts) (BeginsBadly Starts spells input) (HasBadLineOf g Starts spells input) r
       (λ n bad. record { in_context = bad.0; state = bad.1.0; begins = bad.1.1; first_bad = bad.1.2 })
 
   -- with status 0 or 2
   pub end_two : (g : Params) → RunsContext g (contents before) (contents after) r Under → IfOk r (λ n. (n ≡ 0) ⊎ (n ≡ 2))
-  end_two g runs = status_told contents (InContext g (StartText k keeper Starts (λ s. InputText spells step s input))) (InContext g (StartText k keeper Starts (λ s. FrontText spells step s input))) (HasBadLineOf g Starts spells input) before after r
-      (in_context_two g (StartText k keeper Starts (λ s. InputText spells step s input)) start_two) (end_told g runs)
+  end_two g runs = status_told contents (InContext g (StartText Refuses Starts (λ s. InputText spells step s input))) (InContext g (StartText Refuses Starts (λ s. FrontText spells step s input))) (HasBadLineOf g Starts spells input) before after r
+      (in_context_two g (StartText Refuses Starts (λ s. InputText spells step s input)) start_two) (end_told g runs)
     where
-      start_two : ZeroOrTwo (StartText k keeper Starts (λ s. InputText spells step s input))
-      start_two lines n (not_started e left refuses other text is) = inr is
+      start_two : ZeroOrTwo (StartText Refuses Starts (λ s. InputText spells step s input))
+      start_two lines n (not_started e left refuses text is) = inr is
       start_two lines n (started s starts (events, spelled, event_lines, is)) = inl is

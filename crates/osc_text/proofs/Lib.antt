@@ -13,6 +13,8 @@ pub mod KeptPrinting
 pub mod LogLines
 pub mod MadeLines
 pub mod NumberWords
+pub mod PeerPrinting
+pub mod PeerSpellings
 pub mod ProtectTexts
 pub mod ServerSteps
 pub mod ServerTexts

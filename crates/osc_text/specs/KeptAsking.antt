@@ -15,7 +15,7 @@ use Rattle.osc_text.specs.InputText.{HasBadLineOf, InputText}
 use Rattle.osc_text.specs.AskedEvents.{AskedEvent, SpellsKeptAsked}
 use Rattle.osc_text.specs.KeptLog.{kept_asked_text}
 use Rattle.osc_text.specs.KeptSeen.{IsRoomyAsked, kept_asked_seen}
-use Rattle.osc_text.specs.KeptText.{FrontText, LineOf, StartText}
+use Rattle.osc_text.specs.KeptText.{FrontText, LineOf, NotStarted, StartText}
 
 -- an event and the line of its entry, which is a step of a run; n is how many pending requests there is room for (RFC 8613, 8.1, 8.4 and B.1.1)
 abbrev pub KeptAskedLine : {K : Type 0} {k : keeper.Ghosts K} → ℕ → ClientState k → AskedEvent (Unit {0}) → List ℕ → ClientState k → Type 0
@@ -28,11 +28,11 @@ StartsClient k c life keeper s = (loaded : ℕ) × Loaded k.loads k.failures kee
 
 -- what `run` prints for a client: one line for each event of the input (RFC 8613, 7.2.1, 8.1, 8.4 and B.1.1)
 abbrev pub KeptAskText : {K : Type 0} (k : keeper.Ghosts K) → Agreed → ℕ → K → List ℕ → Told
-KeptAskText k g life keeper input = InContext g.params (StartText k keeper (StartsClient k (agreed_client g) life keeper) (λ s. InputText SpellsKeptAsked (KeptAskedLine places) s input))
+KeptAskText k g life keeper input = InContext g.params (StartText (NotStarted k keeper) (StartsClient k (agreed_client g) life keeper) (λ s. InputText SpellsKeptAsked (KeptAskedLine places) s input))
 
 -- the text whose front `run` prints if memory is refused: the line of a refusal, or one line for each of the first events of the input (own rule)
 abbrev pub KeptAskFront : {K : Type 0} (k : keeper.Ghosts K) → Agreed → ℕ → K → List ℕ → Told
-KeptAskFront k g life keeper input = InContext g.params (StartText k keeper (StartsClient k (agreed_client g) life keeper) (λ s. FrontText SpellsKeptAsked (KeptAskedLine places) s input))
+KeptAskFront k g life keeper input = InContext g.params (StartText (NotStarted k keeper) (StartsClient k (agreed_client g) life keeper) (λ s. FrontText SpellsKeptAsked (KeptAskedLine places) s input))
 
 -- the context is derived, the client started, and the line with this number, counted from 1, is the first that spells no event (own rule)
 abbrev pub HasBadKeptAskedLine : {K : Type 0} (k : keeper.Ghosts K) → Agreed → ℕ → K → List ℕ → ℕ → Type 0

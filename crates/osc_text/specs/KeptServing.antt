@@ -17,7 +17,7 @@ use Rattle.osc_text.specs.InputText.{HasBadLineOf, InputText}
 use Rattle.osc_text.specs.InputEvents.{InputEvent, SpellsKept}
 use Rattle.osc_text.specs.KeptLog.{kept_text}
 use Rattle.osc_text.specs.KeptSeen.{IsRoomy, kept_seen}
-use Rattle.osc_text.specs.KeptText.{FrontText, LineOf, StartText}
+use Rattle.osc_text.specs.KeptText.{FrontText, LineOf, NotStarted, StartText}
 
 -- an event and the line of its entry, which is a step of a run (RFC 8613, 7.2.1, 7.4, 8.2, 8.3, 8.3.1 and B.1)
 abbrev pub KeptLine : {K : Type 0} {k : keeper.Ghosts K} → ServerState k → InputEvent (Unit {0}) → List ℕ → ServerState k → Type 0
@@ -31,11 +31,11 @@ Starts {K} k c size keeper s = (loaded : ℕ) × (mid : K) × (start : Start) ×
 
 -- what `run` prints for a server: one line for each event of the input (RFC 8613, 7.2.1, 7.4, 8.2, 8.3, 8.3.1 and B.1)
 abbrev pub KeptServeText : {K : Type 0} (k : keeper.Ghosts K) → Agreed → WindowSize → K → List ℕ → Told
-KeptServeText k g size keeper input = InContext g.params (StartText k keeper (Starts k (agreed_server g) size keeper) (λ s. InputText SpellsKept KeptLine s input))
+KeptServeText k g size keeper input = InContext g.params (StartText (NotStarted k keeper) (Starts k (agreed_server g) size keeper) (λ s. InputText SpellsKept KeptLine s input))
 
 -- the text whose front `run` prints if memory is refused: the line of a refusal, or one line for each of the first events of the input (own rule)
 abbrev pub KeptServeFront : {K : Type 0} (k : keeper.Ghosts K) → Agreed → WindowSize → K → List ℕ → Told
-KeptServeFront k g size keeper input = InContext g.params (StartText k keeper (Starts k (agreed_server g) size keeper) (λ s. FrontText SpellsKept KeptLine s input))
+KeptServeFront k g size keeper input = InContext g.params (StartText (NotStarted k keeper) (Starts k (agreed_server g) size keeper) (λ s. FrontText SpellsKept KeptLine s input))
 
 -- the context is derived, the server started, and the line with this number, counted from 1, is the first that spells no event (own rule)
 abbrev pub HasBadKeptLine : {K : Type 0} (k : keeper.Ghosts K) → Agreed → WindowSize → K → List ℕ → ℕ → Type 0

@@ -21,11 +21,14 @@ abbrev pub LineOf : {S V X E : Type 0} → (S → V → X → S → Type 0) → 
 LineOf {V = V} {X = X} Step seen IsRight text s event line t =
     (v : V) × (x : X) × (seen v ≡ event) × IsRight v × Step s v x t × (line ≡ entry_line (text x))
 
--- what is printed under a context: the line of a refused start, or what is told of an end that started; k says what the keeper tells (RFC 8613, 7.2.1 and B.1)
-pub data StartText {K S : Type 0} (k : keeper.Ghosts K) (keeper : K) (Starts : S → Type 0) (told : S → Told) (lines : List (List ℕ)) (status : ℕ) : Type 0 where
-  not_started : (e : KeptError) (after : K) → RefusesAt k.loads k.failures keeper e after → e ≢ LivesExhausted → lines ≡ refused_line (kept_error_text e) ∷ [] → status ≡ 2
-      → StartText k keeper Starts told lines status
-  started : (s : S) → Starts s → told s lines status → StartText k keeper Starts told lines status
+-- why a server or a client doesn't start, and what keeper is left; k says what the keeper tells (RFC 8613, 7.2.1 and B.1.1)
+abbrev pub NotStarted : {K : Type 0} (k : keeper.Ghosts K) → K → KeptError → K → Type 0
+NotStarted k keeper e after = RefusesAt k.loads k.failures keeper e after × (e ≢ LivesExhausted)
+
+-- what is printed under a context: the line of a refused start, by Refuses, or what is told of an end that started (RFC 8613, 7.2.1 and B.1)
+pub data StartText {K S : Type 0} (Refuses : KeptError → K → Type 0) (Starts : S → Type 0) (told : S → Told) (lines : List (List ℕ)) (status : ℕ) : Type 0 where
+  not_started : (e : KeptError) (after : K) → Refuses e after → lines ≡ refused_line (kept_error_text e) ∷ [] → status ≡ 2 → StartText Refuses Starts told lines status
+  started : (s : S) → Starts s → told s lines status → StartText Refuses Starts told lines status
 
 -- the lines of the first n events of the input (own rule)
 abbrev pub FrontText : {S E : Type 0} → (List ℕ → E → Type 0) → (S → E → List ℕ → S → Type 0) → S → List ℕ → Told

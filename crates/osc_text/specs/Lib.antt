@@ -24,11 +24,16 @@ pub mod KeptLog
 pub mod KeptText
 pub mod KeptServing
 pub mod KeptAsking
+pub mod PeerEvents
+pub mod PeerLog
+pub mod Peering
 -- how the code is seen
 pub mod KeptSeen
+pub mod PeerSeen
 -- for the proofs
 pub mod AskedReading
 pub mod InputReading
 pub mod Outcomes
+pub mod PeerReading
 pub mod Printing
 pub mod ServedReading

@@ -3,6 +3,7 @@
 ghost use Rattle.std.specs.Prelude.{◌≡◌, ◌^◌, ◌<◌, IfOk, IfSome, length, option_map};
 ghost use Rattle.std.specs.Int.{from_be_bytes, w16};
 ghost use Rattle.osc_text.specs.InputReading.{split_once, number_read, numbered_read, hex_decoded, bytes_read, fixed_read, parts};
+ghost use Rattle.osc_text.specs.PeerReading.{three_parts, three_read};
 ghost use Rattle.osc_text.specs.ServedReading.{message_id_read, own_read, four_read, four_parts};
 ghost use Rattle.osc_context.specs.Views.{number_of};
 ghost use Rattle.hex.specs.Hex.{decode_of};
@@ -16,6 +17,9 @@ use std::str;
 /// How many bytes longer a protected message can be than the plain one.
 pub(crate) const MOST_ADDED: usize = 128;
 
+/// Three words.
+pub(crate) type Three<'a> = (&'a [u8], &'a [u8], &'a [u8]);
+
 /// Four words.
 pub(crate) type Four<'a> = (&'a [u8], &'a [u8], &'a [u8], &'a [u8]);
 
@@ -27,6 +31,16 @@ pub(crate) fn split_once(bytes: &[u8], mark: u8) -> Option<(&[u8], &[u8])>
         Some(place) => Some((&bytes[..place], &bytes[place + 1..])),
         None => None,
     }
+}
+
+/// Splits the fields into three words, separated by one space. The last word is everything after the second space.
+#[tactic(auto, unfolding(crate::specs::PeerReading::three_read))]
+pub(crate) fn three_words(fields: &[u8]) -> Option<Three<'_>>
+    ensures { option_map three_parts result ≡ three_read fields.now }
+{
+    let (first, rest) = split_once(fields, b' ')?;
+    let (second, third) = split_once(rest, b' ')?;
+    Some((first, second, third))
 }
 
 /// Splits the fields into four words, separated by one space. The last word is everything after the third space.

@@ -16,7 +16,7 @@ ghost use Rattle.osc_text.specs.KeptAsking.{HasBadKeptAskedLine, KeptAskFront, K
 ghost use Rattle.osc_text.specs.InputEvents.{SpellsKept};
 ghost use Rattle.osc_text.specs.KeptSeen.{IsRoomy, IsRoomyAsked, kept_asked_seen, kept_seen};
 ghost use Rattle.osc_text.specs.KeptServing.{HasBadKeptLine, KeptLine, KeptServeFront, KeptServeText, Starts};
-ghost use Rattle.osc_text.specs.KeptText.{StartText, WroteBy};
+ghost use Rattle.osc_text.specs.KeptText.{NotStarted, StartText, WroteBy};
 ghost use Rattle.osc_text.specs.Printing.{BeginsBadly, WroteAround};
 
 use crate::agreed::Agreed;
@@ -32,9 +32,9 @@ use std::alloc::Global;
 use std::io::Write;
 use std::mem::{self, ManuallyDrop};
 
-/// How an end whose numbers are kept begins: the keeper that loads its first number, and what else is given for the end.
+/// How an end whose numbers are kept begins: the keeper that loads them, and what else is given for the end.
 #[derive(Drop)]
-struct Kept<K, T>(K, T);
+pub(crate) struct Kept<K, T>(pub(crate) K, pub(crate) T);
 
 /// Derives a context, starts a server of this context alone at the number that the keeper loads, and runs it over the events that an input
 /// spells, one per line. Writes the line of each event's entry. If the context or the start is refused, writes the one line of that refusal
@@ -59,7 +59,7 @@ pub fn serve_kept_text<K: Keeper + Drop, W: Write>(
 
 impl<K: Keeper + Drop> Beginning for Kept<K, WindowSize> {
     ghost promised = { λ kept client server input. WroteAround SpellsKept KeptLine
-        (StartText K.Keeper kept.0 (Starts K.Keeper server kept.1 kept.0))
+        (StartText (NotStarted K.Keeper kept.0) (Starts K.Keeper server kept.1 kept.0))
         (BeginsBadly (Starts K.Keeper server kept.1 kept.0) SpellsKept input) input };
 
     fn begin<W: Write>(self, alloc: Global, context: Context, input: &[u8], out: &mut W) -> Done {
@@ -106,7 +106,7 @@ pub fn ask_kept_text<K: Keeper + Drop, W: Write>(
 }
 
 /// Returns whether a value of this type takes fewer than 2^63 bytes.
-fn is_of_a_size<T>(value: &T) -> bool
+pub(crate) fn is_of_a_size<T>(value: &T) -> bool
     ensures { result ≡ true ↔ FitsInMemory T.row }
 {
     mem::size_of_val(value) <= isize::MAX as usize
@@ -114,7 +114,7 @@ fn is_of_a_size<T>(value: &T) -> bool
 
 impl<K: Keeper + Drop> Beginning for Kept<K, u64> {
     ghost promised = { λ kept client server input. WroteAround SpellsKeptAsked (KeptAskedLine places)
-        (StartText K.Keeper kept.0 (StartsClient K.Keeper client kept.1 kept.0))
+        (StartText (NotStarted K.Keeper kept.0) (StartsClient K.Keeper client kept.1 kept.0))
         (BeginsBadly (StartsClient K.Keeper client kept.1 kept.0) SpellsKeptAsked input) input };
 
     fn begin<W: Write>(self, alloc: Global, context: Context, input: &[u8], out: &mut W) -> Done {

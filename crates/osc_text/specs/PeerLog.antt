@@ -1,0 +1,12 @@
+-- To be believed: how the entries of a peer print, one per line (own rule: the words)
+use Rattle.std.specs.Prelude.{ℕ, List, codes}
+use Rattle.osc_peer_runs.specs.declared.peer_event.PeerEntry.{PeerEntry}
+use Rattle.osc_peer_runs.specs.declared.peer_event.PeerEntry.TheVariants.{Advanced, Asked, Served}
+use Rattle.osc_text.specs.ClientLog.{asked_text}
+use Rattle.osc_text.specs.ServerLog.{entry_text}
+
+-- an entry of a peer: printed as a server's or as a client's entry, or that the clocks were moved (own rule)
+abbrev pub peer_entry_text : PeerEntry → List ℕ
+peer_entry_text (Served entry) = entry_text entry
+peer_entry_text (Asked entry) = asked_text entry
+peer_entry_text Advanced = codes "advanced"
