@@ -4,6 +4,7 @@ use Rattle.osc_file.specs.declared.file_keeper.FileKeeper.{FileKeeper}
 use Rattle.osc_file.specs.declared.file_trouble.FileTrouble.{FileTrouble}
 use Rattle.osc_file.specs.declared.held.Held.{Held}
 use Rattle.osc_file.specs.declared.telling_keeper.TellingKeeper.{TellingKeeper}
+use Rattle.osc_file.specs.declared.telling_record.TellingRecord.{TellingRecord}
 use Rattle.osc_file.specs.declared.held.Held.TheVariants.{Nothing, Number}
 use Rattle.osc_file.specs.declared.places.Place.{Place}
 use Rattle.osc_file.specs.declared.counted_record.CountedRecord.{CountedRecord}
@@ -52,3 +53,17 @@ counted_file_of k = k.file
 -- the counter beside a record (how the code is seen)
 abbrev pub counter_of : {R C F D A : Type 0} → CountedRecord R C F D A → C
 counter_of k = k.counter
+
+-- the words that begin the lines of a keeper of a record that tells why it fails (how the code is seen)
+abbrev pub record_words_of : {R F D A W : Type 0} → TellingRecord R F D A W → List ℕ
+record_words_of k = k.words.now
+
+-- the numbers below which a keeper of a record loads none: those that it read or saved, or 0 and 0 if it wasn't opened (how the code is seen)
+abbrev pub told_numbers : {R F D A : Type 0} → Result (RecordFile R F D A) RecordTrouble → KeptNumbers
+told_numbers (Ok k) = kept_of k
+told_numbers (Err t) = record { sender = 0; received = 0 }
+
+-- a record that was opened loads its numbers, and stays what it was; one that wasn't loads none (how the code is seen)
+abbrev pub TellsLoaded : {R F D A : Type 0} → Result (RecordFile R F D A) RecordTrouble → ℕ → ℕ → Result (RecordFile R F D A) RecordTrouble → Type 0
+TellsLoaded (Ok old) sender received (Ok new) = (sender ≡ old.saved.numbers.sender) × (received ≡ old.saved.numbers.received) × (new.saved ≡ old.saved)
+TellsLoaded old sender received new = ⊥

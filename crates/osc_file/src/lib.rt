@@ -27,6 +27,7 @@ mod record_trouble;
 mod replacing;
 mod storing;
 mod telling_keeper;
+mod telling_record;
 
 pub use counted_record::CountedRecord;
 pub use counter::MonotonicCounter;
@@ -37,3 +38,4 @@ pub use places::Place;
 pub use record_file::RecordFile;
 pub use record_trouble::RecordTrouble;
 pub use telling_keeper::TellingKeeper;
+pub use telling_record::TellingRecord;
