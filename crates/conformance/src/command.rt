@@ -1,12 +1,14 @@
 //! Calls of the command. The first text is its standard input, and the others are its words. If the standard output refuses writes, the
 //! number of writes that it takes comes before all of them. If a keeper is asked for, what it keeps and how its calls end come before all
-//! of them.
+//! of them; a record keeps the sender's number and the received one.
 
 use crate::answer::Answer;
 use crate::bytes::bytes_of;
 use crate::keeper::{Lent, Memory};
+use crate::peer_record::{LentRecord, RecordMemory};
 use crate::texts::Texts;
-use osc_command::command;
+use osc_command::{Keepers, command};
+use osc_context::KeptNumbers;
 use std::alloc::Global;
 use std::io;
 use std::io::{ErrorKind, Read, Write};
@@ -71,6 +73,7 @@ impl Called {
         input: &mut Input<'_>,
         writes: u64,
         keeper: &mut Memory<'_>,
+        record: &mut RecordMemory<'_>,
     ) -> Called {
         let mut out = Output {
             left: writes,
@@ -79,13 +82,19 @@ impl Called {
         };
         let mut err = Vec::new(alloc);
         let lent = Lent::new(keeper);
-        let make = |name: &str| lent.of_file(alloc, name);
-        let status = command(alloc, words, input, &mut out, &mut err, make);
+        let lent_record = LentRecord::new(record);
+        let keepers = Keepers {
+            numbers: |name: &str| lent.of_file(alloc, name),
+            records: |name: &str, _fingerprint: [u8; 8], is_first: bool| {
+                lent_record.of_file(alloc, name, is_first)
+            },
+        };
+        let status = command(alloc, words, input, &mut out, &mut err, keepers);
         Called { status, out, err }
     }
 
     /// Shows the status, standard output and standard error. `help` shows standard output as `text`, if there is some. `command`, `input`,
-    /// `help` and `kept-command` show standard error. The others show `line` instead, if standard error is one line. `cut-off` also shows
+    /// `help`, `kept-command` and `peer-command` show standard error. The others show `line` instead, if standard error is one line. `cut-off` also shows
     /// how many writes were refused.
     fn show(&self, verb: &str, answer: &mut Answer) {
         answer.print(self.status);
@@ -94,8 +103,10 @@ impl Called {
         } else {
             answer.quoted(self.out.written.as_slice());
         }
-        if !matches!(verb, "command" | "input" | "help" | "kept-command")
-            && is_one_line(self.err.as_slice())
+        if !matches!(
+            verb,
+            "command" | "input" | "help" | "kept-command" | "peer-command"
+        ) && is_one_line(self.err.as_slice())
         {
             answer.word("line");
         } else {
@@ -122,23 +133,56 @@ fn input_bytes(alloc: Global, verb: &str, text: &str) -> Option<Vec<u8>> {
     Some(bytes)
 }
 
+/// What comes before the input in a row of a call: how many writes the standard output takes, and what the keepers keep and how their
+/// calls end, if they are asked for.
+struct Before<'t> {
+    writes: u64,
+    kept: Option<(u64, &'t str)>,
+    recorded: Option<(KeptNumbers, &'t str)>,
+}
+
+impl<'t> Before<'t> {
+    /// Reads it, and returns it with the texts behind it.
+    fn read(verb: &str, texts: &'t [String]) -> (Before<'t>, &'t [String]) {
+        let mut before = Before {
+            writes: u64::MAX,
+            kept: None,
+            recorded: None,
+        };
+        match texts {
+            [writes, rest @ ..] if verb == "cut-off" => {
+                before.writes = number_of(writes);
+                (before, rest)
+            }
+            [kept, plan, rest @ ..] if matches!(verb, "kept-command" | "kept-usage") => {
+                before.kept = Some((number_of(kept), plan));
+                (before, rest)
+            }
+            [sender, received, plan, rest @ ..] if verb == "peer-command" => {
+                let (sender, received) = (number_of(sender), number_of(received));
+                before.recorded = Some((KeptNumbers { sender, received }, plan));
+                (before, rest)
+            }
+            all => (before, all),
+        }
+    }
+}
+
 /// Makes the call and shows its answer. For `cut-off` the first text, before the input, is how many writes the standard output takes. For
-/// `kept-command` and `kept-usage` the first two texts are what a keeper keeps and how its calls end, and what it was asked to save is
-/// shown last.
+/// `kept-command` and `kept-usage` the first two texts are what a keeper keeps and how its calls end, for `peer-command` the first three are
+/// what a record keeps and how its calls end; what it was asked to save is shown last.
 pub(crate) fn run(verb: &str, call: &str, answer: &mut Answer) {
     let alloc = answer.alloc;
     let texts = Texts::read(alloc, call);
-    let (writes, kept, texts_left) = match texts.done.as_slice() {
-        [writes, rest @ ..] if verb == "cut-off" => (number_of(writes), None, rest),
-        [kept, plan, rest @ ..] if matches!(verb, "kept-command" | "kept-usage") => {
-            (u64::MAX, Some((kept, plan)), rest)
-        }
-        all => (u64::MAX, None, all),
+    let (before, texts_left) = Before::read(verb, texts.done.as_slice());
+    let (kept, plan) = before.kept.unwrap_or((0, ""));
+    let mut keeper = Memory::new(alloc, kept, plan);
+    let none = KeptNumbers {
+        sender: 0,
+        received: 0,
     };
-    let mut keeper = match kept {
-        Some((kept, plan)) => Memory::new(alloc, number_of(kept), plan),
-        None => Memory::new(alloc, 0, ""),
-    };
+    let (numbers, plan) = before.recorded.unwrap_or((none, ""));
+    let mut record = RecordMemory::new(alloc, numbers, plan);
     let [input, words @ ..] = texts_left else {
         answer.is_whole = false;
         return;
@@ -149,10 +193,22 @@ pub(crate) fn run(verb: &str, call: &str, answer: &mut Answer) {
     };
     let (rest, fails) = (bytes.as_slice(), verb == "failing-input");
     let mut input = Input { rest, fails };
-    Called::make(alloc, words, &mut input, writes, &mut keeper).show(verb, answer);
-    if kept.is_some() {
+    let called = Called::make(
+        alloc,
+        words,
+        &mut input,
+        before.writes,
+        &mut keeper,
+        &mut record,
+    );
+    called.show(verb, answer);
+    if before.kept.is_some() {
         keeper.show_file(answer);
         keeper.show(answer);
+    }
+    if before.recorded.is_some() {
+        record.show_file(answer);
+        record.show(answer);
     }
     answer.is_whole = answer.is_whole && texts.is_whole;
 }

@@ -101,7 +101,8 @@ impl<'t> Corpus<'t> {
             | "input"
             | "failing-input"
             | "kept-command"
-            | "kept-usage" => {
+            | "kept-usage"
+            | "peer-command" => {
                 command::run(row.verb, row.fields, &mut answer);
             }
             "server"

@@ -16,6 +16,9 @@ pub(crate) struct RecordMemory<'t> {
     // A letter for each call, as of `Memory`.
     plan: &'t [u8],
     saves: Vec<KeptNumbers>,
+    /// The name of the file whose record the command asked for, and whether it was to be made.
+    file: Option<String>,
+    is_first: bool,
     failures: Count,
     ghost least: { (saved.sender ≤ kept.sender) × (saved.received ≤ kept.received) },
 }
@@ -30,6 +33,8 @@ impl<'t> RecordMemory<'t> {
             },
             plan: plan.as_bytes(),
             saves: Vec::new(alloc),
+            file: None,
+            is_first: false,
             failures: Count::none(),
         }
     }
@@ -45,6 +50,12 @@ impl<'t> RecordMemory<'t> {
             return End::Fails;
         }
         end
+    }
+
+    /// Shows whether the record was opened or made, and the name of the file, or `none` if no record was asked for.
+    pub(crate) fn show_file(&self, answer: &mut Answer) {
+        answer.word(if self.is_first { "first" } else { "record" });
+        answer.word(self.file.as_deref().unwrap_or("none"));
     }
 
     /// Shows what the record was asked to save, in order: the sender's number, then the received one.
@@ -85,5 +96,42 @@ impl<'t> RecordKeeper for RecordMemory<'t> {
         }
         self.failures = Count::one_more(&self.failures);
         Err(KeeperError)
+    }
+}
+
+/// The record of a row, lent to a call of the command. The call drops what it gets.
+#[derive(Drop)]
+pub(crate) struct LentRecord<'m, 't> {
+    record: &'m mut RecordMemory<'t>,
+}
+
+impl<'m, 't> LentRecord<'m, 't> {
+    pub(crate) fn new(record: &'m mut RecordMemory<'t>) -> LentRecord<'m, 't> {
+        LentRecord { record }
+    }
+
+    /// Returns this as the record of a file.
+    pub(crate) fn of_file(self, alloc: Global, name: &str, is_first: bool) -> LentRecord<'m, 't> {
+        self.record.file = String::from_str(alloc, name).ok();
+        self.record.is_first = is_first;
+        self
+    }
+}
+
+impl<'m, 't> RecordKeeper for LentRecord<'m, 't> {
+    ghost sender_floor = { λ k. k.record.now.saved.sender };
+
+    ghost received_floor = { λ k. k.record.now.saved.received };
+
+    ghost failures = { λ k. k.record.now.failures.value };
+
+    ghost loads = { λ old sender received new. (sender ≡ old.record.now.kept.sender) × (received ≡ old.record.now.kept.received) };
+
+    fn load(&mut self) -> Result<KeptNumbers, KeeperError> {
+        self.record.load()
+    }
+
+    fn save(&mut self, kept: KeptNumbers) -> Result<(), KeeperError> {
+        self.record.save(kept)
     }
 }

@@ -69,8 +69,9 @@ const EXAMPLE_EXPLAIN: &str = "Example:
     44025d1f00003974396c6f63616c686f7374620914ff612f1092f1776f1c1668b3825e";
 
 const EXAMPLE_RUN: &str =
-    "Prints what each event came to, one a line. Of a server alone are --restarted
-and --window, of a client alone --life.
+    "Prints what each event came to, one a line. Of a server alone is --restarted,
+of a server and a peer --window, of a client and a peer --life. A peer is both
+ends of a context, and needs --record.
 
 Events of a server, one a line; bytes are hex, and - for none:
   take NOW ECHO MID DATAGRAM        a datagram comes at NOW, in milliseconds;
@@ -90,6 +91,11 @@ Events of a client:
   restart NEXT                      none is pending, and NEXT is the next number
 
 With --numbers FILE, made where it is missing, the line is restart alone.
+
+Events of a peer: reply, notify, drop, request and forget as above, and
+  take NOW MID DATAGRAM             a datagram comes that may be a request
+  hear NOW DATAGRAM                 a datagram comes that may be a response
+  advance NOW                       the clocks move
 
 Examples:
   D=44025d1f00003974396c6f63616c686f7374620914ff612f1092f1776f1c1668b3825e
@@ -135,10 +141,12 @@ const SEQUENCE: Word = Word { name: "sequence", value: "N", takes: Takes::Value,
 /// The options of a run. The file of `--numbers` says how the end begins.
 #[rattlefmt::skip]
 const RUN: &[Word] = &[
-    Word { name: "role", value: "ROLE", takes: Takes::RequiredOneOf(&["server", "client"]), help: "What this end is" },
+    Word { name: "role", value: "ROLE", takes: Takes::RequiredOneOf(&["server", "client", "peer"]), help: "What this end is" },
     Word { name: "sequence", value: "N", takes: Takes::Default("0"), help: "The next Sender Sequence Number, below 2^40" },
     Word { name: "restarted", value: "", takes: Takes::Nothing, help: "Requests may have come to it in an earlier life" },
     Word { name: "numbers", value: "FILE", takes: Takes::ValueFor("sequence", "restarted"), help: "The file that keeps the Sender Sequence Numbers [optional]" },
+    Word { name: "record", value: "FILE", takes: Takes::ValueFor("sequence", "restarted"), help: "The record of a peer: what it sent and received" },
+    Word { name: "first", value: "", takes: Takes::NothingBeside("record"), help: "Make the record, of a peer that was never used" },
     Word { name: "window", value: "SIZE", takes: Takes::OneOf(&["1", "32", "64"]), help: "Window size [default: 32]" },
     Word { name: "life", value: "MS", takes: Takes::Value, help: "How many ms a request is pending [default: 60000]" },
 ];
@@ -150,5 +158,5 @@ pub(crate) const CALLS: &[Call] = &[
     Call { name: "open", about: "Opens a protected request or response, and prints its parts.", example: EXAMPLE, context: CONTEXT, others: &[REQUEST, REGISTERS, DATAGRAM] },
     Call { name: "protect", about: "Protects a plain request or response, and prints it in hex.", example: EXAMPLE_PROTECT, context: CONTEXT, others: &[REQUEST, REGISTERS, SEQUENCE, DATAGRAM] },
     Call { name: "explain", about: "Prints what a datagram shows without a key.", example: EXAMPLE_EXPLAIN, context: &[], others: &[DATAGRAM] },
-    Call { name: "run", about: "Runs a server or a client over the events on standard input.", example: EXAMPLE_RUN, context: CONTEXT, others: RUN },
+    Call { name: "run", about: "Runs a server, a client or a peer over the events on standard input.", example: EXAMPLE_RUN, context: CONTEXT, others: RUN },
 ];

@@ -54,6 +54,15 @@ const TAKE_RESPONSE: Form = Form { word: "take", fields: &[Now, Datagram], names
 const FORGET: Form = Form { word: "forget", fields: &[Token], names: "followed by TOKEN" };
 
 #[rattlefmt::skip]
+const TAKE_BY_PEER: Form = Form { word: "take", fields: &[Now, Mid, Datagram], names: "followed by NOW MID DATAGRAM" };
+
+#[rattlefmt::skip]
+const HEAR: Form = Form { word: "hear", fields: &[Now, Datagram], names: "followed by NOW DATAGRAM" };
+
+#[rattlefmt::skip]
+const ADVANCE: Form = Form { word: "advance", fields: &[Now], names: "followed by NOW" };
+
+#[rattlefmt::skip]
 const RESTART: Form = Form { word: "restart", fields: &[Next], names: "followed by NEXT" };
 
 #[rattlefmt::skip]
@@ -85,6 +94,21 @@ pub(crate) const CLIENT: Forms = Forms {
 pub(crate) const KEPT_CLIENT: Forms = Forms {
     forms: &[REQUEST, TAKE_RESPONSE, FORGET, RESTART_ALONE],
     words: CLIENT_WORDS,
+};
+
+/// The events of a peer.
+pub(crate) const PEER: Forms = Forms {
+    forms: &[
+        TAKE_BY_PEER,
+        REPLY,
+        NOTIFY,
+        DROP,
+        REQUEST,
+        HEAR,
+        FORGET,
+        ADVANCE,
+    ],
+    words: "take, reply, notify, drop, request, hear, forget and advance",
 };
 
 /// Returns whether a word is hex digits.

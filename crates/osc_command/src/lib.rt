@@ -2,7 +2,7 @@
 //! `osc_text`, and returns the status.
 //!
 //! ```
-//! let status = command(alloc, &words, &mut input, &mut out, &mut err, make_keeper);
+//! let status = command(alloc, &words, &mut input, &mut out, &mut err, keepers);
 //! ```
 #![tactic(auto)]
 
@@ -15,5 +15,5 @@ mod run_words;
 mod running;
 mod words;
 
-pub use running::{command, report};
+pub use running::{Keepers, command, report};
 pub use words::read_words;

@@ -1,10 +1,10 @@
 //! How an end begins by the words of `run`, and its input.
 
-use crate::event_faults::{CLIENT, Forms, KEPT_CLIENT, KEPT_SERVER, SERVER};
+use crate::event_faults::{CLIENT, Forms, KEPT_CLIENT, KEPT_SERVER, PEER, SERVER};
 use crate::words::{input_fault, optional_number};
 use clap::ArgMatches;
 use osc_context::Piv;
-use osc_text::{Asking, Fault, Serving, Wrong, read_decimal};
+use osc_text::{Asking, Fault, Peering, Serving, Wrong, read_decimal};
 use osc_window::WindowSize;
 use std::alloc::Global;
 use std::io::{ErrorKind, Read};
@@ -20,12 +20,20 @@ pub(crate) enum KeptBeginning {
     Client(u64),
 }
 
+/// How a peer begins, and whether its record is made now, as that of an end that was never used.
+#[derive(Clone, Copy)]
+pub(crate) struct PeerBeginning {
+    pub(crate) peering: Peering,
+    pub(crate) is_first: bool,
+}
+
 /// How an end begins.
 #[derive(Clone, Copy)]
 pub(crate) enum Beginning {
     Server(Serving),
     Client(Asking),
     Kept(KeptBeginning),
+    Peer(PeerBeginning),
 }
 
 impl Beginning {
@@ -36,6 +44,7 @@ impl Beginning {
             Beginning::Client(_) => CLIENT,
             Beginning::Kept(KeptBeginning::Server(_)) => KEPT_SERVER,
             Beginning::Kept(KeptBeginning::Client(_)) => KEPT_CLIENT,
+            Beginning::Peer(_) => PEER,
         }
     }
 }
@@ -48,26 +57,25 @@ fn read_next(matches: &ArgMatches<'_>) -> Result<Piv, Fault> {
     }
 }
 
-/// Reads the size of the server's window. The option that only a client has is a fault.
+/// Reads the size of a window.
+fn window_of(matches: &ArgMatches<'_>) -> WindowSize {
+    match matches.get_str("window") {
+        Some("1") => WindowSize::Place1,
+        Some("64") => WindowSize::Places64,
+        _ => WindowSize::default(),
+    }
+}
+
+/// Reads the size of the server's window. The option that a server doesn't have is a fault.
 fn read_window(matches: &ArgMatches<'_>) -> Result<WindowSize, Fault> {
     if matches.get_str("life").is_some() {
         return Err(input_fault("--life", Wrong::Role));
     }
-    match matches.get_str("window") {
-        Some("1") => Ok(WindowSize::Place1),
-        Some("64") => Ok(WindowSize::Places64),
-        _ => Ok(WindowSize::default()),
-    }
+    Ok(window_of(matches))
 }
 
-/// Reads how many milliseconds a request is pending. The options that only a server has are faults.
-fn read_life(matches: &ArgMatches<'_>) -> Result<u64, Fault> {
-    if matches.get_flag("restarted") {
-        return Err(input_fault("--restarted", Wrong::Role));
-    }
-    if matches.get_str("window").is_some() {
-        return Err(input_fault("--window", Wrong::Role));
-    }
+/// Reads how many milliseconds a request is pending.
+fn life_of(matches: &ArgMatches<'_>) -> Result<u64, Fault> {
     let Some(word) = matches.get_str("life") else {
         return Ok(LIFE_MS);
     };
@@ -75,6 +83,17 @@ fn read_life(matches: &ArgMatches<'_>) -> Result<u64, Fault> {
         Some(life_ms) => Ok(life_ms),
         None => Err(input_fault("--life", Wrong::Moment)),
     }
+}
+
+/// Reads how many milliseconds a client's request is pending. The options that a client doesn't have are faults.
+fn read_life(matches: &ArgMatches<'_>) -> Result<u64, Fault> {
+    if matches.get_flag("restarted") {
+        return Err(input_fault("--restarted", Wrong::Role));
+    }
+    if matches.get_str("window").is_some() {
+        return Err(input_fault("--window", Wrong::Role));
+    }
+    life_of(matches)
 }
 
 /// Reads how the server begins.
@@ -101,10 +120,33 @@ fn read_client(matches: &ArgMatches<'_>, is_kept: bool) -> Result<Beginning, Fau
     Ok(Beginning::Client(Asking { next, life_ms }))
 }
 
-/// Reads which end it is, and how it begins.
+/// Reads how the peer begins. It needs a record, and the option that a peer doesn't have is a fault.
+fn read_peer(matches: &ArgMatches<'_>, is_kept: bool) -> Result<Beginning, Fault> {
+    if is_kept {
+        return Err(input_fault("--numbers", Wrong::Role));
+    }
+    if matches.get_str("record").is_none() {
+        return Err(input_fault("--record", Wrong::Missing));
+    }
+    let window = window_of(matches);
+    let life_ms = life_of(matches)?;
+    Ok(Beginning::Peer(PeerBeginning {
+        peering: Peering { window, life_ms },
+        is_first: matches.get_flag("first"),
+    }))
+}
+
+/// Reads which end it is, and how it begins. A server and a client have no record.
 pub(crate) fn read_beginning(matches: &ArgMatches<'_>) -> Result<Beginning, Fault> {
     let is_kept = matches.get_str("numbers").is_some();
-    if matches.get_str("role") == Some("client") {
+    let role = matches.get_str("role");
+    if role == Some("peer") {
+        return read_peer(matches, is_kept);
+    }
+    if matches.get_str("record").is_some() {
+        return Err(input_fault("--record", Wrong::Role));
+    }
+    if role == Some("client") {
         read_client(matches, is_kept)
     } else {
         read_server(matches, is_kept)

@@ -7,18 +7,28 @@ use crate::context_words::ContextWords;
 use crate::event_faults::{Forms, event_fault};
 use crate::fault_text::{put_fault, put_help, usage_text};
 use crate::quoting::quoted_words;
-use crate::run_words::{Beginning, KeptBeginning, read_beginning, read_input};
+use crate::run_words::{Beginning, KeptBeginning, PeerBeginning, read_beginning, read_input};
 use crate::words::{input_fault, optional_number, read_words, required_bytes};
 use clap::error::ErrorKind;
 use clap::{ArgMatches, Error};
-use osc_context::{Keeper, Piv};
+use osc_context::{Keeper, Piv, RecordKeeper};
 use osc_protect::RequestRef;
 use osc_text::{
     Agreed, Fault, Opening, Sealing, Wrong, ask_kept_text, ask_text, derive_text, explain_text,
-    open_text, protect_text, serve_kept_text, serve_text,
+    open_text, peer_text, protect_text, serve_kept_text, serve_text,
 };
 use std::alloc::Global;
 use std::io::{Read, Write};
+
+/// What makes the keepers of the files that the words of a call name. Each is called only if the words name such a file.
+#[derive(Drop)]
+pub struct Keepers<F, G> {
+    /// Makes the keeper of a file of `--numbers`.
+    pub numbers: F,
+    /// Makes the keeper of a record of `--record`, which is marked with this fingerprint of a context. The record is opened, or made for an
+    /// end that was never used if this says so.
+    pub records: G,
+}
 
 /// Returns the request of this number, as the words name it.
 fn named_request(matches: &ArgMatches<'_>, number: Piv) -> RequestRef {
@@ -114,43 +124,83 @@ fn run_kept<W: Write, K: Keeper + Drop>(
     }
 }
 
-/// Runs an end over an input. The keeper of the file is made only for an end whose numbers are kept.
-fn run_end<W: Write, K: Keeper + Drop, F: FnOnce(&str) -> K + Drop>(
+/// Runs a peer over an input. The keeper of the record is made only if the context isn't refused.
+fn run_peer<W: Write, P: RecordKeeper + Drop, G: FnOnce(&str, [u8; 8], bool) -> P + Drop>(
     alloc: Global,
     agreed: Agreed<'_>,
-    beginning: Beginning,
+    beginning: PeerBeginning,
     file: &str,
-    make: F,
+    make: G,
     input: &[u8],
     out: &mut W,
 ) -> Result<u8, Fault>
-    requires { F.IsAlwaysCallable make }
+    requires { G.IsAlwaysCallable make }
     ensures { IfOk result (λ s. (s ≡ 0) ⊎ (s ≡ 2)) }
 {
+    let Ok(fingerprint) = agreed.fingerprint() else {
+        // This prints the refusal.
+        return derive_text(alloc, agreed, out);
+    };
+    let keeper = make(file, fingerprint, beginning.is_first);
+    peer_text(alloc, agreed, keeper, beginning.peering, input, out)
+}
+
+/// Runs an end over an input. The keeper of a file is made only for an end that has one.
+fn run_end<W: Write, K, P, F, G>(
+    alloc: Global,
+    agreed: Agreed<'_>,
+    beginning: Beginning,
+    matches: &ArgMatches<'_>,
+    keepers: Keepers<F, G>,
+    input: &[u8],
+    out: &mut W,
+) -> Result<u8, Fault>
+where
+    K: Keeper + Drop,
+    P: RecordKeeper + Drop,
+    F: FnOnce(&str) -> K + Drop,
+    G: FnOnce(&str, [u8; 8], bool) -> P + Drop,
+    requires numbers { F.IsAlwaysCallable keepers.numbers }
+    requires records { G.IsAlwaysCallable keepers.records }
+    ensures { IfOk result (λ s. (s ≡ 0) ⊎ (s ≡ 2)) }
+{
+    let Keepers { numbers, records } = keepers;
     match beginning {
         Beginning::Server(serving) => serve_text(alloc, agreed, serving, input, out),
         Beginning::Client(asking) => ask_text(alloc, agreed, asking, input, out),
-        Beginning::Kept(kept) => run_kept(alloc, kept, make(file), agreed, input, out),
+        Beginning::Kept(kept) => {
+            let file = matches.get_str("numbers").unwrap_or("");
+            run_kept(alloc, kept, numbers(file), agreed, input, out)
+        }
+        Beginning::Peer(peer) => {
+            let file = matches.get_str("record").unwrap_or("");
+            run_peer(alloc, agreed, peer, file, records, input, out)
+        }
     }
 }
 
 /// Does what `run` asks for, under a context. If the words name a file, the end's numbers are kept in it. Reads the whole input first.
-fn run_role<R: Read, W: Write, K: Keeper + Drop, F: FnOnce(&str) -> K + Drop>(
+fn run_role<R: Read, W: Write, K, P, F, G>(
     alloc: Global,
     agreed: Agreed<'_>,
     matches: &ArgMatches<'_>,
     input: &mut R,
     out: &mut W,
-    make: F,
+    keepers: Keepers<F, G>,
 ) -> Result<u8, Fault>
-    requires { F.IsAlwaysCallable make }
+where
+    K: Keeper + Drop,
+    P: RecordKeeper + Drop,
+    F: FnOnce(&str) -> K + Drop,
+    G: FnOnce(&str, [u8; 8], bool) -> P + Drop,
+    requires numbers { F.IsAlwaysCallable keepers.numbers }
+    requires records { G.IsAlwaysCallable keepers.records }
     ensures { IfOk result (λ s. (s ≡ 0) ⊎ (s ≡ 2)) }
 {
     let beginning = read_beginning(matches)?;
     let bytes = read_input(alloc, input)?;
     let input = bytes.as_slice();
-    let file = matches.get_str("numbers").unwrap_or("");
-    let done = run_end(alloc, agreed, beginning, file, make, input, out);
+    let done = run_end(alloc, agreed, beginning, matches, keepers, input, out);
     told(alloc, done, beginning.forms(), input)
 }
 
@@ -196,21 +246,27 @@ fn run_once<W: Write>(
 }
 
 /// Does what a call asks for, depending on its name.
-fn run_called<R: Read, W: Write, K: Keeper + Drop, F: FnOnce(&str) -> K + Drop>(
+fn run_called<R: Read, W: Write, K, P, F, G>(
     alloc: Global,
     matches: &ArgMatches<'_>,
     input: &mut R,
     out: &mut W,
-    make: F,
+    keepers: Keepers<F, G>,
 ) -> Result<u8, Fault>
+where
+    K: Keeper + Drop,
+    P: RecordKeeper + Drop,
+    F: FnOnce(&str) -> K + Drop,
+    G: FnOnce(&str, [u8; 8], bool) -> P + Drop,
     requires named { has_subcommand matches.now ≡ true }
-    requires callable { F.IsAlwaysCallable make }
+    requires numbers { F.IsAlwaysCallable keepers.numbers }
+    requires records { G.IsAlwaysCallable keepers.records }
     ensures { IfOk result (λ s. (s ≡ 0) ⊎ (s ≡ 2)) }
 {
     match matches.subcommand() {
         Some(("run", inner)) => {
             let context = ContextWords::read(alloc, inner)?;
-            run_role(alloc, context.agreed(), inner, input, out, make)
+            run_role(alloc, context.agreed(), inner, input, out, keepers)
         }
         Some((name, inner)) => run_once(alloc, name, inner, out),
         None => unreachable!(),
@@ -247,18 +303,24 @@ fn answer_no_call<W: Write>(
 }
 
 /// Does what the words ask for.
-fn run<R: Read, W: Write, K: Keeper + Drop, F: FnOnce(&str) -> K + Drop>(
+fn run<R: Read, W: Write, K, P, F, G>(
     alloc: Global,
     words: &[String],
     input: &mut R,
     out: &mut W,
-    make: F,
+    keepers: Keepers<F, G>,
 ) -> Result<u8, Fault>
-    requires { F.IsAlwaysCallable make }
+where
+    K: Keeper + Drop,
+    P: RecordKeeper + Drop,
+    F: FnOnce(&str) -> K + Drop,
+    G: FnOnce(&str, [u8; 8], bool) -> P + Drop,
+    requires numbers { F.IsAlwaysCallable keepers.numbers }
+    requires records { G.IsAlwaysCallable keepers.records }
     ensures { IfOk result (λ s. (s ≡ 0) ⊎ (s ≡ 2)) }
 {
     match read_words(alloc, words) {
-        Ok(matches) => run_called(alloc, &matches, input, out, make),
+        Ok(matches) => run_called(alloc, &matches, input, out, keepers),
         Err(error) => answer_no_call(alloc, words, &error, out),
     }
 }
@@ -272,21 +334,26 @@ pub fn report<E: Write>(fault: &Fault, err: &mut E) -> u8
 }
 
 /// Does what the words ask for. The first word is the program's name. Returns the status: 0 if the call is done, 2 if what it was applied
-/// to is refused, 1 if there is a fault, which stands on `err` in one line. `make` makes the keeper of a file, and is called only if the
-/// words name a file.
-pub fn command<R: Read, W: Write, E: Write, K: Keeper + Drop, F: FnOnce(&str) -> K + Drop>(
+/// to is refused, 1 if there is a fault, which stands on `err` in one line. `keepers` makes the keeper of a file, if the words name one.
+pub fn command<R: Read, W: Write, E: Write, K, P, F, G>(
     alloc: Global,
     words: &[String],
     input: &mut R,
     out: &mut W,
     err: &mut E,
-    make: F,
+    keepers: Keepers<F, G>,
 ) -> u8
-    requires { F.IsAlwaysCallable make }
+where
+    K: Keeper + Drop,
+    P: RecordKeeper + Drop,
+    F: FnOnce(&str) -> K + Drop,
+    G: FnOnce(&str, [u8; 8], bool) -> P + Drop,
+    requires numbers { F.IsAlwaysCallable keepers.numbers }
+    requires records { G.IsAlwaysCallable keepers.records }
     ensures status { (result ≡ 0) ⊎ ((result ≡ 1) ⊎ (result ≡ 2)) }
     ensures quiet { result ≢ 1 → err.new ≡ err.old }
 {
-    match run(alloc, words, input, out, make) {
+    match run(alloc, words, input, out, keepers) {
         Ok(status) => status,
         Err(fault) => report(&fault, err),
     }

@@ -17,7 +17,18 @@ pub struct Agreed<'a> {
 }
 
 impl<'a> Agreed<'a> {
+    ghost use Rattle.osc_context.specs.Fingerprint.{fingerprint_of};
     ghost use Rattle.osc_text.specs.Contexts.{agreed_client, agreed_server};
+
+    /// Derives the context, and returns its fingerprint ([`Context::fingerprint`]), with which a record of it is marked, or why the context
+    /// is refused.
+    pub fn fingerprint(self) -> Result<[u8; 8], ContextError>
+        ensures fingerprint { IfOk result (λ f. f ≡ fingerprint_of (agreed_client self.entry).client_key (agreed_client self.entry).client) }
+        ensures refused { IfErr result (λ e. IsFirstParamsRefusal self.entry.params e) }
+    {
+        let context = self.derive()?;
+        Ok(context.fingerprint())
+    }
 
     /// Derives the context, with these features and that cipher.
     pub(crate) fn derive(self) -> Result<Context, ContextError>

@@ -5,8 +5,8 @@
 //! ```
 #![tactic(auto)]
 
-use osc_command::{command, report};
-use osc_file::{FileKeeper, TellingKeeper};
+use osc_command::{Keepers, command, report};
+use osc_file::{FileKeeper, RecordFile, TellingKeeper, TellingRecord};
 use osc_text::Fault;
 use std::alloc::Global;
 use std::env;
@@ -16,10 +16,21 @@ use std::rt::Env;
 fn main(rt: HostRuntime) -> ExitCode {
     let alloc = rt.alloc();
     let (mut out, mut err) = (rt.stdout(), rt.stderr());
-    let status = match program_words(&rt) {
-        Ok(words) => command(alloc, &words, &mut rt.stdin(), &mut out, &mut err, |name| {
+    let keepers = Keepers {
+        numbers: |name: &str| {
             TellingKeeper::new(FileKeeper::new(&rt, name), "oscore: --numbers", rt.stderr())
-        }),
+        },
+        records: |name: &str, fingerprint: [u8; 8], is_first: bool| {
+            let record = if is_first {
+                RecordFile::first(&rt, name, fingerprint)
+            } else {
+                RecordFile::open(&rt, name, fingerprint)
+            };
+            TellingRecord::new(record, "oscore: --record", rt.stderr())
+        },
+    };
+    let status = match program_words(&rt) {
+        Ok(words) => command(alloc, &words, &mut rt.stdin(), &mut out, &mut err, keepers),
         Err(fault) => report(&fault, &mut err),
     };
     ExitCode::from(status)
