@@ -1,0 +1,8 @@
+use Rattle.std.proofs.Common.{◌≡◌, ◌≢◌, ℕ, ◌<◌, Some}
+use Rattle.std.specs.Prelude.{slice_get}
+use Rattle.osc_replies.specs.Memory.{Kept}
+use Rattle.osc_replies.specs.Views.{memory_of}
+use Rattle.osc_replies.proofs.replies.Replies.place_of.Given as goal
+
+abbrev pub invariant-loop-place : goal.invariant-loop-place
+invariant-loop-place g l = (i : ℕ) (k : Kept) → i < l.place → slice_get (memory_of l.self) i ≡ Some k → k.number ≢ l.number
