@@ -135,6 +135,7 @@ fn input_bytes(alloc: Global, verb: &str, text: &str) -> Option<Vec<u8>> {
 
 /// What comes before the input in a row of a call: how many writes the standard output takes, and what the keepers keep and how their
 /// calls end, if they are asked for.
+#[derive(Drop)]
 struct Before<'t> {
     writes: u64,
     kept: Option<(u64, &'t str)>,

@@ -26,6 +26,7 @@ mod peer_record;
 mod protection;
 mod reading;
 mod refusal;
+mod remembering;
 mod server;
 mod server_calls;
 mod server_end;

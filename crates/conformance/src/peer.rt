@@ -4,6 +4,7 @@ use crate::answer::Answer;
 use crate::client_end::ClientEnd;
 use crate::peer_record::RecordMemory;
 use crate::refusal::{Made, Refusal};
+use crate::remembering::{self, Remembered};
 use crate::server_end::{Moment, Replied, Reply, Room, ServerEnd, lent};
 use crate::server_ends::answered;
 use crate::steps::{Step, Way, up_to_start};
@@ -14,7 +15,7 @@ use osc_endpoint::{ClientOutcome, Outcome, Taken, Ticket};
 use osc_kept::KeptPeer;
 
 /// A peer over a record in memory, with room for two pending requests.
-type Peer<'t> = KeptPeer<RecordMemory<'t>, 2>;
+pub(crate) type Peer<'t> = KeptPeer<RecordMemory<'t>, 2>;
 
 impl ServerEnd for Peer<'_> {
     /// A peer makes its Echo values itself.
@@ -88,14 +89,25 @@ impl ClientEnd for Peer<'_> {
     }
 }
 
-/// Makes the steps of a peer, in either role. An event of its server has a place for its ticket.
+/// Makes the steps of a peer, in either role, or with a memory of the requests that it answered. An event of its server has a place for its
+/// ticket.
 fn make(peer: &mut Peer<'_>, steps: &[Step<'_>], way: Way, answer: &mut Answer) {
     let (mut tickets, mut left) = (Vec::new(answer.alloc), Answer::new(answer.alloc));
+    let mut replies = Remembered::new();
     for step in steps {
-        if matches!(step.verb, "request" | "hear" | "forget") {
-            client_calls::make_step(peer, step, way, answer, &mut left);
-        } else {
-            server_calls::make_step(peer, &mut tickets, step, way, answer, &mut left);
+        match step.verb {
+            "request" | "hear" | "forget" => {
+                client_calls::make_step(peer, step, way, answer, &mut left);
+            }
+            "again" => {
+                let ticket = remembering::take(peer, &mut replies, step, way, answer);
+                answer.is_whole = tickets.push(ticket).is_ok() && answer.is_whole;
+            }
+            "answer" => {
+                remembering::reply(peer, &mut replies, &mut tickets, step, answer);
+                answer.is_whole = tickets.push(None).is_ok() && answer.is_whole;
+            }
+            _ => server_calls::make_step(peer, &mut tickets, step, way, answer, &mut left),
         }
         answer.word(";");
     }

@@ -62,7 +62,7 @@ IsTooLong len d = (p : Parts) (n : ℕ) (option text : List ℕ) → IsDatagram 
 abbrev pub IsNoReply : ℕ → List ℕ → Type 0
 IsNoReply len reply = (len < length reply) ⊎ ((p : Parts) → IsReply p reply → ⊥)
 
--- what the memory keeps of a datagram that the peer decided about: a request that is delivered, without a reply yet, or one that is challenged, with the challenge (own rule)
+-- what the memory keeps of a datagram that was decided about: a request that is delivered, without a reply yet, or challenged, with the challenge (own rule)
 abbrev pub Remembers : ℕ → ℕ → List ℕ → Decision → List ℕ → List Kept → List Kept → Type 0
 Remembers count len d (decisions.Deliver x ticket) reply old new = KeepsRequest count d [] old new ⊎ ((new ≡ old) × IsTooLong len d)
 Remembers count len d (decisions.Challenge echo issued) reply old new = KeepsRequest count d reply old new ⊎ ((new ≡ old) × (IsTooLong len d ⊎ IsNoReply len reply))

@@ -22,8 +22,8 @@ pub record AreSame (p q : Parts) : Type 0 where
 
 -- two answers of a memory to one request are the same but for their heads (RFC 7252, 4.5)
 abbrev pub SameReply : Type 0
-SameReply = (memory : List Kept) (mid other : ℕ) (p q reply second : Parts) → NumbersDiffer memory → AreOneRequest p q → Recalls memory p mid reply → Recalls memory q other second
-    → AreSame reply second
+SameReply = (memory : List Kept) (mid other : ℕ) (p q reply second : Parts) → NumbersDiffer memory → AreOneRequest p q
+    → Recalls memory p mid reply → Recalls memory q other second → AreSame reply second
 
 -- what protects a message under one head protects it under another, so the client opens the same message (RFC 8613, 5.3)
 abbrev pub SameMessage : Type 0

@@ -1,5 +1,5 @@
--- To be believed: a peer with a memory, where it takes a datagram in place (RFC 7252, 4.5; RFC 8613, 8.2). d is the datagram as it came, left as it was left, count and len
--- are the room of the memory, old and new are the memory before and after.
+-- To be believed: a peer with a memory, where it takes a datagram in place (RFC 7252, 4.5; RFC 8613, 8.2). d is the datagram as it came, left as it was left, count
+-- and len are the room of the memory, old and new are the memory before and after.
 use Rattle.std.specs.Prelude.{ℕ, List}
 use Rattle.osc_life.specs.Deciding.{CanShow, ShowsDecided}
 use Rattle.osc_life.specs.declared.decision.Decision.{Decision}

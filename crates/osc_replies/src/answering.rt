@@ -132,8 +132,10 @@ impl<const COUNT: usize, const LEN: usize> Replies<COUNT, LEN> {
     ) -> Result<DecidedAgain, KeeperError>
         requires { 64 ≤ length out.old }
         ensures again { IfAgain result (λ n. AnswersAgain (memory_of self.old) datagram.old mid (take n out.new)) }
-        ensures again_server { IfAgain result (λ n. (h : served.History) → Agrees peer.old.server h → Agrees peer.new.server (served.Then h (served.Advance now) served.Advanced)) }
-        ensures again_client { IfAgain result (λ n. (k : asked.History) → ClientAgrees peer.old.client k → ClientAgrees peer.new.client (asked.Then k (asked.Advance now) asked.Advanced)) }
+        ensures again_server { IfAgain result (λ n. (h : served.History) → Agrees peer.old.server h
+            → Agrees peer.new.server (served.Then h (served.Advance now) served.Advanced)) }
+        ensures again_client { IfAgain result (λ n. (k : asked.History) → ClientAgrees peer.old.client k
+            → ClientAgrees peer.new.client (asked.Then k (asked.Advance now) asked.Advanced)) }
         ensures again_source { IfAgain result (λ n. peer.new.source ≡ peer.old.source) }
         ensures again_memory { IfAgain result (λ n. self.new ≡ self.old) }
         ensures again_datagram { IfAgain result (λ n. datagram.new ≡ datagram.old) }

@@ -34,19 +34,23 @@ impl<const COUNT: usize, const LEN: usize> Replies<COUNT, LEN> {
     ) -> TakenAgain<'b>
         requires { 64 ≤ length out.old }
         ensures again { IfTakenAgain result (λ n. AnswersAgain (memory_of self.old) datagram.old mid (take n out.new)) }
-        ensures again_server { IfTakenAgain result (λ n. (h : served.History) → Agrees peer.old.server h → Agrees peer.new.server (served.Then h (served.Advance now) served.Advanced)) }
-        ensures again_client { IfTakenAgain result (λ n. (k : asked.History) → ClientAgrees peer.old.client k → ClientAgrees peer.new.client (asked.Then k (asked.Advance now) asked.Advanced)) }
+        ensures again_server { IfTakenAgain result (λ n. (h : served.History) → Agrees peer.old.server h
+            → Agrees peer.new.server (served.Then h (served.Advance now) served.Advanced)) }
+        ensures again_client { IfTakenAgain result (λ n. (k : asked.History) → ClientAgrees peer.old.client k
+            → ClientAgrees peer.new.client (asked.Then k (asked.Advance now) asked.Advanced)) }
         ensures again_source { IfTakenAgain result (λ n. peer.new.source ≡ peer.old.source) }
         ensures again_memory { IfTakenAgain result (λ n. self.new ≡ self.old) }
         ensures again_within { IfTakenAgain result (λ n. n ≤ length out.new) }
         ensures again_behind { IfTakenAgain result (λ n. drop n out.new ≡ drop n out.old) }
         ensures anew { IfTaken result (λ t. HasNoAnswer (memory_of self.old) datagram.old mid (length out.old)) }
-        ensures answered { IfTaken result (λ t. t.outcome ≢ outcomes.KeeperFailed → (h : served.History) → ServerIsBehind peer.old.server (upcoming (own_in peer.old.source)) h
+        ensures answered { IfTaken result (λ t. t.outcome ≢ outcomes.KeeperFailed
+            → (h : served.History) → ServerIsBehind peer.old.server (upcoming (own_in peer.old.source)) h
             → PeerTakes h now (record { echo = echo_of (upcoming (own_in peer.old.source)); mid = mid }) datagram.old t.outcome (take t.reply out.new)
             (own_in peer.old.source) (own_in peer.new.source) peer.new.server) }
         ensures kept { IfTaken result (λ t. TakesBelow t.outcome (R.received_floor peer.new.source.keeper)) }
         ensures rises { R.received_floor peer.old.source.keeper ≤ R.received_floor peer.new.source.keeper }
-        ensures waits { IfTaken result (λ t. t.outcome ≡ outcomes.KeeperFailed → (h : served.History) → ServerIsBehind peer.old.server (upcoming (own_in peer.old.source)) h
+        ensures waits { IfTaken result (λ t. t.outcome ≡ outcomes.KeeperFailed
+            → (h : served.History) → ServerIsBehind peer.old.server (upcoming (own_in peer.old.source)) h
             → ServerWaits h now (own_in peer.old.source) (own_in peer.new.source) peer.new.server) }
         ensures client { IfTaken result (λ t. peer.new.client ≡ peer.old.client) }
         ensures failed { IfTaken result (λ t. t.outcome ≡ outcomes.KeeperFailed → R.failures peer.new.source.keeper ≡ R.failures peer.old.source.keeper + 1) }
