@@ -20,10 +20,10 @@ _oscore() {
         return
     fi
     case $before in
-        --role) words=(server client) ;;
+        --role) words=(server client peer) ;;
         --window) words=(1 32 64) ;;
         --allow) words=(blocks observe) ;;
-        --numbers)
+        --numbers | --record)
             compopt -o filenames 2>/dev/null
             mapfile -t COMPREPLY < <(compgen -f -- "$word")
             return
@@ -45,12 +45,18 @@ _oscore() {
         open) words+=(--request --registers) ;;
         protect) words+=(--sequence --request --registers) ;;
         run)
+            # A record is a peer's.
+            local role=
+            [[ $given == *" --record "* ]] && role=peer
+            [[ $given =~ " --role "("= ")?(server|client|peer)" " ]] && role=${BASH_REMATCH[2]}
             words+=(--role)
-            [[ $given == *" --numbers "* ]] || words+=(--sequence)
-            [[ $given == *" --"@(sequence|restarted)" "* ]] || words+=(--numbers)
-            [[ $given == *" --role "?("= ")"client "* || $given == *" --"@(life|numbers)" "* ]] || words+=(--restarted)
-            [[ $given == *" --role "?("= ")"client "* || $given == *" --life "* ]] || words+=(--window)
-            [[ $given == *" --role "?("= ")"server "* || $given == *" --"@(restarted|window)" "* ]] || words+=(--life)
+            [[ $role == peer || $given == *" --numbers "* ]] || words+=(--sequence)
+            [[ $role == peer || $given == *" --"@(sequence|restarted)" "* ]] || words+=(--numbers)
+            [[ $role == @(client|peer) || $given == *" --"@(life|numbers)" "* ]] || words+=(--restarted)
+            [[ $role == client || $role != peer && $given == *" --life "* ]] || words+=(--window)
+            [[ $role == server || $role != peer && $given == *" --"@(restarted|window)" "* ]] || words+=(--life)
+            [[ $role == @(server|client) || $given == *" --"@(sequence|restarted|numbers)" "* ]] || words+=(--record)
+            [[ $given == *" --record "* ]] && words+=(--first)
             ;;
     esac
     for option in $(compgen -W "${words[*]}" -- "$word"); do

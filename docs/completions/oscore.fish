@@ -9,7 +9,7 @@ end
 # Whether none of these words is given, alone or before a =. An option whose value is at the cursor isn't given yet.
 function __oscore_without
     set -l words (commandline -opc)
-    if string match -qr -- '^--[a-z-]+$' "$words[-1]"; and not contains -- "$words[-1]" --restarted --registers --help
+    if string match -qr -- '^--[a-z-]+$' "$words[-1]"; and not contains -- "$words[-1]" --restarted --registers --tables --first --help
         set -e words[-1]
     end
     not string match -qr -- '^('(string join '|' -- $argv)')(=|$)' $words
@@ -20,6 +20,11 @@ function __oscore_no
     not string match -qr -- "--role[ =]$argv( |\$)" (commandline -opc | string join ' ')
 end
 
+# Whether this is a peer: that role is given, or a record, which is a peer's.
+function __oscore_peer
+    not __oscore_no peer; or not __oscore_without --record
+end
+
 set -l first 'test (count (commandline -opc)) -eq 1'
 set -l context '__oscore_call derive open protect run; and __oscore_without'
 
@@ -28,7 +33,7 @@ complete -c oscore -n "$first" -a derive -d 'Print the keys and the Common IV of
 complete -c oscore -n "$first" -a open -d 'Open a protected request or response, and print its parts'
 complete -c oscore -n "$first" -a protect -d 'Protect a plain request or response, and print it in hex'
 complete -c oscore -n "$first" -a explain -d 'Print what a datagram shows without a key'
-complete -c oscore -n "$first" -a run -d 'Run a server or a client over the events on standard input'
+complete -c oscore -n "$first" -a run -d 'Run a server, a client or a peer over the events on standard input'
 complete -c oscore -n "$first" -a help -d 'Print help'
 complete -c oscore -n "$first" -s V -l version -d 'Print the version'
 complete -c oscore -n '__oscore_without -h --help; and not __oscore_call help' -s h -l help -d 'Print help'
@@ -46,9 +51,13 @@ complete -c oscore -n '__oscore_call open protect; and __oscore_without --reques
 complete -c oscore -n '__oscore_call open protect; and __oscore_without --registers' -l registers -d 'Its request registers an observation'
 complete -c oscore -n '__oscore_call protect; and __oscore_without --sequence' -l sequence -x -d 'The Sender Sequence Number to use'
 
-complete -c oscore -n '__oscore_call run; and __oscore_without --role' -l role -x -a 'server client' -d 'What this end is'
-complete -c oscore -n '__oscore_call run; and __oscore_without --sequence --numbers' -l sequence -x -d 'The next Sender Sequence Number'
-complete -c oscore -n '__oscore_call run; and __oscore_without --numbers --sequence --restarted' -l numbers -r -F -d 'The file that keeps the Sender Sequence Numbers'
-complete -c oscore -n '__oscore_call run; and __oscore_without --restarted --numbers --life; and __oscore_no client' -l restarted -d 'Requests may have come to it in an earlier life'
-complete -c oscore -n '__oscore_call run; and __oscore_without --window --life; and __oscore_no client' -l window -x -a '1 32 64' -d 'The places of the replay window'
-complete -c oscore -n '__oscore_call run; and __oscore_without --life --restarted --window; and __oscore_no server' -l life -x -d 'For how many ms a request is pending'
+complete -c oscore -n '__oscore_call run; and __oscore_without --role' -l role -x -a 'server client peer' -d 'What this end is'
+complete -c oscore -n '__oscore_call run; and __oscore_without --sequence --numbers; and not __oscore_peer' -l sequence -x -d 'The next Sender Sequence Number'
+complete -c oscore -n '__oscore_call run; and __oscore_without --numbers --sequence --restarted; and not __oscore_peer' -l numbers -r -F -d 'The file that keeps the Sender Sequence Numbers'
+complete -c oscore -n '__oscore_call run; and __oscore_without --restarted --numbers --life; and __oscore_no client; and not __oscore_peer' -l restarted -d 'Requests may have come to it in an earlier life'
+complete -c oscore -n '__oscore_call run; and __oscore_without --record --sequence --restarted --numbers; and __oscore_no server; and __oscore_no client' -l record -r -F -d 'The record of a peer: what it sent and received'
+complete -c oscore -n '__oscore_call run; and __oscore_without --first; and not __oscore_without --record' -l first -d 'Make the record, of a peer that was never used'
+complete -c oscore -n '__oscore_call run; and __oscore_without --window --life; and __oscore_no client; and not __oscore_peer' -l window -x -a '1 32 64' -d 'The places of the replay window'
+complete -c oscore -n '__oscore_call run; and __oscore_without --life --restarted --window; and __oscore_no server; and not __oscore_peer' -l life -x -d 'For how many ms a request is pending'
+complete -c oscore -n '__oscore_call run; and __oscore_without --window; and __oscore_peer' -l window -x -a '1 32 64' -d 'The places of the replay window'
+complete -c oscore -n '__oscore_call run; and __oscore_without --life; and __oscore_peer' -l life -x -d 'For how many ms a request is pending'
