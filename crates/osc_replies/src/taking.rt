@@ -56,6 +56,8 @@ impl<const COUNT: usize, const LEN: usize> Replies<COUNT, LEN> {
         ensures failed { IfTaken result (λ t. t.outcome ≡ outcomes.KeeperFailed → R.failures peer.new.source.keeper ≡ R.failures peer.old.source.keeper + 1) }
         ensures worked { IfTaken result (λ t. t.outcome ≢ outcomes.KeeperFailed → R.failures peer.new.source.keeper ≡ R.failures peer.old.source.keeper) }
         ensures within { IfTaken result (λ t. t.reply ≤ 64) }
+        ensures silent { IfTaken result (λ t. t.outcome ≡ outcomes.KeeperFailed → t.reply ≡ 0) }
+        ensures behind { IfTaken result (λ t. t.outcome ≢ outcomes.KeeperFailed → drop t.reply out.new ≡ drop t.reply out.old) }
         ensures remembers { IfTaken result (λ t. t.outcome ≢ outcomes.KeeperFailed
             → RemembersShown COUNT LEN datagram.old t.outcome (take t.reply out.new) (memory_of self.old) (memory_of self.new)) }
         ensures unchanged { IfTaken result (λ t. t.outcome ≡ outcomes.KeeperFailed → self.new ≡ self.old) }
