@@ -18,6 +18,7 @@ mod context;
 mod corpus;
 mod ends;
 mod fields;
+mod freshening;
 mod keeper;
 mod kept;
 mod numbers;

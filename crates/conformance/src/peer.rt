@@ -8,11 +8,15 @@ use crate::remembering::{self, Remembered};
 use crate::server_end::{Moment, Replied, Reply, Room, ServerEnd, lent};
 use crate::server_ends::answered;
 use crate::steps::{Step, Way, up_to_start};
-use crate::{client_calls, server_calls};
+use crate::{client_calls, freshening, server_calls};
 use osc_coap::Message;
 use osc_context::KeptNumbers;
 use osc_endpoint::{ClientOutcome, Outcome, Taken, Ticket};
+use osc_fresh::Wishes;
 use osc_kept::KeptPeer;
+
+/// How old a request may be that a peer obeys which wants fresh ones, in milliseconds.
+const FRESH_MS: u64 = 5_000;
 
 /// A peer over a record in memory, with room for two pending requests.
 pub(crate) type Peer<'t> = KeptPeer<RecordMemory<'t>, 2>;
@@ -89,11 +93,12 @@ impl ClientEnd for Peer<'_> {
     }
 }
 
-/// Makes the steps of a peer, in either role, or with a memory of the requests that it answered. An event of its server has a place for its
+/// Makes the steps of a peer, in either role, with a memory of the requests that it answered, or with a wish for fresh requests. An event of its server has a place for its
 /// ticket.
 fn make(peer: &mut Peer<'_>, steps: &[Step<'_>], way: Way, answer: &mut Answer) {
     let (mut tickets, mut left) = (Vec::new(answer.alloc), Answer::new(answer.alloc));
     let mut replies = Remembered::new();
+    let mut wishes = Wishes::new(FRESH_MS);
     for step in steps {
         match step.verb {
             "request" | "hear" | "forget" => {
@@ -107,6 +112,19 @@ fn make(peer: &mut Peer<'_>, steps: &[Step<'_>], way: Way, answer: &mut Answer) 
                 remembering::reply(peer, &mut replies, &mut tickets, step, answer);
                 answer.is_whole = tickets.push(None).is_ok() && answer.is_whole;
             }
+            "fresh" => {
+                let ticket = freshening::take(peer, &mut wishes, step, way, answer);
+                answer.is_whole = tickets.push(ticket).is_ok() && answer.is_whole;
+            }
+            "age" => {
+                let ticket = freshening::age(peer, &wishes, step, answer);
+                answer.is_whole = tickets.push(ticket).is_ok() && answer.is_whole;
+            }
+            "ask" => {
+                freshening::ask(peer, &mut wishes, &mut tickets, step, answer);
+                answer.is_whole = tickets.push(None).is_ok() && answer.is_whole;
+            }
+            "listen" => freshening::listen(peer, step, answer),
             _ => server_calls::make_step(peer, &mut tickets, step, way, answer, &mut left),
         }
         answer.word(";");

@@ -12,13 +12,13 @@ use Rattle.osc_context.specs.SecurityContext.{SecurityContext}
 use Rattle.osc_protect.specs.Sealed.{inside}
 use Rattle.osc_client.specs.ClientHistory as client
 use Rattle.osc_life.specs.Life.{Life, challenge, in_force, is_open, next_own}
-use Rattle.osc_life.specs.LifeAnswer.{challenge_given}
+use Rattle.osc_life.specs.LifeAnswer.{challenge_given, own_number}
 use Rattle.osc_life.specs.Replies.{challenge_message}
 use Rattle.osc_life.specs.ServerHistory as server
 use Rattle.osc_endpoint.specs.ServerAnswer.{ServerAnswer}
 use Rattle.osc_kept_ends.specs.EchoNumber.{echo_of}
 use Rattle.osc_kept.specs.Claims.{AtEachHeard, IsForThatRequest, TwoEnds}
-use Rattle.osc_kept.specs.EchoNumbers.{CountedGoesOn, EchoByNumbers, EchoesAreNumbers, EchoesHeard, IsLawfulByNumbers, MakesEcho, NumberIsUnseen, RepliesWithoutEcho}
+use Rattle.osc_kept.specs.EchoNumbers.{CountedGoesOn, EchoByNumbers, EchoesAreNumbers, EchoesHeard, IsLawfulByNumbers, MakesEcho, NumberIsUnseen, EchoesItsNumber, sealed_echo}
 use Rattle.osc_kept.specs.GoingOn.{IsDrawn}
 use Rattle.osc_kept.specs.InWorld.{IsUnseen}
 use Rattle.osc_kept.specs.Premises.{AtEach, Answers, BeginsAbove, EchoIsNew, IsLawful}
@@ -37,11 +37,11 @@ none_some x e = cc
 one_value : (n k : ℕ) → n ≤ 2 ^ 40 → k ≤ 2 ^ 40 → echo_of n ≡ echo_of k → n ≡ k
 one_value n k a b e = sym (from_be_bytes-to_be_bytes_8 n (omega (arith, a))) ∙ ap (from_be_bytes w64) e ∙ from_be_bytes-to_be_bytes_8 k (omega (arith, b))
 
--- ---- over deeds: each challenge gives the life's last value again, or one of its own number; nothing else that the server seals has one
+-- ---- over deeds: each challenge gives the life's last value again, or one of its own number, and so may a reply; nothing else that the server seals has one
 
 abbrev pub Makes : SecurityContext → List Deed → Deed → Type 0
 Makes s ds (Challenges n echo issued own m) = ((value : List ℕ) → carried m ≡ Some value → value ≡ echo) × ((challenge (life_in s ds).marks ≡ Some (echo, issued)) ⊎ (echo ≡ echo_of own))
-Makes s ds (Replies t own m) = carried m ≡ None
+Makes s ds (Replies t own m) = (carried m ≡ None) ⊎ ((k : ℕ) × (own ≡ Some k) × (carried m ≡ Some (echo_of k)))
 Makes s ds (Notifies t own m) = carried m ≡ None
 Makes s ds d = Unit {0}
 
@@ -89,7 +89,12 @@ answer_numbered s (Challenges n echo issued own m ∷ ds) x value a (inl f) e =
       | inr made ↦ (own, same ∙ made, inl refl)
     ]
 answer_numbered s (Challenges n echo issued own m ∷ ds) x value a (inr h) e = numbered_more (Challenges n echo issued own m) ds value (answer_numbered s ds x value a.0 h e)
-answer_numbered s (Replies t own m ∷ ds) x value a (inl f) e = absurd (none_some value (sym a.1 ∙ read_of x m value (ap (λ (r : Response). r.message) f) e))
+answer_numbered s (Replies t own m ∷ ds) x value a (inl f) e =
+    let says : carried m ≡ Some value = read_of x m value (ap (λ (r : Response). r.message) f) e in
+    elim a.1 [
+      | inl none ↦ absurd (none_some value (sym none ∙ says))
+      | inr (k, is, made) ↦ (k, some_is (sym says ∙ made), subst (λ o. Has k (owns (Replies t o m ∷ ds))) (sym is) (inl refl))
+    ]
 answer_numbered s (Replies t own m ∷ ds) x value a (inr h) e = numbered_more (Replies t own m) ds value (answer_numbered s ds x value a.0 h e)
 answer_numbered s (Notifies t own m ∷ ds) x value a (inl f) e = absurd (none_some value (sym a.1 ∙ read_of x m value (ap (λ (r : Response). r.message) f) e))
 answer_numbered s (Notifies t own m ∷ ds) x value a (inr h) e = numbered_more (Notifies t own m) ds value (answer_numbered s ds x value a.0 h e)
@@ -123,28 +128,35 @@ challenge_makes n s w now mid i k issued echo d given reply all answer makes =
       ],
     )
 
+reply_makes : (s : SecurityContext) (ds : List Deed) (t : server.TicketValues) (own : Bool) (p : Parts) (known : Option Life) → known ≡ Some (life_in s ds)
+    → (sealed_echo p ≡ None) ⊎ ((own ≡ true) × ((of : Life) → known ≡ Some of → sealed_echo p ≡ Some (echo_of (next_own of))))
+    → Makes s ds (Replies t (own_number own (life_in s ds)) (inside p))
+reply_makes s ds t own p known e (inl none) = inl none
+reply_makes s ds t own p known e (inr (asked, made)) = inr (next_own (life_in s ds), ap (λ b. own_number b (life_in s ds)) asked, made (life_in s ds) e)
+
 server_makes : (n : ℕ) (s : SecurityContext) (w : World) (event : server.Event) (entry : server.Entry) → AtEach (Answers n s) w → Answers n s w (AtServer event entry)
-    → MakesEcho s w (AtServer event entry) → RepliesWithoutEcho w (AtServer event entry) → Makes s (digest s w) (server_deed (Some (life_in s (digest s w))) event entry)
-server_makes n s w (server.Datagram now echo mid d) (server.Took (server.Challenge i k given issued) reply) all answer makes without =
+    → MakesEcho s w (AtServer event entry) → EchoesItsNumber s w (AtServer event entry) → Makes s (digest s w) (server_deed (Some (life_in s (digest s w))) event entry)
+server_makes n s w (server.Datagram now echo mid d) (server.Took (server.Challenge i k given issued) reply) all answer makes replies =
     challenge_makes n s w now mid i k issued echo d given reply all answer makes
-server_makes n s w (server.Reply t own mid p room) (server.Replied bytes) all answer makes without = without
-server_makes n s w (server.Notify t p room) (server.Replied bytes) all answer makes without = without
-server_makes n s w (server.Restart i next) server.Restarted all answer makes without = tt
-server_makes n s w (server.Skip i count) server.Skipped all answer makes without = tt
-server_makes n s w event entry all answer makes without = tt
+server_makes n s w (server.Reply t own mid p room) (server.Replied bytes) all answer makes replies =
+    reply_makes s (digest s w) t own p (server_life s w) (known_life n s w answer.0 all answer.1) replies
+server_makes n s w (server.Notify t p room) (server.Replied bytes) all answer makes replies = replies
+server_makes n s w (server.Restart i next) server.Restarted all answer makes replies = tt
+server_makes n s w (server.Skip i count) server.Skipped all answer makes replies = tt
+server_makes n s w event entry all answer makes replies = tt
 
 client_makes : (s : SecurityContext) (ds : List Deed) (o : Option client.History) (event : client.Event) (entry : client.Entry) → Makes s ds (client_deed o event entry)
 client_makes s ds (Some h) (client.Request now p room) (client.Sent bytes) = tt
 client_makes s ds o event entry = tt
 
 pub numbered_before : (s : SecurityContext) (w : World) (event : Event) → EchoesAreNumbers s (Then w event) → EchoesAreNumbers s w
-numbered_before s w event i = record { makes = i.makes.0; echoes = i.echoes.0; without = i.without.0 }
+numbered_before s w event i = record { makes = i.makes.0; echoes = i.echoes.0; replies = i.replies.0 }
 
 all_make : (n : ℕ) (s : SecurityContext) (w : World) → AtEach (Answers n s) w → EchoesAreNumbers s w → AllMake s (digest s w)
 all_make n s Begin a i = tt
 all_make n s (Then w (AtServer event entry)) a i = (
   all_make n s w a.0 (numbered_before s w _ i),
-  subst (λ l. Makes s (digest s w) (server_deed l event entry)) (sym (known_life n s w a.1.0 a.0 a.1.1)) (server_makes n s w event entry a.0 a.1 i.makes.1 i.without.1),
+  subst (λ l. Makes s (digest s w) (server_deed l event entry)) (sym (known_life n s w a.1.0 a.0 a.1.1)) (server_makes n s w event entry a.0 a.1 i.makes.1 i.replies.1),
 )
 all_make n s (Then w (AtClient event entry)) a i = (all_make n s w a.0 (numbered_before s w _ i), client_makes s (digest s w) (client_history s w) event entry)
 all_make n s (Then w (ServerStarts start size)) a i = (all_make n s w a.0 (numbered_before s w _ i), tt)
@@ -211,7 +223,7 @@ number_unseen n s w a b i that most r q e =
     omega (arith, less, is)
 
 -- the premises of two ends, one event earlier
-earlier : (n : ℕ) (s : SecurityContext) (w : World) (event : Event) → IsLawfulByNumbers n s (Then w event) → IsLawfulByNumbers n s w
+pub earlier : (n : ℕ) (s : SecurityContext) (w : World) (event : Event) → IsLawfulByNumbers n s (Then w event) → IsLawfulByNumbers n s w
 earlier n s w event i =
     record { usable = i.usable; answers = i.answers.0; sealed = i.sealed.0; numbered = numbered_before s w event i.numbered; above = i.above.0; fresh = i.fresh.0 }
 
@@ -256,8 +268,8 @@ drawn_history s w b (inr (inr e)) = ap (server_history s) e
 
 drawn_numbered : (s : SecurityContext) (w b : World) → IsDrawn Server w b → EchoesAreNumbers s w → EchoesAreNumbers s b
 drawn_numbered s w b (inl e) i = subst (EchoesAreNumbers s) (sym e) i
-drawn_numbered s w b (inr (inl e)) i = subst (EchoesAreNumbers s) (sym e) (record { makes = (i.makes, tt); echoes = (i.echoes, tt); without = (i.without, tt) })
-drawn_numbered s w b (inr (inr e)) i = subst (EchoesAreNumbers s) (sym e) (record { makes = (i.makes, tt); echoes = (i.echoes, tt); without = (i.without, tt) })
+drawn_numbered s w b (inr (inl e)) i = subst (EchoesAreNumbers s) (sym e) (record { makes = (i.makes, tt); echoes = (i.echoes, tt); replies = (i.replies, tt) })
+drawn_numbered s w b (inr (inr e)) i = subst (EchoesAreNumbers s) (sym e) (record { makes = (i.makes, tt); echoes = (i.echoes, tt); replies = (i.replies, tt) })
 
 -- it gives the value of its own number where it gives a new one
 pub counted_makes : (s : SecurityContext) (b : World) (h : server.History) (now next mid : ℕ) (d : List ℕ) (entry : server.Entry) → OnlyFirst h → server_history s b ≡ Some h
@@ -281,5 +293,5 @@ counted_goes_on n s w v h now next mid d entry old new a i e f answer goes =
     subst (EchoesAreNumbers s) (sym goes.ends) (record {
       makes = (before.makes, counted_makes s goes.between h now next mid d entry (stands n s w h a e).only (drawn_history s w goes.between goes.drawn ∙ e) f answer);
       echoes = (before.echoes, tt);
-      without = (before.without, tt);
+      replies = (before.replies, tt);
     })

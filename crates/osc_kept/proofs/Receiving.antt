@@ -1,5 +1,5 @@
 -- If the number of each request is kept before it is delivered, no server starts open at or below one. kept says what is kept behind w.
-use Rattle.std.proofs.Common.{◌≡◌, ℕ, ◌+◌, ◌<◌, ◌≤◌, refl, arith, List, [], ◌∷◌, inl, inr}
+use Rattle.std.proofs.Common.{◌≡◌, ℕ, ◌<◌, refl, arith, List, [], ◌∷◌, inl, inr}
 use Rattle.osc_life.specs.declared.start.Start.TheVariants as starts
 use Rattle.osc_life.specs.ServerHistory as server
 use Rattle.osc_kept.specs.Premises.{AtEach, StartsAboveDelivered}

@@ -1,6 +1,6 @@
 -- To be believed: Echo values that are made of Sender Sequence Numbers, over all that happens at both ends (RFC 9175, 2.3 and A, method 3; RFC 8613, B.1.1).
 -- w is the world before the event, s the security context, n is how many pending requests the client has room for.
-use Rattle.std.specs.Prelude.{◌≡◌, ℕ, ◌≤◌, ◌^◌, List, Option, Some, None, max}
+use Rattle.std.specs.Prelude.{◌≡◌, ◌⊎◌, ℕ, ◌≤◌, ◌^◌, List, Option, Some, None, max, true}
 use Rattle.std.specs.Option.{option_map}
 use Rattle.osc_coap.specs.Datagram.{Parts}
 use Rattle.osc_coap.specs.Interpreted.{interpreted}
@@ -17,7 +17,7 @@ use Rattle.osc_kept.specs.Claims.{BothEnds}
 use Rattle.osc_kept.specs.GoingOn.{GoesOn}
 use Rattle.osc_kept.specs.InWorld.{IsUnseen}
 use Rattle.osc_kept.specs.Premises.{Answers, AtEach, BeginsAbove, StartsAboveDelivered, IsLawful, NobodyForges}
-use Rattle.osc_kept.specs.World.{World, Event, Server, AtClient, AtServer, Has, Response, heard, server_history}
+use Rattle.osc_kept.specs.World.{World, Event, Server, AtClient, AtServer, Has, Response, heard, server_history, server_life}
 use Rattle.osc_kept_ends.specs.Numbering.{Own}
 
 -- the Echo value in a message as it is sealed (RFC 7252, 5.4.3; RFC 9175, 2.2.1)
@@ -38,17 +38,19 @@ EchoesHeard w (AtClient (client.Request now p room) (client.Sent bytes)) =
     (value : List ℕ) → sealed_echo p ≡ Some value → (x : Response) × Has x (heard w) × (interpreted options.echo x.message.options ≡ Some value)
 EchoesHeard w event = Unit {0}
 
--- replies and notifications have no Echo value, so challenges alone do; whoever makes the plain responses sees to it (own rule)
-abbrev pub RepliesWithoutEcho : World → Event → Type 0
-RepliesWithoutEcho w (AtServer (server.Reply t own mid p room) (server.Replied bytes)) = sealed_echo p ≡ None
-RepliesWithoutEcho w (AtServer (server.Notify t p room) (server.Replied bytes)) = sealed_echo (as_notified p) ≡ None
-RepliesWithoutEcho w event = Unit {0}
+-- a reply has no Echo value, or that of the Sender Sequence Number with which it is sealed, and a notification has none; whoever makes the plain responses sees to
+-- it (RFC 9175, 2.3 and A, method 3)
+abbrev pub EchoesItsNumber : SecurityContext → World → Event → Type 0
+EchoesItsNumber s w (AtServer (server.Reply t own mid p room) (server.Replied bytes)) =
+    (sealed_echo p ≡ None) ⊎ ((own ≡ true) × ((of : Life) → server_life s w ≡ Some of → sealed_echo p ≡ Some (echo_of (next_own of))))
+EchoesItsNumber s w (AtServer (server.Notify t p room) (server.Replied bytes)) = sealed_echo (as_notified p) ≡ None
+EchoesItsNumber s w event = Unit {0}
 
 -- all three, at each event (own rule)
 pub record EchoesAreNumbers (s : SecurityContext) (w : World) : Type 0 where
   pub makes : AtEach (MakesEcho s) w
   pub echoes : AtEach EchoesHeard w
-  pub without : AtEach RepliesWithoutEcho w
+  pub replies : AtEach (EchoesItsNumber s) w
 
 -- ---- what holds then
 

@@ -36,9 +36,9 @@ pub fn both_ends()
 }
 
 /// States that Echo values needn't be drawn at random (RFC 9175, A, method 3). If a challenge that gives a new value makes it of the Sender
-/// Sequence Number with which it is sealed (`KeptServer::take_counted`), requests carry only Echo values that the client heard, and no reply
-/// or notification has one, then each new value is one that no request carries, and all is as `both_ends` says. `unseen` says it of the
-/// server's next number. `goes_on` says that a server that counts so keeps to it.
+/// Sequence Number with which it is sealed (`KeptServer::take_counted`), so does a reply that has one, no notification has one, and requests
+/// carry only Echo values that the client heard, then each new value is one that no request carries, and all is as `both_ends` says.
+/// `unseen` says it of the server's next number. `goes_on` says that a server that counts so keeps to it.
 pub fn echo_by_numbers()
     ensures ends { EchoByNumbers }
     ensures unseen { NumberIsUnseen }

@@ -7,7 +7,6 @@ use Rattle.osc_coap.specs.Datagram.{Parts}
 use Rattle.osc_context.specs.SecurityContext.{SecurityContext}
 use Rattle.osc_context.specs.Views.{next_of}
 use Rattle.osc_context.specs.declared.record_keeper.RecordKeeper as keeper
-use Rattle.osc_protect.specs.Protection.{as_notified}
 use Rattle.osc_window.specs.declared.window_size.WindowSize.{WindowSize}
 use Rattle.osc_client.specs.Agrees.{ClientAgrees}
 use Rattle.osc_client.specs.ClientAnswer.{ClientAnswer}
@@ -36,7 +35,6 @@ use Rattle.osc_kept_ends.specs.Peering as peering
 use Rattle.osc_kept_ends.specs.Peering.{ClientIsBehind, IsKeptOn, MayDraw, ServerIsBehind}
 use Rattle.osc_kept_ends.proofs.Drawing.{last_drawn}
 use Rattle.osc_kept_ends.proofs.PeerSteps.{client_still, server_still, upcoming_on}
-use Rattle.osc_kept.specs.EchoNumbers.{sealed_echo}
 use Rattle.osc_kept.specs.InWorld.{IsHeld}
 use Rattle.osc_kept.specs.World.{World, Has, delivered}
 use Rattle.osc_peers.specs.Peers.{Peers, back, forth}
@@ -215,14 +213,14 @@ one_err (Err e) f a = f e a
 -- ---- replies and notifications
 
 pub reply_trusts : (s : SecurityContext) (w : World) (h : server.History) (t : server.TicketValues) (own : Bool) (mid : ℕ) (p : Parts) (room : ℕ) (entry : server.Entry) → IsHeld h t
-    → sealed_echo p ≡ None → ServerTrusts s w h (server.Reply t own mid p room) entry
-reply_trusts s w h t own mid p room (server.Replied bytes) held none = (held, none)
-reply_trusts s w h t own mid p room entry held none = tt
+    → ServerTrusts s w h (server.Reply t own mid p room) entry
+reply_trusts s w h t own mid p room (server.Replied bytes) held = held
+reply_trusts s w h t own mid p room entry held = tt
 
 pub notify_trusts : (s : SecurityContext) (w : World) (h : server.History) (t : server.TicketValues) (p : Parts) (room : ℕ) (entry : server.Entry) → IsHeld h t
-    → sealed_echo (as_notified p) ≡ None → ServerTrusts s w h (server.Notify t p room) entry
-notify_trusts s w h t p room (server.Replied bytes) held none = (held, none)
-notify_trusts s w h t p room entry held none = tt
+    → ServerTrusts s w h (server.Notify t p room) entry
+notify_trusts s w h t p room (server.Replied bytes) held = held
+notify_trusts s w h t p room entry held = tt
 
 pub reply_under : (r : Result ℕ (ReplyError × Ticket)) (out : List ℕ) (floor : ℕ) → DeliversUnder (server_entry r out) floor
 reply_under (Ok n) out floor = tt

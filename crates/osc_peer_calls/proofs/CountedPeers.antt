@@ -5,10 +5,12 @@ use Rattle.osc_kept_ends.specs.Numbering.{Allowed, after}
 use Rattle.osc_kept.specs.EchoNumbers.{EchoByNumbers, IsLawfulByNumbers}
 use Rattle.osc_kept.specs.Premises.{IsLawful}
 use Rattle.osc_kept.specs.World.{World, Client, Server, Then, effect}
+use Rattle.osc_fresh.specs.Commands.{OneCommand}
+use Rattle.osc_fresh.specs.Freshness.{FreshOnDemand}
 use Rattle.osc_peers.specs.Peers.{PeerEvent, Forth, Back, Peers, Nothing, More, ArePeers, IsExchange, SourcesAreKept, TwoPeers, back, far_effect, far_numbers, forth, near_effect, near_numbers}
 use Rattle.osc_peers.specs.Roles.{turned}
 use Rattle.osc_peers.proofs.Peering.{back_begins, forth_begins, usable_turned}
-use Rattle.osc_peer_calls.specs.Counting.{AreCounted, IsCounted, PeersAreAlike, PeersByNumbers, turned_event, turned_list}
+use Rattle.osc_peer_calls.specs.Counting.{AreCounted, IsCounted, PeersAreAlike, PeersAreFresh, PeersByNumbers, PeersObeyOnce, turned_event, turned_list}
 
 -- ---- by numbers
 
@@ -36,6 +38,12 @@ peers_by_numbers two echo n s w i =
       kept = i.kept;
     } in
     (peers, two n s w peers)
+
+pub peers_are_fresh : FreshOnDemand → PeersAreFresh
+peers_are_fresh fresh n s w i = (fresh n s (forth w) (forth_numbered n s w i), fresh n (turned s) (back w) (back_numbered n s w i))
+
+pub peers_obey_once : EchoByNumbers → OneCommand → PeersObeyOnce
+peers_obey_once echo one command n s w i = one command n (turned s) (back w) (echo n (turned s) (back w) (back_numbered n s w i)).0
 
 -- ---- as the far device sees the list
 

@@ -4,3 +4,4 @@ mod ServerSteps
 mod ClientSteps
 mod PeerStarts
 mod CallLemmas
+pub mod TakenClauses

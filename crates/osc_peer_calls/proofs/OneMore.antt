@@ -5,7 +5,7 @@ use Rattle.osc_client.specs.ClientHistory as client
 use Rattle.osc_life.specs.ServerHistory as server
 use Rattle.osc_kept_ends.specs.Numbering.{Own, AreAlike, Allowed, Draw, DrawsFrom, Goes, Reserve}
 use Rattle.osc_kept_ends.specs.Peering.{IsKeptOn, MayDraw}
-use Rattle.osc_kept.specs.EchoNumbers.{EchoesHeard, MakesEcho, RepliesWithoutEcho}
+use Rattle.osc_kept.specs.EchoNumbers.{EchoesHeard, EchoesItsNumber, MakesEcho}
 use Rattle.osc_kept.specs.Premises.{Answers, NobodyForges, StartsAboveDelivered}
 use Rattle.osc_kept.specs.World.{World, Event, Then, Client, Draws, Reserves, answered, heard}
 use Rattle.osc_kept.proofs.GoingOn.{IsNoLoad, after_alike, alike_to, allowed_alike}
@@ -17,22 +17,22 @@ use Rattle.osc_peer_calls.specs.GoingOn.{IsDrawn, PeerRuns}
 -- ---- one more event
 
 counted_more : (n : ℕ) (s : SecurityContext) (w : World) (event : Event) → IsCounted n s w → Answers n s w event → NobodyForges s w event → MakesEcho s w event → EchoesHeard w event
-    → RepliesWithoutEcho w event → StartsAboveDelivered w event → IsCounted n s (Then w event)
+    → EchoesItsNumber s w event → StartsAboveDelivered w event → IsCounted n s (Then w event)
 counted_more n s w event i a f m h r d = record {
   answers = (i.answers, a);
   sealed = (i.sealed, f);
-  numbered = record { makes = (i.numbered.makes, m); echoes = (i.numbered.echoes, h); without = (i.numbered.without, r) };
+  numbered = record { makes = (i.numbered.makes, m); echoes = (i.numbered.echoes, h); replies = (i.numbered.replies, r) };
   fresh = (i.fresh, d);
 }
 
 pub back_more : (n : ℕ) (s : SecurityContext) (w : Peers) (event : Event) → AreCounted n s w → Answers n (turned s) (back w) event → NobodyForges (turned s) (back w) event
-    → MakesEcho (turned s) (back w) event → EchoesHeard (back w) event → RepliesWithoutEcho (back w) event → StartsAboveDelivered (back w) event
+    → MakesEcho (turned s) (back w) event → EchoesHeard (back w) event → EchoesItsNumber (turned s) (back w) event → StartsAboveDelivered (back w) event
     → Allowed (near_effect s w (Back event)) (near_numbers s w) → Allowed (far_effect s w (Back event)) (far_numbers s w) → AreCounted n s (More w (Back event))
 back_more n s w event i a f m h r d near far =
     record { usable = i.usable; forth_is = i.forth_is; back_is = counted_more n (turned s) (back w) event i.back_is a f m h r d; kept = (i.kept, near, far) }
 
 pub forth_more : (n : ℕ) (s : SecurityContext) (w : Peers) (event : Event) → AreCounted n s w → Answers n s (forth w) event → NobodyForges s (forth w) event
-    → MakesEcho s (forth w) event → EchoesHeard (forth w) event → RepliesWithoutEcho (forth w) event → StartsAboveDelivered (forth w) event
+    → MakesEcho s (forth w) event → EchoesHeard (forth w) event → EchoesItsNumber s (forth w) event → StartsAboveDelivered (forth w) event
     → Allowed (near_effect s w (Forth event)) (near_numbers s w) → Allowed (far_effect s w (Forth event)) (far_numbers s w) → AreCounted n s (More w (Forth event))
 forth_more n s w event i a f m h r d near far =
     record { usable = i.usable; forth_is = counted_more n s (forth w) event i.forth_is a f m h r d; back_is = i.back_is; kept = (i.kept, near, far) }

@@ -1,23 +1,25 @@
 -- What the near device answers to an event as a server, as a step of the list. w is the list before, b the one right before the event, h and g are the server's
 -- histories there.
-use Rattle.std.proofs.Common.{◌≡◌, ℕ, ◌<◌, ◌≤◌, ◌∙◌, sym, ap, subst, refl, arith, true, Option, Some, inl, inr}
+use Rattle.std.proofs.Common.{◌≡◌, ℕ, ◌<◌, ◌≤◌, ◌∙◌, sym, ap, subst, refl, arith, Bool, true, false, List, Option, Some, inl, inr}
 use Rattle.std.proofs.Math.Nat.{le-max_left, le-max_right}
 use Rattle.std.specs.Prelude.{max, unwrap_or}
-use Rattle.std.specs.Option.{option_map}
+use Rattle.std.specs.Option.{option_and_then, option_map}
+use Rattle.osc_coap.specs.Datagram.{Parts}
 use Rattle.osc_context.specs.SecurityContext.{SecurityContext}
 use Rattle.osc_client.specs.ClientHistory as client
 use Rattle.osc_endpoint.specs.ServerAnswer.{ServerAnswer}
 use Rattle.osc_endpoint.specs.Tickets.{TakesTickets}
-use Rattle.osc_life.specs.Life.{next_own}
+use Rattle.osc_life.specs.Life.{Life, next_own}
 use Rattle.osc_life.specs.ServerHistory as server
+use Rattle.osc_kept_ends.specs.EchoNumber.{echo_of}
 use Rattle.osc_kept_ends.specs.KeptServing as serving
 use Rattle.osc_kept_ends.specs.Numbering.{Own, AreAlike, Allowed, Goes, Stay, after, upcoming, use_of}
 use Rattle.osc_kept_ends.specs.Peering.{MayDraw}
 use Rattle.osc_kept_ends.proofs.Drawing.{upcoming_stays}
-use Rattle.osc_kept.specs.EchoNumbers.{MakesEcho, RepliesWithoutEcho}
+use Rattle.osc_kept.specs.EchoNumbers.{EchoesItsNumber, MakesEcho}
 use Rattle.osc_kept.specs.InWorld.{IsHeld}
 use Rattle.osc_kept.specs.Premises.{IsNoAdd, NobodyForges}
-use Rattle.osc_kept.specs.World.{World, Then, AtServer, Has, delivered, sent, server_effect, server_history}
+use Rattle.osc_kept.specs.World.{World, Then, AtServer, Has, delivered, sent, server_effect, server_history, server_life}
 use Rattle.osc_kept.proofs.EchoNumbers.{counted_makes}
 use Rattle.osc_kept.proofs.GoingOn.{after_alike, alike_to, allowed_alike, no_load, IsNoLoad}
 use Rattle.osc_kept.proofs.InWorld.{HasTicket, forges_still, had_tickets, tickets_step}
@@ -82,19 +84,14 @@ held_still h g t (inr p) x = subst (λ y. IsHeld y t) (sym p.is) (x.0, x.1, x.2,
 -- ---- what the event needs
 
 has_ticket : (s : SecurityContext) (w : World) (h g : server.History) (event : server.Event) (entry : server.Entry) → MayPass h g → ServerTrusts s w h event entry → HasTicket g event entry
-has_ticket s w h g (server.Reply t own mid p room) (server.Replied bytes) m x = held_still h g t m x.0
-has_ticket s w h g (server.Notify t p room) (server.Replied bytes) m x = held_still h g t m x.0
+has_ticket s w h g (server.Reply t own mid p room) (server.Replied bytes) m x = held_still h g t m x
+has_ticket s w h g (server.Notify t p room) (server.Replied bytes) m x = held_still h g t m x
 has_ticket s w h g event entry m x = tt
 
 forges_at : (s : SecurityContext) (w b : World) (h : server.History) (event : server.Event) (entry : server.Entry) → sent s b ≡ sent s w → ServerTrusts s w h event entry
     → NobodyForges s b (AtServer event entry)
 forges_at s w b h (server.Datagram now echo mid d) entry e x = forges_still s w b d e x
 forges_at s w b h event entry e x = tt
-
-without_at : (s : SecurityContext) (w b : World) (h : server.History) (event : server.Event) (entry : server.Entry) → ServerTrusts s w h event entry → RepliesWithoutEcho b (AtServer event entry)
-without_at s w b h (server.Reply t own mid p room) (server.Replied bytes) x = x.1
-without_at s w b h (server.Notify t p room) (server.Replied bytes) x = x.1
-without_at s w b h event entry x = tt
 
 next_in_hand : (old drawn : Own) → MayDraw old drawn → upcoming drawn ≡ upcoming old
 next_in_hand old drawn (inl same) = ap upcoming same
@@ -117,6 +114,31 @@ makes_at s b g (server.Datagram now echo m d) (server.Took (server.Challenge i k
     subst (λ y. MakesEcho s b (AtServer (server.Datagram now y m d) entry)) (sym e)
     (counted_makes s b g now (upcoming old) m d entry only known next_is (subst (λ y. ServerAnswer g (server.Datagram now y m d) entry) e row))
 makes_at s b g event entry old drawn mid only known e row draw goes = tt
+
+-- the number with which a reply of its own is sealed is the upcoming one
+number_at : (b : World) (g : server.History) (t : server.TicketValues) (m : ℕ) (p : Parts) (room : ℕ) (bytes : List ℕ) (old drawn mid : Own) (own : Bool) (of l : Life) → OnlyFirst g
+    → server.life g t.context ≡ Some of → server.life g 0 ≡ Some l → own ≡ true → MayDraw old drawn
+    → Goes (use_of (serving.uses g (server.Reply t own m p room) (server.Replied bytes))) drawn mid → upcoming old ≡ next_own l
+number_at b g t m p room bytes old drawn mid true of l only there first e draw goes =
+    let same : Some of ≡ Some l = sym there ∙ ap (λ j. server.life g j) (only t.context of there) ∙ first in
+    let hand : drawn.hand ≡ Some (next_own l) = used_is (serving.uses g (server.Reply t true m p room) (server.Replied bytes)) (next_own l) drawn mid
+    (ap (λ o. option_map next_own o) (there ∙ same)) goes in
+    sym (next_in_hand old drawn draw) ∙ ap (λ (o : Option ℕ). unwrap_or o drawn.next) hand
+number_at b g t m p room bytes old drawn mid false of l only there first e draw goes = cc
+
+known_life : (s : SecurityContext) (b : World) (g : server.History) (l : Life) → server_history s b ≡ Some g → server_life s b ≡ Some l → server.life g 0 ≡ Some l
+known_life s b g l e f = sym (ap (λ o. option_and_then (λ h. server.life h 0) o) e) ∙ f
+
+-- a reply has the Echo value of the number with which it is sealed
+echoes_at : (s : SecurityContext) (b : World) (g : server.History) (event : server.Event) (entry : server.Entry) (old drawn mid : Own) → OnlyFirst g → server_history s b ≡ Some g
+    → HasEchoOf (upcoming old) event → ServerAnswer g event entry → MayDraw old drawn → Goes (use_of (serving.uses g event entry)) drawn mid → EchoesItsNumber s b (AtServer event entry)
+echoes_at s b g (server.Reply t own m p room) (server.Replied bytes) old drawn mid only known (inl none) row draw goes = inl none
+echoes_at s b g (server.Reply t own m p room) (server.Replied bytes) old drawn mid only known (inr (asked, made)) row draw goes = inr (
+  asked,
+  λ of is. made ∙ ap (λ k. Some (echo_of k)) (number_at b g t m p room bytes old drawn mid own row.0 of only row.1.0 (known_life s b g of known is) asked draw goes),
+)
+echoes_at s b g (server.Notify t p room) (server.Replied bytes) old drawn mid only known e row draw goes = e
+echoes_at s b g event entry old drawn mid only known e row draw goes = tt
 
 -- ---- deliveries
 
@@ -148,9 +170,9 @@ no_add event i = tt
 -- the event right behind the draw
 behind : (n : ℕ) (s : SecurityContext) (b : Peers) (g : server.History) (k : client.History) (event : server.Event) (entry : server.Entry) (old new : Own)
     → (m : Moves (serving.uses g event entry) old new) → AreCounted n s b → PeerRuns s b g k m.drawn → IsOfServer event → HasEchoOf (upcoming old) event → ServerAnswer g event entry
-    → HasTicket g event entry → NobodyForges (turned s) (back b) (AtServer event entry) → RepliesWithoutEcho (back b) (AtServer event entry)
+    → HasTicket g event entry → NobodyForges (turned s) (back b) (AtServer event entry)
     → AreCounted n s (More b (Back (AtServer event entry))) × PeerRuns s (More b (Back (AtServer event entry))) (server.Then g event entry) k new
-behind n s b g k event entry old new m i r plain e row held forges without =
+behind n s b g k event entry old new m i r plain e row held forges =
     let stood = stands n (turned s) (back b) g i.back_is.answers r.server_is in
     let tickets : TakesTickets (server.Then g event entry) = tickets_step g event entry held row (had_tickets n (turned s) (back b) g i.back_is.answers r.server_is) in
     let is : near_effect s b (Back (AtServer event entry)) ≡ use_of (serving.uses g event entry) = near_uses s b g event entry r.server_is plain in
@@ -159,7 +181,8 @@ behind n s b g k event entry old new m i r plain e row held forges without =
     let can : Allowed (use_of (serving.uses g event entry)) (near_numbers s b) =
     allowed_alike (use_of (serving.uses g event entry)) (near_numbers s b) m.drawn r.numbers_are (λ x f. absurd (subst IsNoLoad f (no_load (serving.uses g event entry)))) m.uses.0 in (
       back_more n s b (AtServer event entry) i (g, r.server_is, row, no_add event plain, tickets) forges
-          (makes_at (turned s) (back b) g event entry old m.drawn m.mid stood.only r.server_is e row m.draws m.uses) tt without tt
+          (makes_at (turned s) (back b) g event entry old m.drawn m.mid stood.only r.server_is e row m.draws m.uses) tt
+          (echoes_at (turned s) (back b) g event entry old m.drawn m.mid stood.only r.server_is e row m.draws m.uses) tt
           (subst (λ x. Allowed x (near_numbers s b)) (sym is) can) tt,
       record {
         server_is = ap (λ o. option_map (λ x. server.Then x event entry) o) r.server_is;
@@ -174,7 +197,7 @@ answers_in_list claims n s w h g k event entry old new i r pass plain e row m tr
     let d : Drawn n s p.v g k m.drawn = may_draw n s p.v g k old m.drawn p.counted p.runs m.draws in
     let same_sent : sent (turned s) (back d.v) ≡ sent (turned s) (back w) = ap (λ u. sent (turned s) u) d.back_is ∙ p.sent_is in
     let x = behind n s d.v g k event entry old new m d.counted d.runs plain e row (has_ticket (turned s) (back w) h g event entry pass trusts)
-    (forges_at (turned s) (back w) (back d.v) h event entry same_sent trusts) (without_at (turned s) (back w) (back d.v) h event entry trusts) in
+    (forges_at (turned s) (back w) (back d.v) h event entry same_sent trusts) in
     let v : Peers = More d.v (Back (AtServer event entry)) in (
       v,
       record { passed = p.v; passes = p.is; drawn = d.v; draws = d.is; ends = refl },

@@ -1,7 +1,7 @@
 -- To be believed: how what the near device does extends the list of what happens at two devices (RFC 8613, 3.1, 7.2.1, 7.4, 8 and B.1). w is the list before, v the
 -- list after, s the context as the near device asks under it, n how many pending requests it has room for; h and g are histories of its server, k and m of its
 -- client, old, mid and new are its numbers.
-use Rattle.std.specs.Prelude.{◌≡◌, ◌⊎◌, ℕ, ◌<◌, ◌≤◌, ◌^◌, Option, Some, None, max}
+use Rattle.std.specs.Prelude.{◌≡◌, ◌⊎◌, ℕ, ◌<◌, ◌≤◌, ◌^◌, Option, Some, None, max, true}
 use Rattle.osc_context.specs.SecurityContext.{SecurityContext}
 use Rattle.osc_protect.specs.Protection.{as_notified}
 use Rattle.osc_window.specs.declared.window_size.WindowSize.{WindowSize}
@@ -86,17 +86,19 @@ abbrev pub IsOfClient : client.Event → Type 0
 IsOfClient (client.Restart next) = ⊥
 IsOfClient event = Unit {0}
 
--- the fresh Echo value of a datagram is that of this number (RFC 9175, A, method 3)
+-- the Echo values of the event are those of this number: the fresh one of a datagram is, and so is that of a reply that has one, which then asks for a Partial IV of
+-- its own; a notification has none (RFC 9175, 2.3 and A, method 3)
 abbrev pub HasEchoOf : ℕ → server.Event → Type 0
 HasEchoOf number (server.Datagram now echo mid d) = echo ≡ echo_of number
+HasEchoOf number (server.Reply t own mid p room) = (sealed_echo p ≡ None) ⊎ ((own ≡ true) × (sealed_echo p ≡ Some (echo_of number)))
+HasEchoOf number (server.Notify t p room) = sealed_echo (as_notified p) ≡ None
 HasEchoOf number event = Unit {0}
 
--- for a datagram: nobody forged it; for a reply or a notification: a delivery gave its ticket, no reply took it, and the message has no Echo value
--- (RFC 8613, 8.3 and 12; RFC 9175, 2.3)
+-- for a datagram: nobody forged it; for a reply or a notification: a delivery gave its ticket, and no reply took it (RFC 8613, 8.3 and 12)
 abbrev pub ServerTrusts : SecurityContext → World → server.History → server.Event → server.Entry → Type 0
 ServerTrusts s w h (server.Datagram now echo mid d) entry = NobodyForgesRequests s w d
-ServerTrusts s w h (server.Reply t own mid p room) (server.Replied bytes) = IsHeld h t × (sealed_echo p ≡ None)
-ServerTrusts s w h (server.Notify t p room) (server.Replied bytes) = IsHeld h t × (sealed_echo (as_notified p) ≡ None)
+ServerTrusts s w h (server.Reply t own mid p room) (server.Replied bytes) = IsHeld h t
+ServerTrusts s w h (server.Notify t p room) (server.Replied bytes) = IsHeld h t
 ServerTrusts s w h event entry = Unit {0}
 
 -- for a datagram: nobody forged it; for a request: an Echo value that it has was heard before (RFC 8613, 12; RFC 9175, 2.3)

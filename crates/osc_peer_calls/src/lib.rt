@@ -5,9 +5,13 @@
 mod answering;
 mod asking;
 mod beginning;
+mod challenging;
 mod laws;
+mod remembering;
 
 pub use answering::{decide_in_list, notify_in_list, reply_in_list, take_in_list};
 pub use asking::{decide_response_in_list, forget_in_list, hear_in_list, request_in_list};
 pub use beginning::{advance_in_list, start_in_list};
-pub use laws::{peer_calls_in_list, peers_are_alike, peers_by_numbers};
+pub use challenging::challenge_in_list;
+pub use laws::{peer_calls_in_list, peers_are_alike, peers_are_fresh, peers_by_numbers};
+pub use remembering::{reply_again_in_list, take_again_in_list};

@@ -14,7 +14,7 @@ returns-clause-answered g c = λ worked s w counted runs held none.
     let t = values_of c.args.ticket.now in
     let entry = reply_entry c.notify.result c.notify.new.out in
     answers_after c.peer_calls_in_list.ensures.server s w c.args.peer.now c.notify.new.self runs h (Notify t (parts_of c.args.plain.now) (length c.args.out.now)) entry
-    counted (inr passes) tt tt step.row (serves _ _ _ _ _ _ step) (notify_trusts (turned s) (back w) runs.h t (parts_of c.args.plain.now) (length c.args.out.now) entry (held runs.h runs.runs.server_is) none)
+    counted (inr passes) tt none step.row (serves _ _ _ _ _ _ step) (notify_trusts (turned s) (back w) runs.h t (parts_of c.args.plain.now) (length c.args.out.now) entry (held runs.h runs.runs.server_is))
     (kept_behind _ _ _ step.kept) c.notify.ensures.client (notify_under c.notify.result c.notify.new.out _)
 
 pub returns-clause-unchanged : goal.returns-clause-unchanged

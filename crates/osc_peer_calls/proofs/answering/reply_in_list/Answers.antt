@@ -1,4 +1,4 @@
-use Rattle.std.proofs.Common.{inr, length}
+use Rattle.std.proofs.Common.{inl, inr, length}
 use Rattle.osc_coap.specs.Views.{parts_of}
 use Rattle.osc_life.specs.LifeAnswer.{asks_own}
 use Rattle.osc_life.specs.ServerHistory.{Reply}
@@ -16,7 +16,7 @@ returns-clause-answered g c = λ worked s w counted runs held none.
     let t = values_of c.args.ticket in
     let entry = server_entry c.reply.result c.reply.new.out in
     answers_after c.peer_calls_in_list.ensures.server s w c.args.peer.now c.reply.new.self runs h (Reply t (asks_own t c.args.own) c.args.mid (parts_of c.args.plain.now) (length c.args.out.now)) entry
-    counted (inr passes) tt tt step.row (serves _ _ _ _ _ _ step) (reply_trusts (turned s) (back w) runs.h t (asks_own t c.args.own) c.args.mid (parts_of c.args.plain.now) (length c.args.out.now) entry (held runs.h runs.runs.server_is) none)
+    counted (inr passes) tt (inl none) step.row (serves _ _ _ _ _ _ step) (reply_trusts (turned s) (back w) runs.h t (asks_own t c.args.own) c.args.mid (parts_of c.args.plain.now) (length c.args.out.now) entry (held runs.h runs.runs.server_is))
     (kept_behind _ _ _ step.kept) c.reply.ensures.client (reply_under c.reply.result c.reply.new.out _)
 
 pub returns-clause-unchanged : goal.returns-clause-unchanged

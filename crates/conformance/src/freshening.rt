@@ -1,0 +1,158 @@
+//! The steps of a peer that wants fresh requests, and of one that hears a challenge.
+
+ghost use Rattle.std.specs.Prelude.{IfOk};
+ghost use Rattle.osc_life.specs.Deciding.{CanShow};
+ghost use Rattle.osc_fresh.specs.Admitting.{IfDecided};
+
+use crate::answer::Answer;
+use crate::peer::Peer;
+use crate::server_end::lent;
+use crate::server_entry::show;
+use crate::steps::{FILLED_WITH, Step, Way};
+use osc_context::KeeperError;
+use osc_endpoint::siblings::{put_back, take_out};
+use osc_endpoint::{ClientOutcome, Outcome, ServerEntry, Taken, Ticket};
+use osc_fresh::{Challenged, DecidedFresh, Wishes};
+
+/// Shows how old the request of a delivery is at most, if the wishes know that.
+fn show_age(wishes: &Wishes, now: u64, outcome: &Outcome<'_>, answer: &mut Answer) {
+    let Outcome::Deliver(opened, _) = outcome else {
+        return;
+    };
+    answer.word("age");
+    match wishes.age(opened, now) {
+        Some(age) => answer.print(age),
+        None => answer.word("unknown"),
+    }
+}
+
+/// Decides about a datagram by one call, or by the two that it is made of.
+fn decide(
+    peer: &mut Peer<'_>,
+    wishes: &mut Wishes,
+    now: u64,
+    mid: u16,
+    bytes: &mut [u8],
+    out: &mut [u8; 64],
+    way: Way,
+) -> Result<DecidedFresh, KeeperError>
+    ensures { IfOk result (λ x. IfDecided x (λ d. CanShow d.decision bytes.new)) }
+{
+    if way != Way::ByHalves {
+        return wishes.decide(peer, now, mid, bytes, out);
+    }
+    match peer.decide(now, mid, bytes, out) {
+        Ok(decided) => Ok(wishes.admit(peer, now, mid, decided, bytes, out)),
+        Err(error) => Err(error),
+    }
+}
+
+/// Makes `fresh NOW MID DATAGRAM`: a datagram comes to a peer that wants fresh requests. Shows what it makes of it, or `challenged` and the
+/// challenge, or `unanswered` and why. Returns the ticket of a delivery.
+pub(crate) fn take(
+    peer: &mut Peer<'_>,
+    wishes: &mut Wishes,
+    step: &Step<'_>,
+    way: Way,
+    answer: &mut Answer,
+) -> Option<Ticket> {
+    let fields = &step.fields;
+    fields.count(3);
+    let (now, mid) = (fields.number(0), fields.message_id(1));
+    let (mut bytes, mut out) = (fields.copy(2), [FILLED_WITH; 64]);
+    let before = *wishes;
+    let taken = match decide(peer, wishes, now, mid, &mut bytes, &mut out, way) {
+        Ok(DecidedFresh::Challenged(len)) => {
+            answer.word("challenged");
+            answer.bytes(out.get(..len).unwrap_or(&[]));
+            return None;
+        }
+        Ok(DecidedFresh::Unanswered(error)) => {
+            answer.word("unanswered");
+            answer.print(error);
+            return None;
+        }
+        Ok(DecidedFresh::Decided(decided)) => lent(decided, &bytes),
+        Err(_) => Taken {
+            outcome: Outcome::KeeperFailed,
+            reply: 0,
+        },
+    };
+    let Taken { outcome, reply } = taken;
+    show_age(&before, now, &outcome, answer);
+    let (seen, ticket) = outcome.part();
+    let reply = out.get(..reply).unwrap_or(&[]);
+    show(&ServerEntry::Took { seen, reply }, answer);
+    ticket
+}
+
+/// Makes `age NOW MID DATAGRAM`: a datagram comes to a peer, and a delivery is shown with its age. Returns the ticket of a delivery.
+pub(crate) fn age(
+    peer: &mut Peer<'_>,
+    wishes: &Wishes,
+    step: &Step<'_>,
+    answer: &mut Answer,
+) -> Option<Ticket> {
+    let fields = &step.fields;
+    fields.count(3);
+    let (now, mid) = (fields.number(0), fields.message_id(1));
+    let (mut bytes, mut out) = (fields.copy(2), [FILLED_WITH; 64]);
+    let Taken { outcome, reply } = Peer::take(peer, now, mid, &mut bytes, &mut out);
+    show_age(wishes, now, &outcome, answer);
+    let (seen, ticket) = outcome.part();
+    let reply = out.get(..reply).unwrap_or(&[]);
+    show(&ServerEntry::Took { seen, reply }, answer);
+    ticket
+}
+
+/// Makes `ask EVENT NOW MID ROOM`: the request of an event is challenged.
+pub(crate) fn ask(
+    peer: &mut Peer<'_>,
+    wishes: &mut Wishes,
+    tickets: &mut [Option<Ticket>],
+    step: &Step<'_>,
+    answer: &mut Answer,
+) {
+    let fields = &step.fields;
+    fields.count(4);
+    let (of, now, mid) = (fields.index(0), fields.number(1), fields.message_id(2));
+    let mut out = fields.room(3, FILLED_WITH);
+    let Some(ticket) = take_out(tickets, of) else {
+        answer.word("no-ticket");
+        return;
+    };
+    match wishes.challenge(peer, ticket, now, mid, &mut out) {
+        Ok(len) => {
+            answer.word("asked");
+            answer.bytes(out.get(..len).unwrap_or(&[]));
+        }
+        Err((refusal, ticket)) => {
+            put_back(tickets, of, ticket);
+            answer.refused(refusal);
+        }
+    }
+}
+
+/// Makes `listen NOW DATAGRAM`: a datagram comes that may be a response. Shows a challenge with its value, and whether it says that its
+/// request wasn't obeyed.
+pub(crate) fn listen(peer: &mut Peer<'_>, step: &Step<'_>, answer: &mut Answer) {
+    let fields = &step.fields;
+    fields.count(2);
+    let (now, mut bytes) = (fields.number(0), fields.copy(1));
+    let outcome = Peer::hear(peer, now, &mut bytes);
+    let (ClientOutcome::Deliver(opened, _) | ClientOutcome::Notified(opened, _)) = &outcome else {
+        answer.word("nothing");
+        return;
+    };
+    match Challenged::heard(opened) {
+        Some(challenged) => {
+            answer.word(if challenged.unobeyed {
+                "unobeyed"
+            } else {
+                "perhaps"
+            });
+            answer.bytes(challenged.echo);
+        }
+        None => answer.word("no-challenge"),
+    }
+}

@@ -1,0 +1,7 @@
+-- to be believed, in reading order
+pub mod Wishing
+pub mod Admitting
+pub mod Freshness
+pub mod Commands
+-- how the code is seen
+pub mod Views
