@@ -1,10 +1,11 @@
-//! The steps of a peer that wants fresh requests, and of one that hears a challenge.
+//! The steps of a peer that wants fresh requests, and of one that hears a challenge; and budgets.
 
 ghost use Rattle.std.specs.Prelude.{IfOk};
 ghost use Rattle.osc_life.specs.Deciding.{CanShow};
 ghost use Rattle.osc_fresh.specs.Admitting.{IfDecided};
 
 use crate::answer::Answer;
+use crate::fields::Fields;
 use crate::peer::Peer;
 use crate::server_end::lent;
 use crate::server_entry::show;
@@ -12,7 +13,7 @@ use crate::steps::{FILLED_WITH, Step, Way};
 use osc_context::KeeperError;
 use osc_endpoint::siblings::{put_back, take_out};
 use osc_endpoint::{ClientOutcome, Outcome, ServerEntry, Taken, Ticket};
-use osc_fresh::{Challenged, DecidedFresh, Wishes};
+use osc_fresh::{Budget, Challenged, DecidedFresh, HeardEcho, Wishes};
 
 /// Shows how old the request of a delivery is at most, if the wishes know that.
 fn show_age(wishes: &Wishes, now: u64, outcome: &Outcome<'_>, answer: &mut Answer) {
@@ -154,5 +155,26 @@ pub(crate) fn listen(peer: &mut Peer<'_>, step: &Step<'_>, answer: &mut Answer) 
             answer.bytes(challenged.echo);
         }
         None => answer.word("no-challenge"),
+    }
+}
+
+/// Makes `heard`: shows the Echo value that was heard last, or none.
+pub(crate) fn heard(heard: &HeardEcho, answer: &mut Answer) {
+    match heard.value() {
+        Some(value) => answer.bytes(value),
+        None => answer.bytes(&[]),
+    }
+}
+
+/// Asks a budget of so many numbers in a period for one at each of the moments.
+pub(crate) fn budget(fields: &Fields<'_>, answer: &mut Answer) {
+    let Ok(most) = u32::try_from(fields.number(0)) else {
+        fields.refuse();
+        return;
+    };
+    let mut budget = Budget::new(most);
+    for place in 1..fields.len() {
+        let grants = budget.grants(fields.number(place));
+        answer.word(if grants { "yes" } else { "no" });
     }
 }

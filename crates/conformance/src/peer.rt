@@ -12,7 +12,7 @@ use crate::{client_calls, freshening, server_calls};
 use osc_coap::Message;
 use osc_context::KeptNumbers;
 use osc_endpoint::{ClientOutcome, Outcome, Taken, Ticket};
-use osc_fresh::Wishes;
+use osc_fresh::{ErrorReplies, HeardEcho, Wishes, notify_without_echo, reply_without_echo};
 use osc_kept::KeptPeer;
 
 /// How old a request may be that a peer obeys which wants fresh ones, in milliseconds.
@@ -21,7 +21,19 @@ const FRESH_MS: u64 = 5_000;
 /// A peer over a record in memory, with room for two pending requests.
 pub(crate) type Peer<'t> = KeptPeer<RecordMemory<'t>, 2>;
 
-impl ServerEnd for Peer<'_> {
+/// A peer, and what its caller asked for: that no Echo value goes out but one that is due, which errors are sent, a memory of requests that it
+/// answered, and fresh requests.
+#[derive(Drop)]
+struct Asking<'t> {
+    peer: Peer<'t>,
+    heeds: bool,
+    heard: HeardEcho,
+    errors: ErrorReplies,
+    replies: Remembered,
+    wishes: Wishes,
+}
+
+impl ServerEnd for Asking<'_> {
     /// A peer makes its Echo values itself.
     fn take<'b>(&mut self, _at: Moment, _: &'b mut [u8], _out: &mut Room) -> Made<Taken<'b>> {
         Err(Refusal::Bad)
@@ -32,7 +44,10 @@ impl ServerEnd for Peer<'_> {
     }
 
     fn counted<'b>(&mut self, at: Moment, bytes: &'b mut [u8], out: &mut Room) -> Made<Taken<'b>> {
-        Ok(KeptPeer::take(self, at.now, at.fresh.mid, bytes, out))
+        let asked = bytes.len();
+        let taken = KeptPeer::take(&mut self.peer, at.now, at.fresh.mid, bytes, out);
+        let reply = self.errors.sent_after(&taken, asked);
+        Ok(Taken { reply, ..taken })
     }
 
     fn counted_halves<'b>(
@@ -41,8 +56,13 @@ impl ServerEnd for Peer<'_> {
         bytes: &'b mut [u8],
         out: &mut Room,
     ) -> Made<Taken<'b>> {
-        match KeptPeer::decide(self, at.now, at.fresh.mid, bytes, out) {
-            Ok(decided) => Ok(lent(decided, bytes)),
+        let asked = bytes.len();
+        match KeptPeer::decide(&mut self.peer, at.now, at.fresh.mid, bytes, out) {
+            Ok(decided) => {
+                let reply = self.errors.sent_for(&decided, asked);
+                let taken = lent(decided, bytes);
+                Ok(Taken { reply, ..taken })
+            }
             Err(_) => Ok(Taken {
                 outcome: Outcome::KeeperFailed,
                 reply: 0,
@@ -51,81 +71,135 @@ impl ServerEnd for Peer<'_> {
     }
 
     fn reply(&mut self, ticket: Ticket, reply: &Reply<'_>, out: &mut [u8]) -> Replied {
-        answered(KeptPeer::reply(self, ticket, reply.own, reply.mid, &reply.plain, out))
+        let (peer, plain) = (&mut self.peer, &reply.plain);
+        answered(if self.heeds {
+            reply_without_echo(peer, ticket, reply.own, reply.mid, plain, out)
+        } else {
+            KeptPeer::reply(peer, ticket, reply.own, reply.mid, plain, out)
+        })
     }
 
     fn notify(&mut self, ticket: &Ticket, plain: &Message<'_>, out: &mut [u8]) -> Made<usize> {
-        KeptPeer::notify(self, ticket, plain, out).map_err(Refusal::of_reply)
+        let len = if self.heeds {
+            notify_without_echo(&mut self.peer, ticket, plain, out)
+        } else {
+            KeptPeer::notify(&mut self.peer, ticket, plain, out)
+        };
+        len.map_err(Refusal::of_reply)
     }
 
     fn next(&self, _context: usize) -> Made<Option<u64>> {
-        Ok(Some(self.upcoming()))
+        Ok(Some(self.peer.upcoming()))
     }
 
     fn other(&mut self, step: &Step<'_>) -> Made<&'static str> {
         match step.verb {
             "advance" => {
-                KeptPeer::advance(self, step.fields.number(0));
+                KeptPeer::advance(&mut self.peer, step.fields.number(0));
                 Ok("advanced")
             }
-            "is-open" => Ok(if self.is_open() { "open" } else { "closed" }),
+            "is-open" => Ok(if self.peer.is_open() {
+                "open"
+            } else {
+                "closed"
+            }),
+            "heed" => {
+                self.heeds = true;
+                Ok("heeds")
+            }
+            "errors" => {
+                self.errors = errors_named(step.fields.word(0))?;
+                Ok("set")
+            }
             _ => Err(Refusal::Bad),
         }
     }
 }
 
-impl ClientEnd for Peer<'_> {
-    fn request(&mut self, now: u64, plain: &Message<'_>, out: &mut [u8]) -> Made<usize> {
-        KeptPeer::request(self, now, plain, out).map_err(Refusal::of_request)
-    }
-
-    fn take<'b>(&mut self, now: u64, bytes: &'b mut [u8]) -> Made<ClientOutcome<'b>> {
-        Ok(KeptPeer::hear(self, now, bytes))
-    }
-
-    fn halves<'b>(&mut self, now: u64, bytes: &'b mut [u8]) -> Made<ClientOutcome<'b>> {
-        let decision = KeptPeer::decide_response(self, now, bytes);
-        Ok(decision.outcome(bytes))
-    }
-
-    fn forget(&mut self, token: &[u8]) -> Made<bool> {
-        Ok(KeptPeer::forget(self, token))
+/// Returns which errors are sent, by a word of a row.
+fn errors_named(word: &str) -> Made<ErrorReplies> {
+    match word {
+        "silent" => Ok(ErrorReplies::Silent),
+        "no-longer" => Ok(ErrorReplies::NoLonger),
+        "any" => Ok(ErrorReplies::Any),
+        _ => Err(Refusal::Bad),
     }
 }
 
-/// Makes the steps of a peer, in either role, with a memory of the requests that it answered, or with a wish for fresh requests. An event of its server has a place for its
-/// ticket.
-fn make(peer: &mut Peer<'_>, steps: &[Step<'_>], way: Way, answer: &mut Answer) {
+impl ClientEnd for Asking<'_> {
+    fn request(&mut self, now: u64, plain: &Message<'_>, out: &mut [u8]) -> Made<usize> {
+        let len = if self.heeds {
+            self.heard.request(&mut self.peer, now, plain, out)
+        } else {
+            KeptPeer::request(&mut self.peer, now, plain, out)
+        };
+        len.map_err(Refusal::of_request)
+    }
+
+    fn take<'b>(&mut self, now: u64, bytes: &'b mut [u8]) -> Made<ClientOutcome<'b>> {
+        Ok(self.heard.hear(&mut self.peer, now, bytes))
+    }
+
+    fn halves<'b>(&mut self, now: u64, bytes: &'b mut [u8]) -> Made<ClientOutcome<'b>> {
+        let decision = KeptPeer::decide_response(&mut self.peer, now, bytes);
+        let outcome = decision.outcome(bytes);
+        if let ClientOutcome::Deliver(opened, _) | ClientOutcome::Notified(opened, _) = &outcome {
+            self.heard.note(opened);
+        }
+        Ok(outcome)
+    }
+
+    fn forget(&mut self, token: &[u8]) -> Made<bool> {
+        Ok(KeptPeer::forget(&mut self.peer, token))
+    }
+}
+
+/// Makes an event of the server's role with a memory of the requests that it answered, or with a wish for fresh requests. Returns the place
+/// for its ticket, or nothing for any other step.
+fn event(
+    asking: &mut Asking<'_>,
+    tickets: &mut [Option<Ticket>],
+    step: &Step<'_>,
+    way: Way,
+    answer: &mut Answer,
+) -> Option<Option<Ticket>> {
+    let Asking {
+        peer,
+        replies,
+        wishes,
+        ..
+    } = asking;
+    match step.verb {
+        "again" => Some(remembering::take(peer, replies, step, way, answer)),
+        "fresh" => Some(freshening::take(peer, wishes, step, way, answer)),
+        "age" => Some(freshening::age(peer, wishes, step, answer)),
+        "answer" => {
+            remembering::reply(peer, replies, tickets, step, answer);
+            Some(None)
+        }
+        "ask" => {
+            freshening::ask(peer, wishes, tickets, step, answer);
+            Some(None)
+        }
+        _ => None,
+    }
+}
+
+/// Makes the steps of a peer, in either role. An event of its server has a place for its ticket.
+fn make(asking: &mut Asking<'_>, steps: &[Step<'_>], way: Way, answer: &mut Answer) {
     let (mut tickets, mut left) = (Vec::new(answer.alloc), Answer::new(answer.alloc));
-    let mut replies = Remembered::new();
-    let mut wishes = Wishes::new(FRESH_MS);
     for step in steps {
-        match step.verb {
-            "request" | "hear" | "forget" => {
-                client_calls::make_step(peer, step, way, answer, &mut left);
+        if let Some(ticket) = event(asking, &mut tickets, step, way, answer) {
+            answer.is_whole = tickets.push(ticket).is_ok() && answer.is_whole;
+        } else {
+            match step.verb {
+                "request" | "hear" | "forget" => {
+                    client_calls::make_step(asking, step, way, answer, &mut left);
+                }
+                "listen" => freshening::listen(&mut asking.peer, step, answer),
+                "heard" => freshening::heard(&asking.heard, answer),
+                _ => server_calls::make_step(asking, &mut tickets, step, way, answer, &mut left),
             }
-            "again" => {
-                let ticket = remembering::take(peer, &mut replies, step, way, answer);
-                answer.is_whole = tickets.push(ticket).is_ok() && answer.is_whole;
-            }
-            "answer" => {
-                remembering::reply(peer, &mut replies, &mut tickets, step, answer);
-                answer.is_whole = tickets.push(None).is_ok() && answer.is_whole;
-            }
-            "fresh" => {
-                let ticket = freshening::take(peer, &mut wishes, step, way, answer);
-                answer.is_whole = tickets.push(ticket).is_ok() && answer.is_whole;
-            }
-            "age" => {
-                let ticket = freshening::age(peer, &wishes, step, answer);
-                answer.is_whole = tickets.push(ticket).is_ok() && answer.is_whole;
-            }
-            "ask" => {
-                freshening::ask(peer, &mut wishes, &mut tickets, step, answer);
-                answer.is_whole = tickets.push(None).is_ok() && answer.is_whole;
-            }
-            "listen" => freshening::listen(peer, step, answer),
-            _ => server_calls::make_step(peer, &mut tickets, step, way, answer, &mut left),
         }
         answer.word(";");
     }
@@ -145,9 +219,18 @@ fn one_start<'t>(
     };
     let (size, life) = (start.fields.window_size(1), start.fields.number(2));
     match Peer::start(context, keeper, size, life) {
-        Ok(mut peer) => {
+        Ok(peer) => {
             answer.word("started ;");
-            make(&mut peer, steps, way, answer);
+            let mut asking = Asking {
+                peer,
+                heeds: false,
+                heard: HeardEcho::new(),
+                errors: ErrorReplies::Any,
+                replies: Remembered::new(),
+                wishes: Wishes::new(FRESH_MS),
+            };
+            make(&mut asking, steps, way, answer);
+            let Asking { peer, .. } = asking;
             peer.into_keeper()
         }
         Err((refusal, keeper)) => {

@@ -173,7 +173,7 @@ pub(crate) fn make_step<S: ServerEnd>(
 ) {
     match step.verb {
         "add" => add(server, step, answer),
-        "advance" | "is-open" | "skip" => show_word(server.other(step), answer),
+        "advance" | "is-open" | "skip" | "heed" | "errors" => show_word(server.other(step), answer),
         "next" => show_next(server, step, answer),
         _ => {
             let ticket = make_event(server, tickets, step, way, answer, left);

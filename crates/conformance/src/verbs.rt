@@ -3,7 +3,7 @@
 use crate::answer::Answer;
 use crate::fields::{Fields, NamedContext};
 use crate::protection::Asked;
-use crate::{blocks, ciphers, context, numbers, protection, reading, window, writing};
+use crate::{blocks, ciphers, context, freshening, numbers, protection, reading, window, writing};
 use osc_protect::KeyedContext;
 
 /// Makes a call of osc_aes, osc_ccm or osc_hkdf, or of a layer above.
@@ -87,6 +87,7 @@ fn of_windows(verb: &str, fields: &Fields<'_>, contexts: &[NamedContext<'_>], an
         "window" => window::window(fields, answer),
         "gate" => window::gate(fields, answer),
         "challenge" => window::challenge(fields, answer),
+        "budget" => freshening::budget(fields, answer),
         _ => of_blocks(verb, fields, contexts, answer),
     }
 }

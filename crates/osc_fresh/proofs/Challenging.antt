@@ -1,5 +1,5 @@
 -- What a peer does that wants fresh requests, by cases.
-use Rattle.std.proofs.Common.{◌≡◌, ◌≢◌, ℕ, List, refl, true}
+use Rattle.std.proofs.Common.{◌≡◌, ◌≢◌, ℕ, ◌+◌, List, arith, refl, true}
 use Rattle.osc_context.specs.declared.record_keeper.RecordKeeper as keeper
 use Rattle.osc_life.specs.Deciding.{Decides}
 use Rattle.osc_life.specs.LifeAnswer.{asks_own}
@@ -19,7 +19,7 @@ use Rattle.osc_kept_ends.specs.Peering.{PeerStep, ServerIsBehind}
 use Rattle.osc_kept_ends.specs.PeerOwning.{own_in}
 use Rattle.osc_fresh.specs.declared.decided_fresh.DecidedFresh.TheVariants as fresh
 use Rattle.osc_fresh.specs.declared.decided_fresh.DecidedFresh.{DecidedFresh}
-use Rattle.osc_fresh.specs.Admitting.{Challenges, IfStale}
+use Rattle.osc_fresh.specs.Admitting.{Challenges, IfStale, failures_more}
 use Rattle.osc_fresh.specs.Wishing.{unobeyed_message}
 
 pub unanswered : {R : Type 0} {r : keeper.Ghosts R} {N : ℕ} (mid : ℕ) (t : Ticket) (e : ReplyError) (out : List ℕ) (old new : KeptPeer R N r)
@@ -29,6 +29,10 @@ pub unanswered : {R : Type 0} {r : keeper.Ghosts R} {N : ℕ} (mid : ℕ) (t : T
     → (e ≡ replies.KeeperFailed → (new.server ≡ old.server) × (own_in new.source ≡ own_in old.source)) → Challenges mid t (fresh.Unanswered e) out old new
 unanswered mid t replies.KeeperFailed out old new f g = g refl
 unanswered mid t e out old new f g = f (λ x. cc)
+
+pub failed_more : (e : ReplyError) (old new : ℕ) → (e ≢ replies.KeeperFailed → new ≡ old) → (e ≡ replies.KeeperFailed → new ≡ old + 1) → new ≡ old + failures_more (fresh.Unanswered e)
+failed_more replies.KeeperFailed old new f g = g refl
+failed_more e old new f g = omega (arith, f (λ x. cc))
 
 pub not_delivered : (decision : Decision) (left : List ℕ) (received : Received) (ticket : server.TicketValues) → ((x : ReadRequest) (t : Ticket) → decision ≡ decisions.Deliver x t → ⊥)
     → Decides decision left (server.Deliver received ticket) → ⊥

@@ -1,14 +1,14 @@
 //! A peer that delivers fresh requests alone (RFC 8613, 7.3; RFC 9175, 2.3).
 
-ghost use Rattle.std.specs.Prelude.{◌≡◌, ◌≤◌, ◌+◌, IsErr, IfOk, take};
+ghost use Rattle.std.specs.Prelude.{◌≡◌, ◌≤◌, ◌+◌, IsErr, IfOk, drop, take};
 ghost use Rattle.osc_life.specs.Deciding.{CanShow, Decides};
 ghost use Rattle.osc_life.specs.ServerHistory as served;
 ghost use Rattle.osc_observe.specs.Received.{Received};
 ghost use Rattle.osc_kept_ends.specs.EchoNumber.{echo_of};
 ghost use Rattle.osc_kept_ends.specs.Numbering.{upcoming};
 ghost use Rattle.osc_kept_ends.specs.PeerOwning.{own_in};
-ghost use Rattle.osc_kept_ends.specs.Peering.{PeerDecides, ServerIsBehind, ServerWaits};
-ghost use Rattle.osc_fresh.specs.Admitting.{AsksAnew, DecidesAndAsks, IfDecided, IfStale};
+ghost use Rattle.osc_kept_ends.specs.Peering.{DeliversBelow, PeerDecides, ServerIsBehind, ServerWaits};
+ghost use Rattle.osc_fresh.specs.Admitting.{AsksAnew, DecidesAndAsks, IfDecided, IfStale, reply_of};
 ghost use Rattle.osc_fresh.specs.Wishing.{IsFresh};
 
 use crate::decided_fresh::DecidedFresh;
@@ -36,7 +36,8 @@ impl Wishes {
         ensures passed { IfDecided result (λ d. (d ≡ decided) × (peer.new ≡ peer.old) × (self.new ≡ self.old) × (out.new ≡ out.old)) }
         ensures recent { IfDecided result (λ d. (received : Received) (ticket : served.TicketValues) → Decides d.decision datagram.now (served.Deliver received ticket)
             → IsFresh self.old.fresh_ms (last_of self.old) received.message now) }
-        ensures stale { IfStale result (AsksAnew self.old now mid decided datagram.now result out.new peer.old peer.new) }
+        ensures stale { IfStale result (AsksAnew self.old now mid decided datagram.now result out.old out.new self.new peer.old peer.new) }
+        ensures within { IfStale result (reply_of result ≤ 64) }
         ensures rises { R.received_floor peer.old.source.keeper ≤ R.received_floor peer.new.source.keeper }
         ensures client { peer.new.client ≡ peer.old.client }
         ensures wish { self.new.fresh_ms ≡ self.old.fresh_ms }
@@ -70,15 +71,21 @@ impl Wishes {
         ensures passed { IfOk result (λ x. IfDecided x (λ d. (h : served.History) → ServerIsBehind peer.old.server (upcoming (own_in peer.old.source)) h
             → PeerDecides h now (record { echo = echo_of (upcoming (own_in peer.old.source)); mid = mid }) datagram.old d datagram.new (take d.reply out.new)
             (own_in peer.old.source) (own_in peer.new.source) peer.new.server)) }
+        ensures kept { IfOk result (λ x. IfDecided x (λ d. DeliversBelow d.decision (R.received_floor peer.new.source.keeper))) }
         ensures recent { IfOk result (λ x. IfDecided x (λ d. (received : Received) (ticket : served.TicketValues) → Decides d.decision datagram.new (served.Deliver received ticket)
             → IsFresh self.old.fresh_ms (last_of self.old) received.message now)) }
-        ensures stale { IfOk result (λ x. IfStale x (DecidesAndAsks self.old now mid datagram.old datagram.new x out.new peer.old peer.new)) }
+        ensures stale { IfOk result (λ x. IfStale x (DecidesAndAsks self.old now mid datagram.old datagram.new x out.old out.new self.new peer.old peer.new)) }
         ensures waits { IsErr result → (h : served.History) → ServerIsBehind peer.old.server (upcoming (own_in peer.old.source)) h
             → ServerWaits h now (own_in peer.old.source) (own_in peer.new.source) peer.new.server }
         ensures rises { R.received_floor peer.old.source.keeper ≤ R.received_floor peer.new.source.keeper }
         ensures client { peer.new.client ≡ peer.old.client }
         ensures failed { IsErr result → R.failures peer.new.source.keeper ≡ R.failures peer.old.source.keeper + 1 }
+        ensures worked { IfOk result (λ x. IfDecided x (λ d. R.failures peer.new.source.keeper ≡ R.failures peer.old.source.keeper)) }
         ensures shown { IfOk result (λ x. IfDecided x (λ d. CanShow d.decision datagram.new)) }
+        ensures within { IfOk result (λ x. reply_of x ≤ 64) }
+        ensures behind { IfOk result (λ x. IfDecided x (λ d. drop d.reply out.new ≡ drop d.reply out.old)) }
+        ensures same { IfOk result (λ x. IfDecided x (λ d. self.new ≡ self.old)) }
+        ensures unchanged { IsErr result → self.new ≡ self.old }
         ensures wish { self.new.fresh_ms ≡ self.old.fresh_ms }
     {
         match peer.decide(now, mid, datagram, out) {

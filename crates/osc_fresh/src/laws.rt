@@ -1,6 +1,7 @@
-//! What holds of requests that carry the Echo value of a challenge, and of commands that are sealed anew. These functions exist only for
-//! their contracts.
+//! What holds of requests that carry the Echo value of a challenge, of commands that are sealed anew, and of budgets. These functions exist
+//! only for their contracts.
 
+ghost use Rattle.osc_fresh.specs.Budgeting.{BudgetHolds};
 ghost use Rattle.osc_fresh.specs.Commands.{OneCommand};
 ghost use Rattle.osc_fresh.specs.Freshness.{FreshOnDemand};
 
@@ -24,3 +25,8 @@ pub fn one_command()
 {
     both_ends();
 }
+
+/// States how many numbers a budget gives: in k periods at most k times `most`, and periods begin at least 30 s apart.
+pub fn budget_holds()
+    ensures { BudgetHolds }
+{}

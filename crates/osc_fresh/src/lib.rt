@@ -1,13 +1,22 @@
-//! What a server asks for that obeys fresh requests alone, and what a client hears then (RFC 8613, 7.3; RFC 9175, 2.3 and A, method 3).
+//! What a server asks for that obeys fresh requests alone, what a client hears then, which Echo values both seal, and which challenges and
+//! errors are sent (RFC 8613, 7.3, 8.2 and B.1.2; RFC 9175, 2.3 and A, method 3).
 #![tactic(auto)]
 
 mod admitting;
+mod answering;
+mod budget;
 mod challenged;
 mod decided_fresh;
+mod error_replies;
+mod heard_echo;
 mod laws;
 mod wishes;
 
+pub use answering::{notify_without_echo, reply_without_echo};
+pub use budget::Budget;
 pub use challenged::Challenged;
 pub use decided_fresh::DecidedFresh;
-pub use laws::{fresh_on_demand, one_command};
+pub use error_replies::ErrorReplies;
+pub use heard_echo::HeardEcho;
+pub use laws::{budget_holds, fresh_on_demand, one_command};
 pub use wishes::Wishes;

@@ -4,4 +4,6 @@ mod ServerSteps
 mod ClientSteps
 mod PeerStarts
 mod CallLemmas
+mod HeardEchoes
+mod FreshCalls
 pub mod TakenClauses

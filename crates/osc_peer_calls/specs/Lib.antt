@@ -1,3 +1,5 @@
 pub mod Counting
 pub mod GoingOn
 pub mod PeerCalls
+pub mod Hearing
+pub mod AskingAnew

@@ -3,6 +3,7 @@
 
 ghost use Rattle.osc_peer_calls.specs.Counting.{PeersAreAlike, PeersAreFresh, PeersByNumbers, PeersObeyOnce};
 ghost use Rattle.osc_peer_calls.specs.GoingOn.{AnswersInList, AsksInList, StartsInList};
+ghost use Rattle.osc_peer_calls.specs.Hearing.{StaysHeard};
 
 use osc_fresh::{fresh_on_demand, one_command};
 use osc_kept::echo_by_numbers;
@@ -45,3 +46,9 @@ pub fn peer_calls_in_list()
 {
     peers_by_numbers();
 }
+
+/// States that an Echo value which a device heard stays heard, whatever happens then at both devices. So what `HeardEcho` remembers may be
+/// sealed by a later call, and by a later life (RFC 9175, 2.3).
+pub fn heard_stays()
+    ensures { StaysHeard }
+{}

@@ -6,12 +6,19 @@ mod answering;
 mod asking;
 mod beginning;
 mod challenging;
+mod echoing;
 mod laws;
 mod remembering;
 
 pub use answering::{decide_in_list, notify_in_list, reply_in_list, take_in_list};
 pub use asking::{decide_response_in_list, forget_in_list, hear_in_list, request_in_list};
 pub use beginning::{advance_in_list, start_in_list};
-pub use challenging::challenge_in_list;
-pub use laws::{peer_calls_in_list, peers_are_alike, peers_are_fresh, peers_by_numbers};
+pub use challenging::{challenge_in_list, decide_fresh_in_list};
+pub use echoing::{
+    hear_echo_in_list, notify_without_echo_in_list, reply_without_echo_in_list,
+    request_heard_in_list,
+};
+pub use laws::{
+    heard_stays, peer_calls_in_list, peers_are_alike, peers_are_fresh, peers_by_numbers,
+};
 pub use remembering::{reply_again_in_list, take_again_in_list};

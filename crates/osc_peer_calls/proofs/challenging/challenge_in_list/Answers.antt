@@ -1,28 +1,18 @@
-use Rattle.std.proofs.Common.{◌≡◌, ◌||◌, ℕ, inr, length, refl, Bool, true, false, Some}
+use Rattle.std.proofs.Common.{ℕ, inr, length, true}
 use Rattle.osc_life.specs.LifeAnswer.{asks_own}
-use Rattle.osc_life.specs.ServerHistory.{Reply, TicketValues}
+use Rattle.osc_life.specs.ServerHistory.{Reply}
 use Rattle.osc_life.specs.Views.{values_of}
 use Rattle.osc_endpoint.specs.Views.{server_entry}
 use Rattle.osc_kept_ends.specs.EchoNumber.{echo_of}
 use Rattle.osc_kept_ends.specs.Numbering.{upcoming}
 use Rattle.osc_kept_ends.specs.PeerOwning.{own_in}
 use Rattle.osc_kept_ends.proofs.PeerSteps.{kept_behind}
-use Rattle.osc_kept.specs.EchoNumbers.{sealed_echo}
 use Rattle.osc_fresh.specs.Wishing.{unobeyed_message}
 use Rattle.osc_peers.specs.Peers.{back}
 use Rattle.osc_peers.specs.Roles.{turned}
 use Rattle.osc_peer_calls.proofs.CallLemmas.{answers_after, one_err, reply_trusts, reply_under, runs_still, serves}
+use Rattle.osc_peer_calls.proofs.FreshCalls.{asked, says}
 use Rattle.osc_peer_calls.proofs.challenging.challenge_in_list.Goals as goal
-
-asked : (t : TicketValues) → asks_own t true ≡ true
-asked t = go t.observes
-  where
-    go : (b : Bool) → (b || true) ≡ true
-    go true = refl
-    go false = refl
-
-says : (n : ℕ) → sealed_echo (unobeyed_message (echo_of n)) ≡ Some (echo_of n)
-says n = refl
 
 pub returns-clause-answered : goal.returns-clause-answered
 returns-clause-answered g c = λ worked s w counted runs held.

@@ -9,7 +9,7 @@ use Rattle.osc_kept_ends.specs.PeerOwning.{own_in}
 use Rattle.osc_kept_ends.specs.Peering.{PeerStep}
 use Rattle.osc_fresh.specs.Views.{last_of}
 use Rattle.osc_fresh.specs.Wishing.{IsFresh, unobeyed_message}
-use Rattle.osc_fresh.proofs.Challenging.{not_delivered, unanswered}
+use Rattle.osc_fresh.proofs.Challenging.{failed_more, not_delivered, unanswered}
 use Rattle.osc_fresh.proofs.wishes.Wishes.admit.Goals as goal
 
 pub returns-then-is_fresh-clause-recent : goal.returns-then-is_fresh-clause-recent
@@ -27,6 +27,11 @@ returns-in-Ok-clause-stale g c = record {
   challenges = λ h behind. subst (λ (k : ℕ). PeerStep h (served.Reply (values_of c.in-Deliver.ticket) (asks_own (values_of c.in-Deliver.ticket) true) c.args.mid
       (unobeyed_message (echo_of (upcoming (own_in c.args.peer.now.source)))) k) (served.Replied (take c.in-Ok.len c.challenge.new.out))
       (own_in c.args.peer.now.source) (own_in c.challenge.new.peer.source) c.challenge.new.peer.server) c.told-out (c.in-Ok.ensures.answered tt h behind);
+  remembers = c.in-Ok.ensures.issued;
+  behind = c.in-Ok.ensures.behind;
+  failures = omega (arith, c.in-Ok.ensures.worked tt);
+  client = c.challenge.ensures.client;
+  rises = c.challenge.ensures.rises;
 }
 
 pub returns-in-Err-clause-stale : goal.returns-in-Err-clause-stale
@@ -41,6 +46,11 @@ returns-in-Err-clause-stale g c = record {
       (unobeyed_message (echo_of (upcoming (own_in c.args.peer.now.source)))) k) (served.NotReplied c.in-Err.error)
       (own_in c.args.peer.now.source) (own_in c.challenge.new.peer.source) c.challenge.new.peer.server) c.told-out (c.in-Err.ensures.answered worked h behind))
       (λ bad. let x = c.in-Err.ensures.failed bad in (x.0, x.1));
+  remembers = c.in-Err.ensures.unchanged.1;
+  behind = c.in-Err.ensures.unchanged.0;
+  failures = failed_more c.in-Err.error _ _ (λ worked. c.in-Err.ensures.worked worked) (λ bad. (c.in-Err.ensures.failed bad).2);
+  client = c.challenge.ensures.client;
+  rises = c.challenge.ensures.rises;
 }
 
 pub returns-in_default : goal.returns-in_default
@@ -48,6 +58,7 @@ returns-in_default g c = record {
   passed = (refl, refl, refl, refl);
   recent = λ received ticket d. absurd (not_delivered c.args.decided.decision c.args.datagram.now received ticket c.in_default.not-Deliver d);
   stale = tt;
+  within = tt;
   rises = omega arith;
   client = refl;
   wish = refl;
