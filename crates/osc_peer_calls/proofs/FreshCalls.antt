@@ -32,7 +32,7 @@ use Rattle.osc_fresh.specs.Admitting.{Challenges, DecidesAndAsks, IfDecided, IfS
 use Rattle.osc_fresh.specs.Wishing.{unobeyed_message}
 use Rattle.osc_peers.specs.Peers.{Back, Peers, back}
 use Rattle.osc_peers.specs.Roles.{turned}
-use Rattle.osc_peer_calls.specs.AskingAnew.{AsksInList, ChallengesAfter, TicketsAreTaken}
+use Rattle.osc_peer_calls.specs.AskingAnew.{AsksAnewInList, ChallengesAfter, TicketsAreTaken}
 use Rattle.osc_peer_calls.specs.Counting.{AreCounted}
 use Rattle.osc_peer_calls.specs.GoingOn.{Adds, AnswersInList, DeliversUnder, IsDrawn, IsPassed, server_skip}
 use Rattle.osc_peer_calls.specs.PeerCalls.{AnswersAfter, DecidesInList, NobodyForgesTo, RunsIn}
@@ -129,7 +129,7 @@ given_as read t left answer is = absurd is
 
 pub asks_anew : {R : Type 0} {r : keeper.Ghosts R} {N : ℕ} → AnswersInList → (s : SecurityContext) (w : Peers) (old new : KeptPeer R N r) (runs : RunsIn s w old) (wishes left_wishes : Wishes)
     (now mid : ℕ) (d left : List ℕ) (x : DecidedFresh) (room out : List ℕ) → AreCounted N s w → NobodyForgesTo s w d → TicketsAreTaken s w
-    → DecidesAndAsks wishes now mid d left x room out left_wishes old new → AsksInList s w now mid d x out old new
+    → DecidesAndAsks wishes now mid d left x room out left_wishes old new → AsksAnewInList s w now mid d x out old new
 asks_anew law s w old new runs wishes left_wishes now mid d left x room out counted forges taken a =
     let reply : List ℕ = take a.decided.reply a.before in
     let (answer, is, added) = decided_after law s w old a.between runs now mid d left a.decided reply counted forges (a.decides runs.h runs.server) a.kept a.client in

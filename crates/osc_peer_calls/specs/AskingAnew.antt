@@ -37,7 +37,7 @@ ChallengesAfter s u mid t (fresh.Unanswered e) out between new =
 ChallengesAfter s u mid t (fresh.Decided d) out between new = Unit {0}
 
 -- the delivery of a request that isn't known to be fresh is added, and then its challenge (RFC 8613, 7.3, 8.2 and 8.3)
-pub record AsksInList {R : Type 0} {r : keeper.Ghosts R} {N : ℕ} (s : SecurityContext) (w : Peers) (now mid : ℕ) (d : List ℕ) (x : DecidedFresh) (out : List ℕ) (old new : KeptPeer R N r) : Type 0 where
+pub record AsksAnewInList {R : Type 0} {r : keeper.Ghosts R} {N : ℕ} (s : SecurityContext) (w : Peers) (now mid : ℕ) (d : List ℕ) (x : DecidedFresh) (out : List ℕ) (old new : KeptPeer R N r) : Type 0 where
   pub received : Received
   pub ticket : Ticket
   pub reply : List ℕ

@@ -15,7 +15,7 @@ ghost use Rattle.osc_fresh.specs.Views.{last_of};
 ghost use Rattle.osc_fresh.specs.Wishing.{unobeyed_message};
 ghost use Rattle.osc_peers.specs.Peers.{Peers};
 ghost use Rattle.osc_peer_calls.specs.Counting.{AreCounted};
-ghost use Rattle.osc_peer_calls.specs.AskingAnew.{AsksInList, TicketsAreTaken};
+ghost use Rattle.osc_peer_calls.specs.AskingAnew.{AsksAnewInList, TicketsAreTaken};
 ghost use Rattle.osc_peer_calls.specs.PeerCalls.{AnswersAfter, DecidesInList, HoldsTicket, NobodyForgesTo, RunsIn};
 
 use crate::laws::peer_calls_in_list;
@@ -61,7 +61,7 @@ pub fn decide_fresh_in_list<R: RecordKeeper, const N: usize>(
     ensures answered { IfOk result (λ x. IfDecided x (λ d. (s : SecurityContext) (w : Peers) → AreCounted N s w → RunsIn s w peer.old → NobodyForgesTo s w datagram.old
         → DecidesInList s w now mid datagram.old d.decision datagram.new (take d.reply out.new) peer.old peer.new)) }
     ensures stale { IfOk result (λ x. IfStale x ((s : SecurityContext) (w : Peers) → AreCounted N s w → RunsIn s w peer.old → NobodyForgesTo s w datagram.old → TicketsAreTaken s w
-        → AsksInList s w now mid datagram.old x out.new peer.old peer.new)) }
+        → AsksAnewInList s w now mid datagram.old x out.new peer.old peer.new)) }
     ensures clock_alone { IsErr result → (s : SecurityContext) (w : Peers) → AreCounted N s w → RunsIn s w peer.old
         → AnswersAfter s w (served.Advance now) served.Advanced peer.new }
     ensures failed { IsErr result → R.failures peer.new.source.keeper ≡ R.failures peer.old.source.keeper + 1 }
