@@ -13,7 +13,7 @@ use crate::steps::{FILLED_WITH, Step, Way};
 use osc_context::KeeperError;
 use osc_endpoint::siblings::{put_back, take_out};
 use osc_endpoint::{ClientOutcome, Outcome, ServerEntry, Taken, Ticket};
-use osc_fresh::{Budget, Challenged, DecidedFresh, HeardEcho, Wishes};
+use osc_fresh::{Budget, DecidedFresh, Followed, HeardEcho, Wishes};
 
 /// Shows how old the request of a delivery is at most, if the wishes know that.
 fn show_age(wishes: &Wishes, now: u64, outcome: &Outcome<'_>, answer: &mut Answer) {
@@ -136,17 +136,17 @@ pub(crate) fn ask(
 
 /// Makes `listen NOW DATAGRAM`: a datagram comes that may be a response. Shows a challenge with its value, and whether it says that its
 /// request wasn't obeyed.
-pub(crate) fn listen(peer: &mut Peer<'_>, step: &Step<'_>, answer: &mut Answer) {
+pub(crate) fn listen(
+    peer: &mut Peer<'_>,
+    heard: &mut HeardEcho,
+    step: &Step<'_>,
+    answer: &mut Answer,
+) {
     let fields = &step.fields;
     fields.count(2);
     let (now, mut bytes) = (fields.number(0), fields.copy(1));
-    let outcome = Peer::hear(peer, now, &mut bytes);
-    let (ClientOutcome::Deliver(opened, _) | ClientOutcome::Notified(opened, _)) = &outcome else {
-        answer.word("nothing");
-        return;
-    };
-    match Challenged::heard(opened) {
-        Some(challenged) => {
+    match heard.follow(peer, now, &mut bytes) {
+        Followed::Challenged(challenged, _) => {
             answer.word(if challenged.unobeyed {
                 "unobeyed"
             } else {
@@ -154,7 +154,10 @@ pub(crate) fn listen(peer: &mut Peer<'_>, step: &Step<'_>, answer: &mut Answer) 
             });
             answer.bytes(challenged.echo);
         }
-        None => answer.word("no-challenge"),
+        Followed::Heard(ClientOutcome::Deliver(_, _) | ClientOutcome::Notified(_, _)) => {
+            answer.word("no-challenge");
+        }
+        Followed::Heard(_) => answer.word("nothing"),
     }
 }
 

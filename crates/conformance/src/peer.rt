@@ -196,7 +196,7 @@ fn make(asking: &mut Asking<'_>, steps: &[Step<'_>], way: Way, answer: &mut Answ
                 "request" | "hear" | "forget" => {
                     client_calls::make_step(asking, step, way, answer, &mut left);
                 }
-                "listen" => freshening::listen(&mut asking.peer, step, answer),
+                "listen" => freshening::listen(&mut asking.peer, &mut asking.heard, step, answer),
                 "heard" => freshening::heard(&asking.heard, answer),
                 _ => server_calls::make_step(asking, &mut tickets, step, way, answer, &mut left),
             }

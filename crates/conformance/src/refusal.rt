@@ -1,8 +1,8 @@
 //! Why an end doesn't make a step.
 
 use crate::answer::Answer;
-use osc_endpoint::{ReplyError, RequestError, RestartError, SkipError, TooFewLeft};
-use osc_handle::{AddRefusal, ReplyRefusal};
+use osc_endpoint::{AddRefusal, ReplyError, RequestError, RestartError, SkipError, TooFewLeft};
+use osc_handle::ReplyRefusal;
 use osc_kept::KeptError;
 use osc_kept_handle::{KeptRefusal, KeptReplyRefusal, KeptRequestRefusal};
 
@@ -47,8 +47,7 @@ impl Refusal {
     /// Shows the refusal. A bad step makes the row differ.
     pub(crate) fn show(self, answer: &mut Answer) {
         match self {
-            Refusal::Add(AddRefusal::Refused(refusal)) => answer.refused(refusal),
-            Refusal::Add(AddRefusal::SameSender) => answer.refused("SameSender"),
+            Refusal::Add(refusal) => answer.refused(refusal),
             Refusal::Restart(refusal) => answer.refused(refusal),
             Refusal::Skip(refusal) => answer.refused(refusal),
             Refusal::TooFewLeft(refusal) => answer.refused(refusal),

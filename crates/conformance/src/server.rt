@@ -10,8 +10,8 @@ use crate::server_end::ServerEnd;
 use crate::server_entry::show;
 use crate::server_events::{addition, event_of, show_left};
 use crate::steps::{Step, Way, are_events};
-use osc_endpoint::{Server, ServerEntry, ServerEvent, run_server, run_server_on};
-use osc_handle::{AddRefusal, ContextHandle, ServerHandle, SingleServerHandle};
+use osc_endpoint::{AddRefusal, Server, ServerEntry, ServerEvent, run_server, run_server_on};
+use osc_handle::{ContextHandle, ServerHandle, SingleServerHandle};
 use osc_kept_handle::KeptServerHandle;
 use std::alloc::{AllocError, Global};
 

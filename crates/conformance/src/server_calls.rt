@@ -111,7 +111,12 @@ fn add<S: ServerEnd>(server: &mut S, step: &Step<'_>, answer: &mut Answer) {
     let Some((context, start, size)) = addition(step) else {
         return;
     };
-    match server.add(context, start, size) {
+    let added = if step.verb == "add" {
+        server.add(context, start, size)
+    } else {
+        server.add_distinct(context, start, size)
+    };
+    match added {
         Ok(index) => {
             answer.word("added");
             answer.print(index);
@@ -172,7 +177,7 @@ pub(crate) fn make_step<S: ServerEnd>(
     left: &mut Answer,
 ) {
     match step.verb {
-        "add" => add(server, step, answer),
+        "add" | "distinct" => add(server, step, answer),
         "advance" | "is-open" | "skip" | "heed" | "errors" => show_word(server.other(step), answer),
         "next" => show_next(server, step, answer),
         _ => {

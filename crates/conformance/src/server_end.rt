@@ -64,6 +64,11 @@ pub(crate) trait ServerEnd {
         Err(Refusal::Bad)
     }
 
+    /// Adds a context whose Sender Key no context that is there has.
+    fn add_distinct(&mut self, _context: Context, _: Start, _size: WindowSize) -> Made<usize> {
+        Err(Refusal::Bad)
+    }
+
     /// Begins a new life of a context.
     fn restart(&mut self, _context: usize, _next: Piv) -> Made<()> {
         Err(Refusal::Bad)

@@ -6,10 +6,8 @@ use crate::server_end::{Moment, Replied, Reply, Room, ServerEnd, lent};
 use crate::steps::Step;
 use osc_coap::Message;
 use osc_context::{Context, Piv};
-use osc_endpoint::{Outcome, ReplyError, RestartError, Server, Start, Taken, Ticket};
-use osc_handle::{
-    AddRefusal, ContextHandle, ReplyRefusal, ServerHandle, SingleServerHandle, TicketHandle,
-};
+use osc_endpoint::{AddRefusal, Outcome, ReplyError, RestartError, Server, Start, Taken, Ticket};
+use osc_handle::{ContextHandle, ReplyRefusal, ServerHandle, SingleServerHandle, TicketHandle};
 use osc_kept::KeptServer;
 use osc_kept_handle::KeptServerHandle;
 use osc_window::WindowSize;
@@ -43,6 +41,10 @@ impl ServerEnd for Server {
     fn add(&mut self, context: Context, start: Start, size: WindowSize) -> Made<usize> {
         let added = Server::add(self, context, start, size);
         added.map_err(|refusal| Refusal::Add(AddRefusal::Refused(refusal)))
+    }
+
+    fn add_distinct(&mut self, context: Context, start: Start, size: WindowSize) -> Made<usize> {
+        Server::add_distinct(self, context, start, size).map_err(Refusal::Add)
     }
 
     fn restart(&mut self, context: usize, next: Piv) -> Made<()> {

@@ -58,7 +58,10 @@ impl Step<'_> {
 
     /// Returns whether the step is an event, which runs know.
     pub(crate) fn is_event(&self) -> bool {
-        !matches!(self.verb, "add" | "advance" | "is-open" | "next" | "skip") && !self.is_counted()
+        !matches!(
+            self.verb,
+            "add" | "distinct" | "advance" | "is-open" | "next" | "skip"
+        ) && !self.is_counted()
     }
 
     /// Returns whether the step is `take NOW counted MID DATAGRAM`: the server makes the Echo value of its next number.

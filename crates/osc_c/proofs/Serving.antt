@@ -13,8 +13,9 @@ use Rattle.osc_life.specs.declared.server_error.RestartError.{RestartError}
 use Rattle.osc_life.specs.declared.start.Fresh.{Fresh}
 use Rattle.osc_life.specs.declared.start.Start.{Start}
 use Rattle.osc_life.specs.declared.ticket.Ticket.{Ticket}
-use Rattle.osc_handle.specs.ServerBytes.{AddsIn, TakesIn, entry_of_add}
-use Rattle.osc_handle.specs.declared.add_refusal.AddRefusal.{AddRefusal}
+use Rattle.osc_handle.specs.ServerBytes.{AddsIn, TakesIn}
+use Rattle.osc_endpoint.specs.Views.{entry_of_add}
+use Rattle.osc_endpoint.specs.declared.add_refusal.AddRefusal.{AddRefusal}
 use Rattle.osc_handle.specs.declared.reply_refusal.ReplyRefusal.{ReplyRefusal}
 use Rattle.osc_handle.specs.declared.reply_refusal.ReplyRefusal.TheVariants.{Refused}
 use Rattle.osc_handle.specs.declared.server_handle.ServerHandle.{ServerHandle}

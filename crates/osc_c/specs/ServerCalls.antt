@@ -10,7 +10,7 @@ use Rattle.osc_context.specs.declared.partial_iv.Piv.{Piv}
 use Rattle.osc_window.specs.Views.{places_of}
 use Rattle.osc_window.specs.Window.{HasPlaces}
 use Rattle.osc_window.specs.declared.window_size.WindowSize.{WindowSize}
-use Rattle.osc_laws.specs.Senders.{HasSameSender}
+use Rattle.osc_endpoint.specs.Senders.{HasSameSender, IsSameSender}
 use Rattle.osc_endpoint.specs.ServerAnswer.{ServerAnswer}
 use Rattle.osc_life.specs.LifeAnswer.{asks_own}
 use Rattle.osc_life.specs.ServerHistory.{Add, Added, Answer, BadInner, BadTag, Challenge as Challenged, Datagram, Deliver, Entry, Event, History, Malformed, NoContext as NoSuchKid, NotAdded, NotReplied, NotRequest, NotRestarted, Plain, Replay as Replayed, Replied, Restart, Restarted as LivesAnew, SequenceExhausted as NoOwnLeft, Then, TicketValues, Took, Undecodable as NotDecoded}
@@ -25,7 +25,7 @@ use Rattle.osc_life.specs.declared.server_error.RestartError.TheVariants as rest
 use Rattle.osc_life.specs.declared.start.Start.{Start}
 use Rattle.osc_life.specs.declared.start.Start.TheVariants.{Fresh, Restarted}
 use Rattle.osc_context_handle.specs.ContextBytes.{IsContext, server_in}
-use Rattle.osc_handle.specs.ServerBytes.{IsSameSender, IsSpent, NotifiesIn, RepliesIn, Serves}
+use Rattle.osc_handle.specs.ServerBytes.{IsSpent, NotifiesIn, RepliesIn, Serves}
 use Rattle.osc_handle.specs.TableBytes.{IsTable}
 use Rattle.osc_handle.specs.TicketBytes.{IsTicket, ticket_in}
 use Rattle.osc_context_handle.specs.declared.context_handle.ContextHandle.{ContextHandle}

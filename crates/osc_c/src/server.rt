@@ -32,8 +32,10 @@ use crate::rooms::room_laws;
 use crate::status::{DONE, Refusal, Status};
 use osc_coap::{one_datagram, parse};
 use osc_context::Piv;
-use osc_endpoint::{AddError, Fresh, Outcome, ReplyError, RestartError, Start, Taken, Ticket};
-use osc_handle::{AddRefusal, ContextHandle, ReplyRefusal, ServerHandle, TicketHandle, size_with};
+use osc_endpoint::{
+    AddError, AddRefusal, Fresh, Outcome, ReplyError, RestartError, Start, Taken, Ticket,
+};
+use osc_handle::{ContextHandle, ReplyRefusal, ServerHandle, TicketHandle, size_with};
 use osc_laws::one_server_answer;
 use osc_protect::Opened;
 

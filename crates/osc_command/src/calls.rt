@@ -94,6 +94,8 @@ With --numbers FILE, made where it is missing, the line is restart alone.
 
 Events of a peer: reply, notify, drop, request and forget as above, and
   take NOW MID DATAGRAM             a datagram comes that may be a request
+  challenge EVENT MID               in place of a reply: the request of an event
+                                    isn't obeyed, and a fresh one is asked for
   hear NOW DATAGRAM                 a datagram comes that may be a response
   advance NOW                       the clocks move
 

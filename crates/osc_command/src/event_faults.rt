@@ -45,6 +45,9 @@ const NOTIFY: Form = Form { word: "notify", fields: &[Event, Plain], names: "fol
 const DROP: Form = Form { word: "drop", fields: &[Event], names: "followed by EVENT" };
 
 #[rattlefmt::skip]
+const CHALLENGE: Form = Form { word: "challenge", fields: &[Event, Mid], names: "followed by EVENT MID" };
+
+#[rattlefmt::skip]
 const REQUEST: Form = Form { word: "request", fields: &[Now, Plain], names: "followed by NOW PLAIN" };
 
 #[rattlefmt::skip]
@@ -101,6 +104,7 @@ pub(crate) const PEER: Forms = Forms {
     forms: &[
         TAKE_BY_PEER,
         REPLY,
+        CHALLENGE,
         NOTIFY,
         DROP,
         REQUEST,
@@ -108,7 +112,7 @@ pub(crate) const PEER: Forms = Forms {
         FORGET,
         ADVANCE,
     ],
-    words: "take, reply, notify, drop, request, hear, forget and advance",
+    words: "take, reply, challenge, notify, drop, request, hear, forget and advance",
 };
 
 /// Returns whether a word is hex digits.

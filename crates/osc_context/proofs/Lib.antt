@@ -15,3 +15,4 @@ pub mod KnownLengths
 pub mod OneAdditional
 pub mod SameContexts
 pub mod ContextRefusals
+mod Differences

@@ -42,6 +42,7 @@ mod oscore_option;
 mod parameters;
 mod partial_iv;
 mod record_keeper;
+mod same_key;
 
 pub use additional_data::aad;
 pub use context::Context;
@@ -61,3 +62,4 @@ pub use oscore_option::OscoreOption;
 pub use parameters::Params;
 pub use partial_iv::Piv;
 pub use record_keeper::{KeptNumbers, RecordKeeper};
+pub use same_key::is_same_key;

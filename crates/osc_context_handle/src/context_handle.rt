@@ -8,7 +8,7 @@ ghost use Rattle.osc_context.specs.Senders.{HaveSameSender};
 ghost use Rattle.osc_context_handle.specs.ContextBytes.{client_in, server_in, id_context_in, is_constant_time_in, IsContext};
 
 use osc_ccm::{Key, Nonce};
-use osc_context::{Context, Features, IdContext, Kid};
+use osc_context::{Context, Features, IdContext, Kid, is_same_key};
 
 /// A context in the caller's memory. If the ID Context has no bytes, there is none.
 #[repr(C)]
@@ -166,17 +166,6 @@ impl ContextHandle {
     {
         is_same_key(&self.sender_key, &other.sender_key)
     }
-}
-
-/// Returns whether two keys are equal. It gathers the differences of all bytes, and tests them once.
-fn is_same_key(key: &Key, other: &Key) -> bool
-    ensures { IsTrue result ↔ (key.now ≡ other.now) }
-{
-    let mut differences = 0;
-    for k in 0..key.len() {
-        differences |= key[k] ^ other[k];
-    }
-    differences == 0
 }
 
 /// Returns the identifier in the first `len` bytes, or `None` if there aren't that many.

@@ -1,5 +1,6 @@
 -- to be believed, in reading order
 pub mod ServerAnswer
+pub mod Senders
 pub mod ServerRun
 pub mod Tickets
 pub mod ClientRun

@@ -1,6 +1,7 @@
 //! Both ends of OSCORE, a server and a client, over everything that happens to them (RFC 8613).
 #![tactic(auto)]
 
+mod add_refusal;
 mod client_event;
 mod client_run;
 mod contexts;
@@ -15,6 +16,7 @@ mod server_take;
 mod server_take_back;
 mod table;
 
+pub use add_refusal::AddRefusal;
 pub use client_event::{ClientEntry, ClientEvent};
 pub use client_run::{run_client, run_client_on};
 pub use osc_client::{Client, ClientDecision, ClientOutcome, RequestError, TooFewLeft};

@@ -1,9 +1,10 @@
 //! The server: its contexts, and its clock.
 
-ghost use Rattle.std.specs.Prelude.{◌≡◌, OnErr};
+ghost use Rattle.std.specs.Prelude.{◌≡◌, ◌<◌, Err, true, false, IfOk, IfSome, OnErr};
 ghost use Rattle.osc_context.specs.Views.{as_server};
 
-use crate::table::{find, is_open_at, next_at};
+use crate::add_refusal::AddRefusal;
+use crate::table::{find, has_sender_at, is_open_at, next_at};
 use arrayvec::ArrayVec;
 use osc_context::Context;
 use osc_life::siblings::Slot;
@@ -20,11 +21,13 @@ pub struct Server {
 
 impl Server {
     ghost use Rattle.osc_endpoint.specs.Agrees.{Agrees};
-    ghost use Rattle.osc_endpoint.specs.ServerAnswer.{ServerAnswer};
-    ghost use Rattle.osc_life.specs.ServerHistory.{History, Begin, Then, Add, Advance, Advanced, life};
+    ghost use Rattle.osc_endpoint.specs.Senders.{HasSameSender, IsSameSender};
+    ghost use Rattle.osc_endpoint.specs.ServerAnswer.{IsTaken, ServerAnswer};
+    ghost use Rattle.osc_life.specs.ServerHistory.{History, Begin, Then, Add, Advance, Advanced, added, life};
     ghost use Rattle.std.specs.Option.{option_map};
     ghost use Rattle.osc_life.specs.Life.{is_open_life, next_own};
-    ghost use Rattle.osc_endpoint.specs.Views.{added_entry};
+    ghost use Rattle.osc_endpoint.specs.Views.{added_entry, entry_of_add};
+    ghost use Rattle.osc_endpoint.specs.declared.add_refusal.AddRefusal.TheVariants.{SameSender};
 
     /// Makes a server with no context.
     #[must_use]
@@ -38,9 +41,7 @@ impl Server {
     }
 
     /// Adds a context, and returns its index. Returns the first refusal in the order of `AddError`. A refusal drops the context and changes
-    /// nothing. You must not add two contexts with the same Sender Key (RFC 8613, 3.3). No refusal reports this, because the tables check
-    /// the lookup alone. Each of the two contexts counts its Sender Sequence Numbers, so their texts may share key and nonce, and then
-    /// neither text is protected any more (RFC 8613, D.4).
+    /// nothing. You must not add two contexts with the same Sender Key (RFC 8613, 3.3), and this call doesn't look: `add_distinct` does.
     pub fn add(
         &mut self,
         context: Context,
@@ -65,6 +66,43 @@ impl Server {
         let index = self.slots.len();
         self.slots.push(Some(Slot::begin(context, start, size)));
         Ok(index)
+    }
+
+    /// Returns whether `add` would add a context.
+    fn would_add(&self, context: &Context) -> bool
+        ensures yes { result ≡ true → (h : History) → Agrees self.now h → (added h < 8) × (IsTaken h (as_server context.now) → ⊥) }
+        ensures no { result ≡ false → (h : History) → Agrees self.now h → added h < 8 → (IsTaken h (as_server context.now) → ⊥) → ⊥ }
+    {
+        let _sender = context.sender().bytes();
+        let recipient = context.recipient().bytes();
+        let id_context = context.id_context().map(|id_context| id_context.bytes());
+        !self.slots.is_full() && find(self.slots.as_slice(), recipient, id_context).is_none()
+    }
+
+    /// Adds a context as `add` does, but none that has the Sender Key of a context that is there. Each of the two would count its own Sender
+    /// Sequence Numbers, so their texts could share key and nonce, and then neither text is protected any more (RFC 8613, 3.3, 5.2 and
+    /// D.4). The keys alone are compared. Returns the first refusal in the order of `AddRefusal`. A refusal drops the context and changes
+    /// nothing.
+    pub fn add_distinct(
+        &mut self,
+        context: Context,
+        start: Start,
+        size: WindowSize,
+    ) -> Result<usize, AddRefusal>
+        ensures answered { IfSome (entry_of_add result) (λ entry. (h : History) → Agrees self.old h
+            → ServerAnswer h (Add (as_server context) start size) entry × Agrees self.new (Then h (Add (as_server context) start size) entry)) }
+        ensures distinct { IfOk result (λ index. (h : History) → Agrees self.old h → HasSameSender h (as_server context) → ⊥) }
+        ensures same_sender { result ≡ Err SameSender → (h : History) → Agrees self.old h → IsSameSender h (as_server context) }
+        ensures unchanged { OnErr result (self.new ≡ self.old) }
+    {
+        let shares = has_sender_at(self.slots.as_slice(), &context);
+        if shares && self.would_add(&context) {
+            return Err(AddRefusal::SameSender);
+        }
+        match self.add(context, start, size) {
+            Ok(index) => Ok(index),
+            Err(error) => Err(AddRefusal::Refused(error)),
+        }
     }
 
     /// Returns whether the context at an index checks requests by their number. It does if it was added fresh or above a number and never

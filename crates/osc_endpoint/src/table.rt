@@ -1,6 +1,8 @@
 //! The contexts of a server, as a table.
 
-ghost use Rattle.std.specs.Prelude.{◌≡◌, ◌≢◌, ◌<◌, ◌≤◌, ℕ, Option, Some, None, IfSome, IfNone, IfOk, IfErr, OnErr, Err, length, slice_get, take, drop, true};
+ghost use Rattle.osc_context.specs.Senders.{HaveSameSender};
+ghost use Rattle.osc_context.specs.Views.{as_server};
+ghost use Rattle.std.specs.Prelude.{◌≡◌, ◌≢◌, ◌<◌, ◌≤◌, ℕ, Option, Some, None, IfSome, IfNone, IfOk, IfErr, OnErr, Err, length, slice_get, take, drop, true, false};
 ghost use Rattle.osc_protect.specs.Views.{shown};
 ghost use Rattle.osc_endpoint.specs.Agrees.{TableAgrees};
 ghost use Rattle.osc_life.specs.Deciding.{CanShow, Leaves};
@@ -17,8 +19,10 @@ ghost use Rattle.osc_life.specs.declared.server_error.ReplyError.TheVariants.{Ke
 ghost use Rattle.osc_life.specs.declared.slot.Slot.{Slot};
 
 use osc_coap::Message;
+use osc_context::Context;
 use osc_life::siblings::{
-    Named, Slot, is_for, is_open_place, judge_place, next_of_place, notify_place, reply_place,
+    Named, Slot, has_sender_in_place, is_for, is_open_place, judge_place, next_of_place,
+    notify_place, reply_place,
 };
 use osc_life::{Decided, ReplyError, Ticket};
 
@@ -110,6 +114,21 @@ pub(crate) fn notify_at(
         return Err(ReplyError::StaleTicket);
     }
     notify_place(&mut slots[index], ticket, plain, out)
+}
+
+/// Returns whether one of the contexts has the Sender Key of this one.
+pub(crate) fn has_sender_at(slots: &[Option<Slot>], context: &Context) -> bool
+    ensures has { result ≡ true → (lives : ℕ → Option Life) → TableAgrees slots.now lives
+        → (i : ℕ) × (of : Life) × (lives i ≡ Some of) × HaveSameSender of.context (as_server context.now) }
+    ensures has_not { result ≡ false → (lives : ℕ → Option Life) → TableAgrees slots.now lives
+        → (i : ℕ) (of : Life) → lives i ≡ Some of → HaveSameSender of.context (as_server context.now) → ⊥ }
+{
+    for index in 0..slots.len() {
+        if has_sender_in_place(&slots[index], context) {
+            return true;
+        }
+    }
+    false
 }
 
 /// Returns whether the context at an index is there and open.

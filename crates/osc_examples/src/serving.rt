@@ -2,14 +2,14 @@
 
 use osc_coap::Message;
 use osc_context::{Context, Piv};
-use osc_endpoint::{AddError, Fresh, Outcome, ReplyError, Server, Start, Ticket};
+use osc_endpoint::{AddRefusal, Fresh, Outcome, ReplyError, Server, Start, Ticket};
 use osc_window::WindowSize;
 
 /// Returns a server of one context, which never received a request.
-pub fn server_of(context: Context, next: Piv) -> Result<Server, AddError> {
+pub fn server_of(context: Context, next: Piv) -> Result<Server, AddRefusal> {
     let mut server = Server::new();
     // Use `Start::Restarted(next)` if the context may have received requests before.
-    server.add(context, Start::Fresh(next), WindowSize::default())?;
+    server.add_distinct(context, Start::Fresh(next), WindowSize::default())?;
     Ok(server)
 }
 

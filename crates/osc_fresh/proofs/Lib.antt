@@ -1,4 +1,2 @@
-pub mod Asking
-pub mod Telling
 pub mod Challenging
 mod Budgets

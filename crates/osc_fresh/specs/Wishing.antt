@@ -16,6 +16,11 @@ not_obeyed = codes "not obeyed"
 abbrev pub unobeyed_message : List ℕ → Parts
 unobeyed_message echo = record (challenge_message echo) { payload = not_obeyed }
 
+-- the response says that its request wasn't obeyed: it is a 4.01 with that text (own rule)
+pub record SaysUnobeyed (m : InnerParts) : Type 0 where
+  pub code : m.code ≡ 129
+  pub text : m.payload ≡ not_obeyed
+
 -- a challenge: the number that its Echo value is made of, and when it was sealed (RFC 9175, 2.3 and A, method 3)
 pub record Asked : Type 0 where
   pub number : ℕ

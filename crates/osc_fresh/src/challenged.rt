@@ -5,9 +5,9 @@ ghost use Rattle.std.specs.Prelude.{List, ℕ};
 ghost use Rattle.osc_coap.specs.Interpreted.{interpreted};
 ghost use Rattle.osc_coap.specs.OptionNumbers.{echo as echo_number};
 ghost use Rattle.osc_protect.specs.Views.{message_of};
-ghost use Rattle.osc_fresh.specs.Commands.{SaysUnobeyed};
+ghost use Rattle.osc_fresh.specs.Wishing.{SaysUnobeyed};
 
-use crate::wishes::{NOT_OBEYED, UNAUTHORIZED};
+use crate::asking::{NOT_OBEYED, UNAUTHORIZED};
 use osc_coap::option_numbers::ECHO;
 use osc_protect::Opened;
 

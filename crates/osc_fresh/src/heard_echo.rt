@@ -15,7 +15,10 @@ ghost use Rattle.osc_kept_ends.specs.Numbering.{upcoming};
 ghost use Rattle.osc_kept_ends.specs.PeerOwning.{own_in};
 ghost use Rattle.osc_kept_ends.specs.Peering.{AskStep, ClientIsBehind};
 ghost use Rattle.osc_fresh.specs.Echoing.{EchoesOnly, echo_in, heard_after, latest};
+ghost use Rattle.osc_fresh.specs.Following.{FollowsOne};
 
+use crate::challenged::Challenged;
+use crate::followed::Followed;
 use arrayvec::ArrayVec;
 use osc_coap::Message;
 use osc_coap::option_numbers::ECHO;
@@ -95,6 +98,27 @@ impl HeardEcho {
             _ => {}
         }
         outcome
+    }
+
+    /// Takes a datagram as `hear` does, and tells a challenge from every other response (RFC 9175, 2.3; own rule: what a challenge says of its
+    /// request).
+    pub fn follow<'b, R: RecordKeeper, const N: usize>(
+        &mut self,
+        peer: &mut KeptPeer<R, N>,
+        now: u64,
+        datagram: &'b mut [u8],
+    ) -> Followed<'b>
+        ensures followed { FollowsOne result (λ outcome. (heard_of self.new ≡ heard_after outcome (heard_of self.old))
+            × ((k : asked.History) → ClientAgrees peer.old.client k → ClientTakes k now datagram.old outcome peer.new.client)) }
+        ensures same { (peer.new.server ≡ peer.old.server) × (peer.new.source ≡ peer.old.source) }
+    {
+        let outcome = self.hear(peer, now, datagram);
+        if let ClientOutcome::Deliver(opened, number) = &outcome {
+            if let Some(challenged) = Challenged::heard(opened) {
+                return Followed::Challenged(challenged, *number);
+            }
+        }
+        Followed::Heard(outcome)
     }
 
     /// Returns whether a message has no Echo option, or the value that was heard last.

@@ -4,19 +4,23 @@
 
 mod admitting;
 mod answering;
+mod asking;
 mod budget;
 mod challenged;
 mod decided_fresh;
 mod error_replies;
+mod followed;
 mod heard_echo;
 mod laws;
 mod wishes;
 
 pub use answering::{notify_without_echo, reply_without_echo};
+pub use asking::challenge;
 pub use budget::Budget;
 pub use challenged::Challenged;
 pub use decided_fresh::DecidedFresh;
 pub use error_replies::ErrorReplies;
+pub use followed::Followed;
 pub use heard_echo::HeardEcho;
-pub use laws::{budget_holds, fresh_on_demand, one_command};
+pub use laws::budget_holds;
 pub use wishes::Wishes;

@@ -1,7 +1,6 @@
 //! A server that wants fresh requests (RFC 8613, 7.3; RFC 9175, 2.3).
 
-ghost use Rattle.std.specs.Prelude.{◌≡◌, ◌≢◌, ◌<◌, ◌≤◌, ◌+◌, None, Some, true, false, IsErr, IfErr, IfOk, IfNone, IfSome, OnErr, length, take, drop};
-ghost use Rattle.osc_coap.specs.Datagram.{IsDatagram};
+ghost use Rattle.std.specs.Prelude.{◌≡◌, ◌≢◌, ◌<◌, ◌≤◌, ◌+◌, None, Some, true, false, IfErr, IfOk, IfNone, IfSome, OnErr, length, drop};
 ghost use Rattle.osc_coap.specs.Interpreted.{interpreted};
 ghost use Rattle.osc_coap.specs.OptionNumbers.{echo as echo_number};
 ghost use Rattle.osc_coap.specs.Views.{options_left};
@@ -17,39 +16,13 @@ ghost use Rattle.osc_kept_ends.specs.PeerOwning.{own_in};
 ghost use Rattle.osc_kept_ends.specs.Peering.{PeerStep, ServerIsBehind};
 ghost use Rattle.osc_fresh.specs.Wishing.{Asked, IsFresh, IsKnown, unobeyed_message};
 
+use crate::asking::challenge;
+use osc_coap::Options;
 use osc_coap::option_numbers::ECHO;
-use osc_coap::{Kind, Options, Token, Writer, head_len, one_datagram, parse};
 use osc_context::RecordKeeper;
 use osc_endpoint::{ReplyError, Ticket};
 use osc_kept_ends::KeptPeer;
 use osc_protect::Opened;
-
-/// The code of a challenge, 4.01 (RFC 9175, 2.3).
-pub(crate) const UNAUTHORIZED: u8 = 0x81;
-
-/// The text of a challenge that says that its request wasn't obeyed; own rule.
-pub(crate) const NOT_OBEYED: &[u8] = b"not obeyed";
-
-/// Room for the plain message: the head, the Echo option with two bytes in front of its value, the marker and the text.
-const PLAIN_ROOM: usize = 4 + 2 + 8 + 1 + 10;
-
-/// Writes the plain message of a challenge with this Echo value, and returns its length.
-fn write_plain(echo: &[u8; 8], plain: &mut [u8; 25]) -> usize
-    ensures written { IsDatagram (unobeyed_message echo.now) (take result plain.new) }
-    ensures within { result ≤ 25 }
-{
-    let token = Token::new();
-    // The head has room: its length follows from the length of its token.
-    let _ = head_len(&token);
-    let mut writer = Writer::begin(plain, Kind::Non, UNAUTHORIZED, 0, &token);
-    let Ok(()) = writer.option(ECHO, echo.as_slice()) else {
-        unreachable!()
-    };
-    let Ok(()) = writer.payload(NOT_OBEYED) else {
-        unreachable!()
-    };
-    writer.finish()
-}
 
 /// Returns whether a message with these options carries the Echo value of this number.
 fn carries(options: &Options<'_>, number: u64) -> bool
@@ -93,11 +66,8 @@ impl Wishes {
         }
     }
 
-    /// Challenges a request that was delivered and isn't obeyed, in place of a reply: seals 4.01 with an Echo value and the text `not obeyed`,
-    /// as `KeptPeer::reply` does with `own`, at the front of `out`, and returns its length in bytes. The value is the Sender Sequence Number
-    /// with which the challenge is sealed, its eight bytes, high byte first. So a request that carries it was sealed after this call. `now` is
-    /// the moment of the call, in milliseconds, from which `age` counts, and `mid` the Message ID of a reply to a NON (RFC 8613, 8.3; RFC
-    /// 9175, 2.3 and A, method 3; own rule: the text).
+    /// Challenges a request that was delivered and isn't obeyed, as the function `challenge` does, and remembers the challenge. `now` is the
+    /// moment of the call, in milliseconds, from which `age` counts (RFC 8613, 8.3; RFC 9175, 2.3 and A, method 3).
     pub fn challenge<R: RecordKeeper, const N: usize>(
         &mut self,
         peer: &mut KeptPeer<R, N>,
@@ -121,15 +91,8 @@ impl Wishes {
         ensures behind { IfOk result (λ n. drop n out.new ≡ drop n out.old) }
         ensures unchanged { OnErr result ((out.new ≡ out.old) × (self.new ≡ self.old)) }
     {
-        // For the proof alone.
-        one_datagram();
         let number = peer.upcoming();
-        let mut plain = [0; PLAIN_ROOM];
-        let len = write_plain(&number.to_be_bytes(), &mut plain);
-        let Ok(message) = parse(&plain[..len]) else {
-            unreachable!()
-        };
-        let len = match peer.reply(ticket, true, mid, &message, out) {
+        let len = match challenge(peer, ticket, mid, out) {
             Ok(len) => len,
             Err(refused) => return Err(refused),
         };

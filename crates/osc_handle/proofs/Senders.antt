@@ -9,7 +9,7 @@ use Rattle.osc_endpoint.proofs.Places.{slot_at}
 use Rattle.osc_life.specs.Agrees.{HoldsLife}
 use Rattle.osc_endpoint.specs.Agrees.{TableAgrees}
 use Rattle.osc_life.specs.Life.{Life}
-use Rattle.osc_laws.specs.Senders.{HasSameSender}
+use Rattle.osc_endpoint.specs.Senders.{HasSameSender}
 use Rattle.osc_context.specs.Senders.{HaveSameSender}
 use Rattle.osc_life.specs.ServerHistory.{History, life}
 use Rattle.osc_endpoint.specs.Table.{context_of_place}

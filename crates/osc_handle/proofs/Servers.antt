@@ -27,6 +27,7 @@ use Rattle.osc_endpoint.specs.ServerAnswer.{HaveSameLookup, IsContext, IsPresent
 use Rattle.osc_life.specs.LifeAnswer.{LifeNotify, LifeReply, LifeRestart, as_notification}
 use Rattle.osc_life.specs.ServerHistory as server
 use Rattle.osc_endpoint.specs.Table.{FindsAt, context_of_place}
+use Rattle.osc_endpoint.specs.Views.{entry_of_add}
 use Rattle.osc_life.specs.Views.{reply_entry}
 use Rattle.osc_laws.specs.Waiting.{AnswersWaiting, WaitingHasLife, waits}
 use Rattle.osc_life.specs.declared.decision.Decided.{Decided}
@@ -44,13 +45,14 @@ use Rattle.osc_handle.proofs.Waits.{none_waits_new, none_waits_next, remembers_b
 use Rattle.osc_context_handle.specs.ContextBytes.{IsContext as IsContextBytes, server_in}
 use Rattle.osc_handle.specs.Held.{held}
 use Rattle.osc_handle.specs.Noting.{Notes}
-use Rattle.osc_handle.specs.ServerBytes.{AddsIn, DecidesIn, IsSameSender, Remembers, RemembersAt, RemembersLife, NotifiesIn, RepliesIn, Serves, entry_of_add}
+use Rattle.osc_handle.specs.ServerBytes.{AddsIn, DecidesIn, Remembers, RemembersAt, RemembersLife, NotifiesIn, RepliesIn, Serves}
 use Rattle.osc_handle.specs.SlotBytes.{IsSlotIn}
 use Rattle.osc_handle.specs.TableBytes.{IsPlaceIn, IsTableIn, bytes_at, places_in}
 use Rattle.osc_handle.specs.TableSteps.{ChangesAt, GrowsBy, HasSenderIn, RefusesToAdd, is_present_in, life_in}
 use Rattle.osc_handle.specs.UnansweredBytes.{holds}
-use Rattle.osc_handle.specs.declared.add_refusal.AddRefusal.{AddRefusal}
-use Rattle.osc_handle.specs.declared.add_refusal.AddRefusal.TheVariants.{Refused as NotAddedBy, SameSender}
+use Rattle.osc_endpoint.specs.Senders.{IsSameSender}
+use Rattle.osc_endpoint.specs.declared.add_refusal.AddRefusal.{AddRefusal}
+use Rattle.osc_endpoint.specs.declared.add_refusal.AddRefusal.TheVariants.{Refused as NotAddedBy, SameSender}
 use Rattle.osc_context_handle.specs.declared.context_handle.ContextHandle.{ContextHandle}
 use Rattle.osc_handle.specs.declared.contexts_handle.ContextsHandle.{ContextsHandle}
 use Rattle.osc_handle.specs.declared.server_handle.ServerHandle.{ServerHandle}

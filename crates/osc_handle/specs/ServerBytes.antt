@@ -8,9 +8,9 @@ use Rattle.osc_endpoint.specs.Agrees.{Agrees, server_of}
 use Rattle.osc_life.specs.Deciding.{Decides}
 use Rattle.osc_laws.specs.Laws.{AllAnswers}
 use Rattle.osc_life.specs.Life.{Life, spent}
-use Rattle.osc_laws.specs.Senders.{HasSameSender, SendersDiffer}
-use Rattle.osc_endpoint.specs.ServerAnswer.{IsPresent, IsTaken, ServerAnswer}
-use Rattle.osc_life.specs.ServerHistory.{Add, Added, Answer, Datagram, Entry, History, NotAdded, NotReplied, Notify, Replied, Reply, Then, TicketValues, Took, added, life}
+use Rattle.osc_laws.specs.Senders.{SendersDiffer}
+use Rattle.osc_endpoint.specs.ServerAnswer.{IsPresent, ServerAnswer}
+use Rattle.osc_life.specs.ServerHistory.{Add, Answer, Datagram, Entry, History, NotReplied, Notify, Replied, Reply, Then, TicketValues, Took, life}
 use Rattle.osc_life.specs.Views.{Shows}
 use Rattle.osc_laws.specs.Waiting.{AnswersWaiting, waits}
 use Rattle.osc_life.specs.declared.decision.Decision.{Decision}
@@ -20,8 +20,6 @@ use Rattle.osc_life.specs.declared.start.Fresh.{Fresh}
 use Rattle.osc_life.specs.declared.start.Start.{Start}
 use Rattle.osc_handle.specs.TableBytes.{IsTableIn}
 use Rattle.osc_handle.specs.UnansweredBytes.{holds}
-use Rattle.osc_handle.specs.declared.add_refusal.AddRefusal.{AddRefusal}
-use Rattle.osc_handle.specs.declared.add_refusal.AddRefusal.TheVariants.{Refused as NotAddedBy, SameSender}
 use Rattle.osc_handle.specs.declared.reply_refusal.ReplyRefusal.{ReplyRefusal}
 use Rattle.osc_handle.specs.declared.reply_refusal.ReplyRefusal.TheVariants.{BadHandle, TicketSpent, Refused}
 use Rattle.osc_handle.specs.declared.server_handle.ServerHandle.{ServerHandle}
@@ -51,16 +49,6 @@ pub record Serves (s : ServerHandle) (h : History) : Type 0 where
   pub answers : AllAnswers h
   pub waiting : AnswersWaiting h
   pub senders : SendersDiffer h
-
--- a `Server` would add the context, but one of its contexts has the same Sender Key (RFC 8613, 3.3)
-abbrev pub IsSameSender : History → SecurityContext → Type 0
-IsSameSender h s = (added h < 8) × (IsTaken h s → ⊥) × HasSameSender h s
-
--- the entry of an addition; a refusal for the same Sender Key isn't an event of a server (how the code is seen)
-abbrev pub entry_of_add : Result ℕ AddRefusal → Option Entry
-entry_of_add (Ok index) = Some (Added index)
-entry_of_add (Err (NotAddedBy e)) = Some (NotAdded e)
-entry_of_add (Err SameSender) = None
 
 -- after the history, the entry is the answer to the addition, and the bytes are as both say (RFC 8613, B.1)
 abbrev pub AddsIn : History → SecurityContext → Start → WindowSize → Entry → ServerHandle → Type 0

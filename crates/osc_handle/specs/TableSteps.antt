@@ -9,8 +9,8 @@ use Rattle.osc_endpoint.specs.Table.{FindsAt}
 use Rattle.osc_life.specs.declared.server_error.AddError.TheVariants.{Full, SameLookup}
 use Rattle.osc_life.specs.declared.slot.Slot.{Slot}
 use Rattle.osc_handle.specs.TableBytes.{IsTableIn, bytes_at, places_in}
-use Rattle.osc_handle.specs.declared.add_refusal.AddRefusal.{AddRefusal}
-use Rattle.osc_handle.specs.declared.add_refusal.AddRefusal.TheVariants.{Refused, SameSender}
+use Rattle.osc_endpoint.specs.declared.add_refusal.AddRefusal.{AddRefusal}
+use Rattle.osc_endpoint.specs.declared.add_refusal.AddRefusal.TheVariants.{Refused, SameSender}
 use Rattle.osc_handle.specs.declared.contexts_handle.ContextsHandle.{ContextsHandle}
 use Rattle.osc_handle.specs.declared.slot_handle.SlotHandle.{SlotHandle}
 

@@ -20,13 +20,12 @@ ghost use Rattle.osc_handle.specs.Held as lemmas;
 ghost use Rattle.osc_handle.specs.TableBytes.{IsTable, IsTableIn, bytes_at};
 ghost use Rattle.osc_handle.specs.TableSteps.{ChangesAt, GrowsBy, HasSenderIn, RefusesToAdd, is_present_in};
 
-use crate::add_refusal::AddRefusal;
 use crate::slot_handle::SlotHandle;
 use osc_coap::{Message, Token};
 use osc_context::Piv;
 use osc_context_handle::ContextHandle;
 use osc_endpoint::siblings::{Asker, Contexts, Named, Slot, is_replay, refuse_replay};
-use osc_endpoint::{AddError, Decided, ReplyError, RestartError, Start};
+use osc_endpoint::{AddError, AddRefusal, Decided, ReplyError, RestartError, Start};
 use osc_window::WindowSize;
 
 /// The contexts of a server: the first `count` places.

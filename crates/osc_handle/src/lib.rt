@@ -1,7 +1,6 @@
 //! Both ends of OSCORE (RFC 8613) in plain bytes.
 #![tactic(auto)]
 
-mod add_refusal;
 mod client_handle;
 mod client_laws;
 mod contexts_handle;
@@ -17,7 +16,6 @@ mod slot_handle;
 mod ticket_handle;
 mod unanswered_handle;
 
-pub use add_refusal::AddRefusal;
 pub use client_handle::ClientHandle;
 pub use client_laws::{client_nonces_once, client_numbers_once};
 pub use contexts_handle::ContextsHandle;

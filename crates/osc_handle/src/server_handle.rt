@@ -4,7 +4,9 @@ ghost use Rattle.std.specs.Prelude.{◌≡◌, ◌≢◌, ◌≤◌, ℕ, List, 
 ghost use Rattle.osc_coap.specs.Views.{parts_of};
 ghost use Rattle.osc_context.specs.Views.{number_of};
 ghost use Rattle.osc_life.specs.Deciding.{CanShow, Leaves};
+ghost use Rattle.osc_endpoint.specs.Senders.{IsSameSender};
 ghost use Rattle.osc_endpoint.specs.ServerAnswer.{ServerAnswer};
+ghost use Rattle.osc_endpoint.specs.Views.{entry_of_add};
 ghost use Rattle.osc_life.specs.LifeAnswer.{asks_own};
 ghost use Rattle.osc_life.specs.ServerHistory.{Begin, History, Restart, Then};
 ghost use Rattle.osc_life.specs.Views.{reply_entry, restarted_entry, values_of};
@@ -13,13 +15,12 @@ ghost use Rattle.osc_life.specs.declared.server_error.ReplyError.TheVariants.{Ke
 ghost use Rattle.osc_life.specs.declared.slot.Slot.{Slot as SlotOf};
 ghost use Rattle.osc_context_handle.specs.ContextBytes.{IsContext, server_in};
 ghost use Rattle.osc_handle.specs.Noting.{Notes, NotesTicket};
-ghost use Rattle.osc_handle.specs.ServerBytes.{AddsIn, DecidesIn, IsSameSender, IsSpent, NotifiesIn, RepliesIn, Serves, TakesIn, entry_of_add, entry_of_reply};
+ghost use Rattle.osc_handle.specs.ServerBytes.{AddsIn, DecidesIn, IsSpent, NotifiesIn, RepliesIn, Serves, TakesIn, entry_of_reply};
 ghost use Rattle.osc_handle.specs.TableBytes.{IsTable, IsTableIn};
 ghost use Rattle.osc_handle.specs.TicketBytes.{IsTicket, ticket_in};
-ghost use Rattle.osc_handle.specs.declared.add_refusal.AddRefusal.TheVariants.{SameSender};
+ghost use Rattle.osc_endpoint.specs.declared.add_refusal.AddRefusal.TheVariants.{SameSender};
 ghost use Rattle.osc_handle.specs.declared.reply_refusal.ReplyRefusal.TheVariants.{BadHandle, TicketSpent, Refused};
 
-use crate::add_refusal::AddRefusal;
 use crate::contexts_handle::ContextsHandle;
 use crate::left::Left;
 use crate::reply_refusal::ReplyRefusal;
@@ -29,7 +30,9 @@ use osc_coap::Message;
 use osc_context::Piv;
 use osc_context_handle::ContextHandle;
 use osc_endpoint::siblings::decide_over;
-use osc_endpoint::{Decided, Decision, Fresh, ReplyError, RestartError, Start, Taken, Ticket};
+use osc_endpoint::{
+    AddRefusal, Decided, Decision, Fresh, ReplyError, RestartError, Start, Taken, Ticket,
+};
 use osc_laws::answered_once;
 use osc_window::WindowSize;
 

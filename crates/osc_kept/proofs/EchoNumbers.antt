@@ -2,7 +2,7 @@
 use Rattle.std.proofs.Common.{◌≡◌, ℕ, ◌<◌, ◌≤◌, ◌^◌, ◌∙◌, sym, ap, subst, arith, refl, Bool, true, false, Option, Some, None, List, [], ◌∷◌, ◌⊎◌, inl, inr, if◌then◌else◌}
 use Rattle.std.proofs.lemmas.Nat.{from_be_bytes-to_be_bytes_8}
 use Rattle.std.specs.Int.{from_be_bytes, w64}
-use Rattle.std.specs.Prelude.{IfSome, length, max, unwrap_or}
+use Rattle.std.specs.Prelude.{length, max, unwrap_or}
 use Rattle.std.specs.List.{cons_option}
 use Rattle.std.specs.Option.{option_map}
 use Rattle.osc_coap.specs.Datagram.{Parts}
@@ -22,12 +22,13 @@ use Rattle.osc_kept.specs.EchoNumbers.{CountedGoesOn, EchoByNumbers, EchoesAreNu
 use Rattle.osc_kept.specs.GoingOn.{IsDrawn}
 use Rattle.osc_kept.specs.InWorld.{IsUnseen}
 use Rattle.osc_kept.specs.Premises.{AtEach, Answers, BeginsAbove, EchoIsNew, IsLawful}
-use Rattle.osc_kept.specs.World.{World, Event, Begin, Then, Server, ServerStarts, ClientStarts, AtClient, AtServer, Draws, Reserves, Has, Request, Response, answered, client_history, heard, heard_in, sent, server_history, server_life}
+use Rattle.osc_kept.specs.World.{World, Event, Begin, Then, Server, ServerStarts, ClientStarts, AtClient, AtServer, Draws, Reserves, Has, Request, Response, client_history, heard, heard_in, sent, server_history, server_life}
 use Rattle.osc_kept.proofs.Above.{own_low, owns_below}
 use Rattle.osc_kept.proofs.Deeds.{Deed, Begins, Challenges, Delivers, Notifies, Nothing, Renews, Skips, Replies, Sends, Spoils, answers, born_challenge, carried, life_in, owns, replied_challenge}
 use Rattle.osc_kept.proofs.Digest.{answered_is, client_deed, deed, digest, server_deed}
 use Rattle.osc_kept.proofs.Fitting.{again_or_new, same_life, still_in_force}
 use Rattle.osc_kept.proofs.Lives.{OnlyFirst, Stands, life_known, some_is, stands}
+use Rattle.osc_kept.proofs.WorldSteps.{heard_now, more_heard}
 
 none_some : {A : Type 0} (x : A) → None ≡ Some x → ⊥
 none_some x e = cc
@@ -172,14 +173,9 @@ more_answers (Replies t own m) ds x h = inr h
 more_answers (Notifies t own m) ds x h = inr h
 more_answers d ds x h = h
 
-sealed_now : (s : SecurityContext) (w : World) (o : Option Response) (x : Response) → IfSome o (IsForThatRequest s w) → Has x (cons_option o (heard w)) → Has x (answered s w) ⊎ Has x (heard w)
-sealed_now s w None x a h = inr h
-sealed_now s w (Some y) x a (inl e) = inl (subst (λ z. Has z (answered s w)) (sym e) a.was_answered)
-sealed_now s w (Some y) x a (inr h) = inr h
-
 heard_sealed : (s : SecurityContext) (w : World) (x : Response) → AtEachHeard (IsForThatRequest s) w → Has x (heard w) → Has x (answers (digest s w))
 heard_sealed s Begin x a h = absurd h
-heard_sealed s (Then w event) x a h = elim (sealed_now s w (heard_in event) x a.1 h) [
+heard_sealed s (Then w event) x a h = elim (heard_now s w (heard_in event) x a.1 h) [
   | inl k ↦ more_answers (deed s w event) (digest s w) x (subst (λ rs. Has x rs) (answered_is s w) k)
   | inr k ↦ more_answers (deed s w event) (digest s w) x (heard_sealed s w x a.0 k)
 ]
@@ -188,10 +184,6 @@ heard_sealed s (Then w event) x a h = elim (sealed_now s w (heard_in event) x a.
 
 abbrev WasHeard : World → List ℕ → Type 0
 WasHeard w value = (x : Response) × Has x (heard w) × (carried x.message ≡ Some value)
-
-more_heard : (o : Option Response) (xs : List Response) (x : Response) → Has x xs → Has x (cons_option o xs)
-more_heard None xs x h = h
-more_heard (Some y) xs x h = inr h
 
 heard_still : (w : World) (event : Event) (value : List ℕ) → WasHeard w value → WasHeard (Then w event) value
 heard_still w event value (x, h, e) = (x, more_heard (heard_in event) (heard w) x h, e)

@@ -13,6 +13,7 @@ pub mod Saving
 pub mod Receiving
 pub mod GoingOn
 pub mod InWorld
+pub mod WorldSteps
 pub mod EchoNumbers
 pub mod RunTickets
 pub mod RunsInWorld

@@ -1,17 +1,12 @@
 -- To be believed: that no two contexts of a server have the same Sender Key, and what then holds for its texts (RFC 8613, 3.3). h is a
 -- history, i the index of a context, s a security context that a server sends with.
-use Rattle.std.specs.Prelude.{◌≡◌, ◌≢◌, ℕ, Some}
+use Rattle.std.specs.Prelude.{◌≡◌, ◌≢◌}
 use Rattle.osc_context.specs.SecurityContext.{SecurityContext}
-use Rattle.osc_context.specs.Senders.{HaveSameSender}
 use Rattle.osc_laws.specs.Laws.{AllAnswers, Pairwise, Text, nonce_of_text, texts}
+use Rattle.osc_endpoint.specs.Senders.{HasSameSender}
 use Rattle.osc_endpoint.specs.Tickets.{TakesTickets}
-use Rattle.osc_life.specs.Life.{Life}
-use Rattle.osc_life.specs.ServerHistory.{History, Begin, Then, Add, Added, life}
+use Rattle.osc_life.specs.ServerHistory.{History, Begin, Then, Add, Added}
 use Rattle.osc_laws.specs.Waiting.{AnswersWaiting}
-
--- a context that is there has the same Sender Key as this one (RFC 8613, 3.3)
-abbrev pub HasSameSender : History → SecurityContext → Type 0
-HasSameSender h s = (i : ℕ) × (of : Life) × (life h i ≡ Some of) × HaveSameSender of.context s
 
 -- no context was added with the Sender Key of one that was there (RFC 8613, 3.3)
 abbrev pub SendersDiffer : History → Type 0

@@ -34,8 +34,8 @@ pub mod siblings {
     pub use crate::error_reply::{ErrorReply, write_error};
     pub use crate::judging::{Named, is_replay, refuse_replay};
     pub use crate::place::{
-        gate_of_place, is_for, is_open_place, judge_place, next_of_place, notify_place,
-        reply_place, restart_place, skip_place, take_back_place,
+        gate_of_place, has_sender_in_place, is_for, is_open_place, judge_place, next_of_place,
+        notify_place, reply_place, restart_place, skip_place, take_back_place,
     };
     pub use crate::slot::Slot;
     pub use crate::ticket_places::{make_places, put_back, take_out, ticket_at};

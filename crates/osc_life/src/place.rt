@@ -1,7 +1,8 @@
 //! A place of a server's table: a context, or none. It answers for the context there.
 
 ghost use Rattle.std.specs.Prelude.{◌≡◌, ◌≢◌, ◌≤◌, ℕ, List, Option, None, Some, Ok, Result, IfNone, IfOk, IfErr, OnErr, Err, length, slice_get, take, drop, true, false};
-ghost use Rattle.osc_context.specs.Views.{number_of};
+ghost use Rattle.osc_context.specs.Senders.{HaveSameSender};
+ghost use Rattle.osc_context.specs.Views.{as_server, number_of};
 ghost use Rattle.osc_coap.specs.Views.{parts_of};
 ghost use Rattle.osc_protect.specs.Views.{shown};
 ghost use Rattle.osc_life.specs.Agrees.{GateAgrees, HasGate, HoldsLife};
@@ -24,7 +25,7 @@ use crate::server_error::{ReplyError, RestartError, SkipError};
 use crate::slot::Slot;
 use crate::ticket::Ticket;
 use osc_coap::Message;
-use osc_context::Piv;
+use osc_context::{Context, Piv};
 use osc_window::Gate;
 
 /// Returns whether the context has this kid, and this kid context or none.
@@ -152,6 +153,17 @@ pub fn next_of_place(place: &Option<Slot>) -> Option<u64>
     match place {
         Some(slot) => Some(slot.next),
         None => None,
+    }
+}
+
+/// Returns whether a context in a place has the Sender Key of this one.
+pub fn has_sender_in_place(place: &Option<Slot>, context: &Context) -> bool
+    ensures yes { result ≡ true → (l : Life) → HoldsLife place.now l → HaveSameSender l.context (as_server context.now) }
+    ensures no { result ≡ false → (l : Life) → HoldsLife place.now l → HaveSameSender l.context (as_server context.now) → ⊥ }
+{
+    match place {
+        Some(slot) => slot.context.context().has_sender_of(context),
+        None => false,
     }
 }
 

@@ -5,8 +5,8 @@ use Rattle.osc_kept_ends.specs.Numbering.{Allowed, after}
 use Rattle.osc_kept.specs.EchoNumbers.{EchoByNumbers, IsLawfulByNumbers}
 use Rattle.osc_kept.specs.Premises.{IsLawful}
 use Rattle.osc_kept.specs.World.{World, Client, Server, Then, effect}
-use Rattle.osc_fresh.specs.Commands.{OneCommand}
-use Rattle.osc_fresh.specs.Freshness.{FreshOnDemand}
+use Rattle.osc_obeyed.specs.Commands.{OneCommand}
+use Rattle.osc_obeyed.specs.Freshness.{FreshOnDemand}
 use Rattle.osc_peers.specs.Peers.{PeerEvent, Forth, Back, Peers, Nothing, More, ArePeers, IsExchange, SourcesAreKept, TwoPeers, back, far_effect, far_numbers, forth, near_effect, near_numbers}
 use Rattle.osc_peers.specs.Roles.{turned}
 use Rattle.osc_peers.proofs.Peering.{back_begins, forth_begins, usable_turned}

@@ -5,8 +5,8 @@ use Rattle.osc_context.specs.SecurityContext.{SecurityContext, IsUsable}
 use Rattle.osc_kept.specs.EchoNumbers.{EchoesAreNumbers}
 use Rattle.osc_kept.specs.Premises.{Answers, AtEach, NobodyForges, StartsAboveDelivered}
 use Rattle.osc_kept.specs.World.{World}
-use Rattle.osc_fresh.specs.Commands.{MayBeObeyed, SealsAnewUnobeyed}
-use Rattle.osc_fresh.specs.Freshness.{DeliversSealedSince}
+use Rattle.osc_obeyed.specs.Commands.{MayBeObeyed, SealsAnewUnobeyed}
+use Rattle.osc_obeyed.specs.Freshness.{DeliversSealedSince}
 use Rattle.osc_peers.specs.Peers.{PeerEvent, Forth, Back, Peers, Nothing, More, ArePeers, BothPeers, SourcesAreKept, back, forth}
 use Rattle.osc_peers.specs.Roles.{turned}
 

@@ -5,8 +5,8 @@ ghost use Rattle.osc_peer_calls.specs.Counting.{PeersAreAlike, PeersAreFresh, Pe
 ghost use Rattle.osc_peer_calls.specs.GoingOn.{AnswersInList, AsksInList, StartsInList};
 ghost use Rattle.osc_peer_calls.specs.Hearing.{StaysHeard};
 
-use osc_fresh::{fresh_on_demand, one_command};
 use osc_kept::echo_by_numbers;
+use osc_obeyed::{fresh_on_demand, one_command};
 use osc_peers::two_peers;
 
 /// States that two devices need no random source (RFC 9175, A, method 3): if both make their Echo values of their numbers, in challenges and

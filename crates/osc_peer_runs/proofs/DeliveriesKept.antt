@@ -24,7 +24,7 @@ use Rattle.osc_peer_runs.specs.declared.peer_event.PeerEvent.TheVariants as even
 use Rattle.osc_peer_runs.specs.declared.peer_event.PeerEntry.{PeerEntry}
 use Rattle.osc_peer_runs.specs.declared.peer_event.PeerEntry.TheVariants as entries
 use Rattle.osc_peer_runs.specs.PeerCalls.{IsBehind}
-use Rattle.osc_peer_runs.specs.PeerRuns.{DeliversBelow, EventStep, NotifyStep, PeerRun, PeerState, ReplyStep, RequestStep, peer_state}
+use Rattle.osc_peer_runs.specs.PeerRuns.{ChallengeStep, DeliversBelow, EventStep, NotifyStep, PeerRun, PeerState, ReplyStep, RequestStep, peer_state}
 
 -- ---- it never sinks
 
@@ -39,6 +39,14 @@ reply_rises h old ts of own mid plain room (served.Replied (Ok text)) g new us s
 reply_rises h old ts of own mid plain room (served.Replied (Err replies.KeeperFailed)) g new us step = step.6.1
 reply_rises h old ts of own mid plain room (served.Replied (Err e)) g new us step = step.4.4.1
 reply_rises h old ts of own mid plain room x g new us step = unchanged old new step.1
+
+challenge_rises : {R : Type 0} {r : keeper.Ghosts R} (h : server.History) (old : PeerSource R r) (ts : List (Option server.TicketValues)) (of : ℕ) (mid : ℕ) (room : ℕ) (x : ServerEntry)
+    (g : server.History) (new : PeerSource R r) (us : List (Option server.TicketValues)) → ChallengeStep h old ts of mid room x g new us → r.received_floor old.keeper ≤ r.received_floor new.keeper
+challenge_rises h old ts of mid room served.NoTicket g new us step = unchanged old new step.3
+challenge_rises h old ts of mid room (served.Replied (Ok text)) g new us step = step.2.4.1
+challenge_rises h old ts of mid room (served.Replied (Err replies.KeeperFailed)) g new us step = step.4.1
+challenge_rises h old ts of mid room (served.Replied (Err e)) g new us step = step.2.4.1
+challenge_rises h old ts of mid room x g new us step = absurd step
 
 notify_rises : {R : Type 0} {r : keeper.Ghosts R} (h : server.History) (old : PeerSource R r) (ts : List (Option server.TicketValues)) (of : ℕ) (plain : List ℕ) (room : ℕ) (x : ServerEntry)
     (g : server.History) (new : PeerSource R r) → NotifyStep h old ts of plain room x g new → r.received_floor old.keeper ≤ r.received_floor new.keeper
@@ -60,6 +68,7 @@ event_rises n s t (events.Datagram a) (entries.Served (served.Took seen.KeeperFa
 event_rises n s t (events.Datagram a) (entries.Served (served.Took x reply)) step = step.1.2.6.1
 event_rises n s t (events.Datagram a) (entries.Served x) step = absurd step.1
 event_rises n s t (events.Reply a) (entries.Served x) step = reply_rises s.served s.source s.tickets _ _ _ _ _ x t.served t.source step.0 step.1
+event_rises n s t (events.Challenge a) (entries.Served x) step = challenge_rises s.served s.source s.tickets _ _ _ x t.served t.source step.0 step.1
 event_rises n s t (events.Notify a) (entries.Served x) step = notify_rises s.served s.source s.tickets _ _ _ x t.served t.source step.0
 event_rises n s t (events.Drop of) (entries.Served x) step = unchanged s.source t.source step.2
 event_rises n s t (events.Request now plain out) (entries.Asked x) step = request_rises n s t now _ _ x step.0
@@ -90,6 +99,7 @@ event_kept : {R : Type 0} {r : keeper.Ghosts R} (n : ℕ) (s t : PeerState r) (e
 event_kept {r = r} n s t (events.Datagram a) (entries.Served (served.Took (seen.Deliver opened context number) reply)) step =
     below_logged opened context number step.1.0 step.0 (r.received_floor t.source.keeper) step.1.1 step.1.3 step.1.4
 event_kept n s t (events.Reply a) (entries.Served (served.Took (seen.Deliver opened context number) reply)) step = absurd step.1.0
+event_kept n s t (events.Challenge a) (entries.Served (served.Took (seen.Deliver opened context number) reply)) step = absurd step.1
 event_kept n s t (events.Notify a) (entries.Served (served.Took (seen.Deliver opened context number) reply)) step = absurd step.0.0
 event_kept n s t (events.Drop of) (entries.Served (served.Took (seen.Deliver opened context number) reply)) step = absurd step.1
 event_kept n s t e (entries.Served (served.Took (seen.Deliver opened context number) reply)) step = absurd step

@@ -15,13 +15,14 @@ use Rattle.osc_kept_ends.specs.declared.kept_peer.KeptPeer.{KeptPeer}
 use Rattle.osc_kept_ends.specs.Numbering.{upcoming}
 use Rattle.osc_kept_ends.specs.Peering.{ServerIsBehind}
 use Rattle.osc_kept_ends.specs.PeerOwning.{own_in}
+use Rattle.osc_peer_runs.specs.declared.peer_event.Challenging.{Challenging}
 use Rattle.osc_peer_runs.specs.declared.peer_event.PeerArrival.{PeerArrival}
 use Rattle.osc_peer_runs.specs.declared.peer_event.PeerEvent.{PeerEvent}
 use Rattle.osc_peer_runs.specs.declared.peer_event.PeerEvent.TheVariants as events
 use Rattle.osc_peer_runs.specs.declared.peer_event.PeerEntry.{PeerEntry}
 use Rattle.osc_peer_runs.specs.declared.peer_event.PeerEntry.TheVariants as entries
 use Rattle.osc_peer_runs.specs.PeerCalls.{Calls, IsBehind}
-use Rattle.osc_peer_runs.specs.PeerRuns.{ArrivalStep, NotifyStep, ReplyStep}
+use Rattle.osc_peer_runs.specs.PeerRuns.{ArrivalStep, ChallengeStep, NotifyStep, ReplyStep}
 use Rattle.osc_peer_runs.proofs.PeerRunLemmas.{above, client_carried}
 
 -- the call of an event is that of an equal one
@@ -56,6 +57,18 @@ reply_called old new ts us a plain out x plain_is out_is answered same = λ h k 
     let both = served_alone old new h g k b behind same in
     let given = subst (λ (d : List ℕ). ReplyStep h old.source (values_in ts) a.of a.own a.mid d (length out) x g new.source (values_in us)) plain_is step in
     let whole = subst (λ (d : List ℕ). ReplyStep h old.source (values_in ts) a.of a.own a.mid a.plain.items (length d) x g new.source (values_in us)) out_is given in
+    (g, k, ((values_in us, whole, refl, refl), above new.server new.client new.source g k (values_in us ++ None ∷ []) both), both)
+
+-- a challenge
+pub challenge_called : {R : Type 0} {r : keeper.Ghosts R} {N : ℕ} (old new : KeptPeer R N r) (ts us : List (Option Ticket)) (a : Challenging) (out : List ℕ) (x : ServerEntry)
+    → out ≡ a.out.items
+    → ((h : server.History) → ServerIsBehind old.server (upcoming (own_in old.source)) h
+    → (g : server.History) × ChallengeStep h old.source (values_in ts) a.of a.mid (length out) x g new.source (values_in us) × ServerIsBehind new.server (upcoming (own_in new.source)) g)
+    → new.client ≡ old.client → Calls old ts (events.Challenge a) (entries.Served x) new us None
+challenge_called old new ts us a out x out_is answered same = λ h k b.
+    let (g, step, behind) = answered h b.server in
+    let both = served_alone old new h g k b behind same in
+    let whole = subst (λ (d : List ℕ). ChallengeStep h old.source (values_in ts) a.of a.mid (length d) x g new.source (values_in us)) out_is step in
     (g, k, ((values_in us, whole, refl, refl), above new.server new.client new.source g k (values_in us ++ None ∷ []) both), both)
 
 -- a notification

@@ -33,12 +33,13 @@ use Rattle.osc_kept_ends.specs.EchoNumber.{echo_of}
 use Rattle.osc_kept_ends.specs.Numbering.{Own, Draws, upcoming}
 use Rattle.osc_kept_ends.specs.Peering.{AskStep, ClientIsBehind, PeerStep, ServerIsBehind, TakesBelow}
 use Rattle.osc_kept_ends.specs.PeerOwning.{own_in}
+use Rattle.osc_fresh.specs.Wishing.{unobeyed_message}
 use Rattle.osc_kept_ends.proofs.Drawing.{upcoming_stays}
 use Rattle.osc_kept_ends.proofs.PeerSteps.{asked_behind, client_at, kept_behind, server_at, some_is}
 use Rattle.osc_peer_runs.specs.declared.peer_event.PeerArrival.{PeerArrival}
 use Rattle.osc_peer_runs.specs.declared.peer_event.PeerEvent.{PeerEvent}
 use Rattle.osc_peer_runs.specs.declared.peer_event.PeerEntry.{PeerEntry}
-use Rattle.osc_peer_runs.specs.PeerRuns.{AreBehind, ArrivalStep, Asks, NotifyStep, PeerRun, PeerState, ReplyStep, RequestStep, RunStep, SealsAbove, Serves, Takes, Worked, peer_state}
+use Rattle.osc_peer_runs.specs.PeerRuns.{AreBehind, ArrivalStep, Asks, ChallengeStep, NotifyStep, PeerRun, PeerState, ReplyStep, RequestStep, RunStep, SealsAbove, Serves, Takes, Worked, peer_state}
 
 -- ---- a role that a call leaves as it is
 
@@ -128,6 +129,22 @@ refused_step h old ts of own mid plain room replies.KeeperFailed new us t p befo
 refused_step h old ts of own mid plain room e new us t p before after seen is back b failed worked rises answered =
     let (g, serves, behind) = serves_step h (server.Reply t (asks_own t own) mid p room) (server.NotReplied e) old new after (answered (λ is. cc)) (worked (λ is. cc), rises) in
     (g, (t, seen, p, is, serves, back), behind)
+
+-- a refused challenge, in the same way
+pub unchallenged_step : {R : Type 0} {r : keeper.Ghosts R} (h : server.History) (old : PeerSource R r) (ts : List (Option server.TicketValues)) (of : ℕ) (mid : ℕ) (room : ℕ) (e : ReplyError)
+    (new : PeerSource R r) (us : List (Option server.TicketValues)) (t : server.TicketValues) (before after : Server)
+    → ticket_at ts of ≡ Some t → us ≡ ts → ServerIsBehind before (upcoming (own_in old)) h
+    → (e ≡ replies.KeeperFailed → (after ≡ before) × (own_in new ≡ own_in old) × (r.failures new.keeper ≡ r.failures old.keeper + 1))
+    → (e ≢ replies.KeeperFailed → r.failures new.keeper ≡ r.failures old.keeper) → r.received_floor old.keeper ≤ r.received_floor new.keeper
+    → (e ≢ replies.KeeperFailed → PeerStep h (server.Reply t (asks_own t true) mid (unobeyed_message (echo_of (upcoming (own_in old)))) room) (server.NotReplied e) (own_in old) (own_in new) after)
+    → (g : server.History) × ChallengeStep h old ts of mid room (served.Replied (Err e)) g new us × ServerIsBehind after (upcoming (own_in new)) g
+unchallenged_step h old ts of mid room replies.KeeperFailed new us t before after seen back b failed worked rises answered =
+    let f = failed refl in
+    (h, (t, seen, refl, f.1, (f.2, rises), back), server_at after h (upcoming (own_in old)) (upcoming (own_in new)) (ap upcoming f.1) (subst (λ (s : Server). ServerIsBehind s (upcoming (own_in old)) h) (sym f.0) b))
+unchallenged_step h old ts of mid room e new us t before after seen back b failed worked rises answered =
+    let message = unobeyed_message (echo_of (upcoming (own_in old))) in
+    let (g, serves, behind) = serves_step h (server.Reply t (asks_own t true) mid message room) (server.NotReplied e) old new after (answered (λ is. cc)) (worked (λ is. cc), rises) in
+    (g, (t, seen, serves, back), behind)
 
 -- a refused notification, in the same way
 pub unnotified_step : {R : Type 0} {r : keeper.Ghosts R} (h : server.History) (old : PeerSource R r) (ts : List (Option server.TicketValues)) (of : ℕ) (plain : List ℕ) (room : ℕ) (e : ReplyError)

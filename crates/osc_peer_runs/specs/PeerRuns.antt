@@ -1,7 +1,7 @@
 -- To be believed: runs of a peer, which asks and answers under one context (RFC 8613, 3.1, 7.2.1, 7.4 and B.1): the log of their events, the histories of both
 -- roles, the numbers with their record, and the tickets. s and t are the states before and after, h and g histories of the server, k and m of the client, old
 -- and new the numbers, ts and us the tickets, n is how many pending requests there is room for.
-use Rattle.std.specs.Prelude.{◌≡◌, ◌⊎◌, ◌+◌, ◌<◌, ◌≤◌, ◌++◌, ◌∷◌, [], ℕ, List, Bool, Option, Some, None, Ok, Err, length, slice_set}
+use Rattle.std.specs.Prelude.{◌≡◌, ◌⊎◌, ◌+◌, ◌<◌, ◌≤◌, ◌++◌, ◌∷◌, [], ℕ, List, Bool, true, Option, Some, None, Ok, Err, length, slice_set}
 use Rattle.std.specs.Option.{ForSome, option_map}
 use Rattle.osc_coap.specs.Datagram.{Parts, IsDatagram}
 use Rattle.osc_coap.specs.Fault.{HasFault}
@@ -31,6 +31,7 @@ use Rattle.osc_kept_ends.specs.KeptServing as serving
 use Rattle.osc_kept_ends.specs.Numbering.{Own, Steps, upcoming}
 use Rattle.osc_kept_ends.specs.Peering.{ClientIsBehind, ClientPasses, IsKeptOn, MayDraw, ServerIsBehind, ServerPasses}
 use Rattle.osc_kept_ends.specs.PeerOwning.{own_in}
+use Rattle.osc_fresh.specs.Wishing.{unobeyed_message}
 use Rattle.osc_peer_runs.specs.declared.peer_event.PeerArrival.{PeerArrival}
 use Rattle.osc_peer_runs.specs.declared.peer_event.PeerEvent.{PeerEvent}
 use Rattle.osc_peer_runs.specs.declared.peer_event.PeerEvent.TheVariants as events
@@ -101,6 +102,18 @@ ReplyStep h old ts of own mid plain room (served.Replied (Err e)) g new us = (t 
     × (p : Parts) × IsDatagram p plain × Serves h (server.Reply t (asks_own t own) mid p room) (server.NotReplied e) old g new × (us ≡ ts)
 ReplyStep h old ts of own mid plain room entry g new us = server_run.ReplyStep h ts of own mid plain room entry g us × (new ≡ old)
 
+-- a challenge by the ticket at a place, in place of a reply, and the tickets that are left: it has the Echo value of the number with which it is sealed, and says that
+-- the request wasn't obeyed; if the record failed, no number changed (RFC 8613, 8.3; RFC 9175, 2.3 and A, method 3)
+abbrev pub ChallengeStep : {R : Type 0} {r : keeper.Ghosts R} → server.History → PeerSource R r → List (Option server.TicketValues) → ℕ → ℕ → ℕ → ServerEntry → server.History → PeerSource R r → List (Option server.TicketValues) → Type 0
+ChallengeStep h old ts of mid room served.NoTicket g new us = (server_run.ticket_at ts of ≡ None) × (g ≡ h) × (us ≡ ts) × (new ≡ old)
+ChallengeStep h old ts of mid room (served.Replied (Ok text)) g new us = (t : server.TicketValues) × (server_run.ticket_at ts of ≡ Some t)
+    × Serves h (server.Reply t (asks_own t true) mid (unobeyed_message (echo_of (upcoming (own_in old)))) room) (server.Replied text.now) old g new × (us ≡ slice_set ts of None)
+ChallengeStep h old ts of mid room (served.Replied (Err replies.KeeperFailed)) g new us = (t : server.TicketValues) × (server_run.ticket_at ts of ≡ Some t)
+    × (g ≡ h) × (own_in new ≡ own_in old) × Failed old new × (us ≡ ts)
+ChallengeStep h old ts of mid room (served.Replied (Err e)) g new us = (t : server.TicketValues) × (server_run.ticket_at ts of ≡ Some t)
+    × Serves h (server.Reply t (asks_own t true) mid (unobeyed_message (echo_of (upcoming (own_in old)))) room) (server.NotReplied e) old g new × (us ≡ ts)
+ChallengeStep h old ts of mid room entry g new us = ⊥
+
 -- a notification by the ticket at a place, which stays; if the record failed, no number changed (RFC 8613, 8.3.1)
 abbrev pub NotifyStep : {R : Type 0} {r : keeper.Ghosts R} → server.History → PeerSource R r → List (Option server.TicketValues) → ℕ → List ℕ → ℕ → ServerEntry → server.History → PeerSource R r → Type 0
 NotifyStep h old ts of plain room (served.Replied (Ok text)) g new = (t : server.TicketValues) × (server_run.ticket_at ts of ≡ Some t)
@@ -139,6 +152,9 @@ EventStep n s (events.Datagram a) (entries.Served entry) t = (o : Option server.
     × ArrivalStep s.served s.source a entry t.served t.source o × (t.asked ≡ s.asked) × (t.tickets ≡ s.tickets ++ o ∷ [])
 EventStep n s (events.Reply a) (entries.Served entry) t = (us : List (Option server.TicketValues))
     × ReplyStep s.served s.source s.tickets a.of a.own a.mid a.plain.items (length a.out.items) entry t.served t.source us
+    × (t.asked ≡ s.asked) × (t.tickets ≡ us ++ None ∷ [])
+EventStep n s (events.Challenge a) (entries.Served entry) t = (us : List (Option server.TicketValues))
+    × ChallengeStep s.served s.source s.tickets a.of a.mid (length a.out.items) entry t.served t.source us
     × (t.asked ≡ s.asked) × (t.tickets ≡ us ++ None ∷ [])
 EventStep n s (events.Notify a) (entries.Served entry) t = NotifyStep s.served s.source s.tickets a.of a.plain.items (length a.out.items) entry t.served t.source
     × (t.asked ≡ s.asked) × (t.tickets ≡ s.tickets ++ None ∷ [])

@@ -7,5 +7,5 @@ mod peer_event;
 mod peer_run;
 mod serving;
 
-pub use peer_event::{PeerArrival, PeerEntry, PeerEvent};
+pub use peer_event::{Challenging, PeerArrival, PeerEntry, PeerEvent};
 pub use peer_run::{run_kept_peer, run_kept_peer_on};

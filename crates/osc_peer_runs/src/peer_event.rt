@@ -12,6 +12,15 @@ pub struct PeerArrival {
     pub out: [u8; 64],
 }
 
+/// A challenge in place of a reply to the request of the event at `of`, whose command isn't obeyed: `mid` is the Message ID of a challenge to a
+/// NON, and `out` is room for it.
+#[derive(Drop)]
+pub struct Challenging {
+    pub of: usize,
+    pub mid: u16,
+    pub out: Vec<u8>,
+}
+
 /// One event of a peer's run.
 #[derive(Drop)]
 pub enum PeerEvent {
@@ -19,6 +28,8 @@ pub enum PeerEvent {
     Datagram(PeerArrival),
     /// The application answers a request.
     Reply(Answering),
+    /// The application challenges a request that it doesn't obey, in place of a reply.
+    Challenge(Challenging),
     /// The application notifies a request that registers an observation.
     Notify(Notifying),
     /// The application drops the ticket of the event at an index: an observation is over.
@@ -49,7 +60,7 @@ pub enum PeerEvent {
 /// The result of one event of a peer's run.
 #[derive(Debug, Drop)]
 pub enum PeerEntry<'a> {
-    /// What became of a datagram, a reply, a notification or a ticket to drop, as in a server's run. KeeperFailed is possible too.
+    /// What became of a datagram, a reply, a challenge, a notification or a ticket to drop, as in a server's run. KeeperFailed is possible too.
     Served(ServerEntry<'a>),
     /// What became of a request, a response or a forgotten token, as in a client's run. KeeperFailed is possible too.
     Asked(ClientEntry<'a>),

@@ -8,7 +8,9 @@ ghost use Rattle.osc_peer_runs.specs.PeerRuns.{DeliversBelow, PeerRun, peer_stat
 
 use crate::asking::make_request;
 use crate::peer_event::{PeerEntry, PeerEvent};
-use crate::serving::{drop_ticket, serve_datagram, serve_notification, serve_reply};
+use crate::serving::{
+    drop_ticket, serve_challenge, serve_datagram, serve_notification, serve_reply,
+};
 use osc_context::RecordKeeper;
 use osc_endpoint::siblings::make_places;
 use osc_endpoint::{ClientEntry, Ticket};
@@ -27,6 +29,7 @@ fn run_event<'a, R: RecordKeeper, const N: usize>(
     match event {
         PeerEvent::Datagram(arrival) => serve_datagram(peer, arrival, tickets),
         PeerEvent::Reply(answering) => (serve_reply(peer, answering, tickets), None),
+        PeerEvent::Challenge(challenging) => (serve_challenge(peer, challenging, tickets), None),
         PeerEvent::Notify(notifying) => (serve_notification(peer, notifying, tickets), None),
         PeerEvent::Drop { of } => (PeerEntry::Served(drop_ticket(tickets, *of)), None),
         PeerEvent::Request { now, plain, out } => {

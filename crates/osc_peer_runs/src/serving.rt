@@ -1,4 +1,4 @@
-//! The events of a run that a peer serves: datagrams that may be requests, replies, notifications and dropped tickets.
+//! The events of a run that a peer serves: datagrams that may be requests, replies, challenges, notifications and dropped tickets.
 
 ghost use Rattle.std.specs.Prelude.{◌≡◌, None, length};
 ghost use Rattle.std.specs.Option.{option_map};
@@ -9,13 +9,14 @@ ghost use Rattle.osc_kept_ends.specs.Numbering.{upcoming};
 ghost use Rattle.osc_kept_ends.specs.Peering.{ServerIsBehind};
 ghost use Rattle.osc_kept_ends.specs.PeerOwning.{own_in};
 ghost use Rattle.osc_peer_runs.specs.PeerCalls.{Calls};
-ghost use Rattle.osc_peer_runs.specs.PeerRuns.{ArrivalStep, NotifyStep, ReplyStep};
+ghost use Rattle.osc_peer_runs.specs.PeerRuns.{ArrivalStep, ChallengeStep, NotifyStep, ReplyStep};
 
-use crate::peer_event::{PeerArrival, PeerEntry, PeerEvent};
+use crate::peer_event::{Challenging, PeerArrival, PeerEntry, PeerEvent};
 use osc_coap::parse;
 use osc_context::RecordKeeper;
 use osc_endpoint::siblings::{put_back, take_out, ticket_at};
 use osc_endpoint::{Answering, Notifying, Outcome, Seen, ServerEntry, Taken, Ticket};
+use osc_fresh::challenge;
 use osc_kept_ends::KeptPeer;
 
 /// Takes a datagram. The entry borrows from its arrival.
@@ -112,6 +113,43 @@ pub(crate) fn serve_reply<'a, R: RecordKeeper, const N: usize>(
         out,
     } = answering;
     PeerEntry::Served(reply_at(peer, tickets, *of, *own, *mid, plain, out))
+}
+
+/// Seals a challenge by the ticket at an index, in place of a reply. The entry borrows from the room for it.
+fn challenge_at<'a, R: RecordKeeper, const N: usize>(
+    peer: &mut KeptPeer<R, N>,
+    tickets: &mut [Option<Ticket>],
+    of: usize,
+    mid: u16,
+    out: &'a mut [u8],
+) -> ServerEntry<'a>
+    ensures served { (h : History) → ServerIsBehind peer.old.server (upcoming (own_in peer.old.source)) h
+        → (g : History) × ChallengeStep h peer.old.source (values_in tickets.old) of mid (length out.old) result g peer.new.source (values_in tickets.new)
+        × ServerIsBehind peer.new.server (upcoming (own_in peer.new.source)) g }
+    ensures client { peer.new.client ≡ peer.old.client }
+{
+    let Some(ticket) = take_out(tickets, of) else {
+        return ServerEntry::NoTicket;
+    };
+    match challenge(peer, ticket, mid, out) {
+        Ok(len) => ServerEntry::Replied(Ok(&out[..len])),
+        Err((error, ticket)) => {
+            put_back(tickets, of, ticket);
+            ServerEntry::Replied(Err(error))
+        }
+    }
+}
+
+/// Serves a challenge. The entry borrows from the room for it.
+pub(crate) fn serve_challenge<'a, R: RecordKeeper, const N: usize>(
+    peer: &mut KeptPeer<R, N>,
+    challenging: &'a mut Challenging,
+    tickets: &mut [Option<Ticket>],
+) -> PeerEntry<'a>
+    ensures { Calls peer.old tickets.old (PeerEvent.Challenge challenging.old) result peer.new tickets.new None }
+{
+    let Challenging { of, mid, out } = challenging;
+    PeerEntry::Served(challenge_at(peer, tickets, *of, *mid, out))
 }
 
 /// Seals a notification by the ticket at an index, which stays there. The entry borrows from the room for the notification.

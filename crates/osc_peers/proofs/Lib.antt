@@ -4,3 +4,4 @@ pub mod Peering
 pub mod Crossing
 pub mod Meeting
 pub mod TwoSources
+pub mod Rows

@@ -4,6 +4,7 @@
 ghost use Rattle.osc_peers.specs.Examples.{OneSourceIsNeeded, PeerPremisesCanBeMet};
 ghost use Rattle.osc_peers.specs.Peers.{HonestPeers, TwoPeers};
 ghost use Rattle.osc_peers.specs.Roles.{RolesApart};
+ghost use Rattle.osc_peers.specs.Rows.{RowsAsBefore};
 ghost use Rattle.osc_peers.specs.Sender.{OneSender};
 
 use osc_coap::one_datagram;
@@ -81,3 +82,10 @@ pub fn one_source_is_needed()
     sealed_opens();
     one_notification();
 }
+
+/// States that an end of a device whose other role has used no number answers by exactly the rows by which it answers without another role:
+/// each life of a server that passed over no number, and each client that did. So a `KeptPeer` whose client never asked answers requests
+/// as a server without a client, and one whose server never took a number asks as a client without a server.
+pub fn rows_as_before()
+    ensures { RowsAsBefore }
+{}

@@ -9,8 +9,8 @@ use Rattle.osc_text.specs.InputEvents.{InputEvent, SpellsEvent}
 use Rattle.osc_text.specs.InputEvents as served
 use Rattle.osc_text.specs.InputReading.{SpellsNone, SpellsSeen, split_once}
 use Rattle.osc_text.specs.Inputs.{parted}
-use Rattle.osc_text.specs.PeerEvents.{Advance, Drop, Forget, Hear, Notify, PeerInput, Reply, Request, SpellsPeer, Take}
-use Rattle.osc_text.specs.PeerReading.{SpellsAs, SpellsOwn, SpellsPeerEvent, arrival_of, arrival_read, asked_of, own_line_read, own_verb_read, served_of, three_read}
+use Rattle.osc_text.specs.PeerEvents.{Advance, Challenge, Drop, Forget, Hear, Notify, PeerInput, Reply, Request, SpellsPeer, Take}
+use Rattle.osc_text.specs.PeerReading.{SpellsAs, SpellsOwn, SpellsPeerEvent, arrival_of, arrival_read, asked_of, challenge_of, challenge_read, own_line_read, own_verb_read, served_of, three_read}
 use Rattle.osc_text.specs.PeerSeen.{IsRoomyPeer, peer_seen}
 use Rattle.osc_text.proofs.InputSpellings.{IsInverse, behind, bytes_say, map_some, message_id_says, no_space_hex, no_space_number, no_space_test, number_row, number_says, numbered_row, or_verb, says_bytes, says_message_id, says_number, says_numbered, then_some}
 use Rattle.osc_text.proofs.InputWords.{IsNot, split_at, split_parts}
@@ -49,12 +49,26 @@ arrival_says fields e h =
     subst (SpellsOwn (codes "take" ++ 32 ∷ fields)) t.6
     (w.0, w.1, w.2, ap (λ (r : List ℕ). codes "take" ++ 32 ∷ r) (three_parted fields w p.1), number_says (2 ^ 64) w.0 t.0 t.3, message_id_says w.1 t.1 t.4, bytes_say w.2 t.2 t.5)
 
+challenge_all : (a b : Option ℕ) (e : PeerInput) → challenge_of a b ≡ Some e → (of : ℕ) × (mid : ℕ) × (a ≡ Some of) × (b ≡ Some mid) × (Challenge of mid ≡ e)
+challenge_all (Some of) (Some mid) e h = (of, mid, refl, refl, ap (λ (o : Option PeerInput). unwrap_or o e) h)
+challenge_all a b e h = cc h
+
+challenge_says : (fields : List ℕ) (e : PeerInput) → challenge_read fields ≡ Some e → SpellsOwn (codes "challenge" ++ 32 ∷ fields) e
+unfolding challenge_read
+challenge_says fields e h =
+    let p = then_some _ (split_once 32 fields) e h in
+    let w = p.0 in
+    let t = challenge_all _ _ e p.2 in
+    subst (SpellsOwn (codes "challenge" ++ 32 ∷ fields)) t.4
+    (w.0, w.1, ap (λ (r : List ℕ). codes "challenge" ++ 32 ∷ r) (split_parts 32 fields w p.1).0, number_says (2 ^ 64) w.0 t.0 t.2, message_id_says w.1 t.1 t.3)
+
 verb_says : (verb fields : List ℕ) (e : PeerInput) → own_verb_read verb fields ≡ Some e → SpellsOwn (verb ++ 32 ∷ fields) e
 unfolding own_verb_read
 verb_says verb fields e h =
     or_verb SpellsOwn verb (codes "take") fields _ _ e (arrival_says fields e)
     (or_verb SpellsOwn verb (codes "hear") fields _ _ e (numbered_row SpellsOwn (codes "hear") fields (λ t. Hear t.0 t.1) (behind (codes "hear") fields) e)
-    (or_verb SpellsOwn verb (codes "advance") fields _ _ e (number_row SpellsOwn (codes "advance") fields (2 ^ 64) Advance (λ n s. (fields, refl, s)) e) (λ bad. cc bad))) h
+    (or_verb SpellsOwn verb (codes "challenge") fields _ _ e (challenge_says fields e)
+    (or_verb SpellsOwn verb (codes "advance") fields _ _ e (number_row SpellsOwn (codes "advance") fields (2 ^ 64) Advance (λ n s. (fields, refl, s)) e) (λ bad. cc bad)))) h
 
 line_says : (line : List ℕ) (e : PeerInput) → own_line_read line ≡ Some e → SpellsOwn line e
 unfolding own_line_read
@@ -65,7 +79,7 @@ line_says line e h =
 -- ---- what is spelled in a line that only a peer has is read
 
 says_line : (line : List ℕ) (e : PeerInput) → SpellsOwn line e → own_line_read line ≡ Some e
-unfolding own_line_read own_verb_read arrival_read
+unfolding own_line_read own_verb_read arrival_read challenge_read
 says_line line (Take now mid datagram) (n, m, d, is, says_n, says_m, says_d) =
     rw (
       is,
@@ -77,6 +91,14 @@ says_line line (Take now mid datagram) (n, m, d, is, says_n, says_m, says_d) =
     ) refl
 says_line line (Hear now datagram) (n, d, is, says_n, says_d) =
     rw (is, split_at 32 (codes "hear") (parted (n ∷ d ∷ [])) (no_space_test (codes "hear") refl), says_numbered n d now datagram says_n says_d) refl
+says_line line (Challenge of mid) (e, m, is, says_e, says_m) =
+    rw (
+      is,
+      split_at 32 (codes "challenge") (parted (e ∷ m ∷ [])) (no_space_test (codes "challenge") refl),
+      split_at 32 e m (no_space_number _ e of says_e),
+      says_number (2 ^ 64) e of says_e,
+      says_message_id m mid says_m,
+    ) refl
 says_line line (Advance now) (n, is, says_n) = rw (is, split_at 32 (codes "advance") n (no_space_test (codes "advance") refl), says_number (2 ^ 64) n now says_n) refl
 says_line line e s = absurd s
 
@@ -93,6 +115,7 @@ own_at line o h = rw h refl
 own_spells : (line : List ℕ) (e : PeerInput) → SpellsOwn line e → SpellsPeer line e
 own_spells line (Take now mid datagram) s = s
 own_spells line (Hear now datagram) s = s
+own_spells line (Challenge of mid) s = s
 own_spells line (Advance now) s = s
 own_spells line e s = absurd s
 
@@ -100,6 +123,7 @@ own_spells line e s = absurd s
 spelled_by : (line : List ℕ) (e : PeerInput) → SpellsPeer line e → SpellsOwn line e ⊎ (SpellsAs SpellsEvent served_of line e ⊎ SpellsAs SpellsAsked asked_of line e)
 spelled_by line (Take now mid datagram) s = inl s
 spelled_by line (Reply of own mid text) s = inr (inl (served.Reply of own mid text, refl, s))
+spelled_by line (Challenge of mid) s = inl s
 spelled_by line (Notify of text) s = inr (inl (served.Notify of text, refl, s))
 spelled_by line (Drop of) s = inr (inl (served.Drop of, refl, s))
 spelled_by line (Request now text) s = inr (inr (asked.Request now text, refl, s))

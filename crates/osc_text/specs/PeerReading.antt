@@ -8,7 +8,7 @@ use Rattle.osc_text.specs.AskedEvents as asked
 use Rattle.osc_text.specs.InputEvents.{InputEvent}
 use Rattle.osc_text.specs.InputEvents as served
 use Rattle.osc_text.specs.InputReading.{SpellsSeen, bytes_read, number_read, numbered_read, split_once}
-use Rattle.osc_text.specs.PeerEvents.{Advance, Drop, Forget, Hear, Notify, PeerInput, Reply, Request, SpellsPeer, Take}
+use Rattle.osc_text.specs.PeerEvents.{Advance, Challenge, Drop, Forget, Hear, Notify, PeerInput, Reply, Request, SpellsPeer, Take}
 use Rattle.osc_text.specs.PeerSeen.{IsRoomyPeer, peer_seen}
 use Rattle.osc_text.specs.ServedReading.{message_id_read}
 
@@ -29,11 +29,21 @@ arrival_of now mid datagram = None
 unfoldable pub arrival_read : List ℕ → Option PeerInput
 arrival_read fields = option_and_then (λ w. arrival_of (number_read (2 ^ 64) w.0) (message_id_read w.1) (bytes_read w.2)) (three_read fields)
 
+-- a challenge, from what its words say (how the code is seen)
+abbrev pub challenge_of : Option ℕ → Option ℕ → Option PeerInput
+challenge_of (Some of) (Some mid) = Some (Challenge of mid)
+challenge_of of mid = None
+
+-- the fields of a challenge (how the code is seen)
+unfoldable pub challenge_read : List ℕ → Option PeerInput
+challenge_read fields = option_and_then (λ w. challenge_of (number_read (2 ^ 64) w.0) (message_id_read w.1)) (split_once 32 fields)
+
 -- the event of a verb and its fields, in a line that only a peer has (how the code is seen)
 unfoldable pub own_verb_read : List ℕ → List ℕ → Option PeerInput
 own_verb_read verb fields =
     if bytes_eq verb (codes "take") then arrival_read fields
     else if bytes_eq verb (codes "hear") then option_map (λ t. Hear t.0 t.1) (numbered_read fields)
+    else if bytes_eq verb (codes "challenge") then challenge_read fields
     else if bytes_eq verb (codes "advance") then option_map Advance (number_read (2 ^ 64) fields)
     else None
 
@@ -45,6 +55,7 @@ own_line_read line = option_and_then (λ p. own_verb_read p.0 p.1) (split_once 3
 abbrev pub SpellsOwn : List ℕ → PeerInput → Type 0
 SpellsOwn line (Take now mid datagram) = SpellsPeer line (Take now mid datagram)
 SpellsOwn line (Hear now datagram) = SpellsPeer line (Hear now datagram)
+SpellsOwn line (Challenge of mid) = SpellsPeer line (Challenge of mid)
 SpellsOwn line (Advance now) = SpellsPeer line (Advance now)
 SpellsOwn line event = ⊥
 

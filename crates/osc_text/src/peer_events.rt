@@ -6,17 +6,20 @@ ghost use Rattle.osc_text.specs.AskedReading.{HasRoom, asked_seen};
 ghost use Rattle.osc_text.specs.InputEvents.{SpellsEvent};
 ghost use Rattle.osc_text.specs.InputReading.{SpellsNone, number_read, numbered_read};
 ghost use Rattle.osc_text.specs.PeerEvents.{Advance, Hear, SpellsPeer};
-ghost use Rattle.osc_text.specs.PeerReading.{SpellsAs, SpellsOwn, SpellsPeerEvent, arrival_read, asked_of, own_verb_read, served_of};
+ghost use Rattle.osc_text.specs.PeerReading.{SpellsAs, SpellsOwn, SpellsPeerEvent, arrival_read, asked_of, challenge_read, own_verb_read, served_of};
 ghost use Rattle.osc_text.specs.PeerSeen.{IsRoomyPeer, peer_seen};
 ghost use Rattle.osc_text.specs.ServedReading.{IsOfRun, event_seen};
 
 use crate::input_lines::LineEvent;
 use crate::input_words::{
-    read_bytes, read_message_id, read_moment, read_numbered, split_once, three_words,
+    MOST_ADDED, read_bytes, read_message_id, read_moment, read_numbered, split_once, three_words,
 };
 use osc_endpoint::{ClientEvent, ServerEvent};
-use osc_peer_runs::{PeerArrival, PeerEvent};
+use osc_peer_runs::{Challenging, PeerArrival, PeerEvent};
 use std::alloc::{AllocError, Global};
+
+/// The length of the plain message of a challenge: a head without a token, the Echo option, the marker and the text `not obeyed`.
+const PLAIN_CHALLENGE: usize = 25;
 
 /// Reads the event of a datagram that may be a request: `NOW MID DATAGRAM`.
 #[tactic(auto, unfolding(crate::specs::PeerReading::arrival_read))]
@@ -53,6 +56,26 @@ fn read_hear(alloc: Global, fields: &[u8]) -> Result<Option<PeerEvent>, AllocErr
     Ok(Some(PeerEvent::Response { now, bytes }))
 }
 
+/// Reads the event of a challenge: `EVENT MID`.
+#[tactic(auto, unfolding(crate::specs::PeerReading::challenge_read))]
+fn read_challenge(alloc: Global, fields: &[u8]) -> Result<Option<PeerEvent>, AllocError>
+    ensures seen { IfOk result (λ event. option_map peer_seen event ≡ challenge_read fields.now) }
+    ensures room { IfOk result (λ event. IfSome event IsRoomyPeer) }
+{
+    let Some((of, mid)) = split_once(fields, b' ') else {
+        return Ok(None);
+    };
+    let (Some(of), Some(mid)) = (read_moment(of), read_message_id(mid)) else {
+        return Ok(None);
+    };
+    let out = vec![in alloc; 0u8; PLAIN_CHALLENGE + MOST_ADDED]?;
+    Ok(Some(PeerEvent::Challenge(Challenging {
+        of: of as usize,
+        mid,
+        out,
+    })))
+}
+
 /// Reads the event in which the clocks move: `NOW`.
 fn read_advance(fields: &[u8]) -> Option<PeerEvent>
     ensures seen { option_map peer_seen result ≡ option_map Advance (number_read (2 ^ 64) fields.now) }
@@ -74,6 +97,8 @@ fn read_fields(alloc: Global, verb: &[u8], fields: &[u8]) -> Result<Option<PeerE
         read_take(alloc, fields)
     } else if verb == b"hear".as_slice() {
         read_hear(alloc, fields)
+    } else if verb == b"challenge".as_slice() {
+        read_challenge(alloc, fields)
     } else if verb == b"advance".as_slice() {
         Ok(read_advance(fields))
     } else {

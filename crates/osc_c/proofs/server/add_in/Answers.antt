@@ -1,6 +1,6 @@
 use Rattle.std.proofs.Common.{◌∙◌, ap, ℕ, Err, Result, Some, refl}
 use Rattle.osc_context_handle.specs.ContextBytes.{server_in}
-use Rattle.osc_handle.specs.declared.add_refusal.AddRefusal.{AddRefusal}
+use Rattle.osc_endpoint.specs.declared.add_refusal.AddRefusal.{AddRefusal}
 use Rattle.osc_c.specs.ServerCalls.RefusesAdding.{refused, same_sender}
 use Rattle.osc_c.proofs.Read.{are_addable}
 use Rattle.osc_c.proofs.Serving.{added_so}

@@ -64,6 +64,10 @@ pub returns-in-Reply : goal.returns-in-Reply
 returns-in-Reply g c =
     calls_same c.args.peer.now c.serve_reply.new.peer c.args.tickets.now c.serve_reply.new.tickets None c.args.event.now (events.Reply c.in-Reply.answering) c.serve_reply.result c.in-Reply.is c.serve_reply.ensures
 
+pub returns-in-Challenge : goal.returns-in-Challenge
+returns-in-Challenge g c =
+    calls_same c.args.peer.now c.serve_challenge.new.peer c.args.tickets.now c.serve_challenge.new.tickets None c.args.event.now (events.Challenge c.in-Challenge.challenging) c.serve_challenge.result c.in-Challenge.is c.serve_challenge.ensures
+
 pub returns-in-Notify : goal.returns-in-Notify
 returns-in-Notify g c =
     let ts = c.args.tickets.now in

@@ -1,5 +1,0 @@
-use Rattle.osc_fresh.proofs.Asking.{fresh_on_demand}
-use Rattle.osc_fresh.proofs.laws.fresh_on_demand.Goals as goal
-
-pub returns : goal.returns
-returns c = fresh_on_demand c.echo_by_numbers.ensures.ends c.echo_by_numbers.ensures.unseen

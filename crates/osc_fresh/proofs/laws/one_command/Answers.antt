@@ -1,5 +1,0 @@
-use Rattle.osc_fresh.proofs.Telling.{one_command}
-use Rattle.osc_fresh.proofs.laws.one_command.Goals as goal
-
-pub returns : goal.returns
-returns c = one_command c.both_ends.ensures
