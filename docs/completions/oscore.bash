@@ -29,7 +29,7 @@ _oscore() {
             return
             ;;
         # A word of hex or a number.
-        --secret | --salt | --sender | --recipient | --id-context | --sequence | --request | --life) return ;;
+        --secret | --salt | --sender | --recipient | --id-context | --sequence | --request | --life | --ahead) return ;;
     esac
     if ((${#words[@]})); then
         mapfile -t COMPREPLY < <(compgen -W "${words[*]}" -- "$word")
@@ -56,7 +56,7 @@ _oscore() {
             [[ $role == client || $role != peer && $given == *" --life "* ]] || words+=(--window)
             [[ $role == server || $role != peer && $given == *" --"@(restarted|window)" "* ]] || words+=(--life)
             [[ $role == @(server|client) || $given == *" --"@(sequence|restarted|numbers)" "* ]] || words+=(--record)
-            [[ $given == *" --record "* ]] && words+=(--first)
+            [[ $given == *" --record "* ]] && words+=(--first --ahead)
             ;;
     esac
     for option in $(compgen -W "${words[*]}" -- "$word"); do

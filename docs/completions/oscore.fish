@@ -57,6 +57,7 @@ complete -c oscore -n '__oscore_call run; and __oscore_without --numbers --seque
 complete -c oscore -n '__oscore_call run; and __oscore_without --restarted --numbers --life; and __oscore_no client; and not __oscore_peer' -l restarted -d 'Requests may have come to it in an earlier life'
 complete -c oscore -n '__oscore_call run; and __oscore_without --record --sequence --restarted --numbers; and __oscore_no server; and __oscore_no client' -l record -r -F -d 'The record of a peer: what it sent and received'
 complete -c oscore -n '__oscore_call run; and __oscore_without --first; and not __oscore_without --record' -l first -d 'Make the record, of a peer that was never used'
+complete -c oscore -n '__oscore_call run; and __oscore_without --ahead; and not __oscore_without --record' -l ahead -x -d 'How many received numbers a peer keeps ahead'
 complete -c oscore -n '__oscore_call run; and __oscore_without --window --life; and __oscore_no client; and not __oscore_peer' -l window -x -a '1 32 64' -d 'The places of the replay window'
 complete -c oscore -n '__oscore_call run; and __oscore_without --life --restarted --window; and __oscore_no server; and not __oscore_peer' -l life -x -d 'For how many ms a request is pending'
 complete -c oscore -n '__oscore_call run; and __oscore_without --window; and __oscore_peer' -l window -x -a '1 32 64' -d 'The places of the replay window'

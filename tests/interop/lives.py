@@ -3,6 +3,7 @@ of the program is a life of its device: it gets a few lines, of commands to seal
 at random, or not. Only what it printed by then has happened to the world: what it sealed lies with the relay, what it delivered was obeyed.
 The relay loses three datagrams of ten, doubles three and holds three back. Who sealed a command sends it again, the same datagram, until it
 is obeyed. In its first life each device obeys one command of the other, so that no later life begins with a challenge (docs/DECISIONS.md).
+Then the same with devices that keep received numbers ahead: a later life of these challenges what is in doubt, and nobody seals it anew.
 
     python3 lives.py PROGRAM KILLS SEED
 
@@ -17,7 +18,6 @@ import random
 import subprocess
 import sys
 import tempfile
-import time
 from dataclasses import dataclass, field
 from typing import Dict, Iterator, List, Optional, Set, Tuple
 
@@ -31,6 +31,11 @@ IDENTIFIERS = b"\x01", b""
 """RFC 8613, C.1."""
 PUT, CHANGED = 0x03, 0x44
 LOST, DOUBLED, HELD_BACK = 0.3, 0.3, 0.3
+LONGER, SHORTER = 1.05, 0.96
+"""What becomes of the time that lives get, behind one that was killed and behind one that ended: so some half of them are killed, however much
+else runs beside them."""
+AHEAD, KILLS_AHEAD = 3, 5
+"""How many numbers the second pair of devices keeps ahead, and of how many kills one is of these."""
 GIVEN_UP_S = 20
 LIVES_OF_A_FORGETFUL_DEVICE = 60
 OBEYED_AT_LEAST = 0.1
@@ -76,11 +81,11 @@ class Device:
         return {str(path): path.read_bytes() for path in self.record.parent.glob(self.record.name + ".[ab]")}
 
 
-def devices(folder: pathlib.Path, program: str) -> List[Device]:
+def devices(folder: pathlib.Path, program: str, ahead: int) -> List[Device]:
     made = []
     for name, own, other in (("near", IDENTIFIERS[0], IDENTIFIERS[1]), ("far", IDENTIFIERS[1], IDENTIFIERS[0])):
         words = ["--secret", SECRET.hex(), "--salt", SALT.hex(), "--sender", own.hex(), "--recipient", other.hex()]
-        line = [program, "run", "--role", "peer", *words, "--record", str(folder / name)]
+        line = [program, "run", "--role", "peer", *words, "--record", str(folder / name), *(("--ahead", str(ahead)) if ahead else ())]
         made.append(Device(name, line, folder / name, oscore_reading.derive(SECRET, SALT, None, own, other)))
     return made
 
@@ -126,10 +131,10 @@ class Line:
 
 
 class World:
-    def __init__(self, program: str, folder: pathlib.Path, seed: int):
+    def __init__(self, program: str, folder: pathlib.Path, seed: int, ahead: int = 0):
         self.chance = random.Random(seed)
-        self.devices, self.relay = devices(folder, program), Relay(self.chance)
-        self.commands, self.moment, self.usual_s = 0, 0, 0.01
+        self.devices, self.relay = devices(folder, program, ahead), Relay(self.chance)
+        self.commands, self.moment, self.usual_s, self.challenges = 0, 0, 0.01, 0
         self.first_lives()
 
     def first_lives(self) -> None:
@@ -188,16 +193,16 @@ class World:
         """Runs the program over the lines, and kills it then if it runs still. What it printed is what happened."""
         device.lives += 1
         text = "".join(line.text + "\n" for line in lines)
-        began = time.monotonic()
         ran = subprocess.Popen([*device.line, *words], stdin=subprocess.PIPE, stdout=subprocess.PIPE, stderr=subprocess.PIPE, text=True)
         try:
             printed, told = ran.communicate(text, timeout=GIVEN_UP_S if kill_after_s is None else kill_after_s)
-            self.usual_s = 0.9 * self.usual_s + 0.1 * (time.monotonic() - began)
+            self.usual_s *= SHORTER if kill_after_s is not None else 1
         except subprocess.TimeoutExpired:
             ran.kill()
             printed, told = ran.communicate()
             if kill_after_s is None:
                 raise SystemExit(f"a life of {device.name} did not end") from None
+            self.usual_s *= LONGER
         if ran.returncode == -9:
             device.kills += 1
         elif ran.returncode != 0:
@@ -218,6 +223,7 @@ class World:
         elif words[0] == "deliver":
             self.obey(device, other, bytes.fromhex(words[5]), line.datagram)
         elif words[0] == "challenge":
+            self.challenges += 1
             self.answered(device, other, bytes.fromhex(words[2]), b"", line.datagram)
         elif words[0] == "replied":
             self.answered(device, other, bytes.fromhex(words[1]), line.payload, line.datagram)
@@ -278,9 +284,9 @@ def judge(device: Device, other: Device) -> Tuple[int, int]:
     return requests, len(device.texts) - requests
 
 
-def over_lives(program: str, kills: int, seed: int) -> None:
+def over_lives(program: str, kills: int, seed: int, ahead: int) -> None:
     with tempfile.TemporaryDirectory() as folder:
-        world = World(program, pathlib.Path(folder), seed)
+        world = World(program, pathlib.Path(folder), seed, ahead)
         near, far = world.devices
         while near.kills + far.kills < kills:
             world.step()
@@ -296,6 +302,8 @@ def over_lives(program: str, kills: int, seed: int) -> None:
                 raise Found(f"{device.name} did too little for this to mean anything")
         if obeyed < OBEYED_AT_LEAST * len(asked):
             raise Found(f"{obeyed} of {len(asked)} commands were obeyed")
+        if (world.challenges > 0) != (ahead > 0):
+            raise Found(f"{world.challenges} challenges, with {ahead} numbers ahead")
 
 
 def forgetful(program: str, seed: int) -> None:
@@ -318,7 +326,8 @@ def forgetful(program: str, seed: int) -> None:
 def main() -> None:
     program, kills, seed = sys.argv[1], int(sys.argv[2]), int(sys.argv[3])
     try:
-        over_lives(program, kills, seed)
+        over_lives(program, kills, seed, 0)
+        over_lives(program, kills // KILLS_AHEAD, seed, AHEAD)
     except Found as what:
         raise SystemExit(f"seed {seed}: {what}") from None
     forgetful(program, seed)

@@ -2,6 +2,7 @@
 
 use crate::answer::Answer;
 use crate::client_end::ClientEnd;
+use crate::fields::Fields;
 use crate::peer_record::RecordMemory;
 use crate::refusal::{Made, Refusal};
 use crate::remembering::{self, Remembered};
@@ -10,10 +11,10 @@ use crate::server_ends::answered;
 use crate::steps::{Step, Way, up_to_start};
 use crate::{client_calls, freshening, server_calls};
 use osc_coap::Message;
-use osc_context::KeptNumbers;
+use osc_context::{Context, KeptNumbers};
 use osc_endpoint::{ClientOutcome, Outcome, Taken, Ticket};
 use osc_fresh::{ErrorReplies, HeardEcho, Wishes, notify_without_echo, reply_without_echo};
-use osc_kept::KeptPeer;
+use osc_kept::{KeptError, KeptPeer};
 
 /// How old a request may be that a peer obeys which wants fresh ones, in milliseconds.
 const FRESH_MS: u64 = 5_000;
@@ -205,7 +206,21 @@ fn make(asking: &mut Asking<'_>, steps: &[Step<'_>], way: Way, answer: &mut Answ
     }
 }
 
-/// Makes a start, `start CONTEXT SIZE LIFE`, and the steps up to the next one. Returns the record for the next start.
+/// Starts a peer by `start CONTEXT SIZE LIFE`, or by `start CONTEXT SIZE LIFE AHEAD`, which keeps received numbers ahead.
+fn begin<'t>(
+    context: Context,
+    keeper: RecordMemory<'t>,
+    fields: &Fields<'_>,
+) -> Result<Peer<'t>, (KeptError, RecordMemory<'t>)> {
+    let (size, life) = (fields.window_size(1), fields.number(2));
+    if fields.len() == 3 {
+        return Peer::start(context, keeper, size, life);
+    }
+    fields.count(4);
+    Peer::start_ahead(context, keeper, size, life, fields.number(3))
+}
+
+/// Makes a start, and the steps up to the next one. Returns the record for the next start.
 fn one_start<'t>(
     keeper: RecordMemory<'t>,
     start: &Step<'_>,
@@ -213,12 +228,10 @@ fn one_start<'t>(
     way: Way,
     answer: &mut Answer,
 ) -> RecordMemory<'t> {
-    start.fields.count(3);
     let Some(context) = start.context() else {
         return keeper;
     };
-    let (size, life) = (start.fields.window_size(1), start.fields.number(2));
-    match Peer::start(context, keeper, size, life) {
+    match begin(context, keeper, &start.fields) {
         Ok(peer) => {
             answer.word("started ;");
             let mut asking = Asking {

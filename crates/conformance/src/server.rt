@@ -8,7 +8,7 @@ use crate::refusal::Refusal;
 use crate::server_calls::make;
 use crate::server_end::ServerEnd;
 use crate::server_entry::show;
-use crate::server_events::{addition, event_of, show_left};
+use crate::server_events::{addition, event_of, show_left, without_doubt};
 use crate::steps::{Step, Way, are_events};
 use osc_endpoint::{AddRefusal, Server, ServerEntry, ServerEvent, run_server, run_server_on};
 use osc_handle::{ContextHandle, ServerHandle, SingleServerHandle};
@@ -97,6 +97,7 @@ impl Begins for SingleServerHandle {
     /// Begins with the context that the first step adds.
     fn begin(first: &Step<'_>, answer: &mut Answer) -> Option<SingleServerHandle> {
         let (context, start, size) = addition(first)?;
+        let start = without_doubt(start)?;
         answer.word("added 0 ;");
         SingleServerHandle::begin(&ContextHandle::of(&context), start, size)
     }
@@ -142,14 +143,15 @@ pub(crate) fn over_bytes(
     }
 }
 
-/// Returns whether no bytes of a server refuse one of the contexts for its Sender Key. A `Server` refuses none for that (RFC 8613, 3.3).
-fn have_own_senders(steps: &[Step<'_>]) -> bool {
+/// Returns whether the bytes of a server take all the contexts. They refuse one for its Sender Key, which a `Server` doesn't (RFC 8613, 3.3),
+/// and have no room for numbers in doubt.
+fn fit_in_bytes(steps: &[Step<'_>]) -> bool {
     let mut server = ServerHandle::new();
     for step in steps {
         if step.verb == "add" {
             if let Some((context, start, size)) = addition(step) {
                 let added = ServerEnd::add(&mut server, context, start, size);
-                if let Err(Refusal::Add(AddRefusal::SameSender)) = added {
+                if let Err(Refusal::Add(AddRefusal::SameSender) | Refusal::Bad) = added {
                     return false;
                 }
             }
@@ -158,8 +160,8 @@ fn have_own_senders(steps: &[Step<'_>]) -> bool {
     true
 }
 
-/// Makes a row's steps over a server. If the steps only add contexts, no two with the same Sender Key, and are events, makes them over the
-/// bytes of a server too.
+/// Makes a row's steps over a server. If the steps only add contexts that the bytes of a server take, and are events, makes them over these
+/// bytes too.
 pub(crate) fn over_all(
     first: &Step<'_>,
     steps: &[Step<'_>],
@@ -168,7 +170,7 @@ pub(crate) fn over_all(
 ) {
     in_all_ways::<Server>(first, all, answer);
     let mut others = all.iter().filter(|step| step.verb != "add");
-    if others.all(|step| step.is_event()) && have_own_senders(all) {
+    if others.all(|step| step.is_event()) && fit_in_bytes(all) {
         answer.again();
         over_bytes(first, steps, all, answer);
     }

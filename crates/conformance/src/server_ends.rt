@@ -3,6 +3,7 @@
 use crate::keeper::Memory;
 use crate::refusal::{Made, Refusal, restarted};
 use crate::server_end::{Moment, Replied, Reply, Room, ServerEnd, lent};
+use crate::server_events::without_doubt;
 use crate::steps::Step;
 use osc_coap::Message;
 use osc_context::{Context, Piv};
@@ -153,6 +154,7 @@ impl ServerEnd for ServerHandle {
     }
 
     fn add(&mut self, context: Context, start: Start, size: WindowSize) -> Made<usize> {
+        let start = without_doubt(start).ok_or(Refusal::Bad)?;
         let added = ServerHandle::add(self, &ContextHandle::of(&context), start, size);
         added.ok_or(Refusal::Bad)?.map_err(Refusal::Add)
     }

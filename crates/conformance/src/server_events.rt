@@ -1,5 +1,8 @@
 //! The steps of a server's row: its events, and the contexts that are added.
 
+ghost use Rattle.std.specs.Prelude.{IfSome};
+ghost use Rattle.osc_handle.specs.SlotBytes.{HasNoDoubt};
+
 use crate::answer::Answer;
 use crate::fields::Fields;
 use crate::steps::{FILLED_WITH, Step};
@@ -8,7 +11,7 @@ use osc_endpoint::{Answering, Arrival, Fresh, Notifying, ServerEvent, Start};
 use osc_kept::KeptServerEvent;
 use osc_window::WindowSize;
 
-/// Reads how a context begins: `fresh NEXT SIZE`, `restarted NEXT SIZE` or `received NEXT SIZE HIGHEST`.
+/// Reads how a context begins: `fresh NEXT SIZE`, `restarted NEXT SIZE`, `received NEXT SIZE HIGHEST` or `reserved NEXT SIZE HIGHEST AHEAD`.
 fn beginning(fields: &Fields<'_>) -> Start {
     let next = fields.sequence_number(2);
     if fields.word(1) == "received" {
@@ -16,11 +19,31 @@ fn beginning(fields: &Fields<'_>) -> Start {
         let highest = fields.sequence_number(4);
         return Start::Received { next, highest };
     }
+    if fields.word(1) == "reserved" {
+        fields.count(6);
+        return Start::Reserved {
+            next,
+            highest: fields.sequence_number(4),
+            ahead: fields.number(5),
+        };
+    }
     fields.count(4);
     if fields.word(1) == "fresh" {
         Start::Fresh(next)
     } else {
         Start::Restarted(next)
+    }
+}
+
+/// Returns how a context begins, if no numbers are in doubt: the bytes of a server have no room for them.
+pub(crate) fn without_doubt(start: Start) -> Option<Start>
+    ensures { IfSome result HasNoDoubt }
+{
+    match start {
+        Start::Fresh(next) => Some(Start::Fresh(next)),
+        Start::Restarted(next) => Some(Start::Restarted(next)),
+        Start::Received { next, highest } => Some(Start::Received { next, highest }),
+        Start::Reserved { .. } => None,
     }
 }
 

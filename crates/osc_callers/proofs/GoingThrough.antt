@@ -79,8 +79,8 @@ challenge_named : (laws : SealedOpens) (h : server.History) (of : Life) (number 
     → SealsRequest of.context number p d → MeetsNamedRow h (arrival h 0 echo 0 d) (server.Challenge i n given issued) → (i ≡ 0) × (n ≡ number)
 challenge_named laws h of number p d echo i n given issued one seals (j, m, life, request, (wants, has, gives, i_is, n_is)) =
     let here = one j life request.life_is in
-    let protects : ProtectsRequest of.context m wants.1 d = subst (λ (l : Life). ProtectsRequest l.context m wants.1 d) here.1 wants.2 in
-    (i_is ∙ here.0, n_is ∙ ((laws.request of.context number p d seals).nothing_else m wants.1 protects).0)
+    let protects : ProtectsRequest of.context m wants.2 d = subst (λ (l : Life). ProtectsRequest l.context m wants.2 d) here.1 wants.3 in
+    (i_is ∙ here.0, n_is ∙ ((laws.request of.context number p d seals).nothing_else m wants.2 protects).0)
 
 pub challenged : (laws : SealedOpens) (h : server.History) (of : Life) (number : ℕ) (p : Parts) (d echo reply : List ℕ) (v : Server) (answer : server.Answer) (given : List ℕ) (issued : ℕ)
     → HasOneLife h of → SealsRequest of.context number p d → given ≡ echo → issued ≡ 0 → Shows (outcomes.Challenge given issued) answer → ServerAnswer h (server.Datagram 0 echo 0 d) (server.Took answer reply)

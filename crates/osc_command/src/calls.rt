@@ -71,7 +71,7 @@ const EXAMPLE_EXPLAIN: &str = "Example:
 const EXAMPLE_RUN: &str =
     "Prints what each event came to, one a line. Of a server alone is --restarted,
 of a server and a peer --window, of a client and a peer --life. A peer is both
-ends of a context, and needs --record.
+ends of a context, and needs --record; --ahead is of a peer alone.
 
 Events of a server, one a line; bytes are hex, and - for none:
   take NOW ECHO MID DATAGRAM        a datagram comes at NOW, in milliseconds;
@@ -94,6 +94,9 @@ With --numbers FILE, made where it is missing, the line is restart alone.
 
 Events of a peer: reply, notify, drop, request and forget as above, and
   take NOW MID DATAGRAM             a datagram comes that may be a request
+  fresh MS NOW MID DATAGRAM         the same, but a request is delivered only if
+                                    it is known to be sealed at most MS ago, and
+                                    else a fresh one is asked for
   challenge EVENT MID               in place of a reply: the request of an event
                                     isn't obeyed, and a fresh one is asked for
   hear NOW DATAGRAM                 a datagram comes that may be a response
@@ -151,6 +154,7 @@ const RUN: &[Word] = &[
     Word { name: "first", value: "", takes: Takes::NothingBeside("record"), help: "Make the record, of a peer that was never used" },
     Word { name: "window", value: "SIZE", takes: Takes::OneOf(&["1", "32", "64"]), help: "Window size [default: 32]" },
     Word { name: "life", value: "MS", takes: Takes::Value, help: "How many ms a request is pending [default: 60000]" },
+    Word { name: "ahead", value: "N", takes: Takes::Value, help: "How many received numbers a peer keeps ahead [default: 0]" },
 ];
 
 /// All calls, as the help lists them.

@@ -1,12 +1,13 @@
 //! What is wrong with a line of input that isn't an event, in one line.
 
-use self::Field::{Datagram, Echo, Event, Mid, Next, Now, Own, Plain, Token};
+use self::Field::{Datagram, Echo, Event, Mid, Ms, Next, Now, Own, Plain, Token};
 use osc_text::{read_decimal, read_number};
 use std::alloc::{AllocError, Global};
 use std::str;
 
 /// A field of an event.
 pub(crate) enum Field {
+    Ms,
     Now,
     Echo,
     Mid,
@@ -60,6 +61,9 @@ const FORGET: Form = Form { word: "forget", fields: &[Token], names: "followed b
 const TAKE_BY_PEER: Form = Form { word: "take", fields: &[Now, Mid, Datagram], names: "followed by NOW MID DATAGRAM" };
 
 #[rattlefmt::skip]
+const FRESH: Form = Form { word: "fresh", fields: &[Ms, Now, Mid, Datagram], names: "followed by MS NOW MID DATAGRAM" };
+
+#[rattlefmt::skip]
 const HEAR: Form = Form { word: "hear", fields: &[Now, Datagram], names: "followed by NOW DATAGRAM" };
 
 #[rattlefmt::skip]
@@ -103,6 +107,7 @@ pub(crate) const KEPT_CLIENT: Forms = Forms {
 pub(crate) const PEER: Forms = Forms {
     forms: &[
         TAKE_BY_PEER,
+        FRESH,
         REPLY,
         CHALLENGE,
         NOTIFY,
@@ -112,7 +117,7 @@ pub(crate) const PEER: Forms = Forms {
         FORGET,
         ADVANCE,
     ],
-    words: "take, reply, challenge, notify, drop, request, hear, forget and advance",
+    words: "take, fresh, reply, challenge, notify, drop, request, hear, forget and advance",
 };
 
 /// Returns whether a word is hex digits.
@@ -129,7 +134,7 @@ impl Field {
     /// Returns whether a word can be this field.
     fn takes(&self, word: &str) -> bool {
         match self {
-            Field::Now | Field::Event => read_decimal(word).is_some(),
+            Field::Ms | Field::Now | Field::Event => read_decimal(word).is_some(),
             Field::Next => read_number(word).is_some(),
             Field::Echo => word.len() == 16 && is_hex(word),
             Field::Mid => word.len() == 4 && is_hex(word),
@@ -141,6 +146,7 @@ impl Field {
     /// Returns what this field must be.
     fn rule(&self) -> &'static str {
         match self {
+            Field::Ms => "MS must be a number below 2^64",
             Field::Now => "NOW must be a number below 2^64",
             Field::Echo => "ECHO must be 16 hex digits",
             Field::Mid => "MID must be 4 hex digits",

@@ -120,6 +120,14 @@ fn read_client(matches: &ArgMatches<'_>, is_kept: bool) -> Result<Beginning, Fau
     Ok(Beginning::Client(Asking { next, life_ms }))
 }
 
+/// Reads how many received numbers a peer keeps ahead.
+fn read_ahead(matches: &ArgMatches<'_>) -> Result<u64, Fault> {
+    match optional_number(matches, "ahead", "--ahead")? {
+        Some(ahead) => Ok(ahead.number()),
+        None => Ok(0),
+    }
+}
+
 /// Reads how the peer begins. It needs a record, and the option that a peer doesn't have is a fault.
 fn read_peer(matches: &ArgMatches<'_>, is_kept: bool) -> Result<Beginning, Fault> {
     if is_kept {
@@ -130,13 +138,18 @@ fn read_peer(matches: &ArgMatches<'_>, is_kept: bool) -> Result<Beginning, Fault
     }
     let window = window_of(matches);
     let life_ms = life_of(matches)?;
+    let ahead = read_ahead(matches)?;
     Ok(Beginning::Peer(PeerBeginning {
-        peering: Peering { window, life_ms },
+        peering: Peering {
+            window,
+            life_ms,
+            ahead,
+        },
         is_first: matches.get_flag("first"),
     }))
 }
 
-/// Reads which end it is, and how it begins. A server and a client have no record.
+/// Reads which end it is, and how it begins. A server and a client have no record, and keep nothing ahead.
 pub(crate) fn read_beginning(matches: &ArgMatches<'_>) -> Result<Beginning, Fault> {
     let is_kept = matches.get_str("numbers").is_some();
     let role = matches.get_str("role");
@@ -145,6 +158,9 @@ pub(crate) fn read_beginning(matches: &ArgMatches<'_>) -> Result<Beginning, Faul
     }
     if matches.get_str("record").is_some() {
         return Err(input_fault("--record", Wrong::Role));
+    }
+    if matches.get_str("ahead").is_some() {
+        return Err(input_fault("--ahead", Wrong::Role));
     }
     if role == Some("client") {
         read_client(matches, is_kept)

@@ -8,7 +8,7 @@ use Rattle.osc_window.specs.declared.window_size.WindowSize.{WindowSize}
 use Rattle.osc_endpoint.specs.declared.server.Server.{Server}
 use Rattle.osc_life.specs.declared.slot.Slot.{Slot}
 use Rattle.osc_life.specs.declared.start.Start.{Start}
-use Rattle.osc_life.specs.declared.start.Start.TheVariants.{Fresh, Restarted, Received}
+use Rattle.osc_life.specs.declared.start.Start.TheVariants.{Fresh, Restarted, Received, Reserved}
 use Rattle.osc_endpoint.specs.Agrees.{Agrees, PlaceAgrees, TableAgrees}
 use Rattle.osc_life.specs.Agrees.{HoldsLife, SlotAgrees}
 use Rattle.osc_life.specs.Life.{Life, born}
@@ -66,6 +66,7 @@ born_context : (s : SecurityContext) (start : Start) (size : WindowSize) (of : L
 born_context s (Fresh next) size of e = let f : born s (Fresh next) size ≡ of = cc in ap (λ (l : Life). l.context) f
 born_context s (Restarted next) size of e = let f : born s (Restarted next) size ≡ of = cc in ap (λ (l : Life). l.context) f
 born_context s (Received next highest) size of e = let f : born s (Received next highest) size ≡ of = cc in ap (λ (l : Life). l.context) f
+born_context s (Reserved next highest ahead) size of e = let f : born s (Reserved next highest ahead) size ≡ of = cc in ap (λ (l : Life). l.context) f
 
 -- no two contexts are so related, as OneEach says of one lookup
 abbrev pub OneBy : (SecurityContext → SecurityContext → Type 0) → History → Type 0

@@ -1,17 +1,19 @@
 -- What a server delivers, exactly.
-use Rattle.std.proofs.Common.{◌≡◌, ℕ, ◌∙◌, sym, ap, subst, refl, true, false, Option, Some, None, List, []}
+use Rattle.std.proofs.Common.{◌≡◌, ℕ, ◌∙◌, sym, ap, subst, refl, arith, true, false, Option, Some, None, List, [], inl, inr}
 use Rattle.std.specs.Prelude.{max, unwrap_or}
 use Rattle.osc_coap.specs.Inner.{InnerParts}
 use Rattle.osc_protect.specs.Laws.{OneRequest, OneRequestReading}
 use Rattle.osc_protect.specs.Protection.{ProtectsRequest, requests}
 use Rattle.osc_protect.specs.Refusals.{RefusesPlaintext, RefusesTag}
 use Rattle.osc_protect.specs.declared.unprotect_error.UnprotectError.TheVariants.{Format, NotThatKind, NoOscore, Undecodable as BadHead, WrongContext, Tag, Inner}
+use Rattle.osc_life.specs.declared.doubt.Doubt.{Doubt}
 use Rattle.osc_life.specs.declared.outcome.Outcome.{Outcome}
 use Rattle.osc_life.specs.declared.outcome.Outcome.TheVariants as outcomes
 use Rattle.osc_endpoint.specs.Agrees.{OneEach}
-use Rattle.osc_life.specs.Life.{Life, Admits, Carries, IsNewIn, is_open, in_force}
+use Rattle.osc_life.specs.Doubting.{IsBelow, IsNotBelow, OpensBy, StaysBy}
+use Rattle.osc_life.specs.Life.{Life, Admits, Carries, IsNewIn, Passes, is_open, in_force}
 use Rattle.osc_endpoint.specs.ServerAnswer.{IsRequestOf, MeetsRow, Delivers, arrival}
-use Rattle.osc_life.specs.LifeAnswer.{WantsEcho}
+use Rattle.osc_life.specs.LifeAnswer.{IsReplay, WantsEcho}
 use Rattle.osc_life.specs.ServerHistory as server
 use Rattle.osc_protect.specs.Views.{message_of}
 use Rattle.osc_observe.specs.Received.{Received}
@@ -94,15 +96,33 @@ same_place : (h : server.History) (d : List ℕ) (i j n k : ℕ) (of other : Lif
 same_place h d i j n k of other m one each request life_is protects =
     same_named h i j n k of other each request.life_is life_is (same_parts of.context other.context n k m d one (request.head, request.has_head, request.names) protects)
 
+-- what leaves a life closed doesn't open it
+stays_shut : (doubt : Option Doubt) (n : ℕ) (carried : Type 0) → StaysBy doubt n carried → OpensBy doubt n carried → ⊥
+stays_shut None n carried stays opens = stays opens
+stays_shut (Some doubt) n carried (below, never) (inl beyond) = omega (arith, below, beyond)
+stays_shut (Some doubt) n carried (below, never) (inr carries) = never carries
+
+not_below : (doubt : Option Doubt) (n : ℕ) → IsBelow doubt n → IsNotBelow doubt n → ⊥
+not_below None n below from = below
+not_below (Some doubt) n below from = omega (arith, below, from)
+
+-- a request that is admitted is no replay
+pub no_replay : (of other : Life) (n k : ℕ) → of ≡ other → n ≡ k → IsReplay of n → Passes other k → ⊥
+no_replay of other n k same number (inl (opened, old)) passes =
+    old (subst (λ x. IsNewIn x n) (sym same) (subst (IsNewIn other) (sym number) (passes.0 (ap is_open (sym same) ∙ opened))))
+no_replay of other n k same number (inr (closed, below)) passes =
+    not_below of.doubt n below (subst (λ (x : Life). IsNotBelow x.doubt n) (sym same) (subst (IsNotBelow other.doubt) (sym number) (passes.1 (ap is_open (sym same) ∙ closed))))
+
 -- a request that is admitted wants no Echo value
 pub no_want : (of other : Life) (n k clock : ℕ) (d : List ℕ) (m : InnerParts) → OneRequest → of ≡ other
     → WantsEcho of n clock d → ProtectsRequest other.context k m d → Admits other clock k m → ⊥
-no_want of other n k clock d m laws same (closed, l, protects, carries) by admits =
+no_want of other n k clock d m laws same (closed, from, l, protects, stays) by admits =
     let there = subst (λ (x : Life). ProtectsRequest x.context n l d) same protects in
     let message : l ≡ m = (laws other.context).message d n k l m there by in
+    let number : n ≡ k = (laws other.context).number d n k l m there by in
     let shut : is_open other ≡ false = ap is_open (sym same) ∙ closed in
-    let carried : Carries (in_force other clock) l = subst (Carries (in_force other clock)) (sym message) (admits.1 shut) in
-    carries (subst (λ x. Carries (in_force x clock) l) (sym same) carried)
+    let opens = subst (λ x. OpensBy other.doubt n (Carries (in_force other clock) x)) (sym message) (subst (λ x. OpensBy other.doubt x (Carries (in_force other clock) m)) (sym number) (admits.1 shut)) in
+    stays_shut of.doubt n (Carries (in_force of clock) l) stays (subst (λ (x : Life). OpensBy x.doubt n (Carries (in_force x clock) l)) (sym same) opens)
 
 -- what is to be delivered is
 pub delivers_row : (h : server.History) (now mid : ℕ) (echo d : List ℕ) (answer : server.Answer) (i n : ℕ) (m : InnerParts)
@@ -118,8 +138,7 @@ delivers_row h now mid echo d server.NoContext i n m one laws each none is =
     absurd ((laws is.of.context).never_both d n m WrongContext is.protects (none.0, none.1, λ k names. none.2 i is.of is.life_is k names))
 delivers_row h now mid echo d server.Replay i n m one laws each (j, k, of, request, replay) is =
     let s = same_place h d j i k n of is.of m one each request is.life_is is.protects in
-    let opened : is_open is.of ≡ true = ap is_open (sym s.life) ∙ replay.0 in
-    absurd (replay.1 (subst (λ x. IsNewIn x k) (sym s.life) (subst (IsNewIn is.of) (sym s.number) (is.admits.0 opened))))
+    absurd (no_replay of is.of k n s.life s.number replay is.admits.0)
 delivers_row h now mid echo d server.BadTag i n m one laws each (j, k, of, request, (passes, refuses)) is =
     let s = same_place h d j i k n of is.of m one each request is.life_is is.protects in
     absurd ((laws is.of.context).never_both d n m Tag is.protects (subst (λ (x : Life). RefusesTag (requests x.context) d) s.life refuses))

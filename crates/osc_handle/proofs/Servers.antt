@@ -134,6 +134,7 @@ born_count : (s : SecurityContext) (start : Start) (size : WindowSize) → (born
 born_count s (starts.Fresh n) size = refl
 born_count s (starts.Restarted n) size = refl
 born_count s (starts.Received n highest) size = refl
+born_count s (starts.Reserved n highest ahead) size = refl
 
 pub serves_added : WaitingHasLife → (s t : ServerHandle) (h : server.History) (context : ContextHandle) (start : Start) (size : WindowSize) (index : ℕ) (u : UnansweredHandle)
     → Serves s h → IsContextBytes context → s.contexts.count ≤ length s.contexts.slots → index ≡ s.contexts.count → index < 8

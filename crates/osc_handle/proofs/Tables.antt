@@ -18,7 +18,7 @@ use Rattle.osc_endpoint.proofs.Places.{life_at, slice_get-set_other, slice_get-s
 use Rattle.osc_life.specs.Agrees.{GateAgrees, HoldsLife, SlotAgrees}
 use Rattle.osc_endpoint.specs.Agrees.{PlaceAgrees, TableAgrees}
 use Rattle.osc_life.specs.Deciding.{IsOpenedIn, Leaves}
-use Rattle.osc_life.specs.Judging.{IsNamed, JudgesTo}
+use Rattle.osc_life.specs.Judging.{GateRefuses, IsNamed, JudgesTo}
 use Rattle.osc_life.specs.Life.{Life, Mark, floor, marked, spent}
 use Rattle.osc_endpoint.specs.Table.{FindsAt, NamesAt, TableJudges}
 use Rattle.osc_life.specs.declared.decision.Decided.{Decided}
@@ -99,12 +99,17 @@ gates_alike b (gates.Open v) (gates.Restarted (Some d)) l g f a = absurd (let tw
 gates_alike b (gates.Open v) (gates.Open w) l g f a =
     (a.0, alike v w l.size (floor l.least l.open_at_birth l.marks) (spent l.open_at_birth l.marks) (one_highest b _ _ g.highest f.highest) (sym g.mask ∙ f.mask) (one_size _ _ (g.size ∙ sym f.size)) a.1)
 
+-- what a gate refuses, a context with it refuses, if no number is in doubt
+pub refuses_alike : (s : Slot) (gate : Gate) (n : ℕ) → s.gate ≡ gate → s.doubt ≡ None → GateRefuses gate None n → GateRefuses s.gate s.doubt n
+refuses_alike s gate n same sure refuses = subst (λ g. GateRefuses g s.doubt n) (sym same) (subst (λ o. GateRefuses gate o n) (sym sure) refuses)
+
 -- contexts of the same bytes agree with the same lives
 pub slots_alike : (b : SlotHandle) (s t : Slot) (l : Life) → IsSlotIn b s → IsSlotIn b t → SlotAgrees s l → SlotAgrees t l
 slots_alike b s t l x y a =
     record {
       context = y.context ∙ (sym x.context ∙ a.context);
       size = one_size t.size s.size (y.size ∙ sym x.size) ∙ a.size;
+      doubt = y.doubt ∙ (sym x.doubt ∙ a.doubt);
       gate = gates_alike b s.gate t.gate l x.gate y.gate a.gate;
       next = sym y.next ∙ (x.next ∙ a.next);
       life = sym y.life ∙ (x.life ∙ a.life);
@@ -143,6 +148,11 @@ table_set t slots i b c s h e there p at =
 pub size_marked : (m : Option Mark) (l : Life) → (marked m l).size ≡ l.size
 size_marked None l = refl
 size_marked (Some m) l = refl
+
+-- so do the numbers in doubt
+pub doubt_marked : (m : Option Mark) (l : Life) → (marked m l).doubt ≡ l.doubt
+doubt_marked None l = refl
+doubt_marked (Some m) l = refl
 
 bytes_there : (o : Option SlotHandle) (c : SecurityContext) → option_map (λ (b : SlotHandle). server_in b.context) o ≡ Some c → (b : SlotHandle) × (o ≡ Some b) × (server_in b.context ≡ c)
 bytes_there None c e = absurd (none-some c e)
@@ -393,14 +403,14 @@ table_written t i c h used within bytes = table_kept t i (slice_index_or t.slots
 -- a context whose gate refuses a request answers it, and its bytes stay
 pub replayed_in : (t : ContextsHandle) (slots : List (Option Slot)) (lives : ℕ → Option Life) (r : Named) (d : List ℕ) (result : Decided) (reply : List ℕ) (other : SlotHandle) (gate : Gate)
     → NamesAt (bytes_at t) r d → IsTableIn t slots → TableAgrees slots lives → IsGateIn (slice_index_or t.slots r.index other) gate
-    → ((s : Slot) (l : Life) → s.gate ≡ gate → SlotAgrees s l → JudgesTo l r d result d reply (Some s))
+    → ((s : Slot) (l : Life) → s.gate ≡ gate → s.doubt ≡ None → SlotAgrees s l → JudgesTo l r d result d reply (Some s))
     → (x : List (Option Slot)) × IsTableIn t x × (length x ≡ length slots) × TableJudges lives r d result d reply x
 replayed_in t slots lives r d result reply other gate names h agrees made judges =
     let (b, there, same) = bytes_of t r.index names.context names.there in
     let (s, at, is) = slot_at t slots r.index b h there in
     let one : slice_index_or t.slots r.index other ≡ b = get_or_from_slice_get t.slots r.index b other (in_front t.slots t.count r.index b there).1 in
     let x : Slot = record s { gate = gate } in
-    let slot_is : IsSlotIn b x = record { handle = is.handle; context = is.context; size = is.size; gate = subst (λ y. IsGateIn y gate) one made; next = is.next; life = is.life } in
+    let slot_is : IsSlotIn b x = record { handle = is.handle; context = is.context; size = is.size; doubt = is.doubt; gate = subst (λ y. IsGateIn y gate) one made; next = is.next; life = is.life } in
     let context : names.context ≡ as_server (context_of s.context) = sym (is.context ∙ same) in
     let n : NamedIn t r d x = record {
       bytes = b;
@@ -409,7 +419,7 @@ replayed_in t slots lives r d result reply other gate names h agrees made judges
       named = subst (λ (c : SecurityContext). IsNamed c (number_of r.number) d) context names.named;
       sealed = subst (λ (c : SecurityContext). IsSealedRequest (requests c) d r.sealed) context names.sealed;
     } in
-    let (new, kept, len, judged) = judged_in t slots lives r d result d reply x x b n h agrees (λ l a. judges x l refl a) refl (λ _. slot_is) in
+    let (new, kept, len, judged) = judged_in t slots lives r d result d reply x x b n h agrees (λ l a. judges x l refl is.doubt a) refl (λ _. slot_is) in
     (new, kept_itself t new r.index b there kept, len, judged)
 
 -- a request's context is one that is in use

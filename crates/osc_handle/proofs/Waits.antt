@@ -61,7 +61,7 @@ admitted_near : (of : Life) (clock n : ℕ) (m : InnerParts) → Admits of clock
 admitted_near of clock n m admits = elim (cases_Bool (is_open of)) [
   | inl is ↦
       let most = places_most of.size in
-      All-weaker (λ k. k < n + places_of of.size) (λ k. k < n + 64) (λ k less. omega (arith, less, most)) (spent of.open_at_birth of.marks) (admits.0 is).within
+      All-weaker (λ k. k < n + places_of of.size) (λ k. k < n + 64) (λ k less. omega (arith, less, most)) (spent of.open_at_birth of.marks) (admits.0.0 is).within
   | inr shut ↦ subst (All (λ k. k < n + 64)) (sym (closed_bare of.open_at_birth of.marks shut).spent_is) (All-nil (λ k. k < n + 64))
 ]
 

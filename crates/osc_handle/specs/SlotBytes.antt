@@ -11,6 +11,8 @@ use Rattle.osc_protect.specs.Views.{context_of}
 use Rattle.osc_life.specs.Agrees.{SlotAgrees}
 use Rattle.osc_life.specs.Life.{Life}
 use Rattle.osc_life.specs.declared.slot.Slot.{Slot}
+use Rattle.osc_life.specs.declared.start.Start.{Start}
+use Rattle.osc_life.specs.declared.start.Start.TheVariants as starts
 use Rattle.osc_context_handle.specs.ContextBytes.{IsContext, server_in}
 use Rattle.osc_handle.specs.declared.slot_handle.SlotHandle.{SlotHandle}
 
@@ -31,11 +33,17 @@ IsGateIn b (gates.Restarted None) = b.gate ≡ 0
 IsGateIn b (gates.Restarted (Some challenge)) = (b.gate ≡ 1) × (b.echo ≡ challenge.0) × (b.at ≡ challenge.1)
 IsGateIn b (gates.Open window) = IsWindowIn b (parts_of window)
 
--- a context in its life (own rule)
+-- a start with no numbers in doubt, which the bytes have no room for (own rule)
+abbrev pub HasNoDoubt : Start → Type 0
+HasNoDoubt (starts.Reserved next highest ahead) = ⊥
+HasNoDoubt start = Unit {0}
+
+-- a context in its life, in which no number is in doubt: the bytes have no room for such (own rule)
 pub record IsSlotIn (b : SlotHandle) (s : Slot) : Type 0 where
   pub handle : IsContext b.context
   pub context : as_server (context_of s.context) ≡ server_in b.context
   pub size : places_of s.size ≡ b.places
+  pub doubt : s.doubt ≡ None
   pub gate : IsGateIn b s.gate
   pub next : b.next ≡ s.next
   pub life : b.life ≡ s.life

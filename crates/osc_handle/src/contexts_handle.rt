@@ -17,6 +17,7 @@ ghost use Rattle.osc_life.specs.declared.server_error.ReplyError.TheVariants.{Ke
 ghost use Rattle.osc_life.specs.declared.slot.Slot.{Slot as SlotOf};
 ghost use Rattle.osc_context_handle.specs.ContextBytes.{IsContext, server_in};
 ghost use Rattle.osc_handle.specs.Held as lemmas;
+ghost use Rattle.osc_handle.specs.SlotBytes.{HasNoDoubt};
 ghost use Rattle.osc_handle.specs.TableBytes.{IsTable, IsTableIn, bytes_at};
 ghost use Rattle.osc_handle.specs.TableSteps.{ChangesAt, GrowsBy, HasSenderIn, RefusesToAdd, is_present_in};
 
@@ -87,6 +88,7 @@ impl ContextsHandle {
     ) -> Result<usize, AddRefusal>
         requires table { IsTable self.old }
         requires context { IsContext context.now }
+        requires start { HasNoDoubt start }
         ensures added { IfOk result (λ index. (index ≡ self.old.count) × (index < 8)
             × ((i : ℕ) → FindsAt (bytes_at self.old) i (server_in context.now).client (server_in context.now).id_context → ⊥)
             × (HasSenderIn self.old (server_in context.now) → ⊥)) }
@@ -217,7 +219,7 @@ impl Contexts for ContextsHandle {
             unreachable!();
         };
         // A replay needs no key schedule.
-        if is_replay(&gate, request.number) {
+        if is_replay(&gate, None, request.number) {
             return refuse_replay(&request, out);
         }
         let bytes = &mut self.slots[request.index];

@@ -16,6 +16,7 @@ ghost use Rattle.osc_life.specs.declared.slot.Slot.{Slot as SlotOf};
 ghost use Rattle.osc_context_handle.specs.ContextBytes.{IsContext, server_in};
 ghost use Rattle.osc_handle.specs.Noting.{Notes, NotesTicket};
 ghost use Rattle.osc_handle.specs.ServerBytes.{AddsIn, DecidesIn, IsSpent, NotifiesIn, RepliesIn, Serves, TakesIn, entry_of_reply};
+ghost use Rattle.osc_handle.specs.SlotBytes.{HasNoDoubt};
 ghost use Rattle.osc_handle.specs.TableBytes.{IsTable, IsTableIn};
 ghost use Rattle.osc_handle.specs.TicketBytes.{IsTicket, ticket_in};
 ghost use Rattle.osc_endpoint.specs.declared.add_refusal.AddRefusal.TheVariants.{SameSender};
@@ -61,13 +62,14 @@ impl ServerHandle {
 
     /// Adds a context, and returns its index (RFC 8613, B.1). Returns `None` if the bytes can't have been written by a call. Refuses,
     /// in this order, what a `Server` refuses, and then a Sender Key that one of the contexts has (RFC 8613, 3.3). A refusal changes
-    /// nothing.
+    /// nothing. The bytes have no room for numbers in doubt, so the start isn't `Reserved`.
     pub fn add(
         &mut self,
         context: &ContextHandle,
         start: Start,
         size: WindowSize,
     ) -> Option<Result<usize, AddRefusal>>
+        requires { HasNoDoubt start }
         ensures accepts { IsTable self.old.contexts → IsContext context.now → IsSome result }
         ensures accepted { IsSome result → IsTable self.old.contexts × IsContext context.now }
         ensures answered { IfSome result (λ r. (h : History) → Serves self.old h

@@ -15,7 +15,7 @@ ghost use Rattle.osc_context_handle.specs.ContextBytes.{IsContext, server_in};
 ghost use Rattle.osc_handle.specs.Noting.{Notes, NotesTicket};
 ghost use Rattle.osc_handle.specs.ServerBytes.{AddsIn, DecidesIn, IsSpent, NotifiesIn, RepliesIn, Serves, TakesIn, entry_of_reply};
 ghost use Rattle.osc_handle.specs.SingleServerBytes.{server_of_one, table_of};
-ghost use Rattle.osc_handle.specs.SlotBytes.{IsSlotBytes};
+ghost use Rattle.osc_handle.specs.SlotBytes.{HasNoDoubt, IsSlotBytes};
 ghost use Rattle.osc_handle.specs.TableBytes.{IsTableIn};
 ghost use Rattle.osc_handle.specs.TableSteps.{is_present_in};
 ghost use Rattle.osc_handle.specs.TicketBytes.{IsTicket, ticket_in};
@@ -45,12 +45,13 @@ pub struct SingleServerHandle {
 
 impl SingleServerHandle {
     /// Makes a server with this context (RFC 8613, B.1), as `ServerHandle::add` adds the first one. Returns `None` if the context
-    /// bytes can't have been written by a call.
+    /// bytes can't have been written by a call. The start isn't `Reserved`, as there.
     pub fn begin(
         context: &ContextHandle,
         start: Start,
         size: WindowSize,
     ) -> Option<SingleServerHandle>
+        requires { HasNoDoubt start }
         ensures added { IfSome result (λ s. AddsIn Begin (server_in context.now) start size (Added 0) (server_of_one s)) }
         ensures accepts { IsContext context.now → IsSome result }
         ensures accepted { IsSome result → IsContext context.now }

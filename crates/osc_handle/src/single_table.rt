@@ -110,7 +110,7 @@ impl Contexts for SlotHandle {
             unreachable!();
         };
         // A replay needs no key schedule.
-        if is_replay(&gate, request.number) {
+        if is_replay(&gate, None, request.number) {
             return refuse_replay(&request, out);
         }
         let mut slot = self.slot_with(gate);

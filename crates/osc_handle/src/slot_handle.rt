@@ -1,6 +1,6 @@
 //! One context of a server, in its present life, as bytes.
 
-ghost use Rattle.std.specs.Prelude.{◌≡◌, ◌≢◌, ◌≤◌, ◌<◌, ◌+◌, ◌^◌, ◌⊎◌, IfSome, IsSome, IfOk, IfErr, OnErr, true, false, length, drop};
+ghost use Rattle.std.specs.Prelude.{◌≡◌, ◌≢◌, ◌≤◌, ◌<◌, ◌+◌, ◌^◌, ◌⊎◌, IfSome, IsSome, IfOk, IfErr, OnErr, None, true, false, length, drop};
 ghost use Rattle.std.specs.Option.{option_map};
 ghost use Rattle.osc_context.specs.Views.{as_server, is_constant_time, number_of};
 ghost use Rattle.osc_window.specs.Views.{places_of};
@@ -132,7 +132,8 @@ impl SlotHandle {
 
     /// Keeps the new state of a context: the gate, the next Sender Sequence Number and the life. The context and the size stay.
     pub(crate) fn keep(&mut self, slot: &Slot)
-        ensures kept { (before : SlotOf) → IsSlotIn self.old before → slot.now.context ≡ before.context → slot.now.size ≡ before.size → IsSlotIn self.new slot.now }
+        ensures kept { (before : SlotOf) → IsSlotIn self.old before → slot.now.context ≡ before.context → slot.now.size ≡ before.size → slot.now.doubt ≡ None
+            → IsSlotIn self.new slot.now }
         ensures bytes { IsSlotBytes self.old → IsSlotBytes self.new }
         ensures context { self.new.context ≡ self.old.context }
     {
@@ -172,6 +173,7 @@ impl SlotHandle {
             context: KeyedContext::for_one_message(context),
             size,
             gate,
+            doubt: None,
             next: self.next,
             life: self.life,
         }
@@ -207,6 +209,7 @@ impl SlotHandle {
     pub(crate) fn of(context: &ContextHandle, slot: &Slot) -> SlotHandle
         requires handle { IsContext context.now }
         requires same { as_server (context_of slot.now.context) ≡ server_in context.now }
+        requires doubt { slot.now.doubt ≡ None }
         ensures made { IsSlotIn result slot.now }
         ensures bytes { IsSlotBytes result }
         ensures context { result.context ≡ context.now }

@@ -168,6 +168,8 @@ owns_below n s (Then w (ServerStarts (starts.Restarted first) size)) a b =
     record { below = λ m k. let l = above_owns s w _ b.1 m k in omega (arith, l); small = (owns_below n s w a.0 b.0).small }
 owns_below n s (Then w (ServerStarts (starts.Received first highest) size)) a b =
     record { below = λ m k. let l = above_owns s w _ b.1 m k in omega (arith, l); small = (owns_below n s w a.0 b.0).small }
+owns_below n s (Then w (ServerStarts (starts.Reserved first highest ahead) size)) a b =
+    record { below = λ m k. let l = above_owns s w _ b.1 m k in omega (arith, l); small = (owns_below n s w a.0 b.0).small }
 owns_below n s (Then w (AtServer event entry)) a b =
     let i : Stands s (digest s w) a.1.0 = stands n s w a.1.0 a.0 a.1.1 in
     subst (λ l. OwnsBelow s (server_deed l event entry ∷ digest s w)) (sym (life_known s w a.1.0 (life_in s (digest s w)) a.1.1 i.present))

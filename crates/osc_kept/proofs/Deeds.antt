@@ -1,6 +1,6 @@
 -- What two ends do, as far as it matters for requests that are delivered once: a list of deeds, newest first. ds are the deeds so far, n is the number of a
 -- request, m its message. No request is delivered twice, whatever the lives of the server.
-use Rattle.std.proofs.Common.{◌≡◌, ℕ, ◌<◌, ◌≤◌, ◌∙◌, sym, ap, subst, refl, arith, Bool, true, false, Option, Some, None, List, [], ◌∷◌, ◌⊎◌, inl, inr}
+use Rattle.std.proofs.Common.{◌≡◌, ℕ, ◌+◌, ◌<◌, ◌≤◌, ◌∙◌, sym, ap, subst, refl, arith, Bool, true, false, Option, Some, None, List, [], ◌∷◌, ◌⊎◌, inl, inr}
 use Rattle.std.specs.Prelude.{◌≢◌, All, cond, unwrap_or}
 use Rattle.std.proofs.lemmas.Bool.{cases_Bool}
 use Rattle.std.proofs.lemmas.List.Elements.{All-head, All-tail}
@@ -9,6 +9,8 @@ use Rattle.osc_coap.specs.Interpreted.{interpreted}
 use Rattle.osc_coap.specs.OptionNumbers as options
 use Rattle.osc_context.specs.SecurityContext.{SecurityContext}
 use Rattle.osc_context.specs.Views.{number_of}
+use Rattle.osc_life.specs.Doubting.{OpensBy}
+use Rattle.osc_life.specs.declared.doubt.Doubt.{Doubt}
 use Rattle.osc_life.specs.declared.start.Start.{Start}
 use Rattle.osc_life.specs.declared.start.Start.TheVariants as starts
 use Rattle.osc_life.specs.Life.{Life, Mark, Delivered, Spoiled, Challenged, Answered, PassedOver, Passes, born, challenge, first_delivered, floor, is_open, opened, renewed, spent}
@@ -51,7 +53,7 @@ replied (Some own) l = with_mark Answered l
 
 -- the present life of the server; one without a request, as long as none began
 abbrev pub life_in : SecurityContext → List Deed → Life
-life_in s [] = record { context = s; size = Places32; count = 0; open_at_birth = false; least = 0; first = 0; marks = [] }
+life_in s [] = record { context = s; size = Places32; count = 0; open_at_birth = false; least = 0; doubt = None; first = 0; marks = [] }
 life_in s (Begins start size ∷ ds) = born s start size
 life_in s (Renews next ∷ ds) = renewed next (life_in s ds)
 life_in s (Skips count ∷ ds) = with_mark (PassedOver count) (life_in s ds)
@@ -113,7 +115,8 @@ abbrev pub Fits : SecurityContext → List Deed → Deed → Type 0
 Fits s ds (Sends n m) = (r : Request) → Has r (sends ds) → r.number < n
 Fits s ds (Begins (starts.Fresh first) size) = (n : ℕ) → Has n (delivers ds) → ⊥
 Fits s ds (Begins (starts.Received first highest) size) = (n : ℕ) → Has n (delivers ds) → n ≤ number_of highest
-Fits s ds (Delivers t m) = Passes (life_in s ds) t.number × (is_open (life_in s ds) ≡ false → CarriesLast (life_in s ds) m)
+Fits s ds (Begins (starts.Reserved first highest ahead) size) = (n : ℕ) → Has n (delivers ds) → n ≤ number_of highest
+Fits s ds (Delivers t m) = Passes (life_in s ds) t.number × (is_open (life_in s ds) ≡ false → OpensBy (life_in s ds).doubt t.number (CarriesLast (life_in s ds) m))
     × Has (record { number = t.number; message = m }) (sends ds)
 Fits s ds (Challenges n echo issued own m) = IsSent ds n × AllBelow (owns ds) own
     × ((challenge (life_in s ds).marks ≡ Some (echo, issued)) ⊎ ((r : Request) → Has r (sends ds) → carried r.message ≡ Some echo → ⊥))
@@ -210,10 +213,10 @@ cut_sent (d ∷ ds) r h = cut_sent ds r h
 cut_sent [] r h = absurd h
 
 -- the others have greater numbers
-abbrev pub Above : List Deed → ℕ → Type 0
-Above ds n = (q : Request) → Has q (cut ds) → q.number < n
+abbrev AboveSent : List Deed → ℕ → Type 0
+AboveSent ds n = (q : Request) → Has q (cut ds) → q.number < n
 
-later : (s : SecurityContext) (ds : List Deed) (r : Request) → AllFit s ds → Has r (sends ds) → Has r (cut ds) ⊎ Above ds r.number
+later : (s : SecurityContext) (ds : List Deed) (r : Request) → AllFit s ds → Has r (sends ds) → Has r (cut ds) ⊎ AboveSent ds r.number
 later s (Begins start size ∷ ds) r a h = inl h
 later s (Renews next ∷ ds) r a h = inl h
 later s (Sends n m ∷ ds) r a (inl e) = inr (λ q k. subst (λ x. q.number < x) (sym (ap (λ (x : Request). x.number) e)) (a.1 q (cut_sent ds q k)))
@@ -233,17 +236,32 @@ delivered_sent s (Sends k m ∷ ds) n a h = sent_more k m ds n (delivered_sent s
 delivered_sent s (d ∷ ds) n a h = delivered_sent s ds n a.0 h
 delivered_sent s [] n a h = absurd h
 
-abbrev pub IsEarly : List Deed → ℕ → Type 0
-IsEarly ds n = (r : Request) × Has r (cut ds) × (r.number ≡ n)
+-- the numbers that were delivered before the server's present life began
+abbrev pub before_life : List Deed → List ℕ
+before_life [] = []
+before_life (Begins start size ∷ ds) = delivers ds
+before_life (Renews next ∷ ds) = delivers ds
+before_life (d ∷ ds) = before_life ds
+
+-- the number is above those
+abbrev pub Above : List Deed → ℕ → Type 0
+Above ds n = AllBelow (before_life ds) n
+
+-- they were sent before it began
+early_sent : (s : SecurityContext) (ds : List Deed) (n : ℕ) → AllFit s ds → Has n (before_life ds) → (r : Request) × Has r (cut ds) × (r.number ≡ n)
+early_sent s (Begins start size ∷ ds) n a h = delivered_sent s ds n a.0 h
+early_sent s (Renews next ∷ ds) n a h = delivered_sent s ds n a.0 h
+early_sent s (d ∷ ds) n a h = early_sent s ds n a.0 h
+early_sent s [] n a h = absurd h
 
 replied_here : (own : Option ℕ) (l : Life) (n : ℕ) → Has n (here l.marks) → Has n (here (replied own l).marks)
 replied_here None l n h = h
 replied_here (Some o) l n h = h
 
--- what was delivered was so in this life, or sent before it began
-earlier : (s : SecurityContext) (ds : List Deed) (n : ℕ) → AllFit s ds → Has n (delivers ds) → Has n (here (life_in s ds).marks) ⊎ IsEarly ds n
-earlier s (Begins start size ∷ ds) n a h = inr (delivered_sent s ds n a.0 h)
-earlier s (Renews next ∷ ds) n a h = inr (delivered_sent s ds n a.0 h)
+-- what was delivered was so in this life, or before it began
+earlier : (s : SecurityContext) (ds : List Deed) (n : ℕ) → AllFit s ds → Has n (delivers ds) → Has n (here (life_in s ds).marks) ⊎ Has n (before_life ds)
+earlier s (Begins start size ∷ ds) n a h = inr h
+earlier s (Renews next ∷ ds) n a h = inr h
 earlier s (Delivers t m ∷ ds) n a (inl e) = inl (inl e)
 earlier s (Delivers t m ∷ ds) n a (inr h) = elim (earlier s ds n a.0 h) [
   | inl k ↦ inl (inr k)
@@ -264,6 +282,7 @@ pub born_challenge : (s : SecurityContext) (start : Start) (size : WindowSize) �
 born_challenge s (starts.Fresh first) size = refl
 born_challenge s (starts.Restarted first) size = refl
 born_challenge s (starts.Received first highest) size = refl
+born_challenge s (starts.Reserved first highest ahead) size = refl
 
 -- no request that was sent before this life carries the value of its last challenge
 challenged : (s : SecurityContext) (ds : List Deed) (c : List ℕ × ℕ) (q : Request) → AllFit s ds → challenge (life_in s ds).marks ≡ Some c → Has q (cut ds)
@@ -278,13 +297,49 @@ challenged s (Replies t own m ∷ ds) c q a e h k = challenged s ds c q a.0 (sym
 challenged s (d ∷ ds) c q a e h k = challenged s ds c q a.0 e h k
 challenged s [] c q a e h k = absurd h
 
--- a request that passes a closed life was sent after the life began: its number is above all that was sent before
-passes_above : (s : SecurityContext) (ds : List Deed) (n : ℕ) (m : InnerParts) → AllFit s ds → CarriesLast (life_in s ds) m → Has (record { number = n; message = m }) (sends ds)
+replied_doubt : (own : Option ℕ) (l : Life) → (replied own l).doubt ≡ l.doubt
+replied_doubt None l = refl
+replied_doubt (Some o) l = refl
+
+no_doubt : (doubt : Doubt) → None ≡ Some doubt → ⊥
+no_doubt doubt e = cc
+
+-- what was delivered before the life isn't above the numbers in doubt
+within_doubt : (s : SecurityContext) (ds : List Deed) (doubt : Doubt) → AllFit s ds → (life_in s ds).doubt ≡ Some doubt → Above ds doubt.limit
+within_doubt s (Begins (starts.Fresh first) size ∷ ds) doubt a e q h = absurd (no_doubt doubt e)
+within_doubt s (Begins (starts.Restarted first) size ∷ ds) doubt a e q h = absurd (no_doubt doubt e)
+within_doubt s (Begins (starts.Received first highest) size ∷ ds) doubt a e q h = absurd (no_doubt doubt e)
+within_doubt s (Begins (starts.Reserved first highest ahead) size ∷ ds) doubt a e q h =
+    let limit : number_of highest + 1 ≡ doubt.limit = ap (λ (x : Doubt). x.limit) (some_is e) in
+    let most : q ≤ number_of highest = a.1 q h in
+    omega (arith, limit, most)
+within_doubt s (Renews next ∷ ds) doubt a e q h = absurd (no_doubt doubt e)
+within_doubt s (Replies t own m ∷ ds) doubt a e q h = within_doubt s ds doubt a.0 (sym (replied_doubt own (life_in s ds)) ∙ e) q h
+within_doubt s (d ∷ ds) doubt a e q h = within_doubt s ds doubt a.0 e q h
+within_doubt s [] doubt a e q h = absurd h
+
+-- a request that carries the value of the life's last challenge was sent after the life began: its number is above all that were sent before
+carries_above : (s : SecurityContext) (ds : List Deed) (n : ℕ) (m : InnerParts) → AllFit s ds → CarriesLast (life_in s ds) m → Has (record { number = n; message = m }) (sends ds)
     → Above ds n
-passes_above s ds n m a (c, is, value) h = elim (later s ds (record { number = n; message = m }) a h) [
+carries_above s ds n m a (c, is, value) h = elim (later s ds (record { number = n; message = m }) a h) [
   | inl k ↦ absurd (challenged s ds c (record { number = n; message = m }) a is k value)
-  | inr above ↦ above
+  | inr above ↦ λ q early.
+      let sent = early_sent s ds q a early in
+      let less : sent.0.number < n = above sent.0 sent.1 in
+      let same : sent.0.number ≡ q = sent.2 in
+      omega (arith, less, same)
 ]
+
+opens_above : (s : SecurityContext) (ds : List Deed) (n : ℕ) (m : InnerParts) (o : Option Doubt) → (life_in s ds).doubt ≡ o → AllFit s ds → OpensBy o n (CarriesLast (life_in s ds) m)
+    → Has (record { number = n; message = m }) (sends ds) → Above ds n
+opens_above s ds n m None e a opens h = carries_above s ds n m a opens h
+opens_above s ds n m (Some doubt) e a (inl beyond) h = λ q early. let less : q < doubt.limit = within_doubt s ds doubt a e q early in omega (arith, less, beyond)
+opens_above s ds n m (Some doubt) e a (inr carries) h = carries_above s ds n m a carries h
+
+-- the number of a request that passes a closed life is above all that was delivered before the life began
+passes_above : (s : SecurityContext) (ds : List Deed) (n : ℕ) (m : InnerParts) → AllFit s ds → OpensBy (life_in s ds).doubt n (CarriesLast (life_in s ds) m)
+    → Has (record { number = n; message = m }) (sends ds) → Above ds n
+passes_above s ds n m a opens h = opens_above s ds n m (life_in s ds).doubt refl a opens h
 
 replied_first : (own : Option ℕ) (l : Life) → first_delivered (replied own l).marks ≡ first_delivered l.marks
 replied_first None l = refl
@@ -298,12 +353,13 @@ born_first : (s : SecurityContext) (start : Start) (size : WindowSize) → first
 born_first s (starts.Fresh first) size = refl
 born_first s (starts.Restarted first) size = refl
 born_first s (starts.Received first highest) size = refl
+born_first s (starts.Reserved first highest ahead) size = refl
 
-first_step : (n f : ℕ) (q : Request) (o : Option ℕ) → ((g : ℕ) → o ≡ Some g → q.number < g) → (o ≡ None → q.number < n) → unwrap_or o n ≡ f → q.number < f
-first_step n f q None i j e = subst (λ x. q.number < x) e (j refl)
-first_step n f q (Some g) i j e = subst (λ x. q.number < x) e (i g refl)
+first_step : (n f q : ℕ) (o : Option ℕ) → ((g : ℕ) → o ≡ Some g → q < g) → (o ≡ None → q < n) → unwrap_or o n ≡ f → q < f
+first_step n f q None i j e = subst (λ x. q < x) e (j refl)
+first_step n f q (Some g) i j e = subst (λ x. q < x) e (i g refl)
 
--- the floor of a restarted life is above all that was sent before it
+-- the floor of a life that was closed at its birth is above all that was delivered before it
 first : (s : SecurityContext) (ds : List Deed) (f : ℕ) → AllFit s ds → (life_in s ds).open_at_birth ≡ false → first_delivered (life_in s ds).marks ≡ Some f → Above ds f
 first s (Begins start size ∷ ds) f a r e q h = let g : None ≡ Some f = sym (born_first s start size) ∙ e in cc
 first s (Renews next ∷ ds) f a r e q h = let g : None ≡ Some f = e in cc
@@ -329,6 +385,7 @@ fresh_here : (s : SecurityContext) (ds : List Deed) (n : ℕ) → AllFit s ds �
 fresh_here s (Begins (starts.Fresh first) size ∷ ds) n a r h = absurd (a.1 n h)
 fresh_here s (Begins (starts.Restarted first) size ∷ ds) n a r h = let f : false ≡ true = r in cc
 fresh_here s (Begins (starts.Received first highest) size ∷ ds) n a r h = inr (let most = a.1 n h in omega (arith, most))
+fresh_here s (Begins (starts.Reserved first highest ahead) size ∷ ds) n a r h = let f : false ≡ true = r in cc
 fresh_here s (Renews next ∷ ds) n a r h = let f : false ≡ true = r in cc
 fresh_here s (Delivers t m ∷ ds) n a r (inl e) = inl (inl e)
 fresh_here s (Delivers t m ∷ ds) n a r (inr h) = elim (fresh_here s ds n a.0 r h) [ inl x ↦ inl (inr x) | inr low ↦ inr low ]
@@ -342,10 +399,10 @@ fresh_here s [] n a r h = absurd h
 -- ---- at most once
 
 in_this_life : (l : Life) (n : ℕ) → Passes l n → is_open l ≡ true → Has n (here l.marks) → ⊥
-in_this_life l n p o h = all_has (λ m. m ≢ n) (spent l.open_at_birth l.marks) n (p o).unspent (here_spent l.open_at_birth l.marks n h) refl
+in_this_life l n p o h = all_has (λ m. m ≢ n) (spent l.open_at_birth l.marks) n (p.0 o).unspent (here_spent l.open_at_birth l.marks n h) refl
 
--- its number is at least the floor of the restarted life, so it isn't one that was sent before
-not_early : (s : SecurityContext) (ds : List Deed) (n : ℕ) → AllFit s ds → Passes (life_in s ds) n → (life_in s ds).open_at_birth ≡ false → is_open (life_in s ds) ≡ true → IsEarly ds n → ⊥
+-- its number is at least the floor of the life, which was closed at its birth, so it isn't one that was delivered before
+not_early : (s : SecurityContext) (ds : List Deed) (n : ℕ) → AllFit s ds → Passes (life_in s ds) n → (life_in s ds).open_at_birth ≡ false → is_open (life_in s ds) ≡ true → Has n (before_life ds) → ⊥
 not_early s ds n a p r o k =
     let l = life_in s ds in
     elim (cases_option (first_delivered l.marks)) [
@@ -354,14 +411,14 @@ not_early s ds n a p r o k =
           let f : true ≡ false = sym o ∙ c in
           cc
       | inr x ↦
-          let above : k.0.number < x.0 = first s ds x.0 a r x.1 k.0 k.1 in
-          let least : floor l.least l.open_at_birth l.marks ≤ n = (p o).above in
+          let above : n < x.0 = first s ds x.0 a r x.1 n k in
+          let least : floor l.least l.open_at_birth l.marks ≤ n = (p.0 o).above in
           let g : floor l.least l.open_at_birth l.marks ≡ x.0 = ap (λ b. cond b l.least (unwrap_or (first_delivered l.marks) 0)) r ∙ ap (λ y. unwrap_or y 0) x.1 in
-          let e : k.0.number ≡ n = k.2 in
-          absurd (omega (arith, above, least, g, e))
+          absurd (omega (arith, above, least, g))
     ]
 
-pub never_again : (s : SecurityContext) (ds : List Deed) (n : ℕ) (m : InnerParts) → AllFit s ds → Passes (life_in s ds) n → (is_open (life_in s ds) ≡ false → CarriesLast (life_in s ds) m)
+pub never_again : (s : SecurityContext) (ds : List Deed) (n : ℕ) (m : InnerParts) → AllFit s ds → Passes (life_in s ds) n
+    → (is_open (life_in s ds) ≡ false → OpensBy (life_in s ds).doubt n (CarriesLast (life_in s ds) m))
     → Has (record { number = n; message = m }) (sends ds) → Has n (delivers ds) → ⊥
 never_again s ds n m a passes may sent h =
     let l = life_in s ds in
@@ -370,7 +427,7 @@ never_again s ds n m a passes may sent h =
         | inl r ↦ elim (fresh_here s ds n a r h) [
           | inl k ↦ in_this_life l n passes open' k
           | inr low ↦
-              let least : floor l.least l.open_at_birth l.marks ≤ n = (passes open').above in
+              let least : floor l.least l.open_at_birth l.marks ≤ n = (passes.0 open').above in
               let g : floor l.least l.open_at_birth l.marks ≡ l.least = ap (λ b. cond b l.least (unwrap_or (first_delivered l.marks) 0)) r in
               absurd (omega (arith, low, least, g))
         ]
@@ -382,9 +439,8 @@ never_again s ds n m a passes may sent h =
       | inr closed ↦ elim (earlier s ds n a h) [
         | inl k ↦ absurd (closed_here l.open_at_birth l.marks n closed k)
         | inr k ↦
-            let above : k.0.number < n = passes_above s ds n m a (may closed) sent k.0 k.1 in
-            let e : k.0.number ≡ n = k.2 in
-            absurd (omega (arith, above, e))
+            let above : n < n = passes_above s ds n m a (may closed) sent n k in
+            absurd (omega (arith, above))
       ]
     ]
 

@@ -15,6 +15,8 @@ use Rattle.osc_protect.specs.OptionSets.{is_unsupported}
 use Rattle.osc_protect.specs.Protection.{ProtectsRequest}
 use Rattle.osc_window.specs.Gate.{challenge_in_force}
 use Rattle.osc_window.specs.declared.window_size.WindowSize.{WindowSize}
+use Rattle.osc_life.specs.Doubting.{OpensBy}
+use Rattle.osc_life.specs.declared.doubt.Doubt.{Doubt}
 use Rattle.osc_life.specs.declared.start.Start.{Start}
 use Rattle.osc_life.specs.declared.start.Start.TheVariants as starts
 use Rattle.osc_observe.specs.Received.{Received}
@@ -68,6 +70,14 @@ carries_given false (Some c) clock m k = (c, refl, in_time (nat_le (clock - c.1)
 
 pub carries_last : (l : Life) (clock : ℕ) (m : InnerParts) → Carries (in_force l clock) m → CarriesLast l m
 carries_last l clock m k = carries_given (is_open l) (challenge l.marks) clock m k
+
+opens_by : (doubt : Option Doubt) (n : ℕ) (P Q : Type 0) → (P → Q) → OpensBy doubt n P → OpensBy doubt n Q
+opens_by None n P Q f h = f h
+opens_by (Some doubt) n P Q f (inl beyond) = inl beyond
+opens_by (Some doubt) n P Q f (inr h) = inr (f h)
+
+opens_last : (l : Life) (clock n : ℕ) (m : InnerParts) → OpensBy l.doubt n (Carries (in_force l clock) m) → OpensBy l.doubt n (CarriesLast l m)
+opens_last l clock n m h = opens_by l.doubt n (Carries (in_force l clock) m) (CarriesLast l m) (carries_last l clock m) h
 
 -- a challenge gives the value of the last one, or a fresh one where none is in force
 same_in_time : (b : Bool) (x c : List ℕ × ℕ) → (if b then Some x else None) ≡ Some c → Some x ≡ Some c
@@ -157,6 +167,7 @@ born_context : (s : SecurityContext) (start : Start) (size : WindowSize) → (bo
 born_context s (starts.Fresh first) size = refl
 born_context s (starts.Restarted first) size = refl
 born_context s (starts.Received first highest) size = refl
+born_context s (starts.Reserved first highest ahead) size = refl
 
 pub context_in : (s : SecurityContext) (ds : List Deed) → (life_in s ds).context ≡ s
 context_in s [] = refl
@@ -185,7 +196,7 @@ fits_delivery laws n s w now mid echo d reply received t i =
     let k : x.1 ≡ t.number = sym (ap (λ (y : server.TicketValues). y.number) x.4.2) in
     let admits : Admits l clock t.number received.message = subst (λ y. Admits l clock y received.message) k (subst (λ y. Admits y clock x.1 received.message) e x.4.1) in
     let sent : Has (record { number = x.1; message = received.message }) (sends (digest s w)) = opened_in laws n s w d x.1 received.message x.2 i.usable i.sealed e x.4.0.protects in
-    (admits.0, λ closed. carries_last l clock received.message (admits.1 closed), subst (λ y. Has (record { number = y; message = received.message }) (sends (digest s w))) k sent)
+    (admits.0, λ closed. opens_last l clock t.number received.message (admits.1 closed), subst (λ y. Has (record { number = y; message = received.message }) (sends (digest s w))) k sent)
 
 pub fits_challenge : LawsBelow → (n : ℕ) (s : SecurityContext) (w : World) (now mid i k issued : ℕ) (echo d value reply : List ℕ)
     → At n s w (server.Datagram now echo mid d) (server.Took (server.Challenge i k value issued) reply)
@@ -198,7 +209,7 @@ fits_challenge laws n s w now mid i k issued echo d value reply y =
     let clock : ℕ = max (server.clock h) now in
     let e : x.2 ≡ l = same_life s (digest s w) h x.0 x.2 stood x.3.life_is in
     let number : k ≡ x.1 = x.4.4 in
-    let sent : Has (record { number = x.1; message = x.4.0.1 }) (sends (digest s w)) = opened_in laws n s w d x.1 x.4.0.1 x.2 y.usable y.sealed e x.4.0.2 in
+    let sent : Has (record { number = x.1; message = x.4.0.2 }) (sends (digest s w)) = opened_in laws n s w d x.1 x.4.0.2 x.2 y.usable y.sealed e x.4.0.3 in
     let last : (value, issued) ≡ challenge_given l clock echo = x.4.2 ∙ ap (λ z. challenge_given z clock echo) e in
     let life_i : server.life h i ≡ Some l = ap (λ j. server.life h j) x.4.3 ∙ x.3.life_is ∙ ap (λ z. Some z) e in (
       (_, sent, sym number),
@@ -249,6 +260,7 @@ fits_start : (s : SecurityContext) (w : World) (start : Start) (size : WindowSiz
 fits_start s w (starts.Fresh first) size f = λ n k. subst (λ ns. Has n ns) (sym (delivered_is s w) ∙ f) k
 fits_start s w (starts.Restarted first) size f = tt
 fits_start s w (starts.Received first highest) size f = λ n k. f n (subst (λ ns. Has n ns) (sym (delivered_is s w)) k)
+fits_start s w (starts.Reserved first highest ahead) size f = λ n k. f n (subst (λ ns. Has n ns) (sym (delivered_is s w)) k)
 
 pub at_server : (n : ℕ) (s : SecurityContext) (w : World) (event : server.Event) (entry : server.Entry) → IsLawful n s (Then w (AtServer event entry)) → At n s w event entry
 at_server n s w event entry i =

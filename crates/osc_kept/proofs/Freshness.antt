@@ -1,5 +1,5 @@
--- What opens a restarted life was sealed after a challenge of that life. w is a world that meets the premises, v an earlier one, c a challenge's value and
--- when it was issued.
+-- What opens a closed life, with a number that isn't above those in doubt, was sealed after a challenge of that life. w is a world that meets the premises, v an
+-- earlier one, c a challenge's value and when it was issued.
 use Rattle.std.proofs.Common.{◌≡◌, ℕ, ◌≤◌, ◌∙◌, sym, ap, subst, refl, Bool, true, false, Option, Some, None, List, ◌∷◌, ◌⊎◌, inl, inr, if◌then◌else◌}
 use Rattle.std.proofs.lemmas.Bool.{leb-true}
 use Rattle.std.specs.Prelude.{◌-◌, max, nat_le}
@@ -7,6 +7,8 @@ use Rattle.osc_coap.specs.Inner.{InnerParts}
 use Rattle.osc_coap.specs.Interpreted.{interpreted}
 use Rattle.osc_coap.specs.OptionNumbers as options
 use Rattle.osc_context.specs.SecurityContext.{SecurityContext}
+use Rattle.osc_life.specs.Doubting.{IsBeyond, OpensBy}
+use Rattle.osc_life.specs.declared.doubt.Doubt.{Doubt}
 use Rattle.osc_life.specs.Life.{Admits, Carries, Life, challenge, in_force, is_open}
 use Rattle.osc_life.specs.LifeAnswer.{challenge_given}
 use Rattle.osc_life.specs.ServerHistory as server
@@ -140,8 +142,14 @@ carried_in_time true o clock m k = absurd k
 carried_in_time false None clock m k = absurd k
 carried_in_time false (Some c) clock m k = let x = in_time (nat_le (clock - c.1) 30000) c clock m refl k in (c, refl, x.0, x.1)
 
+-- what opens a closed life without a number above those in doubt carries the value
+carried_within : (doubt : Option Doubt) (n : ℕ) (carried : Type 0) → OpensBy doubt n carried → (IsBeyond doubt n → ⊥) → carried
+carried_within None n carried h within = h
+carried_within (Some doubt) n carried (inl beyond) within = absurd (within beyond)
+carried_within (Some doubt) n carried (inr h) within = h
+
 pub opens_fresh : LawsBelow → (n : ℕ) (s : SecurityContext) (w : World) (event : Event) → IsLawful n s (Then w event) → OpensFresh s w event
-opens_fresh laws n s w (AtServer (server.Datagram now echo mid d) (server.Took (server.Deliver received t) reply)) lawful = λ of f closed.
+opens_fresh laws n s w (AtServer (server.Datagram now echo mid d) (server.Took (server.Deliver received t) reply)) lawful = λ of f closed within.
     let event : server.Event = server.Datagram now echo mid d in
     let entry : server.Entry = server.Took (server.Deliver received t) reply in
     let y : At n s w event entry = at_server n s w event entry lawful in
@@ -153,7 +161,9 @@ opens_fresh laws n s w (AtServer (server.Datagram now echo mid d) (server.Took (
     let k : x.1 ≡ t.number = sym (ap (λ (z : server.TicketValues). z.number) x.4.2) in
     let admits : Admits l clock x.1 received.message = subst (λ z. Admits z clock x.1 received.message) e x.4.1 in
     let same : of ≡ l = some_is (sym f ∙ at_life n s w event entry y) in
-    let c = carried_in_time (is_open l) (challenge l.marks) clock received.message (admits.1 (subst (λ z. is_open z ≡ false) same closed)) in
+    let opens = subst (λ z. OpensBy l.doubt z (Carries (in_force l clock) received.message)) k (admits.1 (subst (λ z. is_open z ≡ false) same closed)) in
+    let carries = carried_within l.doubt t.number (Carries (in_force l clock) received.message) opens (subst (λ (z : Life). IsBeyond z.doubt t.number → ⊥) same within) in
+    let c = carried_in_time (is_open l) (challenge l.marks) clock received.message carries in
     let earlier = before n s w (AtServer event entry) lawful in
     let o = origin s w c.0 (all_give_well laws n s w earlier) (sym (last_is n s w earlier) ∙ c.1) in
     record {

@@ -359,6 +359,7 @@ pub server_begins : ServerBegins
 server_begins s w (starts.Fresh first) size loaded floor i a = fresh_start s w first size loaded floor i a
 server_begins s w (starts.Restarted first) size loaded floor i a = later_start s w first size loaded floor i a
 server_begins s w (starts.Received first highest) size loaded floor i a = absurd i
+server_begins s w (starts.Reserved first highest ahead) size loaded floor i a = absurd i
 
 pub client_begins : ClientBegins
 client_begins s w loaded ms floor own g =

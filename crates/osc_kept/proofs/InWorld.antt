@@ -17,7 +17,7 @@ use Rattle.osc_endpoint.specs.Tickets.{TakesTickets}
 use Rattle.osc_life.specs.Life.{Life, Mark, in_force, marked, renewed}
 use Rattle.osc_endpoint.specs.ServerAnswer.{ServerAnswer, IsTaken}
 use Rattle.osc_life.specs.ServerHistory as server
-use Rattle.osc_kept.specs.GoingOn.{ClientRuns, GoesOn, HasSavedFirst, IsDrawn, SavesFirst, ServerRuns, server_started}
+use Rattle.osc_kept.specs.GoingOn.{ClientRuns, GoesOn, HasSavedFirst, IsDrawn, SavesFirst, ServerRuns, needs_no_echo, server_started}
 use Rattle.osc_kept.specs.InWorld.{ClientInWorld, ClientStartsInWorld, ClientStays, ClientTrusts, IsAsClaimed, IsHeld, IsUnseen, ServerInWorld, ServerStartsInWorld, ServerStays, ServerTrusts}
 use Rattle.osc_kept_ends.specs.KeptAsking as asking
 use Rattle.osc_kept_ends.specs.KeptServing as serving
@@ -164,19 +164,23 @@ responses_still s w v pending d e f r own m is p =
 
 -- ---- a number was saved before
 
-fresh_marked : (m : Option Mark) (o : Option Life) (y : Life) → option_map (marked m) o ≡ Some y → y.open_at_birth ≡ true → (x : Life) × (o ≡ Some x) × (x.open_at_birth ≡ true)
-fresh_marked m None y e f = let g : None ≡ Some y = e in cc
-fresh_marked None (Some x) y e f = (x, refl, ap (λ (l : Life). l.open_at_birth) (some_is e) ∙ f)
-fresh_marked (Some k) (Some x) y e f = (x, refl, ap (λ (l : Life). l.open_at_birth) (some_is e) ∙ f)
+-- the life may deliver without a challenge
+abbrev IsReady : Life → Type 0
+IsReady l = needs_no_echo l.doubt l.open_at_birth ≡ true
 
-fresh_renewed : (b : Bool) (next : ℕ) (o : Option Life) (y : Life) → (if b then option_map (renewed next) o else o) ≡ Some y → y.open_at_birth ≡ true
-    → (x : Life) × (o ≡ Some x) × (x.open_at_birth ≡ true)
+fresh_marked : (m : Option Mark) (o : Option Life) (y : Life) → option_map (marked m) o ≡ Some y → IsReady y → (x : Life) × (o ≡ Some x) × IsReady x
+fresh_marked m None y e f = let g : None ≡ Some y = e in cc
+fresh_marked None (Some x) y e f = (x, refl, ap (λ (l : Life). needs_no_echo l.doubt l.open_at_birth) (some_is e) ∙ f)
+fresh_marked (Some k) (Some x) y e f = (x, refl, ap (λ (l : Life). needs_no_echo l.doubt l.open_at_birth) (some_is e) ∙ f)
+
+fresh_renewed : (b : Bool) (next : ℕ) (o : Option Life) (y : Life) → (if b then option_map (renewed next) o else o) ≡ Some y → IsReady y
+    → (x : Life) × (o ≡ Some x) × IsReady x
 fresh_renewed true next None y e f = let g : None ≡ Some y = e in cc
-fresh_renewed true next (Some x) y e f = let g : false ≡ true = ap (λ (l : Life). l.open_at_birth) (some_is e) ∙ f in cc
+fresh_renewed true next (Some x) y e f = let g : false ≡ true = ap (λ (l : Life). needs_no_echo l.doubt l.open_at_birth) (some_is e) ∙ f in cc
 fresh_renewed false next o y e f = (y, e, f)
 
 fresh_before : (h : server.History) (event : server.Event) (entry : server.Entry) (i : ℕ) (of : Life) → IsNoAdd event → server.life (server.Then h event entry) i ≡ Some of
-    → of.open_at_birth ≡ true → (x : Life) × (server.life h i ≡ Some x) × (x.open_at_birth ≡ true)
+    → IsReady of → (x : Life) × (server.life h i ≡ Some x) × IsReady x
 fresh_before h (server.Add context start size) entry i of a e f = absurd a
 fresh_before h (server.Datagram now echo mid d) (server.Took answer reply) i of a e f = fresh_marked (server.mark_at i answer) (server.life h i) of e f
 fresh_before h (server.Reply t own mid p room) (server.Replied bytes) i of a e f = fresh_marked (server.reply_mark_at i t own) (server.life h i) of e f
@@ -348,7 +352,7 @@ later_in claims n s w first size i x k =
     record {
       kept = kept;
       claims = claims n s (server_started (starts.Restarted first) size w) kept.lawful;
-      saved = λ y. record { each = (y.each, tt); last = λ of is f. let g : false ≡ true = ap (λ (l : Life). l.open_at_birth) (some_is is) ∙ f in absurd (cc) };
+      saved = λ y. record { each = (y.each, tt); last = λ of is f. let g : false ≡ true = ap (λ (l : Life). needs_no_echo l.doubt l.open_at_birth) (some_is is) ∙ f in absurd (cc) };
     }
 
 pub server_starts : TwoEnds → ServerStartsInWorld
@@ -361,6 +365,7 @@ server_starts claims n s w (starts.Restarted first) size loaded floor i x is a l
     let k : AtEach (NumbersAreKept s) (server_started (starts.Restarted first) size w) = b.0.kept i.kept least in
     (later_in claims n s w first size i x k, λ g own y. record { history_is = y.history_is; numbers_are = y.numbers_are }, b.1)
 server_starts claims n s w (starts.Received first highest) size loaded floor i x is a least = absurd is
+server_starts claims n s w (starts.Reserved first highest ahead) size loaded floor i x is a least = absurd is
 
 pub client_starts : TwoEnds → ClientStartsInWorld
 client_starts claims n s w loaded ms floor own i g least =

@@ -1,4 +1,4 @@
--- If the number of each request is kept before it is delivered, no server starts open at or below one. kept says what is kept behind w.
+-- If the number of each request is kept before it is delivered, no server starts open, or with numbers in doubt, at or below one. kept says what is kept behind w.
 use Rattle.std.proofs.Common.{◌≡◌, ℕ, ◌<◌, refl, arith, List, [], ◌∷◌, inl, inr}
 use Rattle.osc_life.specs.declared.start.Start.TheVariants as starts
 use Rattle.osc_life.specs.ServerHistory as server
@@ -23,6 +23,7 @@ starts_above : (kept : World → ℕ) (w : World) (event : Event) → AtEach (Ke
 starts_above kept w (ServerStarts (starts.Fresh first) size) a (more, none) =
     none_there (delivered w) (λ n h. let less = all_below kept w a n h in omega (arith, less, none))
 starts_above kept w (ServerStarts (starts.Received first highest) size) a (more, most) = λ n h. let less = all_below kept w a n h in omega (arith, less, most)
+starts_above kept w (ServerStarts (starts.Reserved first highest ahead) size) a (more, most) = λ n h. let less = all_below kept w a n h in omega (arith, less, most)
 starts_above kept w event a k = tt
 
 pub received_by_saving : ReceivedBySaving

@@ -1,5 +1,5 @@
 -- A server that saves before it takes a datagram starts fresh only while nothing was delivered.
-use Rattle.std.proofs.Common.{◌≡◌, ℕ, ◌<◌, ◌≤◌, ◌∙◌, sym, ap, subst, refl, arith, true, false, Option, Some, None, List, [], ◌∷◌, inl, inr}
+use Rattle.std.proofs.Common.{◌≡◌, ℕ, ◌<◌, ◌≤◌, ◌∙◌, sym, ap, subst, refl, arith, Bool, true, false, Option, Some, None, List, [], ◌∷◌, inl, inr}
 use Rattle.std.specs.Prelude.{max}
 use Rattle.std.proofs.lemmas.Bool.{cases_Bool}
 use Rattle.osc_context.specs.Reserving.{next_limit}
@@ -8,11 +8,13 @@ use Rattle.osc_context.specs.Views.{number_of}
 use Rattle.osc_window.specs.declared.window_size.WindowSize.{WindowSize}
 use Rattle.osc_life.specs.declared.start.Start.{Start}
 use Rattle.osc_life.specs.declared.start.Start.TheVariants as starts
-use Rattle.osc_life.specs.Life.{Life, Mark, Admits, Delivered, Spoiled, Challenged, Answered, PassedOver, born, challenge, is_open, opened}
+use Rattle.osc_life.specs.Doubting.{OpensBy}
+use Rattle.osc_life.specs.declared.doubt.Doubt.{Doubt}
+use Rattle.osc_life.specs.Life.{Life, Mark, Admits, Carries, Delivered, Spoiled, Challenged, Answered, PassedOver, born, challenge, in_force, is_open, opened}
 use Rattle.osc_observe.specs.Received.{Received}
 use Rattle.osc_life.specs.ServerHistory as server
 use Rattle.osc_kept_ends.specs.Numbering.{Own, Effect, Reserve, after, Allowed}
-use Rattle.osc_kept.specs.GoingOn.{FreshBySaving, SavesFirst}
+use Rattle.osc_kept.specs.GoingOn.{FreshBySaving, SavesFirst, needs_no_echo}
 use Rattle.osc_kept.specs.Premises.{Answers, AtEach, StartsAboveDelivered, NumbersAreKept}
 use Rattle.osc_kept.specs.World.{World, Begin, Then, Event, Server, ServerStarts, AtServer, Has, delivered, effect, numbers}
 use Rattle.osc_kept.proofs.Deeds.{Deed, Begins, Renews, Challenges, Delivers, Notifies, Replies, born_challenge, delivers, here, life_in, owns, replied}
@@ -62,6 +64,7 @@ born_here : (s : SecurityContext) (start : Start) (size : WindowSize) (n : ℕ) 
 born_here s (starts.Fresh first) size n h = h
 born_here s (starts.Restarted first) size n h = h
 born_here s (starts.Received first highest) size n h = h
+born_here s (starts.Reserved first highest ahead) size n h = h
 
 here_delivered : (s : SecurityContext) (ds : List Deed) (n : ℕ) → Has n (here (life_in s ds).marks) → Has n (delivers ds)
 here_delivered s (Begins start size ∷ ds) n h = absurd (born_here s start size n h)
@@ -71,6 +74,15 @@ here_delivered s (Delivers t m ∷ ds) n (inr h) = inr (here_delivered s ds n h)
 here_delivered s (Replies t own m ∷ ds) n h = here_delivered s ds n (replied_marks own (life_in s ds) n h)
 here_delivered s (d ∷ ds) n h = here_delivered s ds n h
 here_delivered s [] n h = absurd h
+
+-- a life that doesn't deliver without a challenge was closed at its birth, and what opens it carries the value
+waits_closed : (doubt : Option Doubt) (b : Bool) → needs_no_echo doubt b ≡ false → b ≡ false
+waits_closed None b e = e
+waits_closed (Some doubt) b e = let f : true ≡ false = e in cc
+
+waits_carried : (doubt : Option Doubt) (b : Bool) (n : ℕ) (carried : Type 0) → needs_no_echo doubt b ≡ false → OpensBy doubt n carried → carried
+waits_carried None b n carried e h = h
+waits_carried (Some doubt) b n carried e h = let f : true ≡ false = e in absurd (cc)
 
 -- ---- a delivery comes behind a save
 
@@ -89,14 +101,14 @@ saved_before n s w now mid echo d reply received t (a, k, f) earlier =
     let clock : ℕ = max (server.clock h) now in
     let e : x.2 ≡ l = same_life s ds h x.0 x.2 stood x.3.life_is in
     let admits : Admits l clock x.1 received.message = subst (λ y. Admits y clock x.1 received.message) e x.4.1 in
-    elim (cases_Bool l.open_at_birth) [
-      | inl fresh ↦ f.1 l (life_known s w h l a.1.1 stood.present) fresh
-      | inr older ↦ elim (cases_Bool (is_open l)) [
+    elim (cases_Bool (needs_no_echo l.doubt l.open_at_birth)) [
+      | inl ready ↦ f.1 l (life_known s w h l a.1.1 stood.present) ready
+      | inr waits ↦ let older : l.open_at_birth ≡ false = waits_closed l.doubt l.open_at_birth waits in elim (cases_Bool (is_open l)) [
         | inl open' ↦
             let some = any_here l.marks (sym (ap (λ b. opened b l.marks) older) ∙ open') in
             earlier some.0 (subst (λ ns. Has some.0 ns) (sym (delivered_is s w)) (here_delivered s ds some.0 some.1))
         | inr closed ↦
-            let last = carries_last l clock received.message (admits.1 closed) in
+            let last = carries_last l clock received.message (waits_carried l.doubt l.open_at_birth x.1 (Carries (in_force l clock) received.message) waits (admits.1 closed)) in
             let own = any_owned s ds last.0 last.1 in
             let below : own.0 < (numbers Server s w).floor = (own_inv Server s w k.0).below own.0 (own_used n s w own.0 a.0 own.1) in
             omega (arith, below)
@@ -121,6 +133,7 @@ fresh_at n s w (ServerStarts (starts.Fresh first) size) (a, b, f) = none_there (
     let zero' : number_of first ≡ 0 = f.1 in
     omega (arith, floor, least, zero'))
 fresh_at n s w (ServerStarts (starts.Received first highest) size) (a, b, f) = f.1
+fresh_at n s w (ServerStarts (starts.Reserved first highest ahead) size) (a, b, f) = f.1
 fresh_at n s w event i = tt
 
 pub fresh_by_saving : FreshBySaving

@@ -3,6 +3,7 @@
 -- milliseconds, by the server's clock.
 use Rattle.std.specs.Prelude.{◌≡◌, ◌⊎◌, ℕ, ◌-◌, ◌≤◌, List, Some, max, false}
 use Rattle.osc_context.specs.SecurityContext.{SecurityContext}
+use Rattle.osc_life.specs.Doubting.{IsBeyond}
 use Rattle.osc_life.specs.Life.{Life, is_open}
 use Rattle.osc_life.specs.ServerHistory as server
 use Rattle.osc_kept.specs.World.{World, Event, Begin, Then, AtServer, Has, Request, server_history, server_life, sent}
@@ -32,8 +33,9 @@ pub record IsFresh (s : SecurityContext) (w : World) (now : ℕ) (r : Request) :
   pub was_sent : Has r (sent s w)
   pub after : Has r (sent s v) → ⊥
 
--- a request that opens a restarted life is fresh (RFC 8613, 7.3 and B.1.2)
+-- a request that opens a closed life is fresh, if its number isn't above those in doubt; where none are in doubt, as in a restarted life, no number is
+-- (RFC 8613, 7.3 and B.1.2; own rule: the doubt)
 abbrev pub OpensFresh : SecurityContext → World → Event → Type 0
 OpensFresh s w (AtServer (server.Datagram now echo mid d) (server.Took (server.Deliver received ticket) reply)) =
-    (of : Life) → server_life s w ≡ Some of → is_open of ≡ false → IsFresh s w now (record { number = ticket.number; message = received.message })
+    (of : Life) → server_life s w ≡ Some of → is_open of ≡ false → (IsBeyond of.doubt ticket.number → ⊥) → IsFresh s w now (record { number = ticket.number; message = received.message })
 OpensFresh s w event = Unit {0}

@@ -1,9 +1,10 @@
 -- To be believed: how the calls of kept ends extend a world (RFC 8613, 7.2.1 and B.1.1): by zero or one draw of a number, and then by one event. w is the
 -- world before, v the world after, s the security context, old and new are the numbers of the end.
-use Rattle.std.specs.Prelude.{◌≡◌, ◌⊎◌, ℕ, ◌<◌, ◌≤◌, true, Some}
+use Rattle.std.specs.Prelude.{◌≡◌, ◌⊎◌, ℕ, ◌<◌, ◌≤◌, Bool, true, Option, Some, None}
 use Rattle.osc_context.specs.SecurityContext.{SecurityContext}
 use Rattle.osc_context.specs.Views.{number_of}
 use Rattle.osc_window.specs.declared.window_size.WindowSize.{WindowSize}
+use Rattle.osc_life.specs.declared.doubt.Doubt.{Doubt}
 use Rattle.osc_life.specs.declared.start.Start.{Start}
 use Rattle.osc_life.specs.declared.start.Start.TheVariants as starts
 use Rattle.osc_client.specs.ClientHistory as client
@@ -74,6 +75,7 @@ abbrev pub server_started : Start → WindowSize → World → World
 server_started (starts.Fresh first) size w = Then (Then w (ServerStarts (starts.Fresh first) size)) (Reserves Server)
 server_started (starts.Restarted first) size w = Then w (ServerStarts (starts.Restarted first) size)
 server_started (starts.Received first highest) size w = Then w (ServerStarts (starts.Received first highest) size)
+server_started (starts.Reserved first highest ahead) size w = Then w (ServerStarts (starts.Reserved first highest ahead) size)
 
 -- an end starts with kept numbers if what was loaded isn't below what was saved before, in whatever process; a keeper that knows the floor sees to that,
 -- and still knows it (RFC 8613, B.1.1)
@@ -92,18 +94,24 @@ abbrev pub ClientBegins : Type 0
 ClientBegins = (s : SecurityContext) (w : World) (loaded life_ms floor : ℕ) (own : Own) → Goes (Load loaded) (nothing_drawn floor) own
     → StartsOn Client s w loaded (Then w (ClientStarts loaded life_ms)) floor own × ClientRuns s (Then w (ClientStarts loaded life_ms)) (client.New s loaded life_ms) own
 
--- a server starts fresh only at 0, and then a number is saved before it takes a datagram; KeptServer sees to this, and never starts open above a number
--- (RFC 8613, B.1.1 and B.1.2)
+-- a life may deliver without a challenge: it was open at its birth, or numbers are in doubt in it, above which all are new (RFC 8613, B.1.2; own rule: the doubt)
+abbrev pub needs_no_echo : Option Doubt → Bool → Bool
+needs_no_echo None open_at_birth = open_at_birth
+needs_no_echo (Some doubt) open_at_birth = true
+
+-- a server starts fresh only at 0, and then, as in each life that may deliver without a challenge, a number is saved before it takes a datagram; KeptServer sees to
+-- this, and never starts above a number, open or with numbers in doubt (RFC 8613, B.1.1 and B.1.2)
 abbrev pub SavesFirst : SecurityContext → World → Event → Type 0
 SavesFirst s w (ServerStarts (starts.Fresh first) size) = number_of first ≡ 0
 SavesFirst s w (ServerStarts (starts.Received first highest) size) = StartsAboveDelivered w (ServerStarts (starts.Received first highest) size)
-SavesFirst s w (AtServer (server.Datagram now echo mid d) entry) = (of : Life) → server_life s w ≡ Some of → of.open_at_birth ≡ true → 0 < (numbers Server s w).floor
+SavesFirst s w (ServerStarts (starts.Reserved first highest ahead) size) = StartsAboveDelivered w (ServerStarts (starts.Reserved first highest ahead) size)
+SavesFirst s w (AtServer (server.Datagram now echo mid d) entry) = (of : Life) → server_life s w ≡ Some of → needs_no_echo of.doubt of.open_at_birth ≡ true → 0 < (numbers Server s w).floor
 SavesFirst s w event = Unit {0}
 
--- each server of the list did so, and the running server has saved a number if its life is fresh (RFC 8613, B.1.1)
+-- each server of the list did so, and the running server has saved a number if its life may deliver without a challenge (RFC 8613, B.1.1)
 pub record HasSavedFirst (s : SecurityContext) (w : World) : Type 0 where
   pub each : AtEach (SavesFirst s) w
-  pub last : (of : Life) → server_life s w ≡ Some of → of.open_at_birth ≡ true → 0 < (numbers Server s w).floor
+  pub last : (of : Life) → server_life s w ≡ Some of → needs_no_echo of.doubt of.open_at_birth ≡ true → 0 < (numbers Server s w).floor
 
 -- so a server starts fresh only while nothing was delivered (RFC 8613, B.1.2)
 abbrev pub FreshBySaving : Type 0

@@ -107,10 +107,11 @@ BeginsAbove s w event = Unit {0}
 
 -- ---- KeptServer sees to it, or whoever says how a Server starts
 
--- a server starts fresh only while no request was delivered, and open above a number only if that is the highest one that was (RFC 8613, 7.4 and B.1.2)
+-- a server starts fresh only while no request was delivered, and above a number, open or with numbers in doubt, only if none above it was (RFC 8613, 7.4 and B.1.2)
 abbrev pub StartsAboveDelivered : World → Event → Type 0
 StartsAboveDelivered w (ServerStarts (starts.Fresh first) size) = delivered w ≡ []
 StartsAboveDelivered w (ServerStarts (starts.Received first highest) size) = (n : ℕ) → Has n (delivered w) → n ≤ number_of highest
+StartsAboveDelivered w (ServerStarts (starts.Reserved first highest ahead) size) = (n : ℕ) → Has n (delivered w) → n ≤ number_of highest
 StartsAboveDelivered w event = Unit {0}
 
 -- all of these (own rule)

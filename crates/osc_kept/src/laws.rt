@@ -22,9 +22,10 @@ use osc_protect::{one_cipher_input, one_notification, sealed_opens};
 /// server sealed it for that request. Each response is delivered at most once, and those to one request in the order in which they were
 /// sealed. A notification is delivered for a request that registers an observation. A request that registers nothing has at most one
 /// response, and behind the last response to a request nothing is delivered for it. What opens a restarted life of the server was sealed at
-/// most 30,000 ms before, by the server's clock. No end seals twice under one nonce. The list has to meet the premises (`IsLawful`): both
-/// ends answer by their tables, nobody else makes texts that open, Echo values are new, each life of an end begins above all numbers with
-/// which it sealed before, and a server starts fresh only while nothing was delivered.
+/// most 30,000 ms before, by the server's clock; of a life that starts with numbers in doubt (`Start::Reserved`) that holds of a request
+/// whose number isn't above them. No end seals twice under one nonce. The list has to meet the premises (`IsLawful`): both ends answer by
+/// their tables, nobody else makes texts that open, Echo values are new, each life of an end begins above all numbers with which it sealed
+/// before, and a server starts fresh only while nothing was delivered, or above all that was.
 pub fn both_ends()
     ensures { TwoEnds }
 {
@@ -89,16 +90,16 @@ pub fn kept_ends_begin()
     ensures above { KeptBeginAbove }
 {}
 
-/// States that a server that starts fresh only at 0, and for which a number is saved before it takes a datagram, starts fresh only
-/// while nothing was delivered (RFC 8613, B.1.1 and B.1.2).
+/// States that a server that starts fresh only at 0, and for which a number is saved before it takes a datagram in a life that may deliver
+/// without a challenge, starts fresh only while nothing was delivered (RFC 8613, B.1.1 and B.1.2).
 pub fn fresh_by_saving()
     ensures { FreshBySaving }
 {}
 
-/// States that a server whose numbers of received requests are kept starts fresh only while nothing was delivered, and open only above all
-/// that was, if a greater number is kept before each delivery reaches the application, and each start is by what is kept. That
-/// is the premise of `both_ends` on starts: so no request is delivered in two lives, and from the life after its first delivery on the server
-/// needs no challenge (RFC 8613, 7.4, 7.5 and B.1.2).
+/// States that a server whose numbers of received requests are kept starts fresh only while nothing was delivered, and open, or with numbers
+/// in doubt, only above all that was, if a greater number is kept before each delivery reaches the application, and each start is by what
+/// is kept. That is the premise of `both_ends` on starts: so no request is delivered in two lives, and from the life after its first
+/// delivery on the server needs no challenge, but for a number that is in doubt (RFC 8613, 7.4, 7.5 and B.1.2).
 pub fn received_by_saving()
     ensures { ReceivedBySaving }
 {}

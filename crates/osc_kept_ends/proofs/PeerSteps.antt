@@ -176,12 +176,14 @@ pub started_idle : (start : Start) (loaded : ℕ) (o : Own) → ((first : Piv) �
 started_idle (starts.Fresh first) loaded o other = absurd (other first refl)
 started_idle (starts.Restarted first) loaded o other = refl
 started_idle (starts.Received first highest) loaded o other = refl
+started_idle (starts.Reserved first highest ahead) loaded o other = refl
 
 -- the life begins at the number that was loaded
-pub born_at : (c : SecurityContext) (start : Start) (size : WindowSize) (sender received : ℕ) → IsPeerStart start sender received → (born c start size).first ≡ sender
-born_at c (starts.Fresh first) size sender received is = is.0
-born_at c (starts.Restarted first) size sender received is = is.0
-born_at c (starts.Received first highest) size sender received is = is.0
+pub born_at : (c : SecurityContext) (ahead : ℕ) (start : Start) (size : WindowSize) (sender received : ℕ) → IsPeerStart ahead start sender received → (born c start size).first ≡ sender
+born_at c ahead (starts.Fresh first) size sender received is = is.0
+born_at c ahead (starts.Restarted first) size sender received is = is.0
+born_at c ahead (starts.Received first highest) size sender received is = is.0
+born_at c ahead (starts.Reserved first highest kept) size sender received is = is.0
 
 -- the first context of a server is added
 pub never_added : (s : SecurityContext) (start : Start) (size : WindowSize) (e : AddError) → ServerAnswer server.Begin (server.Add s start size) (server.NotAdded e) → ⊥

@@ -264,6 +264,7 @@ born_next : (c : SecurityContext) (start : Start) (size : WindowSize) → next_o
 born_next c (starts.Fresh first) size = omega arith
 born_next c (starts.Restarted first) size = omega arith
 born_next c (starts.Received first highest) size = omega arith
+born_next c (starts.Reserved first highest ahead) size = omega arith
 
 -- a server with the context that was added
 pub added_alone : (s : Server) (c : SecurityContext) (start : Start) (size : WindowSize) (index next : ℕ) → Agrees s (Then Begin (Add c start size) (Added index)) → index ≡ 0

@@ -61,9 +61,11 @@ abbrev pub IsStart : Start → ℕ → Type 0
 IsStart (starts.Fresh first) loaded = (number_of first ≡ loaded) × (loaded ≡ 0)
 IsStart (starts.Restarted first) loaded = (number_of first ≡ loaded) × (loaded ≢ 0)
 IsStart (starts.Received first highest) loaded = ⊥
+IsStart (starts.Reserved first highest ahead) loaded = ⊥
 
 -- its numbers after the start: a fresh server has drawn its first number, so 64 is saved, and no later start is fresh (RFC 8613, B.1.1)
 abbrev pub started : Start → ℕ → Own → Own
 started (starts.Fresh first) loaded o = after Reserve (after (Load loaded) o)
 started (starts.Restarted first) loaded o = after (Load loaded) o
 started (starts.Received first highest) loaded o = after (Load loaded) o
+started (starts.Reserved first highest ahead) loaded o = after (Load loaded) o

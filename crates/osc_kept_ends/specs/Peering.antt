@@ -103,8 +103,10 @@ abbrev pub AskStep : {N : ℕ} → client.History → client.Event → client.En
 AskStep {N = N} k event entry old new c = (m : client.History) × ClientPasses N k m × asking.KeptStep m event entry old new c
 
 -- how a life begins with the two numbers that were loaded: fresh if and only if both are 0; with the gate closed if no received number was kept, but numbers
--- were; else above all that was received (RFC 8613, 7.4, 7.5, B.1.1 and B.1.2)
-abbrev pub IsPeerStart : Start → ℕ → ℕ → Type 0
-IsPeerStart (starts.Fresh first) sender received = (number_of first ≡ sender) × (sender ≡ 0) × (received ≡ 0)
-IsPeerStart (starts.Restarted first) sender received = (number_of first ≡ sender) × (sender ≢ 0) × (received ≡ 0)
-IsPeerStart (starts.Received first highest) sender received = (number_of first ≡ sender) × (number_of highest + 1 ≡ received)
+-- were; else above all that was received. If received numbers are kept so many ahead, the last of those are in doubt (RFC 8613, 7.4, 7.5, B.1.1 and B.1.2)
+abbrev pub IsPeerStart : ℕ → Start → ℕ → ℕ → Type 0
+IsPeerStart ahead (starts.Fresh first) sender received = (number_of first ≡ sender) × (sender ≡ 0) × (received ≡ 0)
+IsPeerStart ahead (starts.Restarted first) sender received = (number_of first ≡ sender) × (sender ≢ 0) × (received ≡ 0)
+IsPeerStart ahead (starts.Received first highest) sender received = (number_of first ≡ sender) × (number_of highest + 1 ≡ received) × (ahead ≡ 0)
+IsPeerStart ahead (starts.Reserved first highest kept) sender received =
+    (number_of first ≡ sender) × (number_of highest + 1 ≡ received) × (kept ≡ ahead) × (ahead ≢ 0)

@@ -108,18 +108,23 @@ pub(crate) fn pass_at_client<const N: usize>(client: &mut Client<N>, next: u64)
     };
 }
 
-/// Returns how a life begins with the two numbers that were loaded.
-fn start_at(first: Piv, received: u64) -> Result<Start, KeptError>
-    ensures begins { IfOk result (λ start. IsPeerStart start (number_of first) received) }
+/// Returns how a life begins with the two numbers that were loaded, if received numbers are kept so many ahead.
+fn start_at(first: Piv, received: u64, ahead: u64) -> Result<Start, KeptError>
+    ensures begins { IfOk result (λ start. IsPeerStart ahead start (number_of first) received) }
     ensures refused { IfErr result (λ e. (e ≡ KeptTooLarge) × (2 ^ 40 < received)) }
 {
     match received {
         0 if first.number() == 0 => Ok(Start::Fresh(first)),
         0 => Ok(Start::Restarted(first)),
         received => match Piv::new(received - 1) {
-            Some(highest) => Ok(Start::Received {
+            Some(highest) if ahead == 0 => Ok(Start::Received {
                 next: first,
                 highest,
+            }),
+            Some(highest) => Ok(Start::Reserved {
+                next: first,
+                highest,
+                ahead,
             }),
             None => Err(KeptError::KeptTooLarge),
         },
@@ -147,15 +152,37 @@ impl<R: RecordKeeper, const N: usize> KeptPeer<R, N> {
         life_ms: u64,
     ) -> Result<KeptPeer<R, N>, (KeptError, R)>
         ensures begins { IfOk result (λ p. (sender : ℕ) × (received : ℕ) × (mid : R) × (start : StartOf) × R.loads keeper sender received mid
-            × (R.received_floor keeper ≤ received) × (R.received_floor keeper ≤ R.received_floor p.source.keeper) × IsPeerStart start sender received
+            × (R.received_floor keeper ≤ received) × (R.received_floor keeper ≤ R.received_floor p.source.keeper) × IsPeerStart 0 start sender received
             × (own_in p.source ≡ serving.started start sender (nothing_drawn (R.sender_floor keeper))) × Allowed (Load sender) (nothing_drawn (R.sender_floor keeper))
             × (R.failures p.source.keeper ≡ R.failures keeper)
             × ServerIsBehind p.server (upcoming (own_in p.source)) (served.Then served.Begin (served.Add (as_server context) start size) (served.Added 0))
             × ClientIsBehind p.client (upcoming (own_in p.source)) (asked.New (as_client context) sender life_ms)) }
         ensures refused { IfErr result (λ e. RefusesPeer R.loads R.failures keeper e.0 e.1) }
     {
-        let (mut source, first, received) = PeerSource::start(keeper)?;
-        let start = match start_at(first, received) {
+        KeptPeer::start_ahead(context, keeper, size, life_ms, 0)
+    }
+
+    /// Starts a peer as `start` does, which keeps `ahead` received numbers more with each save: so it saves for one request in `ahead` + 1. In
+    /// exchange it doesn't know, once it is started again, which of the last `ahead` numbers below the kept one it received. Until a request
+    /// is delivered, a challenge decides about those; greater numbers are new, and smaller ones are replays. `ahead` stays the same over all
+    /// lives: a smaller one refuses requests that were never received (RFC 8613, 7.5 and B.1.2; own rule: what is in doubt).
+    pub fn start_ahead(
+        context: Context,
+        keeper: R,
+        size: WindowSize,
+        life_ms: u64,
+        ahead: u64,
+    ) -> Result<KeptPeer<R, N>, (KeptError, R)>
+        ensures begins { IfOk result (λ p. (sender : ℕ) × (received : ℕ) × (mid : R) × (start : StartOf) × R.loads keeper sender received mid
+            × (R.received_floor keeper ≤ received) × (R.received_floor keeper ≤ R.received_floor p.source.keeper) × IsPeerStart ahead start sender received
+            × (own_in p.source ≡ serving.started start sender (nothing_drawn (R.sender_floor keeper))) × Allowed (Load sender) (nothing_drawn (R.sender_floor keeper))
+            × (R.failures p.source.keeper ≡ R.failures keeper)
+            × ServerIsBehind p.server (upcoming (own_in p.source)) (served.Then served.Begin (served.Add (as_server context) start size) (served.Added 0))
+            × ClientIsBehind p.client (upcoming (own_in p.source)) (asked.New (as_client context) sender life_ms)) }
+        ensures refused { IfErr result (λ e. RefusesPeer R.loads R.failures keeper e.0 e.1) }
+    {
+        let (mut source, first, received) = PeerSource::start(keeper, ahead)?;
+        let start = match start_at(first, received, ahead) {
             Ok(start) => start,
             Err(error) => return Err((error, keeper_of(source))),
         };

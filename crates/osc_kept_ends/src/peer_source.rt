@@ -11,6 +11,9 @@ ghost use Rattle.osc_kept_ends.specs.Views.{IsLastDrawn};
 use crate::kept_error::{KeptError, lift};
 use osc_context::{KeeperError, KeptNumbers, Numbers, Piv, RecordKeeper};
 
+/// The first number that isn't one of a request (RFC 8613, 7.2.1).
+const LIMIT: u64 = 1 << 40;
+
 /// The numbers of a peer.
 #[derive(Drop)]
 pub(crate) struct PeerSource<R: RecordKeeper> {
@@ -22,6 +25,8 @@ pub(crate) struct PeerSource<R: RecordKeeper> {
     received: u64,
     // What was saved of it since it was loaded, or 0.
     saved: u64,
+    // So many more numbers are saved with each that is received.
+    ahead: u64,
     pub ghost covered: { Covers (R.sender_floor keeper) (next_of numbers) (limit_of numbers) },
     pub ghost last_drawn: { IsLastDrawn in_hand (next_of numbers) },
     pub ghost least: { R.received_floor keeper ≤ received },
@@ -33,7 +38,10 @@ impl<R: RecordKeeper> PeerSource<R> {
 
     /// Begins at the numbers that the record loads, and returns the next number, and the one above all that was received. A refusal gives
     /// the record back.
-    pub(crate) fn start(mut keeper: R) -> Result<(PeerSource<R>, Piv, u64), (KeptError, R)>
+    pub(crate) fn start(
+        mut keeper: R,
+        ahead: u64,
+    ) -> Result<(PeerSource<R>, Piv, u64), (KeptError, R)>
         ensures loaded { IfOk result (λ r. R.loads keeper (number_of r.1) r.2 r.0.keeper × (R.failures r.0.keeper ≡ R.failures keeper)) }
         ensures begins { IfOk result (λ r. Goes (Load (number_of r.1)) (nothing_drawn (R.sender_floor keeper)) (own_in r.0)) }
         ensures least { IfOk result (λ r. (R.received_floor keeper ≤ r.2) × (R.received_floor r.0.keeper ≡ R.received_floor keeper)) }
@@ -55,6 +63,7 @@ impl<R: RecordKeeper> PeerSource<R> {
             in_hand: None,
             received: kept.received,
             saved: 0,
+            ahead,
         };
         Ok((source, first, kept.received))
     }
@@ -90,8 +99,9 @@ impl<R: RecordKeeper> PeerSource<R> {
         Ok(())
     }
 
-    /// Keeps that a request with this number was received: the record then has a greater number. Call it before the request is delivered.
-    /// One save keeps both numbers. If the record fails, the numbers don't change.
+    /// Keeps that a request with this number was received: the record then has a greater number, or else one that is greater by `ahead` + 1,
+    /// at most 2^40, is saved. Call it before the request is delivered. One save keeps both numbers. If the record fails, the numbers don't
+    /// change.
     pub(crate) fn receive(&mut self, number: Piv) -> Result<(), KeeperError>
         ensures kept { IsOk result → number_of number < R.received_floor self.new.keeper }
         ensures kept_on { IsKeptOn (own_in self.old) (own_in self.new) }
@@ -103,7 +113,10 @@ impl<R: RecordKeeper> PeerSource<R> {
             return Ok(());
         }
         let sender = self.numbers.limit();
-        let received = self.received.max(number.number() + 1);
+        let above = number.number() + 1;
+        let received = self
+            .received
+            .max(above.max(LIMIT.min(above.saturating_add(self.ahead))));
         self.keeper.save(KeptNumbers { sender, received })?;
         self.received = received;
         self.saved = received;

@@ -91,6 +91,7 @@ starts_later law n s w (starts.Restarted first) size loaded k is some top reserv
     let on = law n s w (starts.Restarted first) size loaded 0 lawful saved is (omega arith, top) least in
     (on.0, (_, _, on.2, serves, omega (arith, some, reserved)), on.1)
 starts_later law n s w (starts.Received first highest) size loaded k is some top reserved serves lawful saved least = absurd is
+starts_later law n s w (starts.Reserved first highest ahead) size loaded k is some top reserved serves lawful saved least = absurd is
 
 pub starts_saved : ServerStartsInWorld → (n : ℕ) (s : SecurityContext) (w : World) (start : Start) (size : WindowSize) (t : KeptServerHandle) → IsStart start 0
     → ServesWith t (after Reserve (after (Load 0) (nothing_drawn 0))) (server.Then server.Begin (server.Add s start size) (server.Added 0))
@@ -101,3 +102,4 @@ starts_saved law n s w (starts.Fresh first) size t is serves lawful saved least 
     (on.0, (_, _, on.2, serves, omega (arith, limit)), on.1)
 starts_saved law n s w (starts.Restarted first) size t is serves lawful saved least = absurd (is.1 refl)
 starts_saved law n s w (starts.Received first highest) size t is serves lawful saved least = absurd is
+starts_saved law n s w (starts.Reserved first highest ahead) size t is serves lawful saved least = absurd is

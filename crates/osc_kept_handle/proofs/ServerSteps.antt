@@ -61,6 +61,7 @@ first_own : (context : SecurityContext) (start : Start) (size : WindowSize) (n :
 first_own context (starts.Fresh first) size n is = let same = is.0 in omega (arith, same)
 first_own context (starts.Restarted first) size n is = let same = is.0 in omega (arith, same)
 first_own context (starts.Received first highest) size n is = absurd is
+first_own context (starts.Reserved first highest ahead) size n is = absurd is
 
 pub begun : (t : SingleServerHandle) (context : SecurityContext) (start : Start) (size : WindowSize) (n floor reserved : ℕ)
     → AddsIn Begin context start size (Added 0) (server_of_one t) → IsSlotBytes t.slot → IsStart start n → n < 2 ^ 40 → floor ≤ n → reserved ≡ n

@@ -38,7 +38,7 @@ still_among fresh (PassedOver count) marks n h = h
 -- a number that is admitted isn't spent
 unspent : (of : Life) (clock n : ℕ) (m : InnerParts) → Admits of clock n m → All (λ k. k ≢ n) (spent of.open_at_birth of.marks)
 unspent of clock n m admits = elim (cases_Bool (is_open of)) [
-  | inl is ↦ (admits.0 is).unspent
+  | inl is ↦ (admits.0.0 is).unspent
   | inr shut ↦ subst (All (λ k. k ≢ n)) (sym (closed_bare of.open_at_birth of.marks shut).spent_is) (All-nil (λ k. k ≢ n))
 ]
 

@@ -2,7 +2,7 @@
 use Rattle.std.proofs.Common.{◌≡◌, ◌≢◌, ℕ, ◌+◌, ◌-◌, ◌<◌, ◌≤◌, ◌∙◌, sym, ap, subst, refl, arith, Bool, true, false, Option, Some, None, List, ◌⊎◌, inl, inr, ◌&&◌, ◌/◌, if◌then◌else◌}
 use Rattle.std.specs.Prelude.{◌==◌, ◌↔◌, All, Contains, is_some}
 use Rattle.std.specs.Option.{option_and_then, option_map}
-use Rattle.std.proofs.lemmas.Bool.{eq-eqb, eqb-true}
+use Rattle.std.proofs.lemmas.Bool.{cases_lt, eq-eqb, eqb-true}
 use Rattle.std.proofs.lemmas.List.Elements.{All-cons, All-contains, All-nil, All-weaker}
 use Rattle.osc_coap.specs.Datagram.{Parts, IsDatagram}
 use Rattle.osc_coap.specs.Inner.{InnerParts}
@@ -19,6 +19,7 @@ use Rattle.osc_protect.specs.Sealed.{SealsNotification, SealsRequest, SealsRespo
 use Rattle.osc_protect.specs.declared.unprotect_error.UnprotectError.TheVariants.{Inner}
 use Rattle.osc_window.specs.declared.window_size.WindowSize.{WindowSize}
 use Rattle.osc_window.specs.Views.{places_of}
+use Rattle.osc_life.specs.declared.doubt.Doubt.{Doubt}
 use Rattle.osc_life.specs.declared.start.Start.TheVariants as starts
 use Rattle.osc_laws.specs.Arriving.{WhatIsSealedArrives}
 use Rattle.osc_client.specs.ClientAnswer.{ClientAnswer, Hears, continues, told}
@@ -28,6 +29,7 @@ use Rattle.osc_laws.specs.ClientLaws.{AllClientAnswers}
 use Rattle.osc_laws.specs.Exchange.{Request, Response, AtClient, AtServer, Brings, Exchange, Starts, Then, AdmitsInTime, AreInStep, GoesWell, IsHonest, IsWaitedFor, LeavesNew, Stands, StaysOpen, client_clock, client_of, said, sent, server_clock, server_of, tickets}
 use Rattle.osc_laws.specs.Headline as delivery
 use Rattle.osc_laws.specs.Laws.{AllAnswers}
+use Rattle.osc_life.specs.Doubting.{IsNotBelow, OpensBy, StaysBy}
 use Rattle.osc_life.specs.Life.{Life, Admits, Carries, Challenged, Delivered, HasOwn, IsNewIn, Spoiled, born, in_force, is_open, is_open_life, marked}
 use Rattle.osc_observe.specs.Observing.{is_notification, registers}
 use Rattle.osc_observe.specs.Received.{Received}
@@ -41,6 +43,8 @@ use Rattle.osc_laws.proofs.DeliveredNumbers.{none_beyond}
 use Rattle.osc_laws.proofs.ExchangeLives.{some_is, Allowed, allowed_if, in_step, fits, marked_fits, at_server, first_of_all, numbers_from, IsWide, still_wide, wide_by_one, wide_at_server}
 use Rattle.osc_laws.proofs.InForce.{challenge_serves}
 use Rattle.osc_laws.proofs.Inside.{registers_inside, valid_in, values_inside}
+use Rattle.osc_laws.proofs.LifeAnswers.{shut_passes}
+use Rattle.osc_life.proofs.Judgments.{opens_carried}
 
 pub record ExchangeLaws : Type 0 where
   pub arrive : WhatIsSealedArrives
@@ -144,6 +148,16 @@ still_notifies p h =
     let (two, valid) = both_true (p.code / 32 == 2) _ h in
     subst (λ (vs : List (List ℕ)). ((p.code / 32 == 2) && is_some (valid_in vs)) ≡ true) (sym (values_inside observe refl (emptied true p.options)))
     (and_both (p.code / 32 == 2) _ two (observe_stays p.options valid))
+
+-- ---- numbers in doubt
+
+-- what doesn't open a life leaves it closed
+stays_unless : (doubt : Option Doubt) (n : ℕ) (carried : Type 0) → (OpensBy doubt n carried → ⊥) → StaysBy doubt n carried
+stays_unless None n carried never = never
+stays_unless (Some doubt) n carried never = elim (cases_lt n doubt.limit) [
+  | inl below ↦ (below, λ carries. never (inr carries))
+  | inr beyond ↦ absurd (never (inl beyond))
+]
 
 -- ---- the state of an exchange
 
@@ -297,7 +311,7 @@ module _ (laws : ExchangeLaws) where
         let q : Parts = as_reply p.kind p.message_id p.token mid (challenge_message value) in
         let same = same_context n i x b of_it j e life in
         let there = same_context n i x b of l (sym index ∙ e) request.life_is in
-        let (shut, inner, protects, carries) = wants in
+        let (shut, from, inner, protects, stays) = wants in
         let number_is : k ≡ s.number = number ∙ (is_that h s of.context m inner known there protects).0 in
         let own_is : option_and_then (own_number true) (server.life g j) ≡ own_number true of_it = ap (λ o. option_and_then (own_number true) o) life in
         let observing = registers (client.context h).features s.plain.code s.plain.options in
@@ -352,19 +366,19 @@ module _ (laws : ExchangeLaws) where
 
     -- a closed life that doesn't admit it challenges it
     is_challenged : (answer : server.Answer) (reply : List ℕ) → TakeAnswer (server_of x) (arrival (server_of x) now echo mid s.bytes) answer reply
-        → is_open b.step.of ≡ false → HasOwn b.step.of → (Admits b.step.of (server_clock x now) s.number (inside s.plain) → ⊥)
+        → is_open b.step.of ≡ false → IsNotBelow b.step.of.doubt s.number → HasOwn b.step.of → (Admits b.step.of (server_clock x now) s.number (inside s.plain) → ⊥)
         → (c : List ℕ × ℕ) × (challenge_given b.step.of (server_clock x now) echo ≡ c) × (answer ≡ server.Challenge i s.number c.0 c.1)
-    is_challenged answer reply took shut has refused =
+    is_challenged answer reply took shut from has refused =
         let g = server_of x in
         let of = b.step.of in
         let c = challenge_given of (server_clock x now) echo in
         let seals : SealsRequest of.context s.number s.plain s.bytes = subst (λ z. SealsRequest z s.number s.plain s.bytes) (sym b.step.same) known.seals in
         let shown = (laws.heads of.context).sealed s.bytes s.number s.plain seals in
         let request : IsRequestOf g s.bytes i s.number of = record { head = shown.0; has_head = shown.1; life_is = b.step.life_is; names = shown.2 } in
-        let carries : Carries (in_force of (server_clock x now)) (inside s.plain) → ⊥ = λ carries.
-        refused ((λ is. absurd (let never : true ≡ false = sym is ∙ shut in cc)), (λ _. carries)) in
+        let stays : StaysBy of.doubt s.number (Carries (in_force of (server_clock x now)) (inside s.plain)) = stays_unless of.doubt s.number _ (λ opens.
+        refused (shut_passes of s.number shut from, (λ _. opens))) in
         let row : MeetsRow g (arrival g now echo mid s.bytes) (server.Challenge i s.number c.0 c.1) =
-        (i, s.number, of, request, ((shut, inside s.plain, opens (client_of x) s of.context known b.step.same, carries), has, refl, refl, refl)) in
+        (i, s.number, of, request, ((shut, from, inside s.plain, opens (client_of x) s of.context known b.step.same, stays), has, refl, refl, refl)) in
         (c, refl, ((laws.server g b.serves).exactly (arrival g now echo mid s.bytes) answer (server.Challenge i s.number c.0 c.1) reply took).1 row)
 
   -- ---- a response that the network brings
@@ -434,11 +448,11 @@ module _ (laws : ExchangeLaws) where
       let number = All-contains (λ (r : Request). first_of_all x ≤ r.number) (sent x) s (numbers_from n i x honest) among in
       subst (λ (l : Life). All (LeavesNew i (places_of l.size) s.number) (tickets x) → IsNewIn l s.number) (some_is (sym w.is ∙ life)) (w.new s.number number)
 
-  serves_in_time : (n i : ℕ) (x : Exchange) (b : Goes n i x) (value : List ℕ) (issued now k : ℕ) (m : InnerParts) → is_open b.step.of ≡ false
+  serves_in_time : (n i : ℕ) (x : Exchange) (b : Goes n i x) (value : List ℕ) (issued now k : ℕ) (m : InnerParts) → is_open b.step.of ≡ false → IsNotBelow b.step.of.doubt k
       → Contains b.step.of.marks (Challenged value issued) → server_clock x now - issued ≤ 30000 → Carries (Some (value, issued)) m → Admits b.step.of (server_clock x now) k m
-  serves_in_time n i x b value issued now k m shut among within carries =
+  serves_in_time n i x b value issued now k m shut from among within carries =
       let is = challenge_serves (server_of x) i b.step.of value issued (server_clock x now) b.serves b.step.life_is shut among (omega arith) within in
-      ((λ e. absurd (let never : true ≡ false = sym e ∙ shut in cc)), (λ _. subst (λ o. Carries o m) (sym is) carries))
+      (shut_passes b.step.of k shut from, (λ _. opens_carried b.step.of.doubt k _ (subst (λ o. Carries o m) (sym is) carries)))
 
   pub stands : (n i : ℕ) (x : Exchange) → IsHonest n i x → Stands n i x
   stands n i x honest =

@@ -9,7 +9,7 @@ use Rattle.osc_context.specs.SecurityContext.{SecurityContext}
 use Rattle.osc_window.specs.declared.window_size.WindowSize.{WindowSize}
 use Rattle.osc_window.specs.Gate.{challenge_in_force}
 use Rattle.osc_life.specs.declared.start.Start.{Start}
-use Rattle.osc_life.specs.declared.start.Start.TheVariants.{Fresh, Received, Restarted as ByRestart}
+use Rattle.osc_life.specs.declared.start.Start.TheVariants.{Fresh, Received, Reserved, Restarted as ByRestart}
 use Rattle.osc_laws.specs.Laws.{AllAnswers}
 use Rattle.osc_life.specs.Life.{Answered, Challenged, Delivered, Life, Mark, PassedOver, Spoiled, born, challenge, in_force, is_open, marked, renewed}
 use Rattle.osc_endpoint.specs.ServerAnswer.{MeetsRow, arrival}
@@ -88,6 +88,7 @@ born_serves : (s : SecurityContext) (start : Start) (size : WindowSize) (from : 
 born_serves s (Fresh own) size from = All-nil (Serves None from)
 born_serves s (ByRestart own) size from = All-nil (Serves None from)
 born_serves s (Received own highest) size from = All-nil (Serves None from)
+born_serves s (Reserved own highest ahead) size from = All-nil (Serves None from)
 
 renewed_serves : (o : Option Life) (next from : ℕ) → LifeServes (option_map (renewed next) o) from
 renewed_serves None next from = tt

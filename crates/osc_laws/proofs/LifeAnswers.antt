@@ -9,14 +9,15 @@ use Rattle.osc_protect.specs.Sealed.{SealsResponse}
 use Rattle.osc_protect.specs.declared.unprotect_error.UnprotectError.{UnprotectError}
 use Rattle.osc_protect.specs.declared.unprotect_error.UnprotectError.TheVariants.{Tag, Inner}
 use Rattle.osc_laws.specs.AnswerLaws.{AnswerLaws}
+use Rattle.osc_life.specs.Doubting.{IsNotBelow}
 use Rattle.osc_life.specs.Life.{Life, Passes, is_open, next_own}
 use Rattle.osc_observe.specs.Observing.{registers}
 use Rattle.osc_observe.specs.Received.{Received}
 use Rattle.osc_life.specs.Replies.{ErrorText, SaysError, as_reply, challenge_message, error_message}
-use Rattle.osc_life.specs.LifeAnswer.{Arrival, IsReplay, MeetsLifeRow, SaysChallenge}
+use Rattle.osc_life.specs.LifeAnswer.{Arrival, MeetsLifeRow, SaysChallenge}
 use Rattle.osc_laws.proofs.OneReceived.{one_received}
 use Rattle.osc_life.specs.ServerHistory.{Answer, BadInner, BadTag, Challenge, Deliver, Replay, SequenceExhausted, TicketValues}
-use Rattle.osc_endpoint.proofs.Deliveries.{no_want}
+use Rattle.osc_endpoint.proofs.Deliveries.{no_replay, no_want}
 
 -- ---- replies
 
@@ -54,12 +55,9 @@ ticket_by of i n r = record {
 
 -- ---- rows
 
--- a closed life lets each number pass
-shut_passes : (of : Life) (n : ℕ) → is_open of ≡ false → Passes of n
-shut_passes of n shut is = absurd (both_ways (is_open of) shut is)
-
-no_replay : (of : Life) (n : ℕ) → IsReplay of n → Passes of n → ⊥
-no_replay of n replay passes = replay.1 (passes replay.0)
+-- a closed life lets each number pass that isn't below those in doubt
+pub shut_passes : (of : Life) (n : ℕ) → is_open of ≡ false → IsNotBelow of.doubt n → Passes of n
+shut_passes of n shut from = ((λ is. absurd (both_ways (is_open of) shut is)), (λ _. from))
 
 -- a datagram that is refused protects nothing
 no_refusal : AnswerLaws → (of : Life) (n : ℕ) (d : List ℕ) (e : UnprotectError) (m : InnerParts) → RefusesToOpen (requests of.context) d e → ProtectsRequest of.context n m d → ⊥
@@ -72,29 +70,29 @@ module _ (laws : AnswerLaws) (of : Life) (i n : ℕ) (a : Arrival) where
   -- the conditions of a life's rows exclude each other, and each fixes its answer
   pub one_life_row : (x y : Answer) → MeetsLifeRow of i n a x → MeetsLifeRow of i n a y → x ≡ y
   one_life_row Replay Replay x y = refl
-  one_life_row Replay BadTag x y = absurd (no_replay of n x y.0)
-  one_life_row Replay (BadInner j k) x y = absurd (no_replay of n x y.0)
-  one_life_row Replay (Challenge j k echo issued) x y = absurd (no_replay of n x (shut_passes of n y.0.0))
-  one_life_row Replay SequenceExhausted x y = absurd (no_replay of n x (shut_passes of n y.0.0))
-  one_life_row Replay (Deliver received ticket) x y = absurd (no_replay of n x y.1.0)
-  one_life_row BadTag Replay x y = absurd (no_replay of n y x.0)
+  one_life_row Replay BadTag x y = absurd (no_replay of of n n refl refl x y.0)
+  one_life_row Replay (BadInner j k) x y = absurd (no_replay of of n n refl refl x y.0)
+  one_life_row Replay (Challenge j k echo issued) x y = absurd (no_replay of of n n refl refl x (shut_passes of n y.0.0 y.0.1))
+  one_life_row Replay SequenceExhausted x y = absurd (no_replay of of n n refl refl x (shut_passes of n y.0.0 y.0.1))
+  one_life_row Replay (Deliver received ticket) x y = absurd (no_replay of of n n refl refl x y.1.0)
+  one_life_row BadTag Replay x y = absurd (no_replay of of n n refl refl y x.0)
   one_life_row BadTag BadTag x y = refl
   one_life_row BadTag (BadInner j k) x y = absurd (no_two_refusals laws of a.bytes x.1 y.1)
-  one_life_row BadTag (Challenge j k echo issued) x y = absurd (no_refusal laws of n a.bytes Tag y.0.1 x.1 y.0.2)
-  one_life_row BadTag SequenceExhausted x y = absurd (no_refusal laws of n a.bytes Tag y.0.1 x.1 y.0.2)
+  one_life_row BadTag (Challenge j k echo issued) x y = absurd (no_refusal laws of n a.bytes Tag y.0.2 x.1 y.0.3)
+  one_life_row BadTag SequenceExhausted x y = absurd (no_refusal laws of n a.bytes Tag y.0.2 x.1 y.0.3)
   one_life_row BadTag (Deliver received ticket) x y = absurd (no_refusal laws of n a.bytes Tag received.message x.1 y.0.protects)
-  one_life_row (BadInner j k) Replay x y = absurd (no_replay of n y x.0)
+  one_life_row (BadInner j k) Replay x y = absurd (no_replay of of n n refl refl y x.0)
   one_life_row (BadInner j k) BadTag x y = absurd (no_two_refusals laws of a.bytes y.1 x.1)
   one_life_row (BadInner j k) (BadInner l o) x y =
       let index : j ≡ l = x.2 ∙ sym y.2 in
       let number : k ≡ o = x.3 ∙ sym y.3 in
       cc
-  one_life_row (BadInner j k) (Challenge l o echo issued) x y = absurd (no_refusal laws of n a.bytes Inner y.0.1 x.1 y.0.2)
-  one_life_row (BadInner j k) SequenceExhausted x y = absurd (no_refusal laws of n a.bytes Inner y.0.1 x.1 y.0.2)
+  one_life_row (BadInner j k) (Challenge l o echo issued) x y = absurd (no_refusal laws of n a.bytes Inner y.0.2 x.1 y.0.3)
+  one_life_row (BadInner j k) SequenceExhausted x y = absurd (no_refusal laws of n a.bytes Inner y.0.2 x.1 y.0.3)
   one_life_row (BadInner j k) (Deliver received ticket) x y = absurd (no_refusal laws of n a.bytes Inner received.message x.1 y.0.protects)
-  one_life_row (Challenge j k echo issued) Replay x y = absurd (no_replay of n y (shut_passes of n x.0.0))
-  one_life_row (Challenge j k echo issued) BadTag x y = absurd (no_refusal laws of n a.bytes Tag x.0.1 y.1 x.0.2)
-  one_life_row (Challenge j k echo issued) (BadInner l o) x y = absurd (no_refusal laws of n a.bytes Inner x.0.1 y.1 x.0.2)
+  one_life_row (Challenge j k echo issued) Replay x y = absurd (no_replay of of n n refl refl y (shut_passes of n x.0.0 x.0.1))
+  one_life_row (Challenge j k echo issued) BadTag x y = absurd (no_refusal laws of n a.bytes Tag x.0.2 y.1 x.0.3)
+  one_life_row (Challenge j k echo issued) (BadInner l o) x y = absurd (no_refusal laws of n a.bytes Inner x.0.2 y.1 x.0.3)
   one_life_row (Challenge j k echo issued) (Challenge l o other moment) x y =
       let given = same_given _ echo other issued moment x.2 y.2 in
       let echo_is : echo ≡ other = given.0 in
@@ -104,13 +102,13 @@ module _ (laws : AnswerLaws) (of : Life) (i n : ℕ) (a : Arrival) where
       cc
   one_life_row (Challenge j k echo issued) SequenceExhausted x y = absurd (y.1 x.1)
   one_life_row (Challenge j k echo issued) (Deliver received ticket) x y = absurd (no_want of of n n a.clock a.bytes received.message laws.request refl x.0 y.0.protects y.1)
-  one_life_row SequenceExhausted Replay x y = absurd (no_replay of n y (shut_passes of n x.0.0))
-  one_life_row SequenceExhausted BadTag x y = absurd (no_refusal laws of n a.bytes Tag x.0.1 y.1 x.0.2)
-  one_life_row SequenceExhausted (BadInner l o) x y = absurd (no_refusal laws of n a.bytes Inner x.0.1 y.1 x.0.2)
+  one_life_row SequenceExhausted Replay x y = absurd (no_replay of of n n refl refl y (shut_passes of n x.0.0 x.0.1))
+  one_life_row SequenceExhausted BadTag x y = absurd (no_refusal laws of n a.bytes Tag x.0.2 y.1 x.0.3)
+  one_life_row SequenceExhausted (BadInner l o) x y = absurd (no_refusal laws of n a.bytes Inner x.0.2 y.1 x.0.3)
   one_life_row SequenceExhausted (Challenge j k echo issued) x y = absurd (x.1 y.1)
   one_life_row SequenceExhausted SequenceExhausted x y = refl
   one_life_row SequenceExhausted (Deliver received ticket) x y = absurd (no_want of of n n a.clock a.bytes received.message laws.request refl x.0 y.0.protects y.1)
-  one_life_row (Deliver received ticket) Replay x y = absurd (no_replay of n y x.1.0)
+  one_life_row (Deliver received ticket) Replay x y = absurd (no_replay of of n n refl refl y x.1.0)
   one_life_row (Deliver received ticket) BadTag x y = absurd (no_refusal laws of n a.bytes Tag received.message y.1 x.0.protects)
   one_life_row (Deliver received ticket) (BadInner l o) x y = absurd (no_refusal laws of n a.bytes Inner received.message y.1 x.0.protects)
   one_life_row (Deliver received ticket) (Challenge j k echo issued) x y = absurd (no_want of of n n a.clock a.bytes received.message laws.request refl y.0 x.0.protects x.1)

@@ -195,16 +195,19 @@ born_context : (s : SecurityContext) (start : Start) (size : WindowSize) → (bo
 born_context s (starts.Fresh next) size = refl
 born_context s (starts.Restarted next) size = refl
 born_context s (starts.Received next highest) size = refl
+born_context s (starts.Reserved next highest ahead) size = refl
 
 born_unused : (s : SecurityContext) (start : Start) (size : WindowSize) → own_count (born s start size).marks ≡ 0
 born_unused s (starts.Fresh next) size = refl
 born_unused s (starts.Restarted next) size = refl
 born_unused s (starts.Received next highest) size = refl
+born_unused s (starts.Reserved next highest ahead) size = refl
 
 born_over : (s : SecurityContext) (start : Start) (size : WindowSize) → passed_over (born s start size).marks ≡ 0
 born_over s (starts.Fresh next) size = refl
 born_over s (starts.Restarted next) size = refl
 born_over s (starts.Received next highest) size = refl
+born_over s (starts.Reserved next highest ahead) size = refl
 
 -- ---- each answer is a step
 

@@ -12,6 +12,7 @@ use Rattle.osc_protect.specs.Sealed.{inside}
 use Rattle.osc_window.specs.Views.{places_of}
 use Rattle.osc_window.specs.declared.window_size.WindowSize.{WindowSize}
 use Rattle.osc_life.specs.declared.start.Start.TheVariants as starts
+use Rattle.osc_life.specs.Doubting.{IsNotBelow}
 use Rattle.osc_life.specs.Life.{Life, Admits, Carries, Challenged, HasOwn, IsNewIn, is_open, is_open_life}
 use Rattle.osc_life.specs.Replies.{challenge_message}
 use Rattle.osc_life.specs.ServerHistory as server
@@ -144,8 +145,8 @@ abbrev pub server_clock : Exchange → ℕ → ℕ
 server_clock x now = max (server.clock (server_of x)) now
 
 -- after the exchange both ends are in step; a request that the network brings is delivered, as it was said, if and only if its number is new or, in a closed life, it
--- carries the value in force; a response that the network brings is heard, as it was said, if and only if the client still waits for it
--- (RFC 8613, 7.4, 8.2, 8.4 and B.1.2; RFC 9175, 2.3)
+-- carries the value in force, and its number isn't below those in doubt, or it is above them; a response that the network brings is heard, as it was said, if and only
+-- if the client still waits for it (RFC 8613, 7.4, 8.2, 8.4 and B.1.2; RFC 9175, 2.3)
 pub record Stands (n i : ℕ) (x : Exchange) : Type 0 where
   pub in_step : AreInStep i (client_of x) (server_of x)
   pub request : (s : Request) (now : ℕ) (echo : List ℕ) (mid : ℕ) (answer : server.Answer) (reply : List ℕ) → IsBrought x s now echo mid answer reply
@@ -170,14 +171,15 @@ StaysOpen i (Then x step) = StaysOpen i x
 abbrev pub LeavesNew : ℕ → ℕ → ℕ → server.TicketValues → Type 0
 LeavesNew i w k t = t.context ≡ i → (t.number ≢ k) × (t.number < k + w)
 
--- a closed life challenges a request that isn't admitted; the value of each challenge of the life is in force for 30,000 ms; while the window stays open, a request
--- is new as long as neither it nor one whose number is higher by the window's places or more was delivered (RFC 8613, 7.4, 8.2 and B.1.2; RFC 9175, 2.3)
+-- a closed life challenges a request that isn't admitted; the value of each challenge of the life is in force for 30,000 ms; both unless its number is below those in
+-- doubt, which is a replay; while the window stays open, a request is new as long as neither it nor one whose number is higher by the window's places or more was
+-- delivered (RFC 8613, 7.4, 8.2 and B.1.2; RFC 9175, 2.3)
 pub record AdmitsInTime (i : ℕ) (x : Exchange) (of : Life) : Type 0 where
   pub challenge : (s : Request) (now : ℕ) (echo : List ℕ) (mid : ℕ) (answer : server.Answer) (reply : List ℕ) → IsBrought x s now echo mid answer reply
-      → is_open of ≡ false → HasOwn of → (Admits of (server_clock x now) s.number (inside s.plain) → ⊥)
+      → is_open of ≡ false → IsNotBelow of.doubt s.number → HasOwn of → (Admits of (server_clock x now) s.number (inside s.plain) → ⊥)
       → (c : List ℕ × ℕ) × (challenge_given of (server_clock x now) echo ≡ c) × (answer ≡ server.Challenge i s.number c.0 c.1)
-  pub echo : (value : List ℕ) (issued now k : ℕ) (m : InnerParts) → is_open of ≡ false → Contains of.marks (Challenged value issued)
-      → server_clock x now - issued ≤ 30000 → Carries (Some (value, issued)) m → Admits of (server_clock x now) k m
+  pub echo : (value : List ℕ) (issued now k : ℕ) (m : InnerParts) → is_open of ≡ false → IsNotBelow of.doubt k
+      → Contains of.marks (Challenged value issued) → server_clock x now - issued ≤ 30000 → Carries (Some (value, issued)) m → Admits of (server_clock x now) k m
   pub new : (s : Request) → Contains (sent x) s → StaysOpen i x → All (LeavesNew i (places_of of.size) s.number) (tickets x) → IsNewIn of s.number
 
 -- a new client is in step with a context that is added fresh; the window stays open unless the server restarts; so requests are admitted in time

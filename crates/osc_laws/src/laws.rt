@@ -120,8 +120,9 @@ pub fn what_is_sealed_arrives()
 /// States what becomes of the requests, replies and notifications of two applications over a network that loses, delays, swaps and repeats
 /// their datagrams, and brings others, from a client and a server on that are in step. A request that the network brings is delivered, as
 /// it was said, if and only if its number is new or, after a restart of the server, it carries the value of the challenge in force; else a
-/// restarted server challenges it. A reply or a notification that the network brings is heard, as it was said, if and only if the client
-/// still waits for it. A new client and a context that is added fresh are in step, and both ends stay so. The logs of `run_client` and
+/// restarted server challenges it. Where some numbers are in doubt after the restart, one below them is a replay, and one above them is
+/// delivered without a value. A reply or a notification that the network brings is heard, as it was said, if and only if the client still
+/// waits for it. A new client and a context that is added fresh are in step, and both ends stay so. The logs of `run_client` and
 /// `run_server` are such an exchange, and show what arrived (RFC 8613, 7.4, 8.1 to 8.4 and B.1.2).
 pub fn honest_exchange()
     ensures exchange { HonestExchange }

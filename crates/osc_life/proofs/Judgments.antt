@@ -1,5 +1,5 @@
 -- What a context answers to a request that names it.
-use Rattle.std.proofs.Common.{◌≡◌, ℕ, ◌<◌, ◌≤◌, ◌^◌, ◌∙◌, sym, ap, subst, refl, arith, Bool, false, Option, Some, None, List, [], if◌then◌else◌}
+use Rattle.std.proofs.Common.{◌≡◌, ℕ, ◌<◌, ◌≤◌, ◌^◌, ◌∙◌, sym, ap, subst, refl, arith, Bool, false, Option, Some, None, List, [], inl, inr, if◌then◌else◌}
 use Rattle.std.specs.Prelude.{IsTrue, ◌==◌, unwrap_or, slice_get}
 use Rattle.std.proofs.lemmas.Bool.{eq-eqb}
 use Rattle.osc_coap.specs.Datagram.{IsDatagram}
@@ -18,8 +18,10 @@ use Rattle.osc_protect.specs.Sealed.{SealsResponse}
 use Rattle.osc_protect.specs.Views.{context_of}
 use Rattle.osc_protect.specs.declared.stages.DecryptedRequest.{DecryptedRequest}
 use Rattle.osc_protect.specs.declared.stages.ReadRequest.{ReadRequest}
+use Rattle.osc_life.specs.Doubting.{IsBelow, IsBeyond, IsNotBelow, IsNotBeyond, OpensBy, StaysBy}
 use Rattle.osc_life.specs.declared.asker.Asker.{Asker}
 use Rattle.osc_life.specs.declared.decision.Decision.TheVariants as decisions
+use Rattle.osc_life.specs.declared.doubt.Doubt.{Doubt}
 use Rattle.osc_life.specs.declared.judging.Named.{Named}
 use Rattle.osc_life.specs.declared.slot.Slot.{Slot}
 use Rattle.osc_life.specs.Agrees.{GateAgrees, SlotAgrees}
@@ -38,13 +40,29 @@ pub marked_here : (s : Slot) (l : Life) (i : ℕ) (m : Mark) → SlotAgrees s (m
 marked_here s l i m h = subst (λ b. SlotAgrees s (marked (if b then Some m else None) l)) (sym (eq-eqb i i refl)) h
 
 -- what the gate says of a number, the life says too
-pub gate_passes : (g : Gate) (l : Life) (n : ℕ) → GateAgrees g l → GatePasses g n → Passes l n
-gate_passes (gates.Restarted kept) l n a p = λ opened. absurd (let c = a.0 in cc)
-gate_passes (gates.Open window) l n a p = λ opened. (a.1.takes_new n).0 p
+gate_passes : (g : Gate) (doubt : Option Doubt) (l : Life) (n : ℕ) → doubt ≡ l.doubt → GateAgrees g l → GatePasses g doubt n → Passes l n
+gate_passes (gates.Restarted kept) doubt l n e a p = ((λ opened. absurd (let c = a.0 in cc)), (λ closed. subst (λ x. IsNotBelow x n) e p))
+gate_passes (gates.Open window) doubt l n e a p = ((λ opened. (a.1.takes_new n).0 p), (λ closed. absurd (let c = a.0 in cc)))
 
-pub gate_refuses : (g : Gate) (l : Life) (n : ℕ) → GateAgrees g l → GateRefuses g n → IsReplay l n
-gate_refuses (gates.Restarted kept) l n a r = absurd r
-gate_refuses (gates.Open window) l n a r = (a.0, λ new. let t : IsTrue (takes window n) = (a.1.takes_new n).1 new in cc)
+gate_refuses : (g : Gate) (doubt : Option Doubt) (l : Life) (n : ℕ) → doubt ≡ l.doubt → GateAgrees g l → GateRefuses g doubt n → IsReplay l n
+gate_refuses (gates.Restarted kept) doubt l n e a r = inr (a.0, subst (λ x. IsBelow x n) e r)
+gate_refuses (gates.Open window) doubt l n e a r = inl (a.0, λ new. let t : IsTrue (takes window n) = (a.1.takes_new n).1 new in cc)
+
+pub slot_passes : (s : Slot) (l : Life) (n : ℕ) → SlotAgrees s l → GatePasses s.gate s.doubt n → Passes l n
+slot_passes s l n a p = gate_passes s.gate s.doubt l n a.doubt a.gate p
+
+-- what opens a closed life, and what doesn't, by what the number is and what the request carries
+pub opens_beyond : (doubt : Option Doubt) (n : ℕ) (carried : Type 0) → IsBeyond doubt n → OpensBy doubt n carried
+opens_beyond None n carried h = absurd h
+opens_beyond (Some doubt) n carried h = inl h
+
+pub opens_carried : (doubt : Option Doubt) (n : ℕ) (carried : Type 0) → carried → OpensBy doubt n carried
+opens_carried None n carried h = h
+opens_carried (Some doubt) n carried h = inr h
+
+pub stays : (doubt : Option Doubt) (n : ℕ) (carried : Type 0) → IsNotBeyond doubt n → (carried → ⊥) → StaysBy doubt n carried
+stays None n carried h f = f
+stays (Some doubt) n carried h f = (h, f)
 
 -- a reply under the asker's head is one under the request's
 pub says_error : (a : Asker) (d : List ℕ) (mid : ℕ) (e : ErrorText) (reply : List ℕ) → IsAskerOf a d
@@ -107,14 +125,14 @@ challenged l r d new reply echo issued own len old slot a wants asker is less gi
     }
 
 pub spoiled : (l : Life) (r : Named) (d new : List ℕ) (x : DecryptedRequest) (old slot : Slot)
-    → SlotAgrees old l → GatePasses old.gate (number_of r.number) → DecryptsRequest (requests (as_server (context_of old.context))) d x new → RefusesRequestAfter new x
+    → SlotAgrees old l → GatePasses old.gate old.doubt (number_of r.number) → DecryptsRequest (requests (as_server (context_of old.context))) d x new → RefusesRequestAfter new x
     → SlotAgrees slot (marked (Some (Spoiled (number_of r.number))) l)
     → JudgesTo l r d (record { decision = decisions.BadInner; reply = 0 }) new [] (Some slot)
 spoiled l r d new x old slot a passes decrypts refuses agrees =
     let refused : RefusesPlaintext (requests (as_server (context_of old.context))) d = refuses (as_server (context_of old.context)) d decrypts in
     record {
       answer = server.BadInner r.index (number_of r.number);
-      row = ((gate_passes old.gate l (number_of r.number) a.gate passes, subst (λ s. RefusesPlaintext (requests s) d) a.context refused, refl, refl), refl);
+      row = ((slot_passes old l (number_of r.number) a passes, subst (λ s. RefusesPlaintext (requests s) d) a.context refused, refl, refl), refl);
       decides = tt;
       agrees = marked_here slot l r.index (Spoiled (number_of r.number)) agrees;
     }
@@ -123,16 +141,16 @@ spoiled l r d new x old slot a passes decrypts refuses agrees =
 pub wants_echo : (l : Life) (r : Named) (d new : List ℕ) (x : DecryptedRequest) (y : ReadRequest) (old : Slot) → OneRequestReading
     → SlotAgrees old l → IsNamed (as_server (context_of old.context)) (number_of r.number) d → DecryptsRequest (requests (as_server (context_of old.context))) d x new
     → CanLendRequest new x y → AcceptsRequestAfter new x
-    → (is_open l ≡ false) × OfWhatWasRead new y (λ m. Carries (in_force l r.clock) m → ⊥) → RefusesEcho l r d
-wants_echo l r d new x y old laws a named decrypts can accepts closed =
+    → GatePasses old.gate old.doubt (number_of r.number) → (is_open l ≡ false) × OfWhatWasRead new y (λ m. StaysBy l.doubt (number_of r.number) (Carries (in_force l r.clock) m)) → RefusesEcho l r d
+wants_echo l r d new x y old laws a named decrypts can accepts passes closed =
     let s = as_server (context_of old.context) in
     let (m, protects) = protected s (number_of r.number) d new x laws named decrypts accepts in
-    (closed.0, m, subst (λ t. ProtectsRequest t (number_of r.number) m d) a.context protects, closed.1 x s d (number_of r.number) m can decrypts protects)
+    (closed.0, (slot_passes old l (number_of r.number) a passes).1 closed.0, m, subst (λ t. ProtectsRequest t (number_of r.number) m d) a.context protects, closed.1 x s d (number_of r.number) m can decrypts protects)
 
 pub delivered : (l : Life) (r : Named) (d new : List ℕ) (x : DecryptedRequest) (y : ReadRequest) (life : ℕ) (observes : Bool) (old slot : Slot) → DatagramIsOneMessage → OneRequest → OneRequestReading
-    → SlotAgrees old l → GatePasses old.gate (number_of r.number) → IsNamed (as_server (context_of old.context)) (number_of r.number) d → IsAskerOf r.asker d
+    → SlotAgrees old l → GatePasses old.gate old.doubt (number_of r.number) → IsNamed (as_server (context_of old.context)) (number_of r.number) d → IsAskerOf r.asker d
     → DecryptsRequest (requests (as_server (context_of old.context))) d x new → CanLendRequest new x y → AcceptsRequestAfter new x
-    → (is_open l ≡ false → OfWhatWasRead new y (λ m. Carries (in_force l r.clock) m)) → life ≡ old.life
+    → (is_open l ≡ false → OfWhatWasRead new y (λ m. OpensBy l.doubt (number_of r.number) (Carries (in_force l r.clock) m))) → life ≡ old.life
     → OfWhatWasRead new y (λ m. observes ≡ registers (as_server (context_of old.context)).features m.code m.options)
     → SlotAgrees slot (marked (Some (Delivered (number_of r.number))) l)
     → JudgesTo l r d (record { decision = decisions.Deliver y (record { context = r.index; life = life; number = r.number; asker = record r.asker { observes = observes } }); reply = 0 }) new [] (Some slot)
@@ -149,7 +167,7 @@ delivered l r d new x y life observes old slot one one_message laws a passes nam
       row = (
         (
           subst (λ t. Receives (requests t) n d received) a.context got,
-          (gate_passes old.gate l n a.gate passes, (λ closed. carries closed x s d n m can decrypts protects)),
+          (slot_passes old l n a passes, (λ closed. carries closed x s d n m can decrypts protects)),
           (let k = got.kind in let i = got.message_id in let t = got.token in let p = asker.2 in let q = asker.3 in let u = asker.4 in let c : life ≡ l.count = same ∙ a.life in cc),
         ),
         refl,
@@ -158,25 +176,25 @@ delivered l r d new x y life observes old slot one one_message laws a passes nam
       agrees = marked_here slot l r.index (Delivered n) agrees;
     }
 
-pub replayed : (l : Life) (r : Named) (d reply : List ℕ) (len : ℕ) (slot : Slot) → SlotAgrees slot l → GateRefuses slot.gate (number_of r.number) → IsAskerOf r.asker d
+pub replayed : (l : Life) (r : Named) (d reply : List ℕ) (len : ℕ) (slot : Slot) → SlotAgrees slot l → GateRefuses slot.gate slot.doubt (number_of r.number) → IsAskerOf r.asker d
     → IsDatagram (as_reply r.asker.kind r.asker.message_id r.asker.token.items r.fresh.mid (error_message replay)) reply
     → JudgesTo l r d (record { decision = decisions.Replay; reply = len }) d reply (Some slot)
 replayed l r d reply len slot a refuses asker written =
     record {
       answer = server.Replay;
-      row = (gate_refuses slot.gate l (number_of r.number) a.gate refuses, says_error r.asker d r.fresh.mid replay reply asker written);
+      row = (gate_refuses slot.gate slot.doubt l (number_of r.number) a.doubt a.gate refuses, says_error r.asker d r.fresh.mid replay reply asker written);
       decides = tt;
       agrees = a;
     }
 
-pub untagged : (l : Life) (r : Named) (d new reply : List ℕ) (len : ℕ) (slot : Slot) → SlotAgrees slot l → GatePasses slot.gate (number_of r.number) → IsAskerOf r.asker d
+pub untagged : (l : Life) (r : Named) (d new reply : List ℕ) (len : ℕ) (slot : Slot) → SlotAgrees slot l → GatePasses slot.gate slot.doubt (number_of r.number) → IsAskerOf r.asker d
     → RefusesTag (requests (as_server (context_of slot.context))) d
     → IsDatagram (as_reply r.asker.kind r.asker.message_id r.asker.token.items r.fresh.mid (error_message bad_tag)) reply
     → JudgesTo l r d (record { decision = decisions.BadTag; reply = len }) new reply (Some slot)
 untagged l r d new reply len slot a passes asker refused written =
     record {
       answer = server.BadTag;
-      row = ((gate_passes slot.gate l (number_of r.number) a.gate passes, subst (λ s. RefusesTag (requests s) d) a.context refused), says_error r.asker d r.fresh.mid bad_tag reply asker written);
+      row = ((slot_passes slot l (number_of r.number) a passes, subst (λ s. RefusesTag (requests s) d) a.context refused), says_error r.asker d r.fresh.mid bad_tag reply asker written);
       decides = tt;
       agrees = a;
     }

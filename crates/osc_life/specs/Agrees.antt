@@ -22,6 +22,7 @@ HasGate (Some gate) l = GateAgrees gate l
 pub record SlotAgrees (s : Slot) (l : Life) : Type 0 where
   pub context : as_server (context_of s.context) ≡ l.context
   pub size : s.size ≡ l.size
+  pub doubt : s.doubt ≡ l.doubt
   pub gate : GateAgrees s.gate l
   pub next : s.next ≡ next_own l
   pub life : s.life ≡ l.count

@@ -15,9 +15,11 @@ use Rattle.osc_protect.specs.StageViews.{CanLendRequest, DecryptsRequest, IsSeal
 use Rattle.osc_protect.specs.Views.{context_of}
 use Rattle.osc_protect.specs.declared.stages.DecryptedRequest.{DecryptedRequest}
 use Rattle.osc_protect.specs.declared.stages.ReadRequest.{ReadRequest}
+use Rattle.osc_life.specs.Doubting.{IsBelow, IsNotBelow}
 use Rattle.osc_life.specs.declared.asker.Asker.{Asker}
 use Rattle.osc_life.specs.declared.judging.Named.{Named}
 use Rattle.osc_life.specs.declared.decision.Decided.{Decided}
+use Rattle.osc_life.specs.declared.doubt.Doubt.{Doubt}
 use Rattle.osc_life.specs.declared.slot.Slot.{Slot}
 use Rattle.osc_life.specs.Agrees.{HoldsLife}
 use Rattle.osc_life.specs.Deciding.{Decides}
@@ -45,15 +47,15 @@ IsAskerOf a d = (p : Parts) × IsDatagram p d × (a.kind ≡ p.kind) × (a.messa
 abbrev pub IsNamed : SecurityContext → ℕ → List ℕ → Type 0
 IsNamed s n d = (head : Head) × HasRequestHead d head × Names (requests s) head n
 
--- the gate is closed, or its window takes the number (how the code is seen)
-abbrev pub GatePasses : Gate → ℕ → Type 0
-GatePasses (gates.Restarted kept) n = Unit {0}
-GatePasses (gates.Open window) n = IsTrue (takes window n)
+-- the gate is closed, and the number isn't below those in doubt, or its window takes the number (how the code is seen)
+abbrev pub GatePasses : Gate → Option Doubt → ℕ → Type 0
+GatePasses (gates.Restarted kept) doubt n = IsNotBelow doubt n
+GatePasses (gates.Open window) doubt n = IsTrue (takes window n)
 
--- the gate is open, and its window doesn't take the number (how the code is seen)
-abbrev pub GateRefuses : Gate → ℕ → Type 0
-GateRefuses (gates.Restarted kept) n = ⊥
-GateRefuses (gates.Open window) n = takes window n ≡ false
+-- the gate is closed, and the number is below those in doubt, or its window doesn't take the number (how the code is seen)
+abbrev pub GateRefuses : Gate → Option Doubt → ℕ → Type 0
+GateRefuses (gates.Restarted kept) doubt n = IsBelow doubt n
+GateRefuses (gates.Open window) doubt n = takes window n ≡ false
 
 -- the request, as the definitions see a datagram that arrived (how the code is seen)
 abbrev pub arrival_of : Named → List ℕ → Arrival

@@ -1,5 +1,6 @@
 -- to be believed, in reading order
 pub mod Replies
+pub mod Doubting
 pub mod Life
 pub mod ServerHistory
 pub mod LifeAnswer

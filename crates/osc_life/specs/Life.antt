@@ -1,7 +1,7 @@
 -- To be believed: one life of a server's context, from the moment at which it was added or restarted (RFC 8613, 7.4 and B.1.2), as told by
 -- the answers in it. l is a life, marks are what its answers left, newest first, from_birth says whether it is open at its birth, n is the
 -- number of a request, m the message that the request protects. Moments are in milliseconds.
-use Rattle.std.specs.Prelude.{◌≡◌, ℕ, ◌+◌, ◌<◌, ◌^◌, List, [], ◌∷◌, Bool, true, false, Option, Some, None, unwrap_or, if◌then◌else◌}
+use Rattle.std.specs.Prelude.{◌≡◌, ℕ, ◌+◌, ◌-◌, ◌<◌, ◌^◌, List, [], ◌∷◌, Bool, true, false, Option, Some, None, unwrap_or, if◌then◌else◌}
 use Rattle.osc_coap.specs.Inner.{InnerParts}
 use Rattle.osc_context.specs.SecurityContext.{SecurityContext}
 use Rattle.osc_context.specs.Views.{number_of}
@@ -11,8 +11,10 @@ use Rattle.osc_window.specs.Window.{IsNew}
 use Rattle.osc_window.specs.Gate.{challenge_in_force}
 use Rattle.osc_coap.specs.OptionNumbers as numbers
 use Rattle.osc_coap.specs.Interpreted.{interpreted}
+use Rattle.osc_life.specs.Doubting.{IsNotBelow, OpensBy}
+use Rattle.osc_life.specs.declared.doubt.Doubt.{Doubt}
 use Rattle.osc_life.specs.declared.start.Start.{Start}
-use Rattle.osc_life.specs.declared.start.Start.TheVariants.{Fresh, Restarted, Received}
+use Rattle.osc_life.specs.declared.start.Start.TheVariants.{Fresh, Restarted, Received, Reserved}
 
 -- what an answer leaves: a delivered number, the number of a bad plaintext, a challenge, a reply or notification with a Partial IV of its own, or Sender Sequence
 -- Numbers that were passed over, since another end of the same Sender Key has them (own rule)
@@ -24,13 +26,14 @@ pub data Mark : Type 0 where
   PassedOver : (count : ℕ) → Mark
 
 -- a life: its context and window size, how many lives came before it, whether it is open at its birth, as a life that was added fresh is, and
--- from which number on, its first Sender Sequence Number, and its marks (RFC 8613, 3.1)
+-- from which number on, which numbers are in doubt until it is open, if any are, its first Sender Sequence Number, and its marks (RFC 8613, 3.1)
 pub record Life : Type 0 where
   pub context : SecurityContext
   pub size : WindowSize
   pub count : ℕ
   pub open_at_birth : Bool
   pub least : ℕ
+  pub doubt : Option Doubt
   pub first : ℕ
   pub marks : List Mark
 
@@ -102,25 +105,37 @@ abbrev pub Carries : Option (List ℕ × ℕ) → InnerParts → Type 0
 Carries None m = ⊥
 Carries (Some challenge) m = interpreted numbers.echo m.options ≡ Some challenge.0
 
--- the request isn't a replay: the life is closed, or the number is new (RFC 8613, 7.4)
+-- the request isn't a replay: in an open life the number is new, in a closed one it isn't below those in doubt (RFC 8613, 7.4)
 abbrev pub Passes : Life → ℕ → Type 0
-Passes l n = is_open l ≡ true → IsNewIn l n
+Passes l n = (is_open l ≡ true → IsNewIn l n) × (is_open l ≡ false → IsNotBelow l.doubt n)
 
--- what decides whether a request is delivered: its number in an open life, else the challenge (RFC 8613, 7.4 and B.1.2)
+-- what decides whether a request is delivered: its number in an open life, else the challenge, or that its number is above those in doubt
+-- (RFC 8613, 7.4 and B.1.2)
 abbrev pub Admits : Life → ℕ → ℕ → InnerParts → Type 0
-Admits l clock n m = (is_open l ≡ true → IsNewIn l n) × (is_open l ≡ false → Carries (in_force l clock) m)
+Admits l clock n m = Passes l n × (is_open l ≡ false → OpensBy l.doubt n (Carries (in_force l clock) m))
 
 -- a life with one more mark, or with none added (own rule)
 abbrev pub marked : Option Mark → Life → Life
 marked None l = l
 marked (Some mark) l = record l { marks = mark ∷ l.marks }
 
--- the life of a context that is added; above the highest number that it may have received each number is new (RFC 8613, 7.4 and B.1)
+-- the life of a context that is added; above the highest number that it may have received each number is new. If the last `ahead` numbers up to there were kept
+-- alone, they are in doubt, and the life is closed (RFC 8613, 7.4 and B.1)
 abbrev pub born : SecurityContext → Start → WindowSize → Life
-born context (Fresh next) size = record { context = context; size = size; count = 0; open_at_birth = true; least = 0; first = number_of next; marks = [] }
-born context (Restarted next) size = record { context = context; size = size; count = 0; open_at_birth = false; least = 0; first = number_of next; marks = [] }
-born context (Received next highest) size = record { context = context; size = size; count = 0; open_at_birth = true; least = number_of highest + 1; first = number_of next; marks = [] }
+born context (Fresh next) size = record { context = context; size = size; count = 0; open_at_birth = true; least = 0; doubt = None; first = number_of next; marks = [] }
+born context (Restarted next) size = record { context = context; size = size; count = 0; open_at_birth = false; least = 0; doubt = None; first = number_of next; marks = [] }
+born context (Received next highest) size = record { context = context; size = size; count = 0; open_at_birth = true; least = number_of highest + 1; doubt = None; first = number_of next; marks = [] }
+born context (Reserved next highest ahead) size = record {
+  context = context;
+  size = size;
+  count = 0;
+  open_at_birth = false;
+  least = 0;
+  doubt = Some (record { least = number_of highest + 1 - ahead; limit = number_of highest + 1 });
+  first = number_of next;
+  marks = [];
+}
 
 -- the life that a restart begins (RFC 8613, B.1)
 abbrev pub renewed : ℕ → Life → Life
-renewed next l = record { context = l.context; size = l.size; count = l.count + 1; open_at_birth = false; least = 0; first = next; marks = [] }
+renewed next l = record { context = l.context; size = l.size; count = l.count + 1; open_at_birth = false; least = 0; doubt = None; first = next; marks = [] }

@@ -2,7 +2,7 @@
 -- order in which they are checked; the condition of each row includes that no earlier row's condition holds. d is a datagram, i the index of
 -- the context, n the number of a request, `of` the life, m a message, clock the clock after the event's own moment, mid and echo the fresh
 -- values that were passed in.
-use Rattle.std.specs.Prelude.{◌≡◌, ℕ, ◌+◌, ◌<◌, ◌≤◌, ◌^◌, ◌||◌, List, length, Bool, true, false, Option, Some, None, unwrap_or, if◌then◌else◌}
+use Rattle.std.specs.Prelude.{◌≡◌, ◌⊎◌, ℕ, ◌+◌, ◌<◌, ◌≤◌, ◌^◌, ◌||◌, List, length, Bool, true, false, Option, Some, None, unwrap_or, if◌then◌else◌}
 use Rattle.osc_coap.specs.Datagram.{Parts, IsDatagram}
 use Rattle.osc_coap.specs.Inner.{InnerParts}
 use Rattle.osc_context.specs.Features.{unobserved}
@@ -17,6 +17,7 @@ use Rattle.osc_life.specs.declared.server_error.SkipError.TheVariants as skips
 use Rattle.osc_observe.specs.Observing.{is_notification, registers}
 use Rattle.osc_observe.specs.Received.{Receives}
 use Rattle.osc_life.specs.Replies.{as_reply, challenge_message}
+use Rattle.osc_life.specs.Doubting.{IsBelow, IsNotBelow, StaysBy}
 use Rattle.osc_life.specs.Life.{Life, Passes, Admits, Carries, HasOwn, IsNewIn, is_open, in_force, next_own}
 use Rattle.osc_life.specs.ServerHistory.{Entry, Answer, TicketValues, Replay, BadTag, BadInner, Challenge, SequenceExhausted, Deliver, Replied, NotReplied, Restarted, NotRestarted, Skipped, NotSkipped}
 
@@ -27,13 +28,14 @@ pub record Arrival : Type 0 where
   pub mid : ℕ
   pub bytes : List ℕ
 
--- the life is open, and the number isn't new (RFC 8613, 7.4)
+-- the life is open, and the number isn't new; or it is closed, and the number is below those in doubt (RFC 8613, 7.4)
 abbrev pub IsReplay : Life → ℕ → Type 0
-IsReplay of n = (is_open of ≡ true) × (IsNewIn of n → ⊥)
+IsReplay of n = ((is_open of ≡ true) × (IsNewIn of n → ⊥)) ⊎ ((is_open of ≡ false) × IsBelow of.doubt n)
 
--- the life is closed, and the request doesn't carry the value in force (RFC 8613, B.1.2)
+-- the life is closed, and the request doesn't carry the value in force; its number isn't below those in doubt, nor above them (RFC 8613, B.1.2)
 abbrev pub WantsEcho : Life → ℕ → ℕ → List ℕ → Type 0
-WantsEcho of n clock d = (is_open of ≡ false) × (m : InnerParts) × ProtectsRequest of.context n m d × (Carries (in_force of clock) m → ⊥)
+WantsEcho of n clock d =
+    (is_open of ≡ false) × IsNotBelow of.doubt n × (m : InnerParts) × ProtectsRequest of.context n m d × StaysBy of.doubt n (Carries (in_force of clock) m)
 
 -- the value in force once more, and when it was issued; if none is in force, the fresh value, issued now (RFC 9175, 2.3)
 abbrev pub challenge_given : Life → ℕ → List ℕ → List ℕ × ℕ

@@ -1,9 +1,10 @@
 //! How a life of a context begins (RFC 8613, B.1).
 
-ghost use Rattle.std.specs.Prelude.{◌≡◌, ◌<◌, ◌+◌, ◌^◌};
+ghost use Rattle.std.specs.Prelude.{◌≡◌, ◌<◌, ◌+◌, ◌^◌, None};
 ghost use Rattle.osc_context.specs.Views.{as_server, number_of};
 ghost use Rattle.osc_protect.specs.Views.{context_of};
 
+use crate::doubt::Doubt;
 use crate::slot::Slot;
 use crate::start::Start;
 use osc_context::{Context, Piv};
@@ -20,17 +21,24 @@ impl Slot {
         ensures context { context_of result.context ≡ context }
         ensures agrees { SlotAgrees result (born (as_server context) start size) }
     {
-        let (gate, next) = match start {
-            Start::Fresh(next) => (Gate::Open(Window::fresh(size)), next),
-            Start::Restarted(next) => (Gate::Restarted { challenge: None }, next),
+        let closed = Gate::Restarted { challenge: None };
+        let (gate, doubt, next) = match start {
+            Start::Fresh(next) => (Gate::Open(Window::fresh(size)), None, next),
+            Start::Restarted(next) => (closed, None, next),
             Start::Received { next, highest } => {
-                (Gate::Open(Window::from_floor(highest, size)), next)
+                (Gate::Open(Window::from_floor(highest, size)), None, next)
             }
+            Start::Reserved {
+                next,
+                highest,
+                ahead,
+            } => (closed, Some(Doubt::up_to(highest, ahead)), next),
         };
         Slot {
             context: KeyedContext::new(context),
             size,
             gate,
+            doubt,
             next: next.number(),
             life: 0,
         }
@@ -40,9 +48,11 @@ impl Slot {
     pub fn renew(&mut self, next: Piv)
         requires { self.old.life + 1 < 2 ^ 64 }
         ensures context { self.new.context ≡ self.old.context }
+        ensures doubt { self.new.doubt ≡ None }
         ensures kept { (l : Life) → SlotAgrees self.old l → SlotAgrees self.new (renewed (number_of next) l) }
     {
         self.gate = Gate::Restarted { challenge: None };
+        self.doubt = None;
         self.next = next.number();
         self.life += 1;
     }

@@ -3,6 +3,7 @@
 ghost use Rattle.std.specs.Prelude.{◌≡◌, ◌≤◌, ℕ, List, Option, Some, slice_get, take, drop, true, false};
 ghost use Rattle.osc_life.specs.Agrees.{SlotAgrees};
 ghost use Rattle.osc_life.specs.Deciding.{CanShow, Leaves};
+ghost use Rattle.osc_life.specs.Doubting.{OpensBy, StaysBy};
 ghost use Rattle.osc_life.specs.Judging.{GatePasses, GateRefuses, IsAskerOf, JudgesTo, OfWhatWasRead};
 ghost use Rattle.osc_life.specs.Life.{Carries, Life, in_force, is_open};
 ghost use Rattle.osc_observe.specs.Observing.{registers as registering};
@@ -16,6 +17,7 @@ ghost use Rattle.osc_protect.specs.Views.{context_of};
 use crate::asker::Asker;
 use crate::challenge_reply::write_challenge;
 use crate::decision::{Decided, Decision};
+use crate::doubt::{Doubt, is_below};
 use crate::error_reply::{ErrorReply, write_error};
 use crate::slot::Slot;
 use crate::start::Fresh;
@@ -41,21 +43,21 @@ pub struct Named {
     pub sealed: SealedRequest,
 }
 
-/// Returns whether the gate is open and the number isn't new.
+/// Returns whether the gate is open and the number isn't new, or it is closed and the number is below those in doubt.
 #[must_use]
-pub fn is_replay(gate: &Gate, number: Piv) -> bool
-    ensures yes { result ≡ true → GateRefuses gate.now (number_of number) }
-    ensures no { result ≡ false → GatePasses gate.now (number_of number) }
+pub fn is_replay(gate: &Gate, doubt: Option<Doubt>, number: Piv) -> bool
+    ensures yes { result ≡ true → GateRefuses gate.now doubt (number_of number) }
+    ensures no { result ≡ false → GatePasses gate.now doubt (number_of number) }
 {
     match gate {
         Gate::Open(window) => !window.is_new(number),
-        Gate::Restarted { .. } => false,
+        Gate::Restarted { .. } => is_below(doubt, number),
     }
 }
 
 /// Refuses a request whose number isn't new (RFC 8613, 7.4).
 pub fn refuse_replay(request: &Named, out: &mut [u8; 64]) -> Decided
-    ensures decided { (s : Slot) (l : Life) (d : List ℕ) → SlotAgrees s l → GateRefuses s.gate (number_of request.now.number)
+    ensures decided { (s : Slot) (l : Life) (d : List ℕ) → SlotAgrees s l → GateRefuses s.gate s.doubt (number_of request.now.number)
         → IsAskerOf request.now.asker d → JudgesTo l request.now d result d (take result.reply out.new) (Some s) }
     ensures shown { (d : List ℕ) → CanShow result.decision d }
     ensures leaves { (slots : List (Option Slot)) (d : List ℕ) → Leaves slots result.decision d d }
@@ -91,6 +93,7 @@ impl Slot {
     fn demand(&mut self, request: &Named, out: &mut [u8; 64]) -> Decided
         requires { is_open_gate self.old.gate ≡ false }
         ensures context { self.new.context ≡ self.old.context }
+        ensures doubt { self.new.doubt ≡ self.old.doubt }
         ensures decided { (l : Life) (d new : List ℕ) → SlotAgrees self.old l → RefusesEcho l request.now d
             → IsAskerOf request.now.asker d
             → JudgesTo l request.now d result new (take result.reply out.new) (Some self.new) }
@@ -122,13 +125,14 @@ impl Slot {
         }
     }
 
-    /// Returns whether the gate is open, or the request that was read carries the challenge in force.
-    fn admits_read(&self, clock: u64, datagram: &[u8], read: ReadRequest) -> bool
+    /// Returns whether the gate is open, or the number of the request that was read is above those in doubt, or it carries the challenge in
+    /// force.
+    fn admits_read(&self, clock: u64, number: Piv, datagram: &[u8], read: ReadRequest) -> bool
         requires { (x : DecryptedRequest) × CanLendRequest datagram.now x read }
         ensures yes { result ≡ true → (l : Life) → SlotAgrees self.now l → is_open l ≡ false
-            → OfWhatWasRead datagram.now read (λ m. Carries (in_force l clock) m) }
+            → OfWhatWasRead datagram.now read (λ m. OpensBy l.doubt (number_of number) (Carries (in_force l clock) m)) }
         ensures no { result ≡ false → (l : Life) → SlotAgrees self.now l → (is_open l ≡ false)
-            × OfWhatWasRead datagram.now read (λ m. Carries (in_force l clock) m → ⊥) }
+            × OfWhatWasRead datagram.now read (λ m. StaysBy l.doubt (number_of number) (Carries (in_force l clock) m)) }
         ensures closed { result ≡ false → is_open_gate self.now.gate ≡ false }
     {
         // For the proof alone.
@@ -136,7 +140,7 @@ impl Slot {
         if self.gate.is_open() {
             return true;
         }
-        self.admits(clock, &read.opened(datagram))
+        self.admits(clock, number, &read.opened(datagram))
     }
 
     /// Processes a request that was decrypted.
@@ -148,8 +152,9 @@ impl Slot {
         out: &mut [u8; 64],
     ) -> Decided
         requires placed { FitsRequest datagram.now decrypted }
-        requires passes { GatePasses self.old.gate (number_of request.number) }
+        requires passes { GatePasses self.old.gate self.old.doubt (number_of request.number) }
         ensures context { self.new.context ≡ self.old.context }
+        ensures doubt { self.new.doubt ≡ self.old.doubt }
         ensures decided { (l : Life) (d : List ℕ) → SlotAgrees self.old l
             → DecryptsRequest (requests (as_server (context_of self.old.context))) d decrypted datagram.now
             → IsNamed (as_server (context_of self.old.context)) (number_of request.number) d → IsAskerOf request.asker d
@@ -173,7 +178,7 @@ impl Slot {
                 reply: 0,
             };
         };
-        if !self.admits_read(request.clock, datagram, read) {
+        if !self.admits_read(request.clock, request.number, datagram, read) {
             return self.demand(&request, out);
         }
         let observes = registers_read(self.context.context().features(), datagram, read);
@@ -192,6 +197,14 @@ impl Slot {
         }
     }
 
+    /// Returns whether a number is known not to be new.
+    fn refuses(&self, number: Piv) -> bool
+        ensures yes { result ≡ true → GateRefuses self.now.gate self.now.doubt (number_of number) }
+        ensures no { result ≡ false → GatePasses self.now.gate self.now.doubt (number_of number) }
+    {
+        is_replay(&self.gate, self.doubt, number)
+    }
+
     /// Processes a request that names this context, in its datagram.
     pub(crate) fn judge(
         &mut self,
@@ -203,6 +216,7 @@ impl Slot {
         requires asker { IsAskerOf request.asker datagram.old }
         requires sealed { IsSealedRequest (requests (as_server (context_of self.old.context))) datagram.old request.sealed }
         ensures context { self.new.context ≡ self.old.context }
+        ensures doubt { self.new.doubt ≡ self.old.doubt }
         ensures decided { (l : Life) → SlotAgrees self.old l
             → JudgesTo l request datagram.old result datagram.new (take result.reply out.new) (Some self.new) }
         ensures shown { CanShow result.decision datagram.new }
@@ -212,7 +226,7 @@ impl Slot {
         ensures behind { drop result.reply out.new ≡ drop result.reply out.old }
     {
         // The window is checked before the tag.
-        if is_replay(&self.gate, request.number) {
+        if self.refuses(request.number) {
             return refuse_replay(&request, out);
         }
         self.judge_new(request, datagram, out)
@@ -220,11 +234,12 @@ impl Slot {
 
     /// Processes a request that names this context, in its datagram. The request's number is new, or the Echo value decides.
     pub fn judge_new(&mut self, request: Named, datagram: &mut [u8], out: &mut [u8; 64]) -> Decided
-        requires passes { GatePasses self.old.gate (number_of request.number) }
+        requires passes { GatePasses self.old.gate self.old.doubt (number_of request.number) }
         requires named { IsNamed (as_server (context_of self.old.context)) (number_of request.number) datagram.old }
         requires asker { IsAskerOf request.asker datagram.old }
         requires sealed { IsSealedRequest (requests (as_server (context_of self.old.context))) datagram.old request.sealed }
         ensures context { self.new.context ≡ self.old.context }
+        ensures doubt { self.new.doubt ≡ self.old.doubt }
         ensures decided { (l : Life) → SlotAgrees self.old l
             → JudgesTo l request datagram.old result datagram.new (take result.reply out.new) (Some self.new) }
         ensures shown { CanShow result.decision datagram.new }

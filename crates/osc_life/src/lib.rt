@@ -6,6 +6,7 @@ mod asker;
 mod beginning;
 mod challenge_reply;
 mod decision;
+mod doubt;
 mod echo;
 mod error_reply;
 mod judging;
@@ -31,6 +32,7 @@ pub use ticket::Ticket;
 #[doc(hidden)]
 pub mod siblings {
     pub use crate::asker::Asker;
+    pub use crate::doubt::Doubt;
     pub use crate::error_reply::{ErrorReply, write_error};
     pub use crate::judging::{Named, is_replay, refuse_replay};
     pub use crate::place::{

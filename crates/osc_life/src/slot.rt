@@ -5,6 +5,7 @@ ghost use Rattle.osc_context.specs.Views.{number_of};
 ghost use Rattle.osc_window.specs.Views.{is_open as is_open_gate};
 ghost use Rattle.osc_protect.specs.Views.{message_of};
 
+use crate::doubt::{Doubt, is_beyond};
 use crate::echo::carries;
 use crate::server_error::SkipError;
 use osc_context::Piv;
@@ -19,6 +20,8 @@ const OWN_LIMIT: u64 = 1 << 40;
 pub struct Slot {
     pub size: WindowSize,
     pub gate: Gate,
+    // The numbers that are in doubt while the gate is closed.
+    pub doubt: Option<Doubt>,
     // The next Sender Sequence Number, or the limit if none is left.
     pub next: u64,
     // How often the context was restarted.
@@ -29,6 +32,7 @@ pub struct Slot {
 
 impl Slot {
     ghost use Rattle.osc_life.specs.Agrees.{SlotAgrees};
+    ghost use Rattle.osc_life.specs.Doubting.{OpensBy, StaysBy};
     ghost use Rattle.osc_life.specs.Judging.{GatePasses};
     ghost use Rattle.osc_life.specs.Life.{Life, Spoiled, Delivered, Challenged, Carries, is_open, in_force, marked};
     ghost use Rattle.osc_life.specs.LifeAnswer.{LifeSkip, challenge_given};
@@ -37,8 +41,9 @@ impl Slot {
 
     /// Spends a number if the gate is open.
     pub(crate) fn spoil(&mut self, number: Piv)
-        requires { GatePasses self.old.gate (number_of number) }
+        requires { GatePasses self.old.gate self.old.doubt (number_of number) }
         ensures context { self.new.context ≡ self.old.context }
+        ensures doubt { self.new.doubt ≡ self.old.doubt }
         ensures kept { (l : Life) → SlotAgrees self.old l → SlotAgrees self.new (marked (Some (Spoiled (number_of number))) l) }
     {
         match &mut self.gate {
@@ -49,8 +54,9 @@ impl Slot {
 
     /// Spends a number, or opens the gate with it.
     pub(crate) fn deliver(&mut self, number: Piv)
-        requires { GatePasses self.old.gate (number_of number) }
+        requires { GatePasses self.old.gate self.old.doubt (number_of number) }
         ensures context { self.new.context ≡ self.old.context }
+        ensures doubt { self.new.doubt ≡ self.old.doubt }
         ensures life { self.new.life ≡ self.old.life }
         ensures kept { (l : Life) → SlotAgrees self.old l → SlotAgrees self.new (marked (Some (Delivered (number_of number))) l) }
     {
@@ -60,15 +66,15 @@ impl Slot {
         }
     }
 
-    /// Returns whether the gate is open, or the request carries the challenge in force.
-    pub(crate) fn admits(&self, clock: u64, opened: &Opened<'_>) -> bool
+    /// Returns whether the gate is open, or the request's number is above those in doubt, or the request carries the challenge in force.
+    pub(crate) fn admits(&self, clock: u64, number: Piv, opened: &Opened<'_>) -> bool
         ensures yes { result ≡ true → (l : Life) → SlotAgrees self.now l → is_open l ≡ false
-            → Carries (in_force l clock) (message_of opened.now) }
+            → OpensBy l.doubt (number_of number) (Carries (in_force l clock) (message_of opened.now)) }
         ensures no { result ≡ false → (l : Life) → SlotAgrees self.now l → (is_open l ≡ false)
-            × (Carries (in_force l clock) (message_of opened.now) → ⊥) }
+            × StaysBy l.doubt (number_of number) (Carries (in_force l clock) (message_of opened.now)) }
         ensures closed { result ≡ false → is_open_gate self.now.gate ≡ false }
     {
-        if self.gate.is_open() {
+        if self.gate.is_open() || is_beyond(self.doubt, number) {
             return true;
         }
         match self.gate.in_force(clock) {
@@ -85,6 +91,7 @@ impl Slot {
         requires closed { is_open_gate self.old.gate ≡ false }
         requires left { self.old.next < 2 ^ 40 }
         ensures context { self.new.context ≡ self.old.context }
+        ensures doubt { self.new.doubt ≡ self.old.doubt }
         ensures given { (l : Life) → SlotAgrees self.old l → (result.0, result.1) ≡ challenge_given l clock fresh }
         ensures kept { (l : Life) → SlotAgrees self.old l
             → SlotAgrees self.new (marked (Some (Challenged result.0 result.1)) l) }

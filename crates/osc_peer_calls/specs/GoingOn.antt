@@ -150,12 +150,13 @@ abbrev pub peer_started : Start → WindowSize → ℕ → ℕ → Peers → Pee
 peer_started (starts.Fresh first) size sender life_ms w = More (both_started (starts.Fresh first) size sender life_ms w) (Forth (Reserves Client))
 peer_started (starts.Restarted first) size sender life_ms w = both_started (starts.Restarted first) size sender life_ms w
 peer_started (starts.Received first highest) size sender life_ms w = both_started (starts.Received first highest) size sender life_ms w
+peer_started (starts.Reserved first highest ahead) size sender life_ms w = both_started (starts.Reserved first highest ahead) size sender life_ms w
 
 -- a start with the two numbers of a record does so too if the one isn't below the floor, and the other is above all that was delivered; the record may know other
 -- floors, as that of a later process may (RFC 8613, 7.4, 7.5 and B.1)
 abbrev pub StartsInList : Type 0
-StartsInList = (n : ℕ) (s : SecurityContext) (w : Peers) (start : Start) (size : WindowSize) (sender received life_ms floor : ℕ) → AreCounted n s w → IsPeerStart start sender received
-    → sender < 2 ^ 40 → (near_numbers s w).floor ≤ sender → IsAboveReceived w received
+StartsInList = (n : ℕ) (s : SecurityContext) (w : Peers) (ahead : ℕ) (start : Start) (size : WindowSize) (sender received life_ms floor : ℕ) → AreCounted n s w
+    → IsPeerStart ahead start sender received → sender < 2 ^ 40 → (near_numbers s w).floor ≤ sender → IsAboveReceived w received
     → IsAsClaimed n s (peer_started start size sender life_ms w)
     × PeerRuns s (peer_started start size sender life_ms w) (server.Then server.Begin (server.Add (turned s) start size) (server.Added 0)) (client.New s sender life_ms)
     (serving.started start sender (nothing_drawn floor))

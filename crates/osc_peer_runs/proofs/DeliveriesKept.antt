@@ -23,8 +23,9 @@ use Rattle.osc_peer_runs.specs.declared.peer_event.PeerEvent.{PeerEvent}
 use Rattle.osc_peer_runs.specs.declared.peer_event.PeerEvent.TheVariants as events
 use Rattle.osc_peer_runs.specs.declared.peer_event.PeerEntry.{PeerEntry}
 use Rattle.osc_peer_runs.specs.declared.peer_event.PeerEntry.TheVariants as entries
+use Rattle.osc_fresh.specs.Wishing.{Asked}
 use Rattle.osc_peer_runs.specs.PeerCalls.{IsBehind}
-use Rattle.osc_peer_runs.specs.PeerRuns.{ChallengeStep, DeliversBelow, EventStep, NotifyStep, PeerRun, PeerState, ReplyStep, RequestStep, peer_state}
+use Rattle.osc_peer_runs.specs.PeerRuns.{ChallengeStep, DeliversBelow, EventStep, NotifyStep, PeerRun, PeerState, ReplyStep, RequestStep, peer_state, with_last}
 
 -- ---- it never sinks
 
@@ -63,10 +64,20 @@ request_rises n s t now plain room (asked.NotSent e) step = step.2.4.1
 request_rises n s t now plain room (asked.BadPlain e) step = unchanged s.source t.source step.3
 request_rises n s t now plain room x step = absurd step
 
+both_rise : (low mid high : ℕ) → low ≤ mid → mid ≤ high → low ≤ high
+both_rise low mid high first second = omega (arith, first, second)
+
 event_rises : {R : Type 0} {r : keeper.Ghosts R} (n : ℕ) (s t : PeerState r) (e : PeerEvent) (x : PeerEntry) → EventStep n s e x t → r.received_floor s.source.keeper ≤ r.received_floor t.source.keeper
 event_rises n s t (events.Datagram a) (entries.Served (served.Took seen.KeeperFailed reply)) step = step.1.6.1
 event_rises n s t (events.Datagram a) (entries.Served (served.Took x reply)) step = step.1.2.6.1
 event_rises n s t (events.Datagram a) (entries.Served x) step = absurd step.1
+event_rises n s t (events.Fresh ms a) (entries.Served (served.Took seen.KeeperFailed reply)) step = step.1.0.6.1
+event_rises n s t (events.Fresh ms a) (entries.Served (served.Took x reply)) step = step.1.0.2.6.1
+event_rises n s t (events.Fresh ms a) (entries.Served x) step = absurd step.1.0
+event_rises n s t (events.Fresh ms a) (entries.Challenged (Ok text)) step = both_rise _ _ _ step.1.3.1.6.1 step.1.4.4.1
+event_rises n s t (events.Fresh ms a) (entries.Challenged (Err replies.KeeperFailed)) step = both_rise _ _ _ step.1.3.1.6.1 step.1.6.1
+event_rises n s t (events.Fresh ms a) (entries.Challenged (Err e)) step = both_rise _ _ _ step.1.3.1.6.1 step.1.4.4.1
+event_rises n s t (events.Fresh ms a) x step = absurd step.1
 event_rises n s t (events.Reply a) (entries.Served x) step = reply_rises s.served s.source s.tickets _ _ _ _ _ x t.served t.source step.0 step.1
 event_rises n s t (events.Challenge a) (entries.Served x) step = challenge_rises s.served s.source s.tickets _ _ _ x t.served t.source step.0 step.1
 event_rises n s t (events.Notify a) (entries.Served x) step = notify_rises s.served s.source s.tickets _ _ _ x t.served t.source step.0
@@ -98,6 +109,8 @@ below_logged opened context number answer o floor logs is below = absurd logs
 event_kept : {R : Type 0} {r : keeper.Ghosts R} (n : ℕ) (s t : PeerState r) (e : PeerEvent) (x : PeerEntry) → EventStep n s e x t → DeliversBelow (r.received_floor t.source.keeper) x
 event_kept {r = r} n s t (events.Datagram a) (entries.Served (served.Took (seen.Deliver opened context number) reply)) step =
     below_logged opened context number step.1.0 step.0 (r.received_floor t.source.keeper) step.1.1 step.1.3 step.1.4
+event_kept {r = r} n s t (events.Fresh ms a) (entries.Served (served.Took (seen.Deliver opened context number) reply)) step =
+    below_logged opened context number step.1.0.0 step.0 (r.received_floor t.source.keeper) step.1.0.1 step.1.0.3 step.1.0.4
 event_kept n s t (events.Reply a) (entries.Served (served.Took (seen.Deliver opened context number) reply)) step = absurd step.1.0
 event_kept n s t (events.Challenge a) (entries.Served (served.Took (seen.Deliver opened context number) reply)) step = absurd step.1
 event_kept n s t (events.Notify a) (entries.Served (served.Took (seen.Deliver opened context number) reply)) step = absurd step.0.0
@@ -132,21 +145,21 @@ all_anyway floor xs twice = λ k d less. one_anyway floor (get_or xs k d) (λ f.
 
 -- the peer has histories, so what is said of a run from each of them is so
 abbrev pub RunsFrom : {R : Type 0} {r : keeper.Ghosts R} {N : ℕ} → KeptPeer R N r → List PeerEvent → List PeerEntry → KeptPeer R N r → Type 0
-RunsFrom {N = N} old es xs new = (h : server.History) (k : client.History) → IsBehind old h k → (g : server.History) × (m : client.History) × (us : List (Option server.TicketValues))
-    × PeerRun N (peer_state h k old.source []) es xs (peer_state g m new.source us) × IsBehind new g m
+RunsFrom {N = N} old es xs new = (h : server.History) (k : client.History) → IsBehind old h k → (g : server.History) × (m : client.History) × (us : List (Option server.TicketValues)) × (last : Option Asked)
+    × PeerRun N (peer_state h k old.source []) es xs (with_last last (peer_state g m new.source us)) × IsBehind new g m
 
 pub deliveries_kept : {R : Type 0} {r : keeper.Ghosts R} {N : ℕ} (old new : KeptPeer R N r) (es : List PeerEvent) (xs : List PeerEntry) → RunsFrom old es xs new
     → All (DeliversBelow (r.received_floor new.source.keeper)) xs
 deliveries_kept {r = r} {N = N} old new es xs runs = all_anyway (r.received_floor new.source.keeper) xs (λ never. not_there old.served (λ a. not_there old.asked (λ b.
-    let (g, m, us, run, behind) = runs a.0 b.0 (record { server = a.1; client = b.1 }) in
-    never (run_kept N (peer_state a.0 b.0 old.source []) (peer_state g m new.source us) es xs run))))
+    let (g, m, us, last, run, behind) = runs a.0 b.0 (record { server = a.1; client = b.1 }) in
+    never (run_kept N (peer_state a.0 b.0 old.source []) (with_last last (peer_state g m new.source us)) es xs run))))
 
 pub floor_rises : {R : Type 0} {r : keeper.Ghosts R} {N : ℕ} (old new : KeptPeer R N r) (es : List PeerEvent) (xs : List PeerEntry) → RunsFrom old es xs new
     → r.received_floor old.source.keeper ≤ r.received_floor new.source.keeper
 floor_rises {r = r} {N = N} old new es xs runs = elim (cases_lt (r.received_floor new.source.keeper) (r.received_floor old.source.keeper)) [
   | inl less ↦ absurd (not_there old.served (λ a. not_there old.asked (λ b.
-      let (g, m, us, run, behind) = runs a.0 b.0 (record { server = a.1; client = b.1 }) in
-      let least : r.received_floor old.source.keeper ≤ r.received_floor new.source.keeper = run_rises N (peer_state a.0 b.0 old.source []) (peer_state g m new.source us) es xs run in
+      let (g, m, us, last, run, behind) = runs a.0 b.0 (record { server = a.1; client = b.1 }) in
+      let least : r.received_floor old.source.keeper ≤ r.received_floor new.source.keeper = run_rises N (peer_state a.0 b.0 old.source []) (with_last last (peer_state g m new.source us)) es xs run in
       omega (arith, less, least))))
   | inr least ↦ least
 ]

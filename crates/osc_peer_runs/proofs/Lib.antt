@@ -1,3 +1,4 @@
 pub mod DeliveriesKept
 pub mod PeerCallLemmas
 pub mod PeerRunLemmas
+pub mod FreshSteps

@@ -4,6 +4,8 @@ use Rattle.std.proofs.Common.{◌≡◌, ℕ, sym, subst, refl, List, [], ◌∷
 use Rattle.std.specs.Option.{option_map}
 use Rattle.osc_context.specs.declared.record_keeper.RecordKeeper as keeper
 use Rattle.osc_client.specs.ClientHistory as client
+use Rattle.osc_client.specs.declared.client_outcome.RequestError.TheVariants as requests
+use Rattle.osc_endpoint.specs.declared.client_event.ClientEntry.TheVariants as asked
 use Rattle.osc_endpoint.specs.declared.server_event.Answering.{Answering}
 use Rattle.osc_endpoint.specs.declared.server_event.Notifying.{Notifying}
 use Rattle.osc_endpoint.specs.declared.server_event.ServerEntry.{ServerEntry}
@@ -21,14 +23,12 @@ use Rattle.osc_peer_runs.specs.declared.peer_event.PeerEvent.{PeerEvent}
 use Rattle.osc_peer_runs.specs.declared.peer_event.PeerEvent.TheVariants as events
 use Rattle.osc_peer_runs.specs.declared.peer_event.PeerEntry.{PeerEntry}
 use Rattle.osc_peer_runs.specs.declared.peer_event.PeerEntry.TheVariants as entries
-use Rattle.osc_peer_runs.specs.PeerCalls.{Calls, IsBehind}
-use Rattle.osc_peer_runs.specs.PeerRuns.{ArrivalStep, ChallengeStep, NotifyStep, ReplyStep}
+use Rattle.osc_fresh.specs.Views.{last_of}
+use Rattle.osc_fresh.specs.Wishing.{Asked}
+use Rattle.osc_fresh.specs.declared.wishes.Wishes.{Wishes}
+use Rattle.osc_peer_runs.specs.PeerCalls.{Calls, CallsWishing, IsBehind}
+use Rattle.osc_peer_runs.specs.PeerRuns.{ArrivalStep, ChallengeStep, FreshStep, NotifyStep, PeerState, ReplyStep, RunStep, SealsAbove, peer_state, with_last}
 use Rattle.osc_peer_runs.proofs.PeerRunLemmas.{above, client_carried}
-
--- the call of an event is that of an equal one
-pub calls_same : {R : Type 0} {r : keeper.Ghosts R} {N : ℕ} (old new : KeptPeer R N r) (ts us : List (Option Ticket)) (o : Option Ticket) (e d : PeerEvent) (x : PeerEntry)
-    → e ≡ d → Calls old ts d x new us o → Calls old ts e x new us o
-calls_same old new ts us o e d x is calls = subst (λ (z : PeerEvent). Calls old ts z x new us o) (sym is) calls
 
 -- the peer stays behind if its server is behind, and its client is as it was
 served_alone : {R : Type 0} {r : keeper.Ghosts R} {N : ℕ} (old new : KeptPeer R N r) (h g : server.History) (k : client.History) → IsBehind old h k
@@ -44,7 +44,7 @@ pub datagram_called : {R : Type 0} {r : keeper.Ghosts R} {N : ℕ} (old new : Ke
 datagram_called old new ts a x o answered same = λ h k b.
     let (g, step, behind) = answered h b.server in
     let both = served_alone old new h g k b behind same in
-    (g, k, ((option_map values_of o, step, refl, refl), above new.server new.client new.source g k (values_in ts ++ option_map values_of o ∷ []) both), both)
+    (g, k, ((option_map values_of o, step, refl, refl), refl, above new.server new.client new.source g k (values_in ts ++ option_map values_of o ∷ []) both), both)
 
 -- a reply
 pub reply_called : {R : Type 0} {r : keeper.Ghosts R} {N : ℕ} (old new : KeptPeer R N r) (ts us : List (Option Ticket)) (a : Answering) (plain out : List ℕ) (x : ServerEntry)
@@ -57,7 +57,7 @@ reply_called old new ts us a plain out x plain_is out_is answered same = λ h k 
     let both = served_alone old new h g k b behind same in
     let given = subst (λ (d : List ℕ). ReplyStep h old.source (values_in ts) a.of a.own a.mid d (length out) x g new.source (values_in us)) plain_is step in
     let whole = subst (λ (d : List ℕ). ReplyStep h old.source (values_in ts) a.of a.own a.mid a.plain.items (length d) x g new.source (values_in us)) out_is given in
-    (g, k, ((values_in us, whole, refl, refl), above new.server new.client new.source g k (values_in us ++ None ∷ []) both), both)
+    (g, k, ((values_in us, whole, refl, refl), refl, above new.server new.client new.source g k (values_in us ++ None ∷ []) both), both)
 
 -- a challenge
 pub challenge_called : {R : Type 0} {r : keeper.Ghosts R} {N : ℕ} (old new : KeptPeer R N r) (ts us : List (Option Ticket)) (a : Challenging) (out : List ℕ) (x : ServerEntry)
@@ -69,7 +69,7 @@ challenge_called old new ts us a out x out_is answered same = λ h k b.
     let (g, step, behind) = answered h b.server in
     let both = served_alone old new h g k b behind same in
     let whole = subst (λ (d : List ℕ). ChallengeStep h old.source (values_in ts) a.of a.mid (length d) x g new.source (values_in us)) out_is step in
-    (g, k, ((values_in us, whole, refl, refl), above new.server new.client new.source g k (values_in us ++ None ∷ []) both), both)
+    (g, k, ((values_in us, whole, refl, refl), refl, above new.server new.client new.source g k (values_in us ++ None ∷ []) both), both)
 
 -- a notification
 pub notify_called : {R : Type 0} {r : keeper.Ghosts R} {N : ℕ} (old new : KeptPeer R N r) (ts : List (Option Ticket)) (a : Notifying) (plain out : List ℕ) (x : ServerEntry)
@@ -82,4 +82,58 @@ notify_called old new ts a plain out x plain_is out_is answered same = λ h k b.
     let both = served_alone old new h g k b behind same in
     let given = subst (λ (d : List ℕ). NotifyStep h old.source (values_in ts) a.of d (length out) x g new.source) plain_is step in
     let whole = subst (λ (d : List ℕ). NotifyStep h old.source (values_in ts) a.of a.plain.items (length d) x g new.source) out_is given in
-    (g, k, ((whole, refl, refl), above new.server new.client new.source g k (values_in ts ++ None ∷ []) both), both)
+    (g, k, ((whole, refl, refl), refl, above new.server new.client new.source g k (values_in ts ++ None ∷ []) both), both)
+
+-- ---- where the server wishes for fresh requests
+
+-- an event that asks for no fresh request
+abbrev IsOther : PeerEvent → Type 0
+IsOther (events.Fresh ms a) = ⊥
+IsOther event = Unit {0}
+
+above_still : {R : Type 0} {r : keeper.Ghosts R} (t : PeerState r) (last : Option Asked) → SealsAbove t → SealsAbove (with_last last t)
+above_still t last a = record { reached = a.reached; reached_is = a.reached_is; served_least = a.served_least; asked_least = a.asked_least }
+
+-- a step of such an event is one whatever the last challenge was
+carried : {R : Type 0} {r : keeper.Ghosts R} (n : ℕ) (s t : PeerState r) (last : Option Asked) (e : PeerEvent) (x : PeerEntry) → IsOther e → RunStep n s e x t
+    → RunStep n (with_last last s) e x (with_last last t)
+carried n s t last (events.Datagram a) (entries.Served x) other step = (step.0, refl, above_still t last step.2)
+carried n s t last (events.Reply a) (entries.Served x) other step = (step.0, refl, above_still t last step.2)
+carried n s t last (events.Challenge a) (entries.Served x) other step = (step.0, refl, above_still t last step.2)
+carried n s t last (events.Notify a) (entries.Served x) other step = (step.0, refl, above_still t last step.2)
+carried n s t last (events.Drop of) (entries.Served x) other step = (step.0, refl, above_still t last step.2)
+carried n s t last (events.Request now plain out) (entries.Asked (asked.Sent number text)) other step = (step.0, refl, above_still t last step.2)
+carried n s t last (events.Request now plain out) (entries.Asked (asked.NotSent requests.KeeperFailed)) other step = (step.0, refl, above_still t last step.2)
+carried n s t last (events.Request now plain out) (entries.Asked (asked.NotSent e)) other step = (step.0, refl, above_still t last step.2)
+carried n s t last (events.Request now plain out) (entries.Asked (asked.BadPlain e)) other step = (step.0, refl, above_still t last step.2)
+carried n s t last (events.Request now plain out) (entries.Asked x) other step = absurd step.0.0
+carried n s t last (events.Response now bytes) (entries.Asked (asked.Took outcome)) other step = (step.0, refl, above_still t last step.2)
+carried n s t last (events.Forget token) (entries.Asked (asked.Forgot was_pending)) other step = (step.0, refl, above_still t last step.2)
+carried n s t last (events.Advance now) entries.Advanced other step = (step.0, refl, above_still t last step.2)
+carried n s t last (events.Fresh ms a) x other step = absurd other
+carried n s t last e x other step = absurd step.0
+
+-- the call of such an event, which is equal to this one
+pub other_called : {R : Type 0} {r : keeper.Ghosts R} {N : ℕ} (old new : KeptPeer R N r) (w : Wishes) (ts us : List (Option Ticket)) (o : Option Ticket) (e d : PeerEvent) (x : PeerEntry)
+    → IsOther d → e ≡ d → Calls old ts d x new us o → CallsWishing old w ts e x new w us o
+other_called {N = N} old new w ts us o e d x other is calls = λ h k b.
+    let (g, m, step, behind) = calls h k b in
+    let s = peer_state h k old.source (values_in ts) in
+    let t = peer_state g m new.source (values_in us ++ option_map values_of o ∷ []) in
+    (g, m, subst (λ (z : PeerEvent). RunStep N (with_last (last_of w) s) z x (with_last (last_of w) t)) (sym is) (carried N s t (last_of w) d x other step), behind)
+
+-- a datagram of which no request is delivered that isn't known to be fresh
+pub fresh_called : {R : Type 0} {r : keeper.Ghosts R} {N : ℕ} (old new : KeptPeer R N r) (w v : Wishes) (ts : List (Option Ticket)) (ms : ℕ) (a : PeerArrival) (x : PeerEntry) (o : Option Ticket)
+    → ((h : server.History) → ServerIsBehind old.server (upcoming (own_in old.source)) h
+    → (g : server.History) × FreshStep h old.source (last_of w) ms a x g new.source (last_of v) (option_map values_of o) × ServerIsBehind new.server (upcoming (own_in new.source)) g)
+    → new.client ≡ old.client → CallsWishing old w ts (events.Fresh ms a) x new v ts o
+fresh_called old new w v ts ms a x o answered same = λ h k b.
+    let (g, step, behind) = answered h b.server in
+    let both = served_alone old new h g k b behind same in
+    let us = values_in ts ++ option_map values_of o ∷ [] in
+    (g, k, ((option_map values_of o, step, refl, refl), tt, above_still (peer_state g k new.source us) (last_of v) (above new.server new.client new.source g k us both)), both)
+
+-- the call of an event that is equal to this one
+pub wishing_same : {R : Type 0} {r : keeper.Ghosts R} {N : ℕ} (old new : KeptPeer R N r) (w v : Wishes) (ts us : List (Option Ticket)) (o : Option Ticket) (e d : PeerEvent) (x : PeerEntry)
+    → e ≡ d → CallsWishing old w ts d x new v us o → CallsWishing old w ts e x new v us o
+wishing_same old new w v ts us o e d x is calls = subst (λ (z : PeerEvent). CallsWishing old w ts z x new v us o) (sym is) calls

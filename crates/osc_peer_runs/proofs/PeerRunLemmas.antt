@@ -1,6 +1,7 @@
 -- Runs of a peer, one event after another. s, mid and t are states, next and more numbers with which the peer seals next.
 use Rattle.std.proofs.Common.{Bor, ◌≡◌, ◌≢◌, ◌≤◌, ◌<◌, ◌+◌, ℕ, ◌∙◌, ap, sym, subst, refl, arith, inl, inr, List, Bool, true, [], ◌∷◌, ◌++◌, take, Option, Some, None, Err}
-use Rattle.std.specs.Prelude.{slice_get, unwrap_or}
+use Rattle.std.proofs.lemmas.List.{length-drop}
+use Rattle.std.specs.Prelude.{◌-◌, drop, length, slice_get, unwrap_or}
 use Rattle.std.specs.Option.{ForSome, option_map}
 use Rattle.std.proofs.lemmas.Bool.{cases_lt}
 use Rattle.std.proofs.lemmas.Grind.{not_there}
@@ -235,3 +236,9 @@ run_on n s mid t all i j log reserved after e x run step events_are entries_are 
 pub run_same : {R : Type 0} {r : keeper.Ghosts R} (n : ℕ) (s t : PeerState r) (all : List PeerEvent) (i j : ℕ) (log after : List PeerEntry)
     → PeerRun n s (take i all) log t → j ≡ i → after ≡ log → PeerRun n s (take j all) after t
 run_same n s t all i j log after run same is = subst (λ z. PeerRun n s (take z all) after t) (sym same) (subst (λ xs. PeerRun n s (take i all) xs t) (sym is) run)
+
+-- where nothing is left behind the first ones, they are all
+pub all_done : {A : Type 0} (xs left : List A) (n : ℕ) → left ≡ drop n xs → n ≤ length xs → length left ≡ 0 → n ≡ length xs
+all_done xs left n is within none =
+    let long : length left ≡ length xs - n = ap length is ∙ length-drop n xs in
+    omega (arith, long, within, none)

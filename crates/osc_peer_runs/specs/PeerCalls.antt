@@ -1,4 +1,5 @@
--- How the code is seen: the call that a run makes for an event. old and new are the peer before and after, ts and us the tickets.
+-- How the code is seen: the call that a run makes for an event. old and new are the peer before and after, ts and us the tickets, w and v what the server wishes
+-- before and after.
 use Rattle.std.specs.Prelude.{ℕ, [], ◌∷◌, ◌++◌, List, Option}
 use Rattle.std.specs.Option.{option_map}
 use Rattle.osc_context.specs.declared.record_keeper.RecordKeeper as keeper
@@ -12,7 +13,9 @@ use Rattle.osc_kept_ends.specs.Numbering.{upcoming}
 use Rattle.osc_kept_ends.specs.PeerOwning.{own_in}
 use Rattle.osc_peer_runs.specs.declared.peer_event.PeerEvent.{PeerEvent}
 use Rattle.osc_peer_runs.specs.declared.peer_event.PeerEntry.{PeerEntry}
-use Rattle.osc_peer_runs.specs.PeerRuns.{AreBehind, RunStep, peer_state}
+use Rattle.osc_fresh.specs.Views.{last_of}
+use Rattle.osc_fresh.specs.declared.wishes.Wishes.{Wishes}
+use Rattle.osc_peer_runs.specs.PeerRuns.{AreBehind, RunStep, peer_state, with_last}
 
 -- the peer is as these histories say, and has used or passed over only numbers below the one with which it seals next (how the code is seen)
 abbrev pub IsBehind : {R : Type 0} {r : keeper.Ghosts R} {N : ℕ} → KeptPeer R N r → server.History → client.History → Type 0
@@ -22,3 +25,9 @@ IsBehind p h k = AreBehind p.server p.client (upcoming (own_in p.source)) h k
 abbrev pub Calls : {R : Type 0} {r : keeper.Ghosts R} {N : ℕ} → KeptPeer R N r → List (Option Ticket) → PeerEvent → PeerEntry → KeptPeer R N r → List (Option Ticket) → Option Ticket → Type 0
 Calls {N = N} old ts event entry new us o = (h : server.History) (k : client.History) → IsBehind old h k → (g : server.History) × (m : client.History)
     × RunStep N (peer_state h k old.source (values_in ts)) event entry (peer_state g m new.source (values_in us ++ option_map values_of o ∷ [])) × IsBehind new g m
+
+-- the same, where the server remembers the last challenge that asked for a fresh request (how the code is seen)
+abbrev pub CallsWishing : {R : Type 0} {r : keeper.Ghosts R} {N : ℕ} → KeptPeer R N r → Wishes → List (Option Ticket) → PeerEvent → PeerEntry → KeptPeer R N r → Wishes → List (Option Ticket) → Option Ticket → Type 0
+CallsWishing {N = N} old w ts event entry new v us o = (h : server.History) (k : client.History) → IsBehind old h k → (g : server.History) × (m : client.History)
+    × RunStep N (with_last (last_of w) (peer_state h k old.source (values_in ts))) event entry
+    (with_last (last_of v) (peer_state g m new.source (values_in us ++ option_map values_of o ∷ []))) × IsBehind new g m

@@ -1,12 +1,15 @@
 -- To be believed: runs of a peer, which asks and answers under one context (RFC 8613, 3.1, 7.2.1, 7.4 and B.1): the log of their events, the histories of both
 -- roles, the numbers with their record, and the tickets. s and t are the states before and after, h and g histories of the server, k and m of the client, old
--- and new the numbers, ts and us the tickets, n is how many pending requests there is room for.
+-- and new the numbers, ts and us the tickets, last and next the last challenge that asked for a fresh request, n is how many pending requests there is room for.
 use Rattle.std.specs.Prelude.{◌≡◌, ◌⊎◌, ◌+◌, ◌<◌, ◌≤◌, ◌++◌, ◌∷◌, [], ℕ, List, Bool, true, Option, Some, None, Ok, Err, length, slice_set}
 use Rattle.std.specs.Option.{ForSome, option_map}
 use Rattle.osc_coap.specs.Datagram.{Parts, IsDatagram}
 use Rattle.osc_coap.specs.Fault.{HasFault}
+use Rattle.osc_coap.specs.Inner.{InnerParts}
 use Rattle.osc_context.specs.Views.{number_of}
 use Rattle.osc_context.specs.declared.record_keeper.RecordKeeper as keeper
+use Rattle.osc_observe.specs.Received.{Received}
+use Rattle.osc_protect.specs.Views.{message_of}
 use Rattle.osc_client.specs.declared.client.Client.{Client}
 use Rattle.osc_client.specs.declared.client_outcome.RequestError.TheVariants as requests
 use Rattle.osc_client.specs.ClientHistory as client
@@ -31,23 +34,29 @@ use Rattle.osc_kept_ends.specs.KeptServing as serving
 use Rattle.osc_kept_ends.specs.Numbering.{Own, Steps, upcoming}
 use Rattle.osc_kept_ends.specs.Peering.{ClientIsBehind, ClientPasses, IsKeptOn, MayDraw, ServerIsBehind, ServerPasses}
 use Rattle.osc_kept_ends.specs.PeerOwning.{own_in}
-use Rattle.osc_fresh.specs.Wishing.{unobeyed_message}
+use Rattle.osc_fresh.specs.Wishing.{Asked, IsFresh, unobeyed_message}
 use Rattle.osc_peer_runs.specs.declared.peer_event.PeerArrival.{PeerArrival}
 use Rattle.osc_peer_runs.specs.declared.peer_event.PeerEvent.{PeerEvent}
 use Rattle.osc_peer_runs.specs.declared.peer_event.PeerEvent.TheVariants as events
 use Rattle.osc_peer_runs.specs.declared.peer_event.PeerEntry.{PeerEntry}
 use Rattle.osc_peer_runs.specs.declared.peer_event.PeerEntry.TheVariants as entries
 
--- a peer in a run: the histories of both roles, the numbers, and the tickets of the run, with one place for each event (own rule)
+-- a peer in a run: the histories of both roles, the numbers, the tickets of the run, with one place for each event, and the last challenge that asked for a fresh
+-- request, if there was one (own rule)
 pub record PeerState {R : Type 0} (r : keeper.Ghosts R) : Type 0 where
   pub served : server.History
   pub asked : client.History
   pub source : PeerSource R r
   pub tickets : List (Option server.TicketValues)
+  pub last : Option Asked
 
--- a peer's state, from its parts (own rule)
+-- a peer's state, from its parts, if no fresh request was asked for (own rule)
 abbrev pub peer_state : {R : Type 0} {r : keeper.Ghosts R} → server.History → client.History → PeerSource R r → List (Option server.TicketValues) → PeerState r
-peer_state h k source ts = record { served = h; asked = k; source = source; tickets = ts }
+peer_state h k source ts = record { served = h; asked = k; source = source; tickets = ts; last = None }
+
+-- the same state, where this challenge was the last that asked for a fresh request (own rule)
+abbrev pub with_last : {R : Type 0} {r : keeper.Ghosts R} → Option Asked → PeerState r → PeerState r
+with_last last s = record s { last = last }
 
 -- both roles are as their histories say, and have only numbers below this one (RFC 8613, 7.2.1)
 pub record AreBehind {n : ℕ} (s : Server) (c : Client n) (next : ℕ) (h : server.History) (k : client.History) : Type 0 where
@@ -91,6 +100,34 @@ ArrivalStep {r = r} h old a (served.Took x reply) g new o = (answer : server.Ans
     × Takes h (server.Datagram a.now (echo_of (upcoming (own_in old))) a.mid a.bytes.items) (server.Took answer reply.now) old g new
     × (o ≡ logged.ticket_of answer) × ForSome o (λ ticket. ticket.number < r.received_floor new.keeper)
 ArrivalStep h old a entry g new o = ⊥
+
+-- if the entry delivers a message, this holds of it (own rule)
+abbrev pub IfDelivered : ServerEntry → (InnerParts → Type 0) → Type 0
+IfDelivered (served.Took (seen.Deliver opened context number) reply) holds = holds (message_of opened)
+IfDelivered entry holds = Unit {0}
+
+-- the server takes a new request that isn't known to be so old at most, in milliseconds; its number is below what the record holds (RFC 8613, 7.3, 7.4 and 8.2)
+abbrev pub TakesStale : {R : Type 0} {r : keeper.Ghosts R} → server.History → PeerSource R r → Option Asked → ℕ → PeerArrival → server.History → PeerSource R r → server.TicketValues → Type 0
+TakesStale {r = r} h old last ms a g new t = (received : Received)
+    × Takes h (server.Datagram a.now (echo_of (upcoming (own_in old))) a.mid a.bytes.items) (server.Took (server.Deliver received t) []) old g new
+    × (IsFresh ms last received.message a.now → ⊥) × (t.number < r.received_floor new.keeper)
+
+-- the challenge to a request: it has the Echo value of the number with which it is sealed, and says that the request wasn't obeyed (RFC 9175, 2.3 and A, method 3)
+abbrev pub asking_anew : {R : Type 0} {r : keeper.Ghosts R} → server.TicketValues → ℕ → PeerSource R r → server.Event
+asking_anew t mid source = server.Reply t (asks_own t true) mid (unobeyed_message (echo_of (upcoming (own_in source)))) 64
+
+-- a datagram of which no request is delivered that isn't known to be so old at most: one that is new is challenged in place of that, and the challenge is remembered
+-- with its moment; if the record failed, no number changed, and there is no answer (RFC 8613, 7.3, 7.4 and 8.2; RFC 9175, 2.3)
+abbrev pub FreshStep : {R : Type 0} {r : keeper.Ghosts R} → server.History → PeerSource R r → Option Asked → ℕ → PeerArrival → PeerEntry → server.History → PeerSource R r → Option Asked → Option server.TicketValues → Type 0
+FreshStep h old last ms a (entries.Served entry) g new next o = ArrivalStep h old a entry g new o × IfDelivered entry (λ m. IsFresh ms last m a.now) × (next ≡ last)
+FreshStep {R = R} {r = r} h old last ms a (entries.Challenged (Ok text)) g new next o = (between : server.History) × (mid : PeerSource R r) × (t : server.TicketValues)
+    × TakesStale h old last ms a between mid t × Serves between (asking_anew t a.mid mid) (server.Replied text.now) mid g new
+    × (next ≡ Some (record { number = upcoming (own_in mid); moment = a.now })) × (o ≡ None)
+FreshStep {R = R} {r = r} h old last ms a (entries.Challenged (Err replies.KeeperFailed)) g new next o = (between : server.History) × (mid : PeerSource R r) × (t : server.TicketValues)
+    × TakesStale h old last ms a between mid t × (g ≡ between) × (own_in new ≡ own_in mid) × Failed mid new × (next ≡ last) × (o ≡ None)
+FreshStep {R = R} {r = r} h old last ms a (entries.Challenged (Err e)) g new next o = (between : server.History) × (mid : PeerSource R r) × (t : server.TicketValues)
+    × TakesStale h old last ms a between mid t × Serves between (asking_anew t a.mid mid) (server.NotReplied e) mid g new × (next ≡ last) × (o ≡ None)
+FreshStep h old last ms a entry g new next o = ⊥
 
 -- a reply by the ticket at a place, and the tickets that are left; if the record failed, no number changed (RFC 8613, 4.1.3.5 and 8.3)
 abbrev pub ReplyStep : {R : Type 0} {r : keeper.Ghosts R} → server.History → PeerSource R r → List (Option server.TicketValues) → ℕ → Bool → ℕ → List ℕ → ℕ → ServerEntry → server.History → PeerSource R r → List (Option server.TicketValues) → Type 0
@@ -150,6 +187,8 @@ RequestStep n s now plain room entry t = ⊥
 abbrev pub EventStep : {R : Type 0} {r : keeper.Ghosts R} → ℕ → PeerState r → PeerEvent → PeerEntry → PeerState r → Type 0
 EventStep n s (events.Datagram a) (entries.Served entry) t = (o : Option server.TicketValues)
     × ArrivalStep s.served s.source a entry t.served t.source o × (t.asked ≡ s.asked) × (t.tickets ≡ s.tickets ++ o ∷ [])
+EventStep n s (events.Fresh ms a) entry t = (o : Option server.TicketValues)
+    × FreshStep s.served s.source s.last ms a entry t.served t.source t.last o × (t.asked ≡ s.asked) × (t.tickets ≡ s.tickets ++ o ∷ [])
 EventStep n s (events.Reply a) (entries.Served entry) t = (us : List (Option server.TicketValues))
     × ReplyStep s.served s.source s.tickets a.of a.own a.mid a.plain.items (length a.out.items) entry t.served t.source us
     × (t.asked ≡ s.asked) × (t.tickets ≡ us ++ None ∷ [])
@@ -172,9 +211,14 @@ EventStep n s (events.Advance now) entries.Advanced t = (t.served ≡ server.The
     × (t.asked ≡ client.Then s.asked (client.Advance now) client.Advanced) × (t.source ≡ s.source) × (t.tickets ≡ s.tickets ++ None ∷ [])
 EventStep n s event entry t = ⊥
 
+-- an event that asks for no fresh request leaves the last challenge that did (own rule)
+abbrev pub KeepsLast : {R : Type 0} {r : keeper.Ghosts R} → PeerState r → PeerEvent → PeerState r → Type 0
+KeepsLast s (events.Fresh ms a) t = Unit {0}
+KeepsLast s event t = t.last ≡ s.last
+
 -- such a step, after which the peer seals above all that either role has (RFC 8613, 7.2.1)
 abbrev pub RunStep : {R : Type 0} {r : keeper.Ghosts R} → ℕ → PeerState r → PeerEvent → PeerEntry → PeerState r → Type 0
-RunStep n s event entry t = EventStep n s event entry t × SealsAbove t
+RunStep n s event entry t = EventStep n s event entry t × KeepsLast s event t × SealsAbove t
 
 -- the log has one entry for each event, and each is a step from the state that the one before left (own rule)
 abbrev pub PeerRun : {R : Type 0} {r : keeper.Ghosts R} → ℕ → PeerState r → List PeerEvent → List PeerEntry → PeerState r → Type 0

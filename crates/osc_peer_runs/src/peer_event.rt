@@ -1,6 +1,6 @@
 //! What happens in a run to a peer, and what comes of it.
 
-use osc_endpoint::{Answering, ClientEntry, Notifying, ServerEntry};
+use osc_endpoint::{Answering, ClientEntry, Notifying, ReplyError, ServerEntry};
 
 /// A datagram that may be a request. It arrives at `now`, in milliseconds, with the Message ID of a reply that isn't an ACK, and room for
 /// the reply. The peer makes the Echo value of a challenge itself, of the number with which it seals next.
@@ -26,6 +26,12 @@ pub struct Challenging {
 pub enum PeerEvent {
     /// A datagram arrives that may be a request.
     Datagram(PeerArrival),
+    /// A datagram arrives that may be a request, of which none is delivered that isn't known to be at most `fresh_ms` milliseconds old: it is
+    /// challenged in place of that (RFC 8613, 7.3).
+    Fresh {
+        fresh_ms: u64,
+        arrival: PeerArrival,
+    },
     /// The application answers a request.
     Reply(Answering),
     /// The application challenges a request that it doesn't obey, in place of a reply.
@@ -62,6 +68,8 @@ pub enum PeerEvent {
 pub enum PeerEntry<'a> {
     /// What became of a datagram, a reply, a challenge, a notification or a ticket to drop, as in a server's run. KeeperFailed is possible too.
     Served(ServerEntry<'a>),
+    /// A request was new, and isn't known to be fresh. It isn't delivered: this is the challenge, or why none could be sealed.
+    Challenged(Result<&'a [u8], ReplyError>),
     /// What became of a request, a response or a forgotten token, as in a client's run. KeeperFailed is possible too.
     Asked(ClientEntry<'a>),
     /// The clocks were moved.

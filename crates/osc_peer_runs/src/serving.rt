@@ -8,15 +8,16 @@ ghost use Rattle.osc_endpoint.specs.ServerRun.{DropStep, values_in};
 ghost use Rattle.osc_kept_ends.specs.Numbering.{upcoming};
 ghost use Rattle.osc_kept_ends.specs.Peering.{ServerIsBehind};
 ghost use Rattle.osc_kept_ends.specs.PeerOwning.{own_in};
-ghost use Rattle.osc_peer_runs.specs.PeerCalls.{Calls};
-ghost use Rattle.osc_peer_runs.specs.PeerRuns.{ArrivalStep, ChallengeStep, NotifyStep, ReplyStep};
+ghost use Rattle.osc_fresh.specs.Views.{last_of};
+ghost use Rattle.osc_peer_runs.specs.PeerCalls.{Calls, CallsWishing};
+ghost use Rattle.osc_peer_runs.specs.PeerRuns.{ArrivalStep, ChallengeStep, FreshStep, NotifyStep, ReplyStep};
 
 use crate::peer_event::{Challenging, PeerArrival, PeerEntry, PeerEvent};
 use osc_coap::parse;
-use osc_context::RecordKeeper;
+use osc_context::{KeeperError, RecordKeeper};
 use osc_endpoint::siblings::{put_back, take_out, ticket_at};
-use osc_endpoint::{Answering, Notifying, Outcome, Seen, ServerEntry, Taken, Ticket};
-use osc_fresh::challenge;
+use osc_endpoint::{Answering, Decided, Notifying, Outcome, Seen, ServerEntry, Taken, Ticket};
+use osc_fresh::{DecidedFresh, Wishes, challenge};
 use osc_kept_ends::KeptPeer;
 
 /// Takes a datagram. The entry borrows from its arrival.
@@ -61,6 +62,59 @@ pub(crate) fn serve_datagram<'a, R: RecordKeeper, const N: usize>(
 {
     let (entry, ticket) = take_arrival(peer, arrival);
     (PeerEntry::Served(entry), ticket)
+}
+
+/// Takes a datagram of which no request is delivered that isn't known to be as fresh as is wished. The entry borrows from its arrival.
+fn take_fresh<'a, R: RecordKeeper, const N: usize>(
+    peer: &mut KeptPeer<R, N>,
+    wishes: &mut Wishes,
+    arrival: &'a mut PeerArrival,
+) -> (PeerEntry<'a>, Option<Ticket>)
+    ensures served { (h : History) → ServerIsBehind peer.old.server (upcoming (own_in peer.old.source)) h
+        → (g : History) × FreshStep h peer.old.source (last_of wishes.old) wishes.old.fresh_ms arrival.old result.0
+        g peer.new.source (last_of wishes.new) (option_map values_of result.1) × ServerIsBehind peer.new.server (upcoming (own_in peer.new.source)) g }
+    ensures client { peer.new.client ≡ peer.old.client }
+{
+    let PeerArrival {
+        now,
+        mid,
+        bytes,
+        out,
+    } = arrival;
+    let Decided { decision, reply } = match wishes.decide(peer, *now, *mid, bytes, out) {
+        Ok(DecidedFresh::Decided(decided)) => decided,
+        Ok(DecidedFresh::Challenged(len)) => {
+            return (PeerEntry::Challenged(Ok(&out[..len])), None);
+        }
+        Ok(DecidedFresh::Unanswered(error)) => return (PeerEntry::Challenged(Err(error)), None),
+        Err(KeeperError) => {
+            let entry = ServerEntry::Took {
+                seen: Seen::KeeperFailed,
+                reply: &[],
+            };
+            return (PeerEntry::Served(entry), None);
+        }
+    };
+    let (seen, ticket) = decision.outcome(bytes).part();
+    let entry = ServerEntry::Took {
+        seen,
+        reply: &out[..reply],
+    };
+    (PeerEntry::Served(entry), ticket)
+}
+
+/// Serves a datagram of which no request is delivered that isn't known to be so fresh. The entry borrows from its arrival.
+pub(crate) fn serve_fresh<'a, R: RecordKeeper, const N: usize>(
+    peer: &mut KeptPeer<R, N>,
+    wishes: &mut Wishes,
+    fresh_ms: u64,
+    arrival: &'a mut PeerArrival,
+    tickets: &[Option<Ticket>],
+) -> (PeerEntry<'a>, Option<Ticket>)
+    ensures { CallsWishing peer.old wishes.old tickets.now (PeerEvent.Fresh fresh_ms arrival.old) result.0 peer.new wishes.new tickets.now result.1 }
+{
+    wishes.fresh_ms = fresh_ms;
+    take_fresh(peer, wishes, arrival)
 }
 
 /// Seals a reply by the ticket at an index. The entry borrows from the room for the reply.

@@ -69,7 +69,7 @@ SourcesAreKept s (More w event) = SourcesAreKept s w × Allowed (near_effect s w
 -- ---- the premises
 
 -- an exchange meets the premises on two ends but for those on numbers and on who sealed: both ends answer by their tables, Echo values are new, and a server starts
--- fresh only while nothing was delivered, or open above all that was (RFC 8613, 7.4, 8 and B.1; RFC 9175, 2.3)
+-- fresh only while nothing was delivered, or above all that was (RFC 8613, 7.4, 8 and B.1; RFC 9175, 2.3)
 pub record IsExchange (n : ℕ) (s : SecurityContext) (w : World) : Type 0 where
   pub answers : AtEach (Answers n s) w
   pub unseen : AtEach (EchoIsNew s) w

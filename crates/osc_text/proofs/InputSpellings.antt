@@ -192,7 +192,7 @@ no_space_own false = no_space_test (codes "shared") refl
 -- ---- lines
 
 -- four words are read as they are parted
-four_split : (a b c d : List ℕ) → All (IsNot 32) a → All (IsNot 32) b → All (IsNot 32) c → four_read (parted (a ∷ b ∷ c ∷ d ∷ [])) ≡ Some (a, b, c, d)
+pub four_split : (a b c d : List ℕ) → All (IsNot 32) a → All (IsNot 32) b → All (IsNot 32) c → four_read (parted (a ∷ b ∷ c ∷ d ∷ [])) ≡ Some (a, b, c, d)
 unfolding four_read
 four_split a b c d no_a no_b no_c = rw (split_at 32 a (parted (b ∷ c ∷ d ∷ [])) no_a, split_at 32 b (parted (c ∷ d ∷ [])) no_b, split_at 32 c d no_c) refl
 
@@ -209,7 +209,7 @@ map_some f (Some x) y h = (x, refl, ap (λ o. unwrap_or o (f x)) h)
 abbrev Four : Type 0
 Four = List ℕ × List ℕ × List ℕ × List ℕ
 
-four_parted : (fields : List ℕ) (w : Four) → four_read fields ≡ Some w → fields ≡ parted (w.0 ∷ w.1 ∷ w.2 ∷ w.3 ∷ [])
+pub four_parted : (fields : List ℕ) (w : Four) → four_read fields ≡ Some w → fields ≡ parted (w.0 ∷ w.1 ∷ w.2 ∷ w.3 ∷ [])
 unfolding four_read
 four_parted fields w h =
     let p = then_some _ (split_once 32 fields) w h in

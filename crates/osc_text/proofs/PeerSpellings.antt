@@ -9,10 +9,11 @@ use Rattle.osc_text.specs.InputEvents.{InputEvent, SpellsEvent}
 use Rattle.osc_text.specs.InputEvents as served
 use Rattle.osc_text.specs.InputReading.{SpellsNone, SpellsSeen, split_once}
 use Rattle.osc_text.specs.Inputs.{parted}
-use Rattle.osc_text.specs.PeerEvents.{Advance, Challenge, Drop, Forget, Hear, Notify, PeerInput, Reply, Request, SpellsPeer, Take}
-use Rattle.osc_text.specs.PeerReading.{SpellsAs, SpellsOwn, SpellsPeerEvent, arrival_of, arrival_read, asked_of, challenge_of, challenge_read, own_line_read, own_verb_read, served_of, three_read}
+use Rattle.osc_text.specs.PeerEvents.{Advance, Challenge, Drop, Forget, Fresh, Hear, Notify, PeerInput, Reply, Request, SpellsPeer, Take}
+use Rattle.osc_text.specs.PeerReading.{SpellsAs, SpellsOwn, SpellsPeerEvent, arrival_of, arrival_read, asked_of, challenge_of, challenge_read, fresh_of, fresh_read, own_line_read, own_verb_read, served_of, three_read}
 use Rattle.osc_text.specs.PeerSeen.{IsRoomyPeer, peer_seen}
-use Rattle.osc_text.proofs.InputSpellings.{IsInverse, behind, bytes_say, map_some, message_id_says, no_space_hex, no_space_number, no_space_test, number_row, number_says, numbered_row, or_verb, says_bytes, says_message_id, says_number, says_numbered, then_some}
+use Rattle.osc_text.specs.ServedReading.{four_read}
+use Rattle.osc_text.proofs.InputSpellings.{IsInverse, behind, bytes_say, four_parted, four_split, map_some, message_id_says, no_space_hex, no_space_number, no_space_test, number_row, number_says, numbered_row, or_verb, says_bytes, says_message_id, says_number, says_numbered, then_some}
 use Rattle.osc_text.proofs.InputWords.{IsNot, split_at, split_parts}
 
 -- ---- what is read of a line that only a peer has is spelled
@@ -49,6 +50,29 @@ arrival_says fields e h =
     subst (SpellsOwn (codes "take" ++ 32 ∷ fields)) t.6
     (w.0, w.1, w.2, ap (λ (r : List ℕ). codes "take" ++ 32 ∷ r) (three_parted fields w p.1), number_says (2 ^ 64) w.0 t.0 t.3, message_id_says w.1 t.1 t.4, bytes_say w.2 t.2 t.5)
 
+fresh_all : (s a b : Option ℕ) (c : Option (List ℕ)) (e : PeerInput) → fresh_of s a b c ≡ Some e
+    → (ms : ℕ) × (now : ℕ) × (mid : ℕ) × (datagram : List ℕ) × (s ≡ Some ms) × (a ≡ Some now) × (b ≡ Some mid) × (c ≡ Some datagram) × (Fresh ms now mid datagram ≡ e)
+fresh_all (Some ms) (Some now) (Some mid) (Some datagram) e h = (ms, now, mid, datagram, refl, refl, refl, refl, ap (λ (o : Option PeerInput). unwrap_or o e) h)
+fresh_all s a b c e h = cc h
+
+fresh_says : (fields : List ℕ) (e : PeerInput) → fresh_read fields ≡ Some e → SpellsOwn (codes "fresh" ++ 32 ∷ fields) e
+unfolding fresh_read
+fresh_says fields e h =
+    let p = then_some _ (four_read fields) e h in
+    let w = p.0 in
+    let t = fresh_all _ _ _ _ e p.2 in
+    subst (SpellsOwn (codes "fresh" ++ 32 ∷ fields)) t.8 (
+      w.0,
+      w.1,
+      w.2,
+      w.3,
+      ap (λ (r : List ℕ). codes "fresh" ++ 32 ∷ r) (four_parted fields w p.1),
+      number_says (2 ^ 64) w.0 t.0 t.4,
+      number_says (2 ^ 64) w.1 t.1 t.5,
+      message_id_says w.2 t.2 t.6,
+      bytes_say w.3 t.3 t.7,
+    )
+
 challenge_all : (a b : Option ℕ) (e : PeerInput) → challenge_of a b ≡ Some e → (of : ℕ) × (mid : ℕ) × (a ≡ Some of) × (b ≡ Some mid) × (Challenge of mid ≡ e)
 challenge_all (Some of) (Some mid) e h = (of, mid, refl, refl, ap (λ (o : Option PeerInput). unwrap_or o e) h)
 challenge_all a b e h = cc h
@@ -66,9 +90,10 @@ verb_says : (verb fields : List ℕ) (e : PeerInput) → own_verb_read verb fiel
 unfolding own_verb_read
 verb_says verb fields e h =
     or_verb SpellsOwn verb (codes "take") fields _ _ e (arrival_says fields e)
+    (or_verb SpellsOwn verb (codes "fresh") fields _ _ e (fresh_says fields e)
     (or_verb SpellsOwn verb (codes "hear") fields _ _ e (numbered_row SpellsOwn (codes "hear") fields (λ t. Hear t.0 t.1) (behind (codes "hear") fields) e)
     (or_verb SpellsOwn verb (codes "challenge") fields _ _ e (challenge_says fields e)
-    (or_verb SpellsOwn verb (codes "advance") fields _ _ e (number_row SpellsOwn (codes "advance") fields (2 ^ 64) Advance (λ n s. (fields, refl, s)) e) (λ bad. cc bad)))) h
+    (or_verb SpellsOwn verb (codes "advance") fields _ _ e (number_row SpellsOwn (codes "advance") fields (2 ^ 64) Advance (λ n s. (fields, refl, s)) e) (λ bad. cc bad))))) h
 
 line_says : (line : List ℕ) (e : PeerInput) → own_line_read line ≡ Some e → SpellsOwn line e
 unfolding own_line_read
@@ -79,12 +104,22 @@ line_says line e h =
 -- ---- what is spelled in a line that only a peer has is read
 
 says_line : (line : List ℕ) (e : PeerInput) → SpellsOwn line e → own_line_read line ≡ Some e
-unfolding own_line_read own_verb_read arrival_read challenge_read
+unfolding own_line_read own_verb_read arrival_read challenge_read fresh_read
 says_line line (Take now mid datagram) (n, m, d, is, says_n, says_m, says_d) =
     rw (
       is,
       split_at 32 (codes "take") (parted (n ∷ m ∷ d ∷ [])) (no_space_test (codes "take") refl),
       three_split n m d (no_space_number _ n now says_n) (no_space_hex m _ says_m.1),
+      says_number (2 ^ 64) n now says_n,
+      says_message_id m mid says_m,
+      says_bytes d datagram says_d,
+    ) refl
+says_line line (Fresh ms now mid datagram) (s, n, m, d, is, says_s, says_n, says_m, says_d) =
+    rw (
+      is,
+      split_at 32 (codes "fresh") (parted (s ∷ n ∷ m ∷ d ∷ [])) (no_space_test (codes "fresh") refl),
+      four_split s n m d (no_space_number _ s ms says_s) (no_space_number _ n now says_n) (no_space_hex m _ says_m.1),
+      says_number (2 ^ 64) s ms says_s,
       says_number (2 ^ 64) n now says_n,
       says_message_id m mid says_m,
       says_bytes d datagram says_d,
@@ -114,6 +149,7 @@ own_at line o h = rw h refl
 
 own_spells : (line : List ℕ) (e : PeerInput) → SpellsOwn line e → SpellsPeer line e
 own_spells line (Take now mid datagram) s = s
+own_spells line (Fresh ms now mid datagram) s = s
 own_spells line (Hear now datagram) s = s
 own_spells line (Challenge of mid) s = s
 own_spells line (Advance now) s = s
@@ -122,6 +158,7 @@ own_spells line e s = absurd s
 -- a peer's line is one of its own, or that of a server or of a client
 spelled_by : (line : List ℕ) (e : PeerInput) → SpellsPeer line e → SpellsOwn line e ⊎ (SpellsAs SpellsEvent served_of line e ⊎ SpellsAs SpellsAsked asked_of line e)
 spelled_by line (Take now mid datagram) s = inl s
+spelled_by line (Fresh ms now mid datagram) s = inl s
 spelled_by line (Reply of own mid text) s = inr (inl (served.Reply of own mid text, refl, s))
 spelled_by line (Challenge of mid) s = inl s
 spelled_by line (Notify of text) s = inr (inl (served.Notify of text, refl, s))

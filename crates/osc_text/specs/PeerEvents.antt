@@ -6,10 +6,12 @@ use Rattle.osc_text.specs.InputEvents.{SaysMessageId, SpellsKept}
 use Rattle.osc_text.specs.InputEvents as served
 use Rattle.osc_text.specs.Inputs.{SaysBelow, SaysBytes, parted}
 
--- what a line asks of a peer: to take a datagram that may be a request, to answer, to challenge or to notify the request of an event, to drop the ticket of an event, to
+-- what a line asks of a peer: to take a datagram that may be a request, or so that none is delivered that isn't known to be so old at most, in milliseconds, to
+-- answer, to challenge or to notify the request of an event, to drop the ticket of an event, to
 -- send a request, to hear a datagram that may be a response, to forget a token, or to move its clocks (own rule)
 pub data PeerInput : Type 0 where
   Take : (now : ℕ) (mid : ℕ) (datagram : List ℕ) → PeerInput
+  Fresh : (ms : ℕ) (now : ℕ) (mid : ℕ) (datagram : List ℕ) → PeerInput
   Reply : (of : ℕ) (own : Bool) (mid : ℕ) (plain : List ℕ) → PeerInput
   Challenge : (of : ℕ) (mid : ℕ) → PeerInput
   Notify : (of : ℕ) (plain : List ℕ) → PeerInput
@@ -24,6 +26,8 @@ pub data PeerInput : Type 0 where
 abbrev pub SpellsPeer : List ℕ → PeerInput → Type 0
 SpellsPeer line (Take now mid datagram) =
     (n m d : List ℕ) × (line ≡ parted (codes "take" ∷ n ∷ m ∷ d ∷ [])) × SaysBelow (2 ^ 64) n now × SaysMessageId m mid × SaysBytes d datagram
+SpellsPeer line (Fresh ms now mid datagram) = (s n m d : List ℕ) × (line ≡ parted (codes "fresh" ∷ s ∷ n ∷ m ∷ d ∷ []))
+    × SaysBelow (2 ^ 64) s ms × SaysBelow (2 ^ 64) n now × SaysMessageId m mid × SaysBytes d datagram
 SpellsPeer line (Reply of own mid plain) = SpellsKept line (served.Reply of own mid plain)
 SpellsPeer line (Challenge of mid) =
     (e m : List ℕ) × (line ≡ parted (codes "challenge" ∷ e ∷ m ∷ [])) × SaysBelow (2 ^ 64) e of × SaysMessageId m mid

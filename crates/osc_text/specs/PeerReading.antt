@@ -8,9 +8,9 @@ use Rattle.osc_text.specs.AskedEvents as asked
 use Rattle.osc_text.specs.InputEvents.{InputEvent}
 use Rattle.osc_text.specs.InputEvents as served
 use Rattle.osc_text.specs.InputReading.{SpellsSeen, bytes_read, number_read, numbered_read, split_once}
-use Rattle.osc_text.specs.PeerEvents.{Advance, Challenge, Drop, Forget, Hear, Notify, PeerInput, Reply, Request, SpellsPeer, Take}
+use Rattle.osc_text.specs.PeerEvents.{Advance, Challenge, Drop, Forget, Fresh, Hear, Notify, PeerInput, Reply, Request, SpellsPeer, Take}
 use Rattle.osc_text.specs.PeerSeen.{IsRoomyPeer, peer_seen}
-use Rattle.osc_text.specs.ServedReading.{message_id_read}
+use Rattle.osc_text.specs.ServedReading.{four_read, message_id_read}
 
 -- three words separated by one space; the last one may contain more spaces (how the code is seen)
 unfoldable pub three_read : List ℕ → Option (List ℕ × List ℕ × List ℕ)
@@ -29,6 +29,16 @@ arrival_of now mid datagram = None
 unfoldable pub arrival_read : List ℕ → Option PeerInput
 arrival_read fields = option_and_then (λ w. arrival_of (number_read (2 ^ 64) w.0) (message_id_read w.1) (bytes_read w.2)) (three_read fields)
 
+-- the same of which none is delivered that isn't known to be so old at most (how the code is seen)
+abbrev pub fresh_of : Option ℕ → Option ℕ → Option ℕ → Option (List ℕ) → Option PeerInput
+fresh_of (Some ms) (Some now) (Some mid) (Some datagram) = Some (Fresh ms now mid datagram)
+fresh_of ms now mid datagram = None
+
+-- its fields (how the code is seen)
+unfoldable pub fresh_read : List ℕ → Option PeerInput
+fresh_read fields =
+    option_and_then (λ w. fresh_of (number_read (2 ^ 64) w.0) (number_read (2 ^ 64) w.1) (message_id_read w.2) (bytes_read w.3)) (four_read fields)
+
 -- a challenge, from what its words say (how the code is seen)
 abbrev pub challenge_of : Option ℕ → Option ℕ → Option PeerInput
 challenge_of (Some of) (Some mid) = Some (Challenge of mid)
@@ -42,6 +52,7 @@ challenge_read fields = option_and_then (λ w. challenge_of (number_read (2 ^ 64
 unfoldable pub own_verb_read : List ℕ → List ℕ → Option PeerInput
 own_verb_read verb fields =
     if bytes_eq verb (codes "take") then arrival_read fields
+    else if bytes_eq verb (codes "fresh") then fresh_read fields
     else if bytes_eq verb (codes "hear") then option_map (λ t. Hear t.0 t.1) (numbered_read fields)
     else if bytes_eq verb (codes "challenge") then challenge_read fields
     else if bytes_eq verb (codes "advance") then option_map Advance (number_read (2 ^ 64) fields)
@@ -54,6 +65,7 @@ own_line_read line = option_and_then (λ p. own_verb_read p.0 p.1) (split_once 3
 -- the line spells an event that neither a server nor a client has in these words (how the code is seen)
 abbrev pub SpellsOwn : List ℕ → PeerInput → Type 0
 SpellsOwn line (Take now mid datagram) = SpellsPeer line (Take now mid datagram)
+SpellsOwn line (Fresh ms now mid datagram) = SpellsPeer line (Fresh ms now mid datagram)
 SpellsOwn line (Hear now datagram) = SpellsPeer line (Hear now datagram)
 SpellsOwn line (Challenge of mid) = SpellsPeer line (Challenge of mid)
 SpellsOwn line (Advance now) = SpellsPeer line (Advance now)

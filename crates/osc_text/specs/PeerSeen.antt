@@ -2,11 +2,12 @@
 use Rattle.std.specs.Prelude.{◌≡◌, ◌+◌, length}
 use Rattle.osc_peer_runs.specs.declared.peer_event.PeerEvent.{PeerEvent}
 use Rattle.osc_peer_runs.specs.declared.peer_event.PeerEvent.TheVariants as events
-use Rattle.osc_text.specs.PeerEvents.{Advance, Challenge, Drop, Forget, Hear, Notify, PeerInput, Reply, Request, Take}
+use Rattle.osc_text.specs.PeerEvents.{Advance, Challenge, Drop, Forget, Fresh, Hear, Notify, PeerInput, Reply, Request, Take}
 
 -- an event of a peer, as its line says it (how the code is seen)
 abbrev pub peer_seen : PeerEvent → PeerInput
 peer_seen (events.Datagram a) = Take a.now a.mid a.bytes.items
+peer_seen (events.Fresh ms a) = Fresh ms a.now a.mid a.bytes.items
 peer_seen (events.Reply r) = Reply r.of r.own r.mid r.plain.items
 peer_seen (events.Challenge c) = Challenge c.of c.mid
 peer_seen (events.Notify r) = Notify r.of r.plain.items

@@ -6,13 +6,14 @@ ghost use Rattle.osc_text.specs.AskedReading.{HasRoom, asked_seen};
 ghost use Rattle.osc_text.specs.InputEvents.{SpellsEvent};
 ghost use Rattle.osc_text.specs.InputReading.{SpellsNone, number_read, numbered_read};
 ghost use Rattle.osc_text.specs.PeerEvents.{Advance, Hear, SpellsPeer};
-ghost use Rattle.osc_text.specs.PeerReading.{SpellsAs, SpellsOwn, SpellsPeerEvent, arrival_read, asked_of, challenge_read, own_verb_read, served_of};
+ghost use Rattle.osc_text.specs.PeerReading.{SpellsAs, SpellsOwn, SpellsPeerEvent, arrival_read, asked_of, challenge_read, fresh_read, own_verb_read, served_of};
 ghost use Rattle.osc_text.specs.PeerSeen.{IsRoomyPeer, peer_seen};
 ghost use Rattle.osc_text.specs.ServedReading.{IsOfRun, event_seen};
 
 use crate::input_lines::LineEvent;
 use crate::input_words::{
-    MOST_ADDED, read_bytes, read_message_id, read_moment, read_numbered, split_once, three_words,
+    MOST_ADDED, four_words, read_bytes, read_message_id, read_moment, read_numbered, split_once,
+    three_words,
 };
 use osc_endpoint::{ClientEvent, ServerEvent};
 use osc_peer_runs::{Challenging, PeerArrival, PeerEvent};
@@ -42,6 +43,34 @@ fn read_take(alloc: Global, fields: &[u8]) -> Result<Option<PeerEvent>, AllocErr
         bytes,
         out: [0; 64],
     })))
+}
+
+/// Reads the event of a datagram of which no request is delivered that isn't known to be fresh: `MS NOW MID DATAGRAM`.
+#[tactic(auto, unfolding(crate::specs::PeerReading::fresh_read))]
+fn read_fresh(alloc: Global, fields: &[u8]) -> Result<Option<PeerEvent>, AllocError>
+    ensures seen { IfOk result (λ event. option_map peer_seen event ≡ fresh_read fields.now) }
+    ensures room { IfOk result (λ event. IfSome event IsRoomyPeer) }
+{
+    let Some((fresh_ms, now, mid, datagram)) = four_words(fields) else {
+        return Ok(None);
+    };
+    let (Some(fresh_ms), Some(now)) = (read_moment(fresh_ms), read_moment(now)) else {
+        return Ok(None);
+    };
+    let Some(mid) = read_message_id(mid) else {
+        return Ok(None);
+    };
+    let Some(bytes) = read_bytes(alloc, datagram)? else {
+        return Ok(None);
+    };
+    let out = [0; 64];
+    let arrival = PeerArrival {
+        now,
+        mid,
+        bytes,
+        out,
+    };
+    Ok(Some(PeerEvent::Fresh { fresh_ms, arrival }))
 }
 
 /// Reads the event of a datagram that may be a response: `NOW DATAGRAM`.
@@ -95,6 +124,8 @@ fn read_fields(alloc: Global, verb: &[u8], fields: &[u8]) -> Result<Option<PeerE
 {
     if verb == b"take".as_slice() {
         read_take(alloc, fields)
+    } else if verb == b"fresh".as_slice() {
+        read_fresh(alloc, fields)
     } else if verb == b"hear".as_slice() {
         read_hear(alloc, fields)
     } else if verb == b"challenge".as_slice() {

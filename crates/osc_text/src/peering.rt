@@ -21,6 +21,8 @@ pub struct Peering {
     pub window: WindowSize,
     /// How long each of its requests is pending, in milliseconds.
     pub life_ms: u64,
+    /// So many received numbers more are kept with each save.
+    pub ahead: u64,
 }
 
 ghost use Rattle.std.specs.Prelude.{◌≡◌, ◌⊎◌, [], All, IfOk, map};
@@ -69,8 +71,15 @@ impl<R: RecordKeeper + Drop> Beginning for Kept<R, Peering> {
         if !is_of_a_size(&none) {
             return Err(Fault::Memory);
         }
-        let Kept(keeper, Peering { window, life_ms }) = self;
-        match KeptPeer::<R, 16>::start(context, keeper, window, life_ms) {
+        let Kept(
+            keeper,
+            Peering {
+                window,
+                life_ms,
+                ahead,
+            },
+        ) = self;
+        match KeptPeer::<R, 16>::start_ahead(context, keeper, window, life_ms, ahead) {
             Ok(mut peer) => write_input(alloc, &mut peer, input, out),
             Err((refusal, _keeper)) => put_refused(alloc, refusal, out),
         }

@@ -1,4 +1,4 @@
-use Rattle.std.proofs.Common.{List, ℕ, length, sym, subst, refl, ◌++◌, ◌∷◌, [], None}
+use Rattle.std.proofs.Common.{List, ℕ, length, subst, refl, ◌++◌, ◌∷◌, [], None}
 use Rattle.osc_client.specs.ClientAnswer.{ClientAnswer}
 use Rattle.osc_client.specs.Agrees.{ClientAgrees}
 use Rattle.osc_client.specs.ClientDeciding.{ClientTakes}
@@ -6,16 +6,16 @@ use Rattle.osc_client.specs.ClientHistory as client
 use Rattle.osc_endpoint.specs.declared.client_event.ClientEntry.TheVariants as asked
 use Rattle.osc_life.specs.ServerHistory as server
 use Rattle.osc_endpoint.specs.ServerRun.{values_in}
-use Rattle.osc_peer_runs.specs.declared.peer_event.PeerEvent.{PeerEvent}
 use Rattle.osc_peer_runs.specs.declared.peer_event.PeerEvent.TheVariants as events
 use Rattle.osc_peer_runs.specs.declared.peer_event.PeerEntry.TheVariants as entries
-use Rattle.osc_peer_runs.specs.PeerRuns.{RequestStep, RunStep, peer_state}
+use Rattle.osc_peer_runs.specs.PeerRuns.{RequestStep, peer_state}
 use Rattle.osc_peer_runs.proofs.PeerRunLemmas.{above, asked_alone, both_advance}
-use Rattle.osc_peer_runs.proofs.PeerCallLemmas.{calls_same}
+use Rattle.osc_peer_runs.proofs.PeerCallLemmas.{other_called, wishing_same}
 use Rattle.osc_peer_runs.proofs.peer_run.run_event.Goals as goal
 
 pub returns-in-Response : goal.returns-in-Response
-returns-in-Response g c = λ h k b.
+returns-in-Response g c = other_called c.args.peer.now c.hear-outcome.new.self c.args.wishes.now c.args.tickets.now c.args.tickets.now None c.args.event.now
+    (events.Response c.in-Response.now c.in-Response.bytes) (entries.Asked (asked.Took c.hear-outcome.result)) tt c.in-Response.is (λ h k b.
     let old = c.args.peer.now in
     let new = c.hear-outcome.new.self in
     let ts = values_in c.args.tickets.now in
@@ -25,10 +25,11 @@ returns-in-Response g c = λ h k b.
     let m = client.Then k (client.Datagram c.in-Response.now c.in-Response.bytes.items) (client.Took t.answer) in
     let same = c.hear-outcome.ensures.same in
     let both = asked_alone old.server new.server new.client old.source new.source h m b.server (record { agrees = t.agrees; least = b.client.least }) same in
-    (h, m, subst (λ (e : PeerEvent). RunStep g.row.N (peer_state h k old.source ts) e (entries.Asked (asked.Took outcome)) (peer_state h m new.source us)) (sym c.in-Response.is) ((t.answer, t.shows, (t.row, refl), refl, same.1, refl), above new.server new.client new.source h m us both), both)
+    (h, m, ((t.answer, t.shows, (t.row, refl), refl, same.1, refl), refl, above new.server new.client new.source h m us both), both))
 
 pub returns-in-Forget : goal.returns-in-Forget
-returns-in-Forget g c = λ h k b.
+returns-in-Forget g c = other_called c.args.peer.now c.forget-was_pending.new.self c.args.wishes.now c.args.tickets.now c.args.tickets.now None c.args.event.now
+    (events.Forget c.in-Forget.token) (entries.Asked (asked.Forgot c.forget-was_pending.result)) tt c.in-Forget.is (λ h k b.
     let old = c.args.peer.now in
     let new = c.forget-was_pending.new.self in
     let ts = values_in c.args.tickets.now in
@@ -39,10 +40,11 @@ returns-in-Forget g c = λ h k b.
     let m = client.Then k (client.Forget c.in-Forget.token.items) (client.Forgot was_pending) in
     let same = c.forget-was_pending.ensures.same in
     let both = asked_alone old.server new.server new.client old.source new.source h m b.server (record { agrees = agrees; least = b.client.least }) same in
-    (h, m, subst (λ (e : PeerEvent). RunStep g.row.N (peer_state h k old.source ts) e (entries.Asked (asked.Forgot was_pending)) (peer_state h m new.source us)) (sym c.in-Forget.is) (((row, refl), refl, same.1, refl), above new.server new.client new.source h m us both), both)
+    (h, m, (((row, refl), refl, same.1, refl), refl, above new.server new.client new.source h m us both), both))
 
 pub returns-in-Advance : goal.returns-in-Advance
-returns-in-Advance g c = λ h k b.
+returns-in-Advance g c = other_called c.args.peer.now c.advance.new.self c.args.wishes.now c.args.tickets.now c.args.tickets.now None c.args.event.now
+    (events.Advance c.in-Advance.now) (entries.Advanced) tt c.in-Advance.is (λ h k b.
     let old = c.args.peer.now in
     let new = c.advance.new.self in
     let ts = values_in c.args.tickets.now in
@@ -52,29 +54,30 @@ returns-in-Advance g c = λ h k b.
     (c.advance.ensures.server h b.server.agrees) (c.advance.ensures.client k b.client.agrees) c.advance.ensures.source in
     let after = server.Then h (server.Advance now) server.Advanced in
     let m = client.Then k (client.Advance now) client.Advanced in
-    (after, m, subst (λ (e : PeerEvent). RunStep g.row.N (peer_state h k old.source ts) e entries.Advanced (peer_state after m new.source us)) (sym c.in-Advance.is) ((refl, refl, c.advance.ensures.source, refl), above new.server new.client new.source after m us both), both)
+    (after, m, ((refl, refl, c.advance.ensures.source, refl), refl, above new.server new.client new.source after m us both), both))
 
 pub returns-in-Datagram : goal.returns-in-Datagram
 returns-in-Datagram g c =
     let made = c.serve_datagram.result in
     let ts = c.args.tickets.now in
-    calls_same c.args.peer.now c.serve_datagram.new.peer ts ts made.1 c.args.event.now (events.Datagram c.in-Datagram.arrival) made.0 c.in-Datagram.is c.serve_datagram.ensures
+    other_called c.args.peer.now c.serve_datagram.new.peer c.args.wishes.now ts ts made.1 c.args.event.now (events.Datagram c.in-Datagram.arrival) made.0 tt c.in-Datagram.is c.serve_datagram.ensures
 
 pub returns-in-Reply : goal.returns-in-Reply
 returns-in-Reply g c =
-    calls_same c.args.peer.now c.serve_reply.new.peer c.args.tickets.now c.serve_reply.new.tickets None c.args.event.now (events.Reply c.in-Reply.answering) c.serve_reply.result c.in-Reply.is c.serve_reply.ensures
+    other_called c.args.peer.now c.serve_reply.new.peer c.args.wishes.now c.args.tickets.now c.serve_reply.new.tickets None c.args.event.now (events.Reply c.in-Reply.answering) c.serve_reply.result tt c.in-Reply.is c.serve_reply.ensures
 
 pub returns-in-Challenge : goal.returns-in-Challenge
 returns-in-Challenge g c =
-    calls_same c.args.peer.now c.serve_challenge.new.peer c.args.tickets.now c.serve_challenge.new.tickets None c.args.event.now (events.Challenge c.in-Challenge.challenging) c.serve_challenge.result c.in-Challenge.is c.serve_challenge.ensures
+    other_called c.args.peer.now c.serve_challenge.new.peer c.args.wishes.now c.args.tickets.now c.serve_challenge.new.tickets None c.args.event.now (events.Challenge c.in-Challenge.challenging) c.serve_challenge.result tt c.in-Challenge.is c.serve_challenge.ensures
 
 pub returns-in-Notify : goal.returns-in-Notify
 returns-in-Notify g c =
     let ts = c.args.tickets.now in
-    calls_same c.args.peer.now c.serve_notification.new.peer ts ts None c.args.event.now (events.Notify c.in-Notify.notifying) c.serve_notification.result c.in-Notify.is c.serve_notification.ensures
+    other_called c.args.peer.now c.serve_notification.new.peer c.args.wishes.now ts ts None c.args.event.now (events.Notify c.in-Notify.notifying) c.serve_notification.result tt c.in-Notify.is c.serve_notification.ensures
 
 pub returns-in-Request : goal.returns-in-Request
-returns-in-Request g c = λ h k b.
+returns-in-Request g c = other_called c.args.peer.now c.make_request.new.peer c.args.wishes.now c.args.tickets.now c.args.tickets.now None c.args.event.now
+    (events.Request c.in-Request.now c.in-Request.plain c.in-Request.out) (entries.Asked c.make_request.result) tt c.in-Request.is (λ h k b.
     let n = g.row.N in
     let old = c.args.peer.now in
     let new = c.make_request.new.peer in
@@ -87,4 +90,11 @@ returns-in-Request g c = λ h k b.
     let t = peer_state after m new.source us in
     let given = subst (λ (d : List ℕ). RequestStep n s now d (length c.deref_mut.result.now) entry t) c.deref.ensures.value step in
     let whole = subst (λ (d : List ℕ). RequestStep n s now c.in-Request.plain.items (length d) entry t) c.deref_mut.ensures.value given in
-    (after, m, subst (λ (e : PeerEvent). RunStep n s e (entries.Asked entry) t) (sym c.in-Request.is) ((whole, refl), above new.server new.client new.source after m us both), both)
+    (after, m, ((whole, refl), refl, above new.server new.client new.source after m us both), both))
+
+pub returns-in-Fresh : goal.returns-in-Fresh
+returns-in-Fresh g c =
+    let made = c.serve_fresh.result in
+    let ts = c.args.tickets.now in
+    wishing_same c.args.peer.now c.serve_fresh.new.peer c.args.wishes.now c.serve_fresh.new.wishes ts ts made.1 c.args.event.now (events.Fresh c.in-Fresh.fresh_ms c.in-Fresh.arrival) made.0
+    c.in-Fresh.is c.serve_fresh.ensures

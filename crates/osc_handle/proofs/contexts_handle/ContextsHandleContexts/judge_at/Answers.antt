@@ -1,13 +1,13 @@
-use Rattle.std.proofs.Common.{◌∙◌, ◌∷◌, [], arith, Some, refl, subst, sym}
+use Rattle.std.proofs.Common.{◌∙◌, ◌∷◌, [], arith, Some, refl, sym}
 use Rattle.osc_context.specs.Views.{number_of}
-use Rattle.osc_life.specs.Judging.{GateRefuses}
-use Rattle.osc_handle.proofs.Tables.{bytes_kept, judged_in, leaves_in, named_in, named_used, replayed_in, slot_at, table_kept}
+use Rattle.osc_handle.proofs.Tables.{bytes_kept, judged_in, leaves_in, named_in, named_used, refuses_alike, replayed_in, slot_at, table_kept}
 use Rattle.osc_handle.proofs.contexts_handle.ContextsHandleContexts.judge_at.Goals as goal
 
 pub returns-then-is_replay-clause-decided : goal.returns-then-is_replay-clause-decided
 returns-then-is_replay-clause-decided c = λ slots lives there agrees.
     replayed_in c.args.self.now slots lives c.args.request c.args.datagram.now c.refuse_replay.result _ _ c.in-Some.gate c.requires.named there agrees c.in-Some.ensures.made
-    (λ s l same a. c.refuse_replay.ensures.decided s l c.args.datagram.now a (subst (λ g. GateRefuses g (number_of c.args.request.number)) (sym same) (c.if-is_replay.ensures.yes refl)) c.requires.asker)
+    (λ s l same sure a.
+    c.refuse_replay.ensures.decided s l c.args.datagram.now a (refuses_alike s c.in-Some.gate (number_of c.args.request.number) same sure (c.if-is_replay.ensures.yes refl)) c.requires.asker)
 
 pub bounds-self-request-2 : goal.bounds-self-request-2
 bounds-self-request-2 c =
@@ -34,7 +34,8 @@ pub returns-clause-decided : goal.returns-clause-decided
 returns-clause-decided c = λ slots lives there agrees.
     let n = named_in c.args.self.now c.args.request c.args.datagram.now _ c.slot_with-slot.result c.requires.named c.slot_with-slot.ensures.made in
     judged_in c.args.self.now slots lives c.args.request c.args.datagram.now c.judge_new-decided.result c.judge_new-decided.new.datagram _ c.slot_with-slot.result c.judge_new-decided.new.self _ n there agrees
-    c.judge_new-decided.ensures.decided c.judge_new-decided.ensures.context (λ size. c.keep.ensures.kept c.slot_with-slot.result c.slot_with-slot.ensures.made c.judge_new-decided.ensures.context size)
+    c.judge_new-decided.ensures.decided c.judge_new-decided.ensures.context (λ size.
+    c.keep.ensures.kept c.slot_with-slot.result c.slot_with-slot.ensures.made c.judge_new-decided.ensures.context size (c.judge_new-decided.ensures.doubt ∙ c.slot_with-slot.ensures.made.doubt))
 
 pub returns-clause-leaves : goal.returns-clause-leaves
 returns-clause-leaves c = λ slots there.

@@ -1,5 +1,7 @@
-use Rattle.std.proofs.Common.{◌≡◌, sym, subst}
+use Rattle.std.proofs.Common.{◌≡◌, subst}
 use Rattle.osc_protect.specs.Views.{message_of}
+use Rattle.osc_context.specs.Views.{number_of}
+use Rattle.osc_life.specs.Doubting.{OpensBy, StaysBy}
 use Rattle.osc_life.specs.Life.{Carries, in_force}
 use Rattle.osc_life.proofs.slot.Slot.admits_read.Goals as goal
 
@@ -7,14 +9,14 @@ pub returns-clause-yes : goal.returns-clause-yes
 returns-clause-yes c = λ yes l a closed x s d n m can decrypts protects.
     let o = c.opened.ensures x can s d decrypts in
     let same : message_of c.opened.result ≡ m = (c.one_request.ensures s).message d o.number n (message_of c.opened.result) m o.protects protects in
-    subst (Carries (in_force l c.args.clock)) same (c.admits.ensures.yes yes l a closed)
+    subst (λ k. OpensBy l.doubt (number_of c.args.number) (Carries (in_force l c.args.clock) k)) same (c.admits.ensures.yes yes l a closed)
 
 pub returns-clause-no : goal.returns-clause-no
 returns-clause-no c = λ no l a.
     let (closed, never) = c.admits.ensures.no no l a in (
       closed,
-      (λ x s d n m can decrypts protects carries.
+      (λ x s d n m can decrypts protects.
           let o = c.opened.ensures x can s d decrypts in
           let same : message_of c.opened.result ≡ m = (c.one_request.ensures s).message d o.number n (message_of c.opened.result) m o.protects protects in
-          never (subst (Carries (in_force l c.args.clock)) (sym same) carries)),
+          subst (λ k. StaysBy l.doubt (number_of c.args.number) (Carries (in_force l c.args.clock) k)) same never),
     )

@@ -14,7 +14,7 @@ returns-in_default-clause-decided c = λ l d a decrypts named asker.
 pub returns-then-not-admits_read-clause-decided : goal.returns-then-not-admits_read-clause-decided
 returns-then-not-admits_read-clause-decided c = λ l d a decrypts named asker.
     c.demand.ensures.decided l d c.args.datagram.now a
-    (wants_echo l c.args.request d c.args.datagram.now c.args.decrypted c.in-Ok.read c.args.self.now c.one_reading.ensures.request a named decrypts c.in-Ok.ensures.placed c.in-Ok.ensures.accepted (c.if-not-admits_read.ensures.no refl l a))
+    (wants_echo l c.args.request d c.args.datagram.now c.args.decrypted c.in-Ok.read c.args.self.now c.one_reading.ensures.request a named decrypts c.in-Ok.ensures.placed c.in-Ok.ensures.accepted c.requires.passes (c.if-not-admits_read.ensures.no refl l a))
     asker
 
 pub returns-clause-decided : goal.returns-clause-decided

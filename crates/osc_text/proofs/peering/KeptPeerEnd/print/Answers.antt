@@ -15,7 +15,7 @@ returns g c =
       n = vec_len log;
       lines = map (λ x. entry_line (peer_entry_text x)) log.items;
       served = λ h k a is.
-          let (m, l, us, run, after) = c.run_kept_peer-ran.ensures.run h k a in
+          let (m, l, us, last, run, after) = c.run_kept_peer-ran.ensures.run h k a in
           run_is (RunStep g.row.N) peer_seen IsRoomyPeer peer_entry_text (peer_state h k c.args.self.now.source []) _ _ log.items is (peer_steps g.row.N _ _ _ log.items run);
       written = rw (← c.as_slice.ensures.value) c.write_log.ensures.written;
       whole = ran_whole c.run_kept_peer-ran.result _ (vec_len log) _ c.run_kept_peer-ran.ensures.all c.write_log.ensures.whole;

@@ -22,7 +22,7 @@ returns-in-Ok g c =
     let (sender, received, mid, start, loads, least, rises, is_start, numbers, allowed, worked, served, asked) = c.in-Ok.ensures.begins in
     let s = peer_state (Then Begin (Add server start peering.window) (Added 0)) (New client sender peering.life_ms) c.in-Ok.peer.source [] in
     begun_told (RefusesPeer r.loads r.failures keeper) (StartsPeer r server client peering keeper) g.W.Write.contents SpellsPeer (PeerLine places) bytes c.args.out.now _ c.write_input.result s
-    (sender, received, mid, start, loads, least, rises, is_start, numbers, allowed, worked, refl, refl, refl)
+    (sender, received, mid, start, loads, least, rises, is_start, numbers, allowed, worked, refl, refl, refl, refl)
     (input_told g.W.Write.contents SpellsPeer (PeerLine places) peer_seen IsRoomyPeer _ s bytes c.args.out.now _ c.write_input.result
     (λ events lines told is. told s.served s.asked (record { server = served; client = asked }) is) c.write_input.ensures)
 

@@ -9,7 +9,7 @@ use Rattle.osc_kept_ends.specs.PeerOwning.{own_in}
 use Rattle.osc_kept_ends.specs.Peering.{ClientIsBehind, ServerIsBehind}
 use Rattle.osc_kept_ends.proofs.Drawing.{first_draw, upcoming_stays}
 use Rattle.osc_kept_ends.proofs.PeerSteps.{born_at, started_idle}
-use Rattle.osc_kept_ends.proofs.kept_peer.KeptPeer.start.Goals as goal
+use Rattle.osc_kept_ends.proofs.kept_peer.KeptPeer.start_ahead.Goals as goal
 
 pub returns-in_default : goal.returns-in_default
 returns-in_default g c =
@@ -44,7 +44,7 @@ begin-requires-2 g c = (
   omega arith,
   (
     upcoming_stays true (own_in c.in_ok-source.source) (own_in c.draw.new.self) (c.in-Ok-draw.ensures.drawn refl) ∙ ap upcoming c.in_ok-source.ensures.begins.1,
-    born_at (as_server c.args.context) c.in-Ok.start c.args.size (number_of c.in_ok-source.first) c.in_ok-source.received c.in-Ok.ensures.begins,
+    born_at (as_server c.args.context) c.args.ahead c.in-Ok.start c.args.size (number_of c.in_ok-source.first) c.in_ok-source.received c.in-Ok.ensures.begins,
   ),
 )
 
