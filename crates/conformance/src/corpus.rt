@@ -111,6 +111,7 @@ impl<'t> Corpus<'t> {
             | "kept-server"
             | "kept-client"
             | "kept-peer"
+            | "peers-in-turn"
             | "kept-server-bytes"
             | "kept-client-bytes" => {
                 ends::make(row.verb, row.fields, contexts, &mut answer);

@@ -4,7 +4,7 @@ use crate::answer::Answer;
 use crate::fields::NamedContext;
 use crate::keeper::Memory;
 use crate::steps::{Step, Way, steps_of};
-use crate::{client, kept, peer, server};
+use crate::{client, kept, peer, server, turns};
 use osc_kept::{KeptClient, KeptServer};
 use osc_kept_handle::{KeptClientHandle, KeptServerHandle};
 use std::alloc::AllocError;
@@ -69,6 +69,7 @@ pub(crate) fn make<'t>(
         "kept-server" => kept::over_all::<KeptServer<Memory<'_>>>(&steps, answer),
         "kept-client" => kept::over_all::<KeptClient<Memory<'_>, 2>>(&steps, answer),
         "kept-peer" => peer::over_both(&steps, answer),
+        "peers-in-turn" => turns::make(&steps, answer),
         "kept-server-bytes" => in_both_ways::<KeptServerHandle>(first, rest, answer),
         "kept-client-bytes" => in_both_ways::<KeptClientHandle>(first, rest, answer),
         _ => answer.is_whole = false,

@@ -5,6 +5,7 @@ ghost use Rattle.osc_life.specs.Deciding.{CanShow};
 ghost use Rattle.osc_fresh.specs.Admitting.{IfDecided};
 
 use crate::answer::Answer;
+use crate::client_entry;
 use crate::fields::Fields;
 use crate::peer::Peer;
 use crate::server_end::lent;
@@ -12,8 +13,9 @@ use crate::server_entry::show;
 use crate::steps::{FILLED_WITH, Step, Way};
 use osc_context::KeeperError;
 use osc_endpoint::siblings::{put_back, take_out};
-use osc_endpoint::{ClientOutcome, Outcome, ServerEntry, Taken, Ticket};
+use osc_endpoint::{ClientEntry, ClientOutcome, Outcome, ServerEntry, Taken, Ticket};
 use osc_fresh::{Budget, DecidedFresh, Followed, HeardEcho, Wishes};
+use osc_protect::head_of_request;
 
 /// Shows how old the request of a delivery is at most, if the wishes know that.
 fn show_age(wishes: &Wishes, now: u64, outcome: &Outcome<'_>, answer: &mut Answer) {
@@ -166,6 +168,33 @@ pub(crate) fn heard(heard: &HeardEcho, answer: &mut Answer) {
     match heard.value() {
         Some(value) => answer.bytes(value),
         None => answer.bytes(&[]),
+    }
+}
+
+/// Shows a request that was sealed. The call returns only a length, so the number is read from the bytes.
+pub(crate) fn show_sent(datagram: &[u8], answer: &mut Answer) {
+    match head_of_request(datagram) {
+        Ok(head) => {
+            let number = head.number;
+            client_entry::show(&ClientEntry::Sent { number, datagram }, answer);
+        }
+        Err(_) => answer.is_whole = false,
+    }
+}
+
+/// Makes `echo NOW PLAIN WRITTEN ROOM`: seals a request with the Echo value that was heard last. The plain message with that value has room of
+/// WRITTEN bytes.
+pub(crate) fn echo(peer: &mut Peer<'_>, heard: &HeardEcho, step: &Step<'_>, answer: &mut Answer) {
+    let fields = &step.fields;
+    fields.count(4);
+    let Some(plain) = fields.message(1) else {
+        return;
+    };
+    let mut written = fields.room(2, FILLED_WITH);
+    let mut out = fields.room(3, FILLED_WITH);
+    match heard.request_with_echo(peer, fields.number(0), &plain, &mut written, &mut out) {
+        Ok(len) => show_sent(out.get(..len).unwrap_or(&[]), answer),
+        Err(refusal) => answer.refused(refusal),
     }
 }
 

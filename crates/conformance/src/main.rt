@@ -36,6 +36,7 @@ mod server_entry;
 mod server_events;
 mod steps;
 mod texts;
+mod turns;
 mod verbs;
 mod window;
 mod writing;

@@ -199,6 +199,7 @@ fn make(asking: &mut Asking<'_>, steps: &[Step<'_>], way: Way, answer: &mut Answ
                 }
                 "listen" => freshening::listen(&mut asking.peer, &mut asking.heard, step, answer),
                 "heard" => freshening::heard(&asking.heard, answer),
+                "echo" => freshening::echo(&mut asking.peer, &asking.heard, step, answer),
                 _ => server_calls::make_step(asking, &mut tickets, step, way, answer, &mut left),
             }
         }

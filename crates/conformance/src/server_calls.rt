@@ -3,12 +3,14 @@
 use crate::answer::Answer;
 use crate::refusal::{Made, Refusal, show_word};
 use crate::server_end::{Moment, Reply, ServerEnd};
-use crate::server_entry::show;
+use crate::server_entry::{number_in, show};
 use crate::server_events::{addition, event_of, show_left};
 use crate::steps::{Step, Way};
 use osc_coap::parse;
 use osc_endpoint::siblings::{put_back, take_out, ticket_at};
-use osc_endpoint::{Answering, Arrival, Notifying, ServerEntry, ServerEvent, Taken, Ticket};
+use osc_endpoint::{
+    Answering, Arrival, Notifying, SealedResponse, ServerEntry, ServerEvent, Taken, Ticket,
+};
 
 /// Takes a datagram, by one call, by its two halves, or by the call that counts. Returns the ticket of a delivery too.
 fn take<'a, S: ServerEnd>(
@@ -35,10 +37,11 @@ fn take<'a, S: ServerEnd>(
     Ok((ServerEntry::Took { seen, reply }, ticket))
 }
 
-/// Returns the entry of a message that was sealed into a room.
+/// Returns the entry of a message that was sealed into a room. The call returns only a length, so the number is read from the bytes.
 fn sealed(len: usize, out: &[u8]) -> Made<ServerEntry<'_>> {
-    let bytes = out.get(..len).ok_or(Refusal::Bad)?;
-    Ok(ServerEntry::Replied(Ok(bytes)))
+    let datagram = out.get(..len).ok_or(Refusal::Bad)?;
+    let number = number_in(datagram);
+    Ok(ServerEntry::Replied(Ok(SealedResponse { number, datagram })))
 }
 
 /// Replies to the request of an earlier event.

@@ -2,6 +2,9 @@
 
 use crate::answer::Answer;
 use crate::protection::show_opened;
+use osc_coap::option_numbers::OSCORE;
+use osc_coap::parse;
+use osc_context::{OscoreOption, Piv};
 use osc_endpoint::{Seen, ServerEntry};
 
 /// Returns the word for what the server made of a datagram.
@@ -44,16 +47,31 @@ fn show_seen(seen: &Seen<'_>, answer: &mut Answer) {
     }
 }
 
-/// Shows an entry. A datagram's entry ends with the reply.
+/// Returns the Partial IV that a datagram has in its OSCORE option.
+pub(crate) fn number_in(datagram: &[u8]) -> Option<Piv> {
+    let Ok(message) = parse(datagram) else {
+        return None;
+    };
+    let value = message.options().first(OSCORE)?;
+    match OscoreOption::read(value) {
+        Ok(option) => option.piv,
+        Err(_) => None,
+    }
+}
+
+/// Shows an entry. A datagram's entry ends with the reply. That of a response says so if its number isn't the one in the datagram.
 pub(crate) fn show(entry: &ServerEntry<'_>, answer: &mut Answer) {
     match entry {
         ServerEntry::Took { seen, reply } => {
             show_seen(seen, answer);
             answer.bytes(reply);
         }
-        ServerEntry::Replied(Ok(bytes)) => {
+        ServerEntry::Replied(Ok(sealed)) => {
             answer.word("replied");
-            answer.bytes(bytes);
+            answer.bytes(sealed.datagram);
+            if sealed.number != number_in(sealed.datagram) {
+                answer.word("of-another-number");
+            }
         }
         ServerEntry::Replied(Err(refusal)) => answer.refused(*refusal),
         ServerEntry::NoTicket => answer.word("no-ticket"),

@@ -2,6 +2,7 @@
 -- ws those that no reply took: the run's own, those that it dropped, and those that were left before it began.
 use Rattle.std.proofs.Common.{◌≡◌, ℕ, zero, suc, ◌∙◌, sym, ap, subst, refl, Bool, Option, Some, None, Ok, Err, List, [], ◌∷◌, ◌++◌, slice_set, ◌⊎◌, inl, inr}
 use Rattle.std.proofs.lemmas.List.{append_assoc}
+use Rattle.osc_coap.specs.Datagram.{Parts}
 use Rattle.osc_endpoint.specs.declared.server_event.ServerEvent.{ServerEvent}
 use Rattle.osc_endpoint.specs.declared.server_event.ServerEvent.TheVariants as events
 use Rattle.osc_endpoint.specs.declared.server_event.ServerEntry.{ServerEntry}
@@ -105,17 +106,30 @@ took h now mid echo d (Deliver received ticket) reply ts us is (ws, left, within
     (ticket ∷ ws, (ws, left, refl), subst (λ xs. IsWithin (xs ++ []) (ticket ∷ ws)) (sym (ap left_in is ∙ left_more ts (Some ticket))) (inl (refl, within)))
 took h now mid echo d answer reply ts us is left = no_more h ts us is left
 
+-- a reply that was sealed takes its ticket
+pub reply_takes : (h : History) (of mid room : ℕ) (own : Bool) (text : List ℕ) (t : TicketValues) (p : Parts) (ts us : List (Option TicketValues))
+    → ticket_at ts of ≡ Some t → us ≡ slice_set ts of None → IsLeftTo h ts → IsLeftTo (Then h (Reply t own mid p room) (Replied text)) us
+reply_takes h of mid room own text t p ts us at out (ws, left, within) =
+    let (front, back, was, is) = taken_out ts of t [] at in
+    let k = out_within front back ws t (subst (λ xs. IsWithin xs ws) was within) in
+    let now : IsWithin (left_in us ++ []) k.after = subst (λ xs. IsWithin xs k.after) (sym (ap (λ vs. left_in vs ++ []) out ∙ is)) k.within in
+    (k.after, (ws, left, k.taken), now)
+
+-- a notification that was sealed leaves its ticket
+pub notification_leaves : (h : History) (of room : ℕ) (text : List ℕ) (t : TicketValues) (p : Parts) (ts : List (Option TicketValues))
+    → ticket_at ts of ≡ Some t → IsLeftTo h ts → IsLeftTo (Then h (Notify t p room) (Replied text)) ts
+notification_leaves h of room text t p ts at (ws, left, within) =
+    let (front, back, was, is) = taken_out ts of t [] at in
+    let (before, behind, among, out) = (out_within front back ws t (subst (λ xs. IsWithin xs ws) was within)).taken in
+    (ws, (left, (before, behind, among)), within)
+
 -- what a reply leaves
 pub replied : (h g : History) (ts us : List (Option TicketValues)) (of mid : ℕ) (own : Bool) (plain : List ℕ) (room : ℕ) (x : ServerEntry)
     → ReplyStep h ts of own mid plain room x g us → IsLeftTo h ts → IsLeftTo g us
 replied h g ts us of mid own plain room entries.NoTicket (none, same, kept) left = unchanged h g ts us same kept left
 replied h g ts us of mid own plain room (entries.BadPlain e) (t, at, fault, same, kept) left = unchanged h g ts us same kept left
-replied h g ts us of mid own plain room (entries.Replied (Ok text)) (t, at, p, datagram, (answers, goes), out) (ws, left, within) =
-    let (front, back, was, is) = taken_out ts of t [] at in
-    let k = out_within front back ws t (subst (λ xs. IsWithin xs ws) was within) in
-    let now : IsWithin (left_in us ++ []) k.after = subst (λ xs. IsWithin xs k.after) (sym (ap (λ vs. left_in vs ++ []) out ∙ is)) k.within in
-    let after : IsLeftTo (Then h (Reply t (asks_own t own) mid p room) (Replied text.now)) us = (k.after, (ws, left, k.taken), now) in
-    subst (λ k. IsLeftTo k us) (sym goes) after
+replied h g ts us of mid own plain room (entries.Replied (Ok sealed)) (t, at, p, datagram, (answers, goes), out, number) left =
+    subst (λ k. IsLeftTo k us) (sym goes) (reply_takes h of mid room (asks_own t own) sealed.datagram.now t p ts us at out left)
 replied h g ts us of mid own plain room (entries.Replied (Err e)) (t, at, p, datagram, (answers, goes), kept) left =
     subst (λ k. IsLeftTo k us) (sym goes) (unchanged h h ts us refl kept left)
 replied h g ts us of mid own plain room x step left = absurd step
@@ -124,11 +138,8 @@ replied h g ts us of mid own plain room x step left = absurd step
 pub notified : (h g : History) (ts : List (Option TicketValues)) (of : ℕ) (plain : List ℕ) (room : ℕ) (x : ServerEntry) → NotifyStep h ts of plain room x g → IsLeftTo h ts → IsLeftTo g ts
 notified h g ts of plain room entries.NoTicket (none, same) left = unchanged h g ts ts same refl left
 notified h g ts of plain room (entries.BadPlain e) (t, at, fault, same) left = unchanged h g ts ts same refl left
-notified h g ts of plain room (entries.Replied (Ok text)) (t, at, p, datagram, (answers, goes)) (ws, left, within) =
-    let (front, back, was, is) = taken_out ts of t [] at in
-    let (before, behind, among, out) = (out_within front back ws t (subst (λ xs. IsWithin xs ws) was within)).taken in
-    let after : IsLeftTo (Then h (Notify t p room) (Replied text.now)) ts = (ws, (left, (before, behind, among)), within) in
-    subst (λ k. IsLeftTo k ts) (sym goes) after
+notified h g ts of plain room (entries.Replied (Ok sealed)) (t, at, p, datagram, (answers, goes), number) left =
+    subst (λ k. IsLeftTo k ts) (sym goes) (notification_leaves h of room sealed.datagram.now t p ts at left)
 notified h g ts of plain room (entries.Replied (Err e)) (t, at, p, datagram, (answers, goes)) left = subst (λ k. IsLeftTo k ts) (sym goes) left
 notified h g ts of plain room x step left = absurd step
 

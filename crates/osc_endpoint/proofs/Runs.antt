@@ -1,7 +1,9 @@
 -- Runs of a server, one event after another.
-use Rattle.std.proofs.Common.{◌≡◌, ℕ, zero, suc, ◌∙◌, sym, ap, subst, refl, Option, Some, None, Ok, Err, List, [], ◌∷◌, ◌++◌, take, slice_set}
-use Rattle.std.specs.Prelude.{is_some, slice_get}
+use Rattle.std.proofs.Common.{◌≡◌, ◌<◌, ◌^◌, ℕ, zero, suc, ◌∙◌, sym, ap, subst, refl, Bool, true, Option, Some, None, Ok, Err, List, [], ◌∷◌, ◌++◌, take, slice_set}
+use Rattle.std.specs.Prelude.{if◌then◌else◌, is_some, slice_get}
 use Rattle.std.specs.Option.{option_and_then, option_map}
+use Rattle.osc_context.specs.Views.{number_of}
+use Rattle.osc_context.specs.declared.partial_iv.Piv.{Piv}
 use Rattle.osc_life.specs.declared.ticket.Ticket.{Ticket}
 use Rattle.osc_endpoint.specs.declared.server.Server.{Server}
 use Rattle.osc_endpoint.specs.declared.server_event.ServerEvent.{ServerEvent}
@@ -9,8 +11,9 @@ use Rattle.osc_endpoint.specs.declared.server_event.ServerEvent.TheVariants as e
 use Rattle.osc_endpoint.specs.declared.server_event.ServerEntry.{ServerEntry}
 use Rattle.osc_endpoint.specs.declared.server_event.ServerEntry.TheVariants as entries
 use Rattle.osc_endpoint.specs.Agrees.{Agrees}
-use Rattle.osc_life.specs.ServerHistory.{History, TicketValues}
-use Rattle.osc_endpoint.specs.ServerRun.{Run, ServerRunStep, ticket_at, values_in}
+use Rattle.osc_life.specs.Life.{Life, HasOwn, next_own}
+use Rattle.osc_life.specs.ServerHistory.{History, TicketValues, life}
+use Rattle.osc_endpoint.specs.ServerRun.{Run, ServerRunStep, response_number, ticket_at, values_in}
 use Rattle.osc_endpoint.specs.Serving.{Serves}
 use Rattle.osc_life.specs.Views.{values_of}
 
@@ -74,6 +77,15 @@ pub no_ticket : (h : History) (s : Server) (ts after : List (Option Ticket)) (of
     → None ≡ option_and_then (λ t. t) (slice_get ts of) → after ≡ slice_set ts of None
     → (g : History) × ((ticket_at (values_in ts) of ≡ None) × (g ≡ h) × (values_in after ≡ values_in ts)) × Agrees s g
 no_ticket h s ts after of a none is = (h, (ticket_seen ts of ∙ ap (option_map values_of) (sym none), refl, ap values_in (is ∙ none_taken ts of none)), a)
+
+-- ---- the number of a response
+
+-- it is the next one of the ticket's context, which is there and has one left if one is asked for
+pub number_is : (h : History) (t : TicketValues) (own : Bool) (of : Life) (next : Option ℕ) (number : Option Piv) → life h t.context ≡ Some of → (own ≡ true → HasOwn of)
+    → next ≡ option_map next_own (life h t.context) → ((n : ℕ) → next ≡ Some n → (own ≡ true → n < 2 ^ 40) → option_map number_of number ≡ (if own then Some n else None))
+    → option_map number_of number ≡ response_number h t own
+number_is h t own of next number there has is made =
+    made (next_own of) (is ∙ ap (option_map next_own) there) has ∙ ap (λ (o : Option Life). if own then option_map next_own o else None) (sym there)
 
 -- one event more, over the front of all events
 pub run_on : (h mid g : History) (all : List ServerEvent) (i j : ℕ) (log after : List ServerEntry) (e : ServerEvent) (x : ServerEntry)

@@ -1,6 +1,6 @@
 -- To be believed: a run of a server: the log of its events, and the history that they add to. h and g are the histories before and after,
 -- ts and us the tickets that the run has before and after, one place for each event.
-use Rattle.std.specs.Prelude.{◌≡◌, ◌++◌, ◌∷◌, [], ℕ, List, Bool, Option, Some, None, Ok, Err, map, length, is_some, slice_get, slice_set}
+use Rattle.std.specs.Prelude.{◌≡◌, ◌++◌, ◌∷◌, [], ℕ, List, Bool, true, Option, Some, None, Ok, Err, if◌then◌else◌, map, length, is_some, slice_get, slice_set}
 use Rattle.std.specs.Option.{option_and_then, option_map}
 use Rattle.osc_coap.specs.Datagram.{Parts, IsDatagram}
 use Rattle.osc_coap.specs.Fault.{HasFault}
@@ -9,7 +9,8 @@ use Rattle.osc_endpoint.specs.declared.server_event.ServerEvent.{ServerEvent}
 use Rattle.osc_endpoint.specs.declared.server_event.ServerEvent.TheVariants as events
 use Rattle.osc_endpoint.specs.declared.server_event.ServerEntry.{ServerEntry}
 use Rattle.osc_endpoint.specs.declared.server_event.ServerEntry.TheVariants as entries
-use Rattle.osc_life.specs.ServerHistory.{History, Then, Event, Entry, Answer, TicketValues, Datagram, Reply, Notify, Restart, Took, Replied, NotReplied, Restarted, NotRestarted}
+use Rattle.osc_life.specs.Life.{next_own}
+use Rattle.osc_life.specs.ServerHistory.{History, Then, Event, Entry, Answer, TicketValues, Datagram, Reply, Notify, Restart, Took, Replied, NotReplied, Restarted, NotRestarted, life}
 use Rattle.osc_endpoint.specs.ServerAnswer.{ServerAnswer}
 use Rattle.osc_life.specs.LifeAnswer.{asks_own}
 use Rattle.osc_life.specs.Views.{values_of}
@@ -24,26 +25,32 @@ ticket_at ts i = option_and_then (λ t. t) (slice_get ts i)
 abbrev pub GoesOn : History → Event → Entry → History → Type 0
 GoesOn h event entry g = ServerAnswer h event entry × (g ≡ Then h event entry)
 
--- a reply by the ticket at this place; an accepted reply takes the ticket, and has a Partial IV of its own if the ticket's request registers an observation
--- (own rule; RFC 8613, 4.1.3.5)
+-- the Sender Sequence Number of a response by this ticket, if it has a Partial IV of its own: the next one of its context (RFC 8613, 8.3)
+abbrev pub response_number : History → TicketValues → Bool → Option ℕ
+response_number h t own = if own then option_map next_own (life h t.context) else None
+
+-- a reply by the ticket at this place; an accepted reply takes the ticket, and has a Partial IV of its own if the ticket's request registers an observation;
+-- the entry has its number (own rule; RFC 8613, 4.1.3.5)
 abbrev pub ReplyStep : History → List (Option TicketValues) → ℕ → Bool → ℕ → List ℕ → ℕ → ServerEntry → History → List (Option TicketValues) → Type 0
 ReplyStep h ts of own mid plain room entries.NoTicket g us = (ticket_at ts of ≡ None) × (g ≡ h) × (us ≡ ts)
 ReplyStep h ts of own mid plain room (entries.BadPlain e) g us =
     (t : TicketValues) × (ticket_at ts of ≡ Some t) × HasFault plain e.fault e.place × (g ≡ h) × (us ≡ ts)
-ReplyStep h ts of own mid plain room (entries.Replied (Ok text)) g us =
+ReplyStep h ts of own mid plain room (entries.Replied (Ok sealed)) g us =
     (t : TicketValues) × (ticket_at ts of ≡ Some t) × (p : Parts) × IsDatagram p plain
-    × GoesOn h (Reply t (asks_own t own) mid p room) (Replied text.now) g × (us ≡ slice_set ts of None)
+    × GoesOn h (Reply t (asks_own t own) mid p room) (Replied sealed.datagram.now) g × (us ≡ slice_set ts of None)
+    × (option_map number_of sealed.number ≡ response_number h t (asks_own t own))
 ReplyStep h ts of own mid plain room (entries.Replied (Err e)) g us =
     (t : TicketValues) × (ticket_at ts of ≡ Some t) × (p : Parts) × IsDatagram p plain
     × GoesOn h (Reply t (asks_own t own) mid p room) (NotReplied e) g × (us ≡ ts)
 ReplyStep h ts of own mid plain room entry g us = ⊥
 
--- a notification by the ticket at this place, which stays (own rule)
+-- a notification by the ticket at this place, which stays; the entry has its number (own rule)
 abbrev pub NotifyStep : History → List (Option TicketValues) → ℕ → List ℕ → ℕ → ServerEntry → History → Type 0
 NotifyStep h ts of plain room entries.NoTicket g = (ticket_at ts of ≡ None) × (g ≡ h)
 NotifyStep h ts of plain room (entries.BadPlain e) g = (t : TicketValues) × (ticket_at ts of ≡ Some t) × HasFault plain e.fault e.place × (g ≡ h)
-NotifyStep h ts of plain room (entries.Replied (Ok text)) g =
-    (t : TicketValues) × (ticket_at ts of ≡ Some t) × (p : Parts) × IsDatagram p plain × GoesOn h (Notify t p room) (Replied text.now) g
+NotifyStep h ts of plain room (entries.Replied (Ok sealed)) g =
+    (t : TicketValues) × (ticket_at ts of ≡ Some t) × (p : Parts) × IsDatagram p plain × GoesOn h (Notify t p room) (Replied sealed.datagram.now) g
+    × (option_map number_of sealed.number ≡ response_number h t true)
 NotifyStep h ts of plain room (entries.Replied (Err e)) g =
     (t : TicketValues) × (ticket_at ts of ≡ Some t) × (p : Parts) × IsDatagram p plain × GoesOn h (Notify t p room) (NotReplied e) g
 NotifyStep h ts of plain room entry g = ⊥

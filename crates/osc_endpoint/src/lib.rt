@@ -25,7 +25,7 @@ pub use osc_life::{
     Taken, Ticket,
 };
 pub use server::Server;
-pub use server_event::{Answering, Arrival, Notifying, ServerEntry, ServerEvent};
+pub use server_event::{Answering, Arrival, Notifying, SealedResponse, ServerEntry, ServerEvent};
 pub use server_run::{run_server, run_server_on};
 
 /// The base of the crates that keep an end elsewhere: a server's table, its contexts and a client's requests as values, and the tickets of
@@ -33,6 +33,7 @@ pub use server_run::{run_server, run_server_on};
 #[doc(hidden)]
 pub mod siblings {
     pub use crate::contexts::Contexts;
+    pub use crate::server_run::sealed_number;
     pub use crate::server_take::decide_over;
     pub use osc_client::siblings::{Pending, Wait};
     pub use osc_life::siblings::{

@@ -47,13 +47,20 @@ pub enum ServerEvent {
     Restart { context: usize, next: Piv },
 }
 
+/// A response that was sealed: its Sender Sequence Number, if it has a Partial IV of its own (RFC 8613, 8.3), and its datagram.
+#[derive(Clone, Copy, Debug)]
+pub struct SealedResponse<'a> {
+    pub number: Option<Piv>,
+    pub datagram: &'a [u8],
+}
+
 /// The result of one event of a server's run.
 #[derive(Debug, Drop)]
 pub enum ServerEntry<'a> {
     /// What the server made of a datagram, and the reply, which has no bytes if there is none.
     Took { seen: Seen<'a>, reply: &'a [u8] },
     /// The reply or the notification that was sealed, or why none was sealed.
-    Replied(Result<&'a [u8], ReplyError>),
+    Replied(Result<SealedResponse<'a>, ReplyError>),
     /// No event at that index has a ticket left.
     NoTicket,
     /// The application's answer isn't a CoAP message.

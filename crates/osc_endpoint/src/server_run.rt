@@ -1,7 +1,8 @@
 //! Runs a server over a list of events.
 
-ghost use Rattle.std.specs.Prelude.{◌≡◌, ◌<◌, [], List, Option, None, length, take, drop, vec_len, OnOk, OnErr};
+ghost use Rattle.std.specs.Prelude.{◌≡◌, ◌<◌, ◌^◌, ℕ, [], List, Option, None, Some, true, if◌then◌else◌, length, take, drop, vec_len, OnOk, OnErr};
 ghost use Rattle.std.specs.Option.{option_map};
+ghost use Rattle.osc_context.specs.Views.{number_of};
 ghost use Rattle.osc_endpoint.specs.Agrees.{Agrees};
 ghost use Rattle.osc_endpoint.specs.Tickets.{TakesTickets};
 ghost use Rattle.osc_life.specs.ServerHistory.{History, TicketValues};
@@ -10,7 +11,9 @@ ghost use Rattle.osc_endpoint.specs.Serving.{Serves};
 ghost use Rattle.osc_life.specs.Views.{values_of};
 
 use crate::server::Server;
-use crate::server_event::{Answering, Arrival, Notifying, ServerEntry, ServerEvent};
+use crate::server_event::{
+    Answering, Arrival, Notifying, SealedResponse, ServerEntry, ServerEvent,
+};
 use osc_coap::parse;
 use osc_context::Piv;
 use osc_life::siblings::{make_places, put_back, take_out, ticket_at};
@@ -42,6 +45,18 @@ fn serve_datagram<'a>(
     (entry, ticket)
 }
 
+/// Returns the Sender Sequence Number of the response that is sealed next, if it has a Partial IV of its own. `next` is the number with which
+/// its context seals next (RFC 8613, 8.3).
+#[must_use]
+pub fn sealed_number(own: bool, next: Option<u64>) -> Option<Piv>
+    ensures { (n : ℕ) → next ≡ Some n → (own ≡ true → n < 2 ^ 40) → option_map number_of result ≡ (if own then Some n else None) }
+{
+    match next {
+        Some(next) if own => Piv::new(next),
+        _ => None,
+    }
+}
+
 /// Runs a reply by the ticket at an index. The entry borrows from the room for the reply.
 fn serve_reply<'a>(
     server: &mut Server,
@@ -66,8 +81,12 @@ fn serve_reply<'a>(
             return ServerEntry::BadPlain(error);
         }
     };
+    let number = sealed_number(ticket.asks_own(own), server.next(ticket.context()));
     match server.reply(ticket, own, mid, &message, out) {
-        Ok(len) => ServerEntry::Replied(Ok(&out[..len])),
+        Ok(len) => ServerEntry::Replied(Ok(SealedResponse {
+            number,
+            datagram: &out[..len],
+        })),
         Err((error, ticket)) => {
             put_back(tickets, of, ticket);
             ServerEntry::Replied(Err(error))
@@ -113,8 +132,12 @@ fn serve_notify<'a>(
         Ok(message) => message,
         Err(error) => return ServerEntry::BadPlain(error),
     };
+    let number = sealed_number(true, server.next(ticket.context()));
     match server.notify(ticket, &message, out) {
-        Ok(len) => ServerEntry::Replied(Ok(&out[..len])),
+        Ok(len) => ServerEntry::Replied(Ok(SealedResponse {
+            number,
+            datagram: &out[..len],
+        })),
         Err(error) => ServerEntry::Replied(Err(error)),
     }
 }

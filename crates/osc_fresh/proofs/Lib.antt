@@ -1,2 +1,5 @@
 pub mod Challenging
+pub mod Dues
+pub mod EchoAnswers
+pub mod EchoSides
 mod Budgets

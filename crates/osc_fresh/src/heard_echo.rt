@@ -58,7 +58,8 @@ impl HeardEcho {
         HeardEcho { value: None }
     }
 
-    /// Returns the value that was heard last, of 1 to 40 bytes, if there was one. Write it into the plain request as its Echo option, 252.
+    /// Returns the value that was heard last, of 1 to 40 bytes, if there was one. `request_with_echo` adds it to a request; for `request`, write
+    /// it into the plain message as its Echo option, 252.
     #[must_use]
     pub fn value(&self) -> Option<&[u8]>
         ensures { option_copied result ≡ heard_of self.now }

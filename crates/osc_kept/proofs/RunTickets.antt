@@ -1,14 +1,12 @@
 -- The tickets at the places of a run of a kept server are left: deliveries gave them, and no reply took them. h is the history before an event, ts and vs
 -- the tickets before and behind it, us those without the place of the event, o what stands there.
-use Rattle.std.proofs.Common.{◌≡◌, ℕ, ◌∙◌, ap, refl, Bool, Option, Some, None, Ok, List, [], ◌∷◌, ◌++◌, Bor, slice_set}
-use Rattle.osc_coap.specs.Datagram.{Parts, IsDatagram}
-use Rattle.osc_endpoint.specs.declared.server_event.ServerEntry.TheVariants as served
-use Rattle.osc_endpoint.specs.ServerAnswer.{ServerAnswer}
+use Rattle.std.proofs.Common.{◌≡◌, ℕ, ◌∙◌, ap, refl, Bool, Option, Some, None, List, [], ◌∷◌, ◌++◌, slice_set}
+use Rattle.osc_coap.specs.Datagram.{Parts}
 use Rattle.osc_life.specs.LifeAnswer.{asks_own}
 use Rattle.osc_life.specs.ServerHistory.{History, Then, Answer, Datagram, Notify, Replied, Reply, TicketValues, Took}
 use Rattle.osc_endpoint.specs.ServerRun.{ticket_at}
 use Rattle.osc_life.specs.Logged.{ticket_of}
-use Rattle.osc_endpoint.proofs.RunTickets.{IsLeftTo, no_more, notified, replied, took}
+use Rattle.osc_endpoint.proofs.RunTickets.{IsLeftTo, no_more, notification_leaves, reply_takes, took}
 use Rattle.osc_kept.specs.InWorld.{IsHeld}
 
 -- what stands at the places behind an event
@@ -25,19 +23,17 @@ pub took_more : (h : History) (now mid : ℕ) (echo d : List ℕ) (answer : Answ
 took_more h now mid echo d answer reply ts us vs o same gives more left = took h now mid echo d answer reply ts vs (places_are ts us vs o (ticket_of answer) same gives more) left
 
 -- a reply takes the one at its place, which was held
-pub replied_more : (h : History) (of mid room : ℕ) (own : Bool) (plain : List ℕ) (text : Bor (List ℕ)) (t : TicketValues) (p : Parts) (ts us vs : List (Option TicketValues)) (o : Option TicketValues)
-    → ticket_at ts of ≡ Some t → IsDatagram p plain → ServerAnswer h (Reply t (asks_own t own) mid p room) (Replied text.now) → us ≡ slice_set ts of None → o ≡ None → vs ≡ us ++ o ∷ []
-    → IsLeftTo h ts → IsHeld h t × IsLeftTo (Then h (Reply t (asks_own t own) mid p room) (Replied text.now)) vs
-replied_more h of mid room own plain text t p ts us vs o at datagram row out none more left =
-    let on : IsLeftTo (Then h (Reply t (asks_own t own) mid p room) (Replied text.now)) us =
-    replied h _ ts us of mid own plain room (served.Replied (Ok text)) (t, at, p, datagram, (row, refl), out) left in
-    ((on.1.0, on.0, on.1.1, on.1.2), none_more (Then h (Reply t (asks_own t own) mid p room) (Replied text.now)) us us vs o refl none more on)
+pub replied_more : (h : History) (of mid room : ℕ) (own : Bool) (text : List ℕ) (t : TicketValues) (p : Parts) (ts us vs : List (Option TicketValues)) (o : Option TicketValues)
+    → ticket_at ts of ≡ Some t → us ≡ slice_set ts of None → o ≡ None → vs ≡ us ++ o ∷ []
+    → IsLeftTo h ts → IsHeld h t × IsLeftTo (Then h (Reply t (asks_own t own) mid p room) (Replied text)) vs
+replied_more h of mid room own text t p ts us vs o at out none more left =
+    let on : IsLeftTo (Then h (Reply t (asks_own t own) mid p room) (Replied text)) us = reply_takes h of mid room (asks_own t own) text t p ts us at out left in
+    ((on.1.0, on.0, on.1.1, on.1.2), none_more (Then h (Reply t (asks_own t own) mid p room) (Replied text)) us us vs o refl none more on)
 
 -- a notification leaves the one at its place, which is held
-pub notified_more : (h : History) (of room : ℕ) (plain : List ℕ) (text : Bor (List ℕ)) (t : TicketValues) (p : Parts) (ts us vs : List (Option TicketValues)) (o : Option TicketValues)
-    → ticket_at ts of ≡ Some t → IsDatagram p plain → ServerAnswer h (Notify t p room) (Replied text.now) → us ≡ ts → o ≡ None → vs ≡ us ++ o ∷ []
-    → IsLeftTo h ts → IsHeld h t × IsLeftTo (Then h (Notify t p room) (Replied text.now)) vs
-notified_more h of room plain text t p ts us vs o at datagram row same none more left =
-    let on : IsLeftTo (Then h (Notify t p room) (Replied text.now)) ts = notified h _ ts of plain room (served.Replied (Ok text)) (t, at, p, datagram, (row, refl)) left in
+pub notified_more : (h : History) (of room : ℕ) (text : List ℕ) (t : TicketValues) (p : Parts) (ts us vs : List (Option TicketValues)) (o : Option TicketValues)
+    → ticket_at ts of ≡ Some t → us ≡ ts → o ≡ None → vs ≡ us ++ o ∷ [] → IsLeftTo h ts → IsHeld h t × IsLeftTo (Then h (Notify t p room) (Replied text)) vs
+notified_more h of room text t p ts us vs o at same none more left =
+    let on : IsLeftTo (Then h (Notify t p room) (Replied text)) ts = notification_leaves h of room text t p ts at left in
     let (front, back, among) = on.1.1 in
-    ((on.0, front ++ back, on.1.0, (front, back, among, refl)), none_more (Then h (Notify t p room) (Replied text.now)) ts us vs o same none more on)
+    ((on.0, front ++ back, on.1.0, (front, back, among, refl)), none_more (Then h (Notify t p room) (Replied text)) ts us vs o same none more on)

@@ -145,9 +145,9 @@ module _ {K : Type 0} {k : keeper.Ghosts K} (claims : TwoEnds) (n : ℕ) (s : Se
   replied : (v : World) (a b : ServerState k) (of : ℕ) (own' : Bool) (mid : ℕ) (plain : List ℕ) (room : ℕ) (entry : ServerEntry) (us : List (Option server.TicketValues)) (o : Option server.TicketValues)
       → ReplyStep a.history a.source a.tickets of own' mid plain room entry b.history b.source us → o ≡ None → b.tickets ≡ us ++ o ∷ []
       → Served n s w own v a → (u : World) × Served n s w own u b
-  replied v a b of own' mid plain room (served.Replied (Ok text)) us o (t, at, p, datagram, goes, (steps, worked), out) none more r =
-      let (held, left) = replied_more a.history of mid room own' plain text t p a.tickets us b.tickets o at datagram goes.0 out none more r.left in
-      served_on v a b (server.Reply t (asks_own t own') mid p room) (server.Replied text.now) r tt goes steps held left
+  replied v a b of own' mid plain room (served.Replied (Ok sealed)) us o (t, at, p, datagram, goes, (steps, worked), out, number) none more r =
+      let (held, left) = replied_more a.history of mid room own' sealed.datagram.now t p a.tickets us b.tickets o at out none more r.left in
+      served_on v a b (server.Reply t (asks_own t own') mid p room) (server.Replied sealed.datagram.now) r tt goes steps held left
   replied v a b of own' mid plain room (served.Replied (Err replies.KeeperFailed)) us o (t, at, p, datagram, is, (count, own_is), same) none more r =
       served_so v a b r is own_is (none_more a.history a.tickets us b.tickets o same none more r.left)
   replied v a b of own' mid plain room (served.Replied (Err e)) us o (t, at, p, datagram, goes, (steps, worked), same) none more r =
@@ -161,9 +161,9 @@ module _ {K : Type 0} {k : keeper.Ghosts K} (claims : TwoEnds) (n : ℕ) (s : Se
   notified : (v : World) (a b : ServerState k) (of : ℕ) (plain : List ℕ) (room : ℕ) (entry : ServerEntry) (us : List (Option server.TicketValues)) (o : Option server.TicketValues)
       → NotifyStep a.history a.source a.tickets of plain room entry b.history b.source → us ≡ a.tickets → o ≡ None → b.tickets ≡ us ++ o ∷ []
       → Served n s w own v a → (u : World) × Served n s w own u b
-  notified v a b of plain room (served.Replied (Ok text)) us o (t, at, p, datagram, goes, (steps, worked)) same none more r =
-      let (held, left) = notified_more a.history of room plain text t p a.tickets us b.tickets o at datagram goes.0 same none more r.left in
-      served_on v a b (server.Notify t p room) (server.Replied text.now) r tt goes steps held left
+  notified v a b of plain room (served.Replied (Ok sealed)) us o (t, at, p, datagram, goes, (steps, worked), number) same none more r =
+      let (held, left) = notified_more a.history of room sealed.datagram.now t p a.tickets us b.tickets o at same none more r.left in
+      served_on v a b (server.Notify t p room) (server.Replied sealed.datagram.now) r tt goes steps held left
   notified v a b of plain room (served.Replied (Err replies.KeeperFailed)) us o (t, at, p, datagram, is, (count, own_is)) same none more r =
       served_so v a b r is own_is (none_more a.history a.tickets us b.tickets o same none more r.left)
   notified v a b of plain room (served.Replied (Err e)) us o (t, at, p, datagram, goes, (steps, worked)) same none more r =

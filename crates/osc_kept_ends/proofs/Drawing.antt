@@ -35,6 +35,10 @@ hand_from None old mid is (inr (inr (end, e))) left =
 pub in_hand : (old mid : Own) → Draws true old mid → upcoming old < 2 ^ 40 → mid.hand ≡ Some (upcoming old)
 in_hand old mid d left = hand_from old.hand old mid refl d left
 
+-- the number in hand is the one with which the end seals next
+pub number_in_hand : (old mid : Own) (n : ℕ) → Draws true old mid → mid.hand ≡ Some n → n ≡ upcoming old
+number_in_hand old mid n drawn hand = sym (ap (λ (o : Option ℕ). unwrap_or o mid.next) hand) ∙ upcoming_stays true old mid drawn
+
 -- the number in hand is the last that was drawn
 pub last_drawn : (hand : Option Piv) (next n : ℕ) → ForSome hand (λ p. number_of p + 1 ≡ next) → option_map number_of hand ≡ Some n → n + 1 ≡ next
 last_drawn None next n last is = absurd (let e : None ≡ Some n = is in cc)

@@ -33,7 +33,8 @@ use Rattle.osc_life.specs.Views.{Shows, values_of}
 use Rattle.osc_kept_ends.specs.KeptAsking as asking
 use Rattle.osc_kept_ends.specs.KeptServing as serving
 use Rattle.osc_kept_ends.specs.Numbering.{Draws, Goes, Load, Own, Stay, Steps, after, upcoming}
-use Rattle.osc_kept_ends.specs.Peering.{ClientIsBehind, DeliversBelow, IsKeptOn, IsPeerStart, MayDraw, ServerIsBehind, TakesBelow}
+use Rattle.osc_kept_ends.specs.Peering.{ClientIsBehind, DeliversBelow, IsKeptOn, IsPeerStart, MayDraw, ServerIsBehind, TakesBelow, received_at, received_by, received_with}
+use Rattle.osc_kept_ends.specs.Sharing.{IsRestingStart}
 use Rattle.osc_kept_ends.specs.TakingBack.{IsDelivery, IsGateOf, IsTakenBack}
 use Rattle.osc_kept_ends.specs.Views.{IsLastDrawn, IsUsedUp, own_at}
 use Rattle.osc_kept_ends.proofs.ServerSteps.{only_first}
@@ -165,6 +166,17 @@ shown_below decision left o u (server.Deliver received ticket) floor d s below =
     subst (λ (v : server.TicketValues). v.number < floor) (same ∙ sym s.1) (subst (λ (z : Decision). DeliversBelow z floor) is below)
 shown_below decision left o u answer floor d s below = absurd s
 
+-- what is known to be above all that was received is that of the outcome
+pub shown_received : (ahead received known : ℕ) (decision : Decision) (left : List ℕ) (o : Outcome) (answer : server.Answer) → Decides decision left answer → Shows o answer
+    → known ≤ received_by ahead received decision → known ≤ received_at ahead received o
+shown_received ahead received known (decisions.Deliver x t) left (outcomes.Deliver o u) (server.Deliver r ticket) d s most =
+    subst (λ (v : server.TicketValues). known ≤ received_with ahead received v.number) (d.1 ∙ sym s.1) most
+shown_received ahead received known (decisions.Deliver x t) left o (server.Deliver r ticket) d s most = absurd s
+shown_received ahead received known (decisions.Deliver x t) left o answer d s most = absurd d
+shown_received ahead received known decision left (outcomes.Deliver o u) (server.Deliver r ticket) d s most = absurd d
+shown_received ahead received known decision left (outcomes.Deliver o u) answer d s most = absurd s
+shown_received ahead received known decision left o answer d s most = most
+
 pub takes_below : (outcome : Outcome) (floor : ℕ) → ((o : _) (t : Ticket) → outcome ≡ outcomes.Deliver o t → (values_of t).number < floor) → TakesBelow outcome floor
 takes_below (outcomes.Deliver o t) floor below = below o t refl
 takes_below outcome floor below = tt
@@ -189,3 +201,12 @@ born_at c ahead (starts.Reserved first highest kept) size sender received is = i
 pub never_added : (s : SecurityContext) (start : Start) (size : WindowSize) (e : AddError) → ServerAnswer server.Begin (server.Add s start size) (server.NotAdded e) → ⊥
 never_added s start size Full row = omega (arith, row.1)
 never_added s start size SameLookup row = let none : None ≡ Some row.1.1.1 = row.1.1.2 in cc
+
+-- ---- a peer without the source
+
+-- the life begins at 0
+pub born_resting : (c : SecurityContext) (ahead : ℕ) (start : Start) (size : WindowSize) (received : ℕ) → IsRestingStart ahead start received → (born c start size).first ≡ 0
+born_resting c ahead (starts.Fresh first) size received is = absurd is
+born_resting c ahead (starts.Restarted first) size received is = is.0
+born_resting c ahead (starts.Received first highest) size received is = is.0
+born_resting c ahead (starts.Reserved first highest kept) size received is = is.0

@@ -24,7 +24,7 @@ use Rattle.osc_life.specs.LifeAnswer.{LifeRestart}
 use Rattle.osc_life.specs.ServerHistory.{History, Begin, Then, Add, Added, Answer, TicketValues, Datagram, Notify, Reply, Advance, Took, Replied, NotReplied, Restart, Restarted, NotRestarted, Advanced, Malformed, NotRequest, Plain, Undecodable, NoContext, Replay, BadTag, BadInner, Challenge, SequenceExhausted, Deliver, added, life, mark_at, reply_mark_at}
 use Rattle.osc_kept_ends.specs.KeptServing.{IsKept, KeptStep, uses}
 use Rattle.osc_kept_ends.specs.Numbering.{Own, Draws, Goes, Steps, Use, after, upcoming, use_of}
-use Rattle.osc_kept_ends.proofs.Drawing.{in_hand, upcoming_stays}
+use Rattle.osc_kept_ends.proofs.Drawing.{in_hand, number_in_hand, upcoming_stays}
 
 -- ---- marks and Sender Sequence Numbers
 
@@ -319,3 +319,22 @@ pub lives_out : (o : Option Life) (e : RestartError) (next : ℕ) → option_map
 lives_out None e next is row = absurd (let none : None ≡ Some next = is in cc)
 lives_out (Some l) NoSuchContext next is row = absurd row
 lives_out (Some l) LivesExhausted next is row = row
+
+-- ---- the number of a response
+
+-- a life that is there has used the number in hand, which is the one with which the server sealed
+used_upcoming : (o : Option Life) (of : Life) (old new : Own) → o ≡ Some of → HasOwn of → Steps true (option_map next_own o) old new → upcoming old < 2 ^ 40
+used_upcoming o of old new there has (mid, drawn, goes) =
+    let used : Goes (Use (next_own of)) mid new = subst (λ (x : Option ℕ). Goes (use_of x) mid new) (ap (option_map next_own) there) goes in
+    subst (λ n. n < 2 ^ 40) (number_in_hand old mid (next_own of) drawn used.0) has
+
+-- a reply with a Partial IV of its own has a number that is left
+pub reply_left : (h : History) (t : TicketValues) (own : Bool) (mid room : ℕ) (p : Parts) (text : List ℕ) (old new : Own) (s : Server)
+    → KeptStep h (Reply t own mid p room) (Replied text) old new s → own ≡ true → upcoming old < 2 ^ 40
+reply_left h t true mid room p text old new s step asked = used_upcoming (life h t.context) step.row.0 old new step.row.1.0 (step.row.2.0 refl) step.numbers
+reply_left h t false mid room p text old new s step asked = absurd cc
+
+-- so has a notification
+pub notification_left : (h : History) (t : TicketValues) (room : ℕ) (p : Parts) (text : List ℕ) (old new : Own) (s : Server)
+    → KeptStep h (Notify t p room) (Replied text) old new s → upcoming old < 2 ^ 40
+notification_left h t room p text old new s step = used_upcoming (life h t.context) step.row.1.0 old new step.row.1.1.0 step.row.1.2.1 step.numbers

@@ -1,6 +1,6 @@
 -- To be believed: the numbers of one end over all its lives: what its keeper holds, what is reserved, and the number that was drawn and isn't
 -- used yet (RFC 8613, 7.2.1 and B.1.1). old and new are the numbers before and after a call, mid those in between, n is a number.
-use Rattle.std.specs.Prelude.{◌≡◌, ◌⊎◌, ℕ, ◌+◌, ◌<◌, ◌≤◌, ◌^◌, Bool, true, false, Option, Some, None, unwrap_or}
+use Rattle.std.specs.Prelude.{◌≡◌, ◌⊎◌, ℕ, ◌+◌, ◌<◌, ◌≤◌, ◌^◌, Bool, true, false, Option, Some, None, if◌then◌else◌, unwrap_or}
 use Rattle.osc_context.specs.Reserving.{next_limit}
 
 -- the keeper's floor, the next number, the first number that isn't reserved, and the number in hand, drawn but not used yet (RFC 8613, B.1.1)
@@ -53,6 +53,10 @@ Goes e old new = Allowed e old × (new ≡ after e old)
 -- the number with which the end seals next: the one in hand, or else the next one (RFC 8613, 7.2.1)
 abbrev pub upcoming : Own → ℕ
 upcoming o = unwrap_or o.hand o.next
+
+-- the number of a response, if it has one of its own (RFC 8613, 8.3)
+abbrev pub response_number : Bool → Own → Option ℕ
+response_number own o = if own then Some (upcoming o) else None
 
 -- if no number is in hand, the next number is drawn, unless none below 2 ^ 40 is left (own rule: at most one in hand)
 abbrev pub DrawsFrom : Option ℕ → Own → Own → Type 0

@@ -1,7 +1,7 @@
 -- To be believed: an end that asks and answers under one context, with one source of numbers for both roles (RFC 8613, 3.1, 7.2.1, 7.4 and B.1): a role passes
 -- over the numbers that the other one has before it seals, and the number of a request is kept before the request is delivered. h and g are histories of its
 -- server, k and m of its client, next is the number with which the end seals next, old, mid and new are its numbers.
-use Rattle.std.specs.Prelude.{◌≡◌, ◌≢◌, ◌⊎◌, ℕ, ◌+◌, ◌<◌, ◌≤◌, List, Some, true}
+use Rattle.std.specs.Prelude.{◌≡◌, ◌≢◌, ◌⊎◌, ℕ, ◌+◌, ◌<◌, ◌≤◌, ◌^◌, List, Some, true, max, min}
 use Rattle.std.specs.Option.{option_map}
 use Rattle.osc_context.specs.Views.{number_of}
 use Rattle.osc_client.specs.declared.client.Client.{Client}
@@ -97,6 +97,21 @@ DeliversBelow decision received = Unit {0}
 abbrev pub TakesBelow : Outcome → ℕ → Type 0
 TakesBelow (outcomes.Deliver o ticket) received = (values_of ticket).number < received
 TakesBelow outcome received = Unit {0}
+
+-- the number that is known to be above all that was received, once one more was: the greater of what it was, and the number behind that one with those that are kept
+-- ahead, which is at most 2 ^ 40 (RFC 8613, 7.4; own rule: numbers kept ahead)
+abbrev pub received_with : ℕ → ℕ → ℕ → ℕ
+received_with ahead received number = max received (min (number + 1 + ahead) (2 ^ 40))
+
+-- the same after a decision: a delivery receives one more (RFC 8613, 7.4)
+abbrev pub received_by : ℕ → ℕ → Decision → ℕ
+received_by ahead received (decisions.Deliver x ticket) = received_with ahead received (values_of ticket).number
+received_by ahead received decision = received
+
+-- the same after an outcome (RFC 8613, 7.4)
+abbrev pub received_at : ℕ → ℕ → Outcome → ℕ
+received_at ahead received (outcomes.Deliver o ticket) = received_with ahead received (values_of ticket).number
+received_at ahead received outcome = received
 
 -- the client passes over numbers, and then answers the event as a kept client does (RFC 8613, 8.1)
 abbrev pub AskStep : {N : ℕ} → client.History → client.Event → client.Entry → Own → Own → Client N → Type 0

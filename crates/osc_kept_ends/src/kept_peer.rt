@@ -12,7 +12,7 @@ ghost use Rattle.osc_life.specs.declared.start.Start.{Start as StartOf};
 ghost use Rattle.osc_kept_ends.specs.KeptAsking as asking;
 ghost use Rattle.osc_kept_ends.specs.KeptServing as serving;
 ghost use Rattle.osc_kept_ends.specs.Numbering.{Allowed, Load, nothing_drawn, upcoming};
-ghost use Rattle.osc_kept_ends.specs.PeerOwning.{own_in};
+ghost use Rattle.osc_kept_ends.specs.PeerOwning.{ahead_in, own_in, received_in};
 ghost use Rattle.osc_kept_ends.specs.Peering.{ClientIsBehind, ClientPasses, IsPeerStart, ServerIsBehind, ServerPasses};
 ghost use Rattle.osc_kept_ends.specs.declared.kept_error.KeptError.TheVariants.{KeptTooLarge};
 ghost use Rattle.osc_kept_ends.specs.Refusals.{RefusesPeer};
@@ -156,7 +156,9 @@ impl<R: RecordKeeper, const N: usize> KeptPeer<R, N> {
             × (own_in p.source ≡ serving.started start sender (nothing_drawn (R.sender_floor keeper))) × Allowed (Load sender) (nothing_drawn (R.sender_floor keeper))
             × (R.failures p.source.keeper ≡ R.failures keeper)
             × ServerIsBehind p.server (upcoming (own_in p.source)) (served.Then served.Begin (served.Add (as_server context) start size) (served.Added 0))
-            × ClientIsBehind p.client (upcoming (own_in p.source)) (asked.New (as_client context) sender life_ms)) }
+            × ClientIsBehind p.client (upcoming (own_in p.source)) (asked.New (as_client context) sender life_ms)
+            × (received_in p.source ≡ received)) }
+        ensures ahead { IfOk result (λ p. ahead_in p.source ≡ 0) }
         ensures refused { IfErr result (λ e. RefusesPeer R.loads R.failures keeper e.0 e.1) }
     {
         KeptPeer::start_ahead(context, keeper, size, life_ms, 0)
@@ -178,7 +180,9 @@ impl<R: RecordKeeper, const N: usize> KeptPeer<R, N> {
             × (own_in p.source ≡ serving.started start sender (nothing_drawn (R.sender_floor keeper))) × Allowed (Load sender) (nothing_drawn (R.sender_floor keeper))
             × (R.failures p.source.keeper ≡ R.failures keeper)
             × ServerIsBehind p.server (upcoming (own_in p.source)) (served.Then served.Begin (served.Add (as_server context) start size) (served.Added 0))
-            × ClientIsBehind p.client (upcoming (own_in p.source)) (asked.New (as_client context) sender life_ms)) }
+            × ClientIsBehind p.client (upcoming (own_in p.source)) (asked.New (as_client context) sender life_ms)
+            × (received_in p.source ≡ received)) }
+        ensures ahead { IfOk result (λ p. ahead_in p.source ≡ ahead) }
         ensures refused { IfErr result (λ e. RefusesPeer R.loads R.failures keeper e.0 e.1) }
     {
         let (mut source, first, received) = PeerSource::start(keeper, ahead)?;
@@ -196,7 +200,7 @@ impl<R: RecordKeeper, const N: usize> KeptPeer<R, N> {
     }
 
     /// Makes a peer of a context that starts at the number with which the source goes on.
-    fn begin(
+    pub(crate) fn begin(
         context: Context,
         source: PeerSource<R>,
         start: Start,

@@ -9,7 +9,7 @@ ghost use Rattle.osc_client.specs.ClientHistory as asked;
 ghost use Rattle.osc_client.specs.Views.{request_entry};
 ghost use Rattle.osc_client.specs.declared.client_outcome.RequestError.TheVariants.{KeeperFailed};
 ghost use Rattle.osc_kept_ends.specs.Numbering.{upcoming};
-ghost use Rattle.osc_kept_ends.specs.PeerOwning.{own_in};
+ghost use Rattle.osc_kept_ends.specs.PeerOwning.{ahead_in, own_in, received_in};
 ghost use Rattle.osc_kept_ends.specs.Peering.{AskStep, ClientIsBehind};
 
 use crate::kept_peer::{KeptPeer, pass_at_client};
@@ -34,6 +34,7 @@ impl<R: RecordKeeper, const N: usize> KeptPeer<R, N> {
             → ClientIsBehind self.new.client (upcoming (own_in self.new.source)) (asked.Then k (asked.Advance now) asked.Advanced))
             × (R.failures self.new.source.keeper ≡ R.failures self.old.source.keeper + 1)) }
         ensures worked { IfErr result (λ e. e ≢ KeeperFailed) → R.failures self.new.source.keeper ≡ R.failures self.old.source.keeper }
+        ensures received { (received_in self.new.source ≡ received_in self.old.source) × (ahead_in self.new.source ≡ ahead_in self.old.source) }
         ensures rises { R.received_floor self.old.source.keeper ≤ R.received_floor self.new.source.keeper }
         ensures server { self.new.server ≡ self.old.server }
         ensures within { IfOk result (λ n. n ≤ length out.new) }

@@ -13,8 +13,8 @@ ghost use Rattle.osc_life.specs.declared.outcome.Outcome.TheVariants as outcomes
 ghost use Rattle.osc_life.specs.declared.server_error.ReplyError.TheVariants as replies;
 ghost use Rattle.osc_kept_ends.specs.EchoNumber.{echo_of};
 ghost use Rattle.osc_kept_ends.specs.Numbering.{Draws, upcoming};
-ghost use Rattle.osc_kept_ends.specs.PeerOwning.{own_in};
-ghost use Rattle.osc_kept_ends.specs.Peering.{DeliversBelow, IsKeptOn, PeerDecides, PeerStep, PeerTakes, ServerIsBehind, ServerWaits, TakesBelow};
+ghost use Rattle.osc_kept_ends.specs.PeerOwning.{ahead_in, own_in, received_in};
+ghost use Rattle.osc_kept_ends.specs.Peering.{DeliversBelow, IsKeptOn, PeerDecides, PeerStep, PeerTakes, ServerIsBehind, ServerWaits, TakesBelow, received_at, received_by};
 ghost use Rattle.osc_kept_ends.specs.TakingBack.{IsDelivery, IsTakenBack};
 
 use crate::drawn::{decide_drawn, notify_drawn, reply_drawn};
@@ -33,6 +33,7 @@ fn draw_for_request<R: RecordKeeper>(
     ensures drawn { IsOk result → (h : served.History) → Agrees server.now h → Draws (not (is_open_life (served.life h 0))) (own_in source.old) (own_in source.new) }
     ensures left { IsErr result → own_in source.new ≡ own_in source.old }
     ensures rises { R.received_floor source.old.keeper ≤ R.received_floor source.new.keeper }
+    ensures received { (received_in source.new ≡ received_in source.old) × (ahead_in source.new ≡ ahead_in source.old) }
     ensures failed { IsErr result → R.failures source.new.keeper ≡ R.failures source.old.keeper + 1 }
     ensures worked { IsOk result → R.failures source.new.keeper ≡ R.failures source.old.keeper }
 {
@@ -50,6 +51,9 @@ fn keep_delivery<R: RecordKeeper>(
     decision: &Decision,
 ) -> Result<(), KeeperError>
     ensures kept { IsOk result → DeliversBelow decision.now (R.received_floor source.new.keeper) }
+    ensures received { IsOk result → received_in source.new ≤ received_by (ahead_in source.old) (received_in source.old) decision.now }
+    ensures left { IsErr result → received_in source.new ≡ received_in source.old }
+    ensures ahead { ahead_in source.new ≡ ahead_in source.old }
     ensures same { IsOk result → server.new ≡ server.old }
     ensures delivers { IsErr result → IsDelivery decision.now }
     ensures taken_back { IsErr result → IsTakenBack decision.now gate server.old server.new }
@@ -86,6 +90,9 @@ impl<R: RecordKeeper, const N: usize> KeptPeer<R, N> {
             → PeerDecides h now (record { echo = echo_of (upcoming (own_in self.old.source)); mid = mid }) datagram.old d datagram.new (take d.reply out.new)
             (own_in self.old.source) (own_in self.new.source) self.new.server) }
         ensures kept { IfOk result (λ d. DeliversBelow d.decision (R.received_floor self.new.source.keeper)) }
+        ensures received { IfOk result (λ d. received_in self.new.source ≤ received_by (ahead_in self.old.source) (received_in self.old.source) d.decision) }
+        ensures left { IsErr result → received_in self.new.source ≡ received_in self.old.source }
+        ensures ahead { ahead_in self.new.source ≡ ahead_in self.old.source }
         ensures rises { R.received_floor self.old.source.keeper ≤ R.received_floor self.new.source.keeper }
         ensures waits { IsErr result → (h : served.History) → ServerIsBehind self.old.server (upcoming (own_in self.old.source)) h
             → ServerWaits h now (own_in self.old.source) (own_in self.new.source) self.new.server }
@@ -123,6 +130,8 @@ impl<R: RecordKeeper, const N: usize> KeptPeer<R, N> {
             → PeerTakes h now (record { echo = echo_of (upcoming (own_in self.old.source)); mid = mid }) datagram.old result.outcome (take result.reply out.new)
             (own_in self.old.source) (own_in self.new.source) self.new.server }
         ensures kept { TakesBelow result.outcome (R.received_floor self.new.source.keeper) }
+        ensures received { received_in self.new.source ≤ received_at (ahead_in self.old.source) (received_in self.old.source) result.outcome }
+        ensures ahead { ahead_in self.new.source ≡ ahead_in self.old.source }
         ensures rises { R.received_floor self.old.source.keeper ≤ R.received_floor self.new.source.keeper }
         ensures waits { result.outcome ≡ outcomes.KeeperFailed → (h : served.History) → ServerIsBehind self.old.server (upcoming (own_in self.old.source)) h
             → ServerWaits h now (own_in self.old.source) (own_in self.new.source) self.new.server }
@@ -161,6 +170,7 @@ impl<R: RecordKeeper, const N: usize> KeptPeer<R, N> {
         ensures failed { IfErr result (λ e. e.0 ≡ replies.KeeperFailed → (self.new.server ≡ self.old.server) × (own_in self.new.source ≡ own_in self.old.source)
             × (R.failures self.new.source.keeper ≡ R.failures self.old.source.keeper + 1)) }
         ensures worked { IfErr result (λ e. e.0 ≢ replies.KeeperFailed) → R.failures self.new.source.keeper ≡ R.failures self.old.source.keeper }
+        ensures received { (received_in self.new.source ≡ received_in self.old.source) × (ahead_in self.new.source ≡ ahead_in self.old.source) }
         ensures rises { R.received_floor self.old.source.keeper ≤ R.received_floor self.new.source.keeper }
         ensures client { self.new.client ≡ self.old.client }
         ensures back { IfErr result (λ e. e.1 ≡ ticket) }
@@ -192,6 +202,7 @@ impl<R: RecordKeeper, const N: usize> KeptPeer<R, N> {
         ensures failed { IfErr result (λ e. e ≡ replies.KeeperFailed → (self.new.server ≡ self.old.server) × (own_in self.new.source ≡ own_in self.old.source)
             × (R.failures self.new.source.keeper ≡ R.failures self.old.source.keeper + 1)) }
         ensures worked { IfErr result (λ e. e ≢ replies.KeeperFailed) → R.failures self.new.source.keeper ≡ R.failures self.old.source.keeper }
+        ensures received { (received_in self.new.source ≡ received_in self.old.source) × (ahead_in self.new.source ≡ ahead_in self.old.source) }
         ensures rises { R.received_floor self.old.source.keeper ≤ R.received_floor self.new.source.keeper }
         ensures client { self.new.client ≡ self.old.client }
         ensures within { IfOk result (λ n. n ≤ length out.new) }

@@ -1,8 +1,10 @@
 -- To be believed: runs of ends whose numbers are kept (RFC 8613, 7.2.1 and B.1): the log of their events, the history that they add to, the
 -- numbers with their keeper, and a server's tickets. s and t are the states before and after, h and g the histories, old and new the numbers, ts and
 -- us the tickets.
-use Rattle.std.specs.Prelude.{◌≡◌, ◌+◌, ◌++◌, ◌∷◌, [], ℕ, List, Bool, Option, Some, None, Ok, Err, length, slice_set}
+use Rattle.std.specs.Prelude.{◌≡◌, ◌+◌, ◌++◌, ◌∷◌, [], ℕ, List, Bool, true, Option, Some, None, Ok, Err, length, slice_set}
+use Rattle.std.specs.Option.{option_map}
 use Rattle.osc_coap.specs.Datagram.{Parts, IsDatagram}
+use Rattle.osc_context.specs.Views.{number_of}
 use Rattle.osc_context.specs.declared.keeper.Keeper as keeper
 use Rattle.osc_endpoint.specs.declared.client_event.ClientEntry.{ClientEntry}
 use Rattle.osc_endpoint.specs.declared.client_event.ClientEntry.TheVariants as asked
@@ -34,7 +36,7 @@ use Rattle.osc_kept_runs.specs.declared.kept_event.KeptServerEntry.TheVariants a
 use Rattle.osc_kept_ends.specs.declared.source.Source.{Source}
 use Rattle.osc_kept_ends.specs.KeptAsking as asking
 use Rattle.osc_kept_ends.specs.KeptServing as serving
-use Rattle.osc_kept_ends.specs.Numbering.{Goes, Load, Steps}
+use Rattle.osc_kept_ends.specs.Numbering.{Goes, Load, Steps, response_number}
 use Rattle.osc_kept_ends.specs.Owning.{own_in}
 use Rattle.osc_kept_ends.specs.Refusals.{Loaded, RefusesAt}
 
@@ -74,11 +76,12 @@ ArrivalStep h old a (served.Took x reply) g new o = (answer : server.Answer) × 
     × ServerNumbers h (server.Datagram a.now a.fresh.echo a.fresh.mid a.bytes.items) (server.Took answer reply.now) old new × (o ≡ logged.ticket_of answer)
 ArrivalStep h old a entry g new o = ⊥
 
--- a reply by the ticket at a place, and the tickets that are left; if the keeper failed, nothing else changed (RFC 8613, 4.1.3.5 and 8.3)
+-- a reply by the ticket at a place, with its number, and the tickets that are left; if the keeper failed, nothing else changed (RFC 8613, 4.1.3.5 and 8.3)
 abbrev pub ReplyStep : {K : Type 0} {k : keeper.Ghosts K} → server.History → Source K k → List (Option server.TicketValues) → ℕ → Bool → ℕ → List ℕ → ℕ → ServerEntry → server.History → Source K k → List (Option server.TicketValues) → Type 0
-ReplyStep h old ts of own mid plain room (served.Replied (Ok text)) g new us = (t : server.TicketValues) × (server_run.ticket_at ts of ≡ Some t)
-    × (p : Parts) × IsDatagram p plain × server_run.GoesOn h (server.Reply t (asks_own t own) mid p room) (server.Replied text.now) g
-    × ServerNumbers h (server.Reply t (asks_own t own) mid p room) (server.Replied text.now) old new × (us ≡ slice_set ts of None)
+ReplyStep h old ts of own mid plain room (served.Replied (Ok sealed)) g new us = (t : server.TicketValues) × (server_run.ticket_at ts of ≡ Some t)
+    × (p : Parts) × IsDatagram p plain × server_run.GoesOn h (server.Reply t (asks_own t own) mid p room) (server.Replied sealed.datagram.now) g
+    × ServerNumbers h (server.Reply t (asks_own t own) mid p room) (server.Replied sealed.datagram.now) old new × (us ≡ slice_set ts of None)
+    × (option_map number_of sealed.number ≡ response_number (asks_own t own) (own_in old))
 ReplyStep h old ts of own mid plain room (served.Replied (Err replies.KeeperFailed)) g new us =
     (t : server.TicketValues) × (server_run.ticket_at ts of ≡ Some t) × (p : Parts) × IsDatagram p plain × (g ≡ h) × Failed old new × (us ≡ ts)
 ReplyStep h old ts of own mid plain room (served.Replied (Err e)) g new us = (t : server.TicketValues) × (server_run.ticket_at ts of ≡ Some t)
@@ -86,11 +89,12 @@ ReplyStep h old ts of own mid plain room (served.Replied (Err e)) g new us = (t 
     × ServerNumbers h (server.Reply t (asks_own t own) mid p room) (server.NotReplied e) old new × (us ≡ ts)
 ReplyStep h old ts of own mid plain room entry g new us = server_run.ReplyStep h ts of own mid plain room entry g us × (new ≡ old)
 
--- a notification by the ticket at a place, which stays; if the keeper failed, nothing else changed (RFC 8613, 8.3.1)
+-- a notification by the ticket at a place, which stays, with its number; if the keeper failed, nothing else changed (RFC 8613, 8.3.1)
 abbrev pub NotifyStep : {K : Type 0} {k : keeper.Ghosts K} → server.History → Source K k → List (Option server.TicketValues) → ℕ → List ℕ → ℕ → ServerEntry → server.History → Source K k → Type 0
-NotifyStep h old ts of plain room (served.Replied (Ok text)) g new = (t : server.TicketValues) × (server_run.ticket_at ts of ≡ Some t)
-    × (p : Parts) × IsDatagram p plain × server_run.GoesOn h (server.Notify t p room) (server.Replied text.now) g
-    × ServerNumbers h (server.Notify t p room) (server.Replied text.now) old new
+NotifyStep h old ts of plain room (served.Replied (Ok sealed)) g new = (t : server.TicketValues) × (server_run.ticket_at ts of ≡ Some t)
+    × (p : Parts) × IsDatagram p plain × server_run.GoesOn h (server.Notify t p room) (server.Replied sealed.datagram.now) g
+    × ServerNumbers h (server.Notify t p room) (server.Replied sealed.datagram.now) old new
+    × (option_map number_of sealed.number ≡ response_number true (own_in old))
 NotifyStep h old ts of plain room (served.Replied (Err replies.KeeperFailed)) g new =
     (t : server.TicketValues) × (server_run.ticket_at ts of ≡ Some t) × (p : Parts) × IsDatagram p plain × (g ≡ h) × Failed old new
 NotifyStep h old ts of plain room (served.Replied (Err e)) g new = (t : server.TicketValues) × (server_run.ticket_at ts of ≡ Some t)

@@ -13,8 +13,10 @@ ghost use Rattle.osc_kept_ends.specs.Owning.{own_in};
 use crate::kept_event::{KeptServerEntry, KeptServerEvent};
 use osc_coap::parse;
 use osc_context::Keeper;
-use osc_endpoint::siblings::{make_places, put_back, take_out, ticket_at};
-use osc_endpoint::{Answering, Arrival, Notifying, Outcome, Seen, ServerEntry, Taken, Ticket};
+use osc_endpoint::siblings::{make_places, put_back, sealed_number, take_out, ticket_at};
+use osc_endpoint::{
+    Answering, Arrival, Notifying, Outcome, SealedResponse, Seen, ServerEntry, Taken, Ticket,
+};
 use osc_kept_ends::KeptServer;
 use std::alloc::{AllocError, Global};
 use std::mem;
@@ -74,8 +76,12 @@ fn serve_reply<'a, K: Keeper>(
             return ServerEntry::BadPlain(error);
         }
     };
+    let number = sealed_number(ticket.asks_own(own), Some(server.upcoming()));
     match server.reply(ticket, own, mid, &message, out) {
-        Ok(len) => ServerEntry::Replied(Ok(&out[..len])),
+        Ok(len) => ServerEntry::Replied(Ok(SealedResponse {
+            number,
+            datagram: &out[..len],
+        })),
         Err((error, ticket)) => {
             put_back(tickets, of, ticket);
             ServerEntry::Replied(Err(error))
@@ -123,8 +129,12 @@ fn serve_notify<'a, K: Keeper>(
         Ok(message) => message,
         Err(error) => return ServerEntry::BadPlain(error),
     };
+    let number = sealed_number(true, Some(server.upcoming()));
     match server.notify(ticket, &message, out) {
-        Ok(len) => ServerEntry::Replied(Ok(&out[..len])),
+        Ok(len) => ServerEntry::Replied(Ok(SealedResponse {
+            number,
+            datagram: &out[..len],
+        })),
         Err(error) => ServerEntry::Replied(Err(error)),
     }
 }

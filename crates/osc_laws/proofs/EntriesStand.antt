@@ -75,7 +75,7 @@ module _ (rows : ServerRowsExclude) where
       → ReplyStep h ts of own mid plain room x g us → AllAnswers h → AllAnswers g × GoesOnAlone h g
   replied h g ts us of mid own plain room entries.NoTicket (none, same, kept) all = stays h g same all
   replied h g ts us of mid own plain room (entries.BadPlain e) (t, at, fault, same, kept) all = stays h g same all
-  replied h g ts us of mid own plain room (entries.Replied (Ok text)) (t, at, p, datagram, goes, out) all = alone h g _ _ goes all
+  replied h g ts us of mid own plain room (entries.Replied (Ok sealed)) (t, at, p, datagram, goes, out, number) all = alone h g _ _ goes all
   replied h g ts us of mid own plain room (entries.Replied (Err e)) (t, at, p, datagram, goes, kept) all = alone h g _ _ goes all
   replied h g ts us of mid own plain room x step all = absurd step
 
@@ -83,7 +83,7 @@ module _ (rows : ServerRowsExclude) where
       → AllAnswers g × GoesOnAlone h g
   notified h g ts of plain room entries.NoTicket (none, same) all = stays h g same all
   notified h g ts of plain room (entries.BadPlain e) (t, at, fault, same) all = stays h g same all
-  notified h g ts of plain room (entries.Replied (Ok text)) (t, at, p, datagram, goes) all = alone h g _ _ goes all
+  notified h g ts of plain room (entries.Replied (Ok sealed)) (t, at, p, datagram, goes, number) all = alone h g _ _ goes all
   notified h g ts of plain room (entries.Replied (Err e)) (t, at, p, datagram, goes) all = alone h g _ _ goes all
   notified h g ts of plain room x step all = absurd step
 

@@ -210,10 +210,10 @@ module _ (laws : ExchangeLaws) (headline : ServerHeadline) (n i : ℕ) (x : Exch
       waits e entries.NoTicket g vs step is (in_none i ts vs left (tickets x) vs_is (same_places i ts left (tickets x) left_is given)) (shows x tt)
   reply_turn e of own mid plain room (entries.BadPlain f) g left vs (t, here, fault, is, left_is) vs_is step shows =
       waits e (entries.BadPlain f) g vs step is (in_none i ts vs left (tickets x) vs_is (same_places i ts left (tickets x) left_is given)) (shows x tt)
-  reply_turn e of own mid plain room (entries.Replied (Ok text)) g left vs (t, here, p, message, (row, is), left_is) vs_is step shows =
-      serves_on e (entries.Replied (Ok text)) g vs (server.Reply t (asks_own t own) mid p room) (server.Replied text.now) step is row (given of t here)
+  reply_turn e of own mid plain room (entries.Replied (Ok sealed)) g left vs (t, here, p, message, (row, is), left_is, number) vs_is step shows =
+      serves_on e (entries.Replied (Ok sealed)) g vs (server.Reply t (asks_own t own) mid p room) (server.Replied sealed.datagram.now) step is row (given of t here)
       (in_none i ts vs left (tickets x) vs_is (same_places i (slice_set ts of None) left (tickets x) left_is (in_rest i ts of (tickets x) given)))
-      (shows (Then x (AtServer (server.Reply t (asks_own t own) mid p room) (server.Replied text.now))) (t, here, p, message, (0, omega arith, refl)))
+      (shows (Then x (AtServer (server.Reply t (asks_own t own) mid p room) (server.Replied sealed.datagram.now))) (t, here, p, message, (0, omega arith, refl)))
   reply_turn e of own mid plain room (entries.Replied (Err f)) g left vs (t, here, p, message, (row, is), left_is) vs_is step shows =
       serves_on e (entries.Replied (Err f)) g vs (server.Reply t (asks_own t own) mid p room) (server.NotReplied f) step is row tt
       (in_none i ts vs left (tickets x) vs_is (same_places i ts left (tickets x) left_is given))
@@ -226,9 +226,9 @@ module _ (laws : ExchangeLaws) (headline : ServerHeadline) (n i : ℕ) (x : Exch
   notify_turn e of plain room entries.NoTicket g vs (none, is) vs_is step shows = waits e entries.NoTicket g vs step is (in_none i ts vs ts (tickets x) vs_is given) (shows x tt)
   notify_turn e of plain room (entries.BadPlain f) g vs (t, here, fault, is) vs_is step shows =
       waits e (entries.BadPlain f) g vs step is (in_none i ts vs ts (tickets x) vs_is given) (shows x tt)
-  notify_turn e of plain room (entries.Replied (Ok text)) g vs (t, here, p, message, (row, is)) vs_is step shows =
-      serves_on e (entries.Replied (Ok text)) g vs (server.Notify t p room) (server.Replied text.now) step is row (given of t here) (in_none i ts vs ts (tickets x) vs_is given)
-      (shows (Then x (AtServer (server.Notify t p room) (server.Replied text.now))) (t, here, p, message, (0, omega arith, refl)))
+  notify_turn e of plain room (entries.Replied (Ok sealed)) g vs (t, here, p, message, (row, is), number) vs_is step shows =
+      serves_on e (entries.Replied (Ok sealed)) g vs (server.Notify t p room) (server.Replied sealed.datagram.now) step is row (given of t here) (in_none i ts vs ts (tickets x) vs_is given)
+      (shows (Then x (AtServer (server.Notify t p room) (server.Replied sealed.datagram.now))) (t, here, p, message, (0, omega arith, refl)))
   notify_turn e of plain room (entries.Replied (Err f)) g vs (t, here, p, message, (row, is)) vs_is step shows =
       serves_on e (entries.Replied (Err f)) g vs (server.Notify t p room) (server.NotReplied f) step is row tt (in_none i ts vs ts (tickets x) vs_is given)
       (shows (Then x (AtServer (server.Notify t p room) (server.NotReplied f))) tt)

@@ -95,14 +95,14 @@ IsNext n x ts (OfServer event entry) y us = serving.ServerRunStep (server_of x) 
 
 -- what the log shows of a reply: the response by the ticket at this place says what the plain message does (RFC 8613, 8.3)
 abbrev pub ReplyShows : Exchange → Places → ℕ → Bool → List ℕ → ServerEntry → Exchange → Type 0
-ReplyShows x ts of own plain (entries.Replied (Ok text)) y = (t : server.TicketValues) × (serving.ticket_at ts of ≡ Some t)
-    × (p : Parts) × IsDatagram p plain × Contains (said y) (by_ticket (server_of x) t (asks_own t own) false (inside p) text.now)
+ReplyShows x ts of own plain (entries.Replied (Ok sealed)) y = (t : server.TicketValues) × (serving.ticket_at ts of ≡ Some t)
+    × (p : Parts) × IsDatagram p plain × Contains (said y) (by_ticket (server_of x) t (asks_own t own) false (inside p) sealed.datagram.now)
 ReplyShows x ts of own plain entry y = Unit {0}
 
 -- what the log shows of a notification: the same, with an empty Observe inside (RFC 8613, 4.1.3.5.2 and 8.3.1)
 abbrev pub NotifyShows : Exchange → Places → ℕ → List ℕ → ServerEntry → Exchange → Type 0
-NotifyShows x ts of plain (entries.Replied (Ok text)) y = (t : server.TicketValues) × (serving.ticket_at ts of ≡ Some t)
-    × (p : Parts) × IsDatagram p plain × Contains (said y) (by_ticket (server_of x) t true true (inside (as_notified p)) text.now)
+NotifyShows x ts of plain (entries.Replied (Ok sealed)) y = (t : server.TicketValues) × (serving.ticket_at ts of ≡ Some t)
+    × (p : Parts) × IsDatagram p plain × Contains (said y) (by_ticket (server_of x) t true true (inside (as_notified p)) sealed.datagram.now)
 NotifyShows x ts of plain entry y = Unit {0}
 
 -- what the log shows of a turn: what was sealed; that a request of the client's which arrives is delivered, as it was said, if and only if it is admitted; and that a

@@ -1,6 +1,6 @@
 //! A peer that lets no Echo value through but those that are due, within the list of what happens at two devices (RFC 9175, 2.3).
 
-ghost use Rattle.std.specs.Prelude.{◌≡◌, ◌≢◌, ◌+◌, ℕ, List, None, Some, Err, IfErr, length};
+ghost use Rattle.std.specs.Prelude.{◌≡◌, ◌≢◌, ◌+◌, ◌↔◌, ℕ, List, None, Some, Err, IfErr, length};
 ghost use Rattle.osc_coap.specs.Views.{parts_of};
 ghost use Rattle.osc_context.specs.SecurityContext.{SecurityContext};
 ghost use Rattle.osc_client.specs.ClientHistory as asked;
@@ -12,7 +12,9 @@ ghost use Rattle.osc_life.specs.Views.{reply_entry, values_of};
 ghost use Rattle.osc_life.specs.declared.server_error.ReplyError.TheVariants as replies;
 ghost use Rattle.osc_endpoint.specs.Views.{server_entry};
 ghost use Rattle.osc_fresh.specs.Echoing.{EchoesOnly, echo_in};
-ghost use Rattle.osc_fresh.specs.Views.{heard_of};
+ghost use Rattle.osc_fresh.specs.Views.{echo_entry, heard_of};
+ghost use Rattle.osc_fresh.specs.WithEcho.{LacksEchoRoom, echoing};
+ghost use Rattle.osc_fresh.specs.declared.echo_request_error.EchoRequestError.TheVariants as refusals;
 ghost use Rattle.osc_peers.specs.Peers.{Peers};
 ghost use Rattle.osc_peer_calls.specs.Counting.{AreCounted};
 ghost use Rattle.osc_peer_calls.specs.Hearing.{HearsEcho, WasHeard};
@@ -22,7 +24,7 @@ use crate::laws::{heard_stays, peer_calls_in_list};
 use osc_coap::Message;
 use osc_context::RecordKeeper;
 use osc_endpoint::{ClientOutcome, ReplyError, RequestError, Ticket};
-use osc_fresh::{HeardEcho, notify_without_echo, reply_without_echo};
+use osc_fresh::{EchoRequestError, HeardEcho, notify_without_echo, reply_without_echo};
 use osc_kept_ends::KeptPeer;
 
 /// Calls `osc_fresh::reply_without_echo`. Its claim about that list assumes a ticket that a delivery gave and that no reply took.
@@ -91,6 +93,32 @@ pub fn request_heard_in_list<R: RecordKeeper, const N: usize>(
     // For the proof alone.
     peer_calls_in_list();
     heard.request(peer, now, plain, out)
+}
+
+/// Calls `HeardEcho::request_with_echo`. Its claim about that list assumes what that of `request_heard_in_list` does.
+pub fn request_with_echo_in_list<R: RecordKeeper, const N: usize>(
+    heard: &HeardEcho,
+    peer: &mut KeptPeer<R, N>,
+    now: u64,
+    plain: &Message<'_>,
+    room: &mut [u8],
+    out: &mut [u8],
+) -> Result<usize, EchoRequestError>
+    ensures echoes { (value : List ℕ) → echo_in (parts_of plain.now) ≡ Some value
+        → (result ≡ Err (refusals.Refused (requests.Unsupported 252))) × (peer.new ≡ peer.old) × (out.new ≡ out.old) × (room.new ≡ room.old) }
+    ensures no_room { (result ≡ Err refusals.NoRoomForEcho) ↔ LacksEchoRoom (heard_of heard.now) (parts_of plain.now) (length room.old) }
+    ensures same { result ≡ Err refusals.NoRoomForEcho → (peer.new ≡ peer.old) × (out.new ≡ out.old) }
+    ensures answered { echo_in (parts_of plain.now) ≡ None → result ≢ Err (refusals.Refused requests.KeeperFailed)
+        → (entry : asked.Entry) → echo_entry result out.new ≡ Some entry → (s : SecurityContext) (w : Peers) → AreCounted N s w → RunsIn s w peer.old → WasHeard w (heard_of heard.now)
+        → AsksAfter s w (asked.Request now (echoing (heard_of heard.now) (parts_of plain.now)) (length out.old)) entry peer.new }
+    ensures clock_alone { result ≡ Err (refusals.Refused requests.KeeperFailed) → (s : SecurityContext) (w : Peers) → AreCounted N s w → RunsIn s w peer.old
+        → AsksAfter s w (asked.Advance now) asked.Advanced peer.new }
+    ensures failed { result ≡ Err (refusals.Refused requests.KeeperFailed) → R.failures peer.new.source.keeper ≡ R.failures peer.old.source.keeper + 1 }
+    ensures worked { result ≢ Err (refusals.Refused requests.KeeperFailed) → R.failures peer.new.source.keeper ≡ R.failures peer.old.source.keeper }
+{
+    // For the proof alone.
+    peer_calls_in_list();
+    heard.request_with_echo(peer, now, plain, room, out)
 }
 
 /// Calls `HeardEcho::hear`. Its claim about that list assumes that nobody forged the datagram, and that the value which was remembered was

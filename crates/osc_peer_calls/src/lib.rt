@@ -16,7 +16,7 @@ pub use beginning::{advance_in_list, start_in_list};
 pub use challenging::{challenge_in_list, decide_fresh_in_list};
 pub use echoing::{
     hear_echo_in_list, notify_without_echo_in_list, reply_without_echo_in_list,
-    request_heard_in_list,
+    request_heard_in_list, request_with_echo_in_list,
 };
 pub use laws::{
     heard_stays, peer_calls_in_list, peers_are_alike, peers_are_fresh, peers_by_numbers,

@@ -36,7 +36,7 @@ unchanged {R = R} {r = r} old new same =
 
 reply_rises : {R : Type 0} {r : keeper.Ghosts R} (h : server.History) (old : PeerSource R r) (ts : List (Option server.TicketValues)) (of : ℕ) (own : Bool) (mid : ℕ) (plain : List ℕ) (room : ℕ) (x : ServerEntry)
     (g : server.History) (new : PeerSource R r) (us : List (Option server.TicketValues)) → ReplyStep h old ts of own mid plain room x g new us → r.received_floor old.keeper ≤ r.received_floor new.keeper
-reply_rises h old ts of own mid plain room (served.Replied (Ok text)) g new us step = step.4.4.1
+reply_rises h old ts of own mid plain room (served.Replied (Ok sealed)) g new us step = step.4.4.1
 reply_rises h old ts of own mid plain room (served.Replied (Err replies.KeeperFailed)) g new us step = step.6.1
 reply_rises h old ts of own mid plain room (served.Replied (Err e)) g new us step = step.4.4.1
 reply_rises h old ts of own mid plain room x g new us step = unchanged old new step.1
@@ -44,14 +44,14 @@ reply_rises h old ts of own mid plain room x g new us step = unchanged old new s
 challenge_rises : {R : Type 0} {r : keeper.Ghosts R} (h : server.History) (old : PeerSource R r) (ts : List (Option server.TicketValues)) (of : ℕ) (mid : ℕ) (room : ℕ) (x : ServerEntry)
     (g : server.History) (new : PeerSource R r) (us : List (Option server.TicketValues)) → ChallengeStep h old ts of mid room x g new us → r.received_floor old.keeper ≤ r.received_floor new.keeper
 challenge_rises h old ts of mid room served.NoTicket g new us step = unchanged old new step.3
-challenge_rises h old ts of mid room (served.Replied (Ok text)) g new us step = step.2.4.1
+challenge_rises h old ts of mid room (served.Replied (Ok sealed)) g new us step = step.2.4.1
 challenge_rises h old ts of mid room (served.Replied (Err replies.KeeperFailed)) g new us step = step.4.1
 challenge_rises h old ts of mid room (served.Replied (Err e)) g new us step = step.2.4.1
 challenge_rises h old ts of mid room x g new us step = absurd step
 
 notify_rises : {R : Type 0} {r : keeper.Ghosts R} (h : server.History) (old : PeerSource R r) (ts : List (Option server.TicketValues)) (of : ℕ) (plain : List ℕ) (room : ℕ) (x : ServerEntry)
     (g : server.History) (new : PeerSource R r) → NotifyStep h old ts of plain room x g new → r.received_floor old.keeper ≤ r.received_floor new.keeper
-notify_rises h old ts of plain room (served.Replied (Ok text)) g new step = step.4.4.1
+notify_rises h old ts of plain room (served.Replied (Ok sealed)) g new step = step.4.4.1
 notify_rises h old ts of plain room (served.Replied (Err replies.KeeperFailed)) g new step = step.6.1
 notify_rises h old ts of plain room (served.Replied (Err e)) g new step = step.4.4.1
 notify_rises h old ts of plain room x g new step = unchanged old new step.1

@@ -1,7 +1,7 @@
 -- Runs of a peer, one event after another. s, mid and t are states, next and more numbers with which the peer seals next.
-use Rattle.std.proofs.Common.{Bor, ◌≡◌, ◌≢◌, ◌≤◌, ◌<◌, ◌+◌, ℕ, ◌∙◌, ap, sym, subst, refl, arith, inl, inr, List, Bool, true, [], ◌∷◌, ◌++◌, take, Option, Some, None, Err}
+use Rattle.std.proofs.Common.{Bor, ◌≡◌, ◌≢◌, ◌≤◌, ◌<◌, ◌+◌, ℕ, ◌∙◌, ap, sym, subst, refl, arith, inl, inr, List, Bool, true, false, ◌||◌, [], ◌∷◌, ◌++◌, take, Option, Some, None, Err}
 use Rattle.std.proofs.lemmas.List.{length-drop}
-use Rattle.std.specs.Prelude.{◌-◌, drop, length, slice_get, unwrap_or}
+use Rattle.std.specs.Prelude.{◌-◌, drop, length, slice_get}
 use Rattle.std.specs.Option.{ForSome, option_map}
 use Rattle.std.proofs.lemmas.Bool.{cases_lt}
 use Rattle.std.proofs.lemmas.Grind.{not_there}
@@ -31,11 +31,10 @@ use Rattle.osc_life.specs.ServerHistory as server
 use Rattle.osc_life.specs.Views.{Shows}
 use Rattle.osc_kept_ends.specs.declared.peer_source.PeerSource.{PeerSource}
 use Rattle.osc_kept_ends.specs.EchoNumber.{echo_of}
-use Rattle.osc_kept_ends.specs.Numbering.{Own, Draws, upcoming}
+use Rattle.osc_kept_ends.specs.Numbering.{Own, upcoming}
 use Rattle.osc_kept_ends.specs.Peering.{AskStep, ClientIsBehind, PeerStep, ServerIsBehind, TakesBelow}
 use Rattle.osc_kept_ends.specs.PeerOwning.{own_in}
 use Rattle.osc_fresh.specs.Wishing.{unobeyed_message}
-use Rattle.osc_kept_ends.proofs.Drawing.{upcoming_stays}
 use Rattle.osc_kept_ends.proofs.PeerSteps.{asked_behind, client_at, kept_behind, server_at, some_is}
 use Rattle.osc_peer_runs.specs.declared.peer_event.PeerArrival.{PeerArrival}
 use Rattle.osc_peer_runs.specs.declared.peer_event.PeerEvent.{PeerEvent}
@@ -131,6 +130,14 @@ refused_step h old ts of own mid plain room e new us t p before after seen is ba
     let (g, serves, behind) = serves_step h (server.Reply t (asks_own t own) mid p room) (server.NotReplied e) old new after (answered (λ is. cc)) (worked (λ is. cc), rises) in
     (g, (t, seen, p, is, serves, back), behind)
 
+-- a reply that asks for a Partial IV of its own has one
+pub asks_all : (t : server.TicketValues) → asks_own t true ≡ true
+asks_all t = or_true t.observes
+  where
+    or_true : (b : Bool) → (b || true) ≡ true
+    or_true true = refl
+    or_true false = refl
+
 -- a refused challenge, in the same way
 pub unchallenged_step : {R : Type 0} {r : keeper.Ghosts R} (h : server.History) (old : PeerSource R r) (ts : List (Option server.TicketValues)) (of : ℕ) (mid : ℕ) (room : ℕ) (e : ReplyError)
     (new : PeerSource R r) (us : List (Option server.TicketValues)) (t : server.TicketValues) (before after : Server)
@@ -164,11 +171,7 @@ unnotified_step h old ts of plain room e new t p before after seen is b failed w
 
 -- ---- what the client does
 
--- the number that is in hand behind a draw is the one with which the peer seals next
-pub number_in_hand : (old mid : Own) (n : ℕ) → Draws true old mid → mid.hand ≡ Some n → n ≡ upcoming old
-number_in_hand old mid n drawn hand = sym (ap (λ (o : Option ℕ). unwrap_or o mid.next) hand) ∙ upcoming_stays true old mid drawn
-
--- the same of a client's answer
+-- a client's answer is a step, behind which the client is
 pub asks_step : {R : Type 0} {r : keeper.Ghosts R} {N : ℕ} (k : client.History) (event : client.Event) (entry : client.Entry) (old new : PeerSource R r) (after : Client N)
     → AskStep k event entry (own_in old) (own_in new) after → Worked old new → (m : client.History) × Asks N k event entry old m new × ClientIsBehind after (upcoming (own_in new)) m
 asks_step k event entry old new after (passed, passes, step) worked =

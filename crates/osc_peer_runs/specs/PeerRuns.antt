@@ -31,7 +31,7 @@ use Rattle.osc_kept_ends.specs.declared.peer_source.PeerSource.{PeerSource}
 use Rattle.osc_kept_ends.specs.EchoNumber.{echo_of}
 use Rattle.osc_kept_ends.specs.KeptAsking as asking
 use Rattle.osc_kept_ends.specs.KeptServing as serving
-use Rattle.osc_kept_ends.specs.Numbering.{Own, Steps, upcoming}
+use Rattle.osc_kept_ends.specs.Numbering.{Own, Steps, response_number, upcoming}
 use Rattle.osc_kept_ends.specs.Peering.{ClientIsBehind, ClientPasses, IsKeptOn, MayDraw, ServerIsBehind, ServerPasses}
 use Rattle.osc_kept_ends.specs.PeerOwning.{own_in}
 use Rattle.osc_fresh.specs.Wishing.{Asked, IsFresh, unobeyed_message}
@@ -129,10 +129,11 @@ FreshStep {R = R} {r = r} h old last ms a (entries.Challenged (Err e)) g new nex
     × TakesStale h old last ms a between mid t × Serves between (asking_anew t a.mid mid) (server.NotReplied e) mid g new × (next ≡ last) × (o ≡ None)
 FreshStep h old last ms a entry g new next o = ⊥
 
--- a reply by the ticket at a place, and the tickets that are left; if the record failed, no number changed (RFC 8613, 4.1.3.5 and 8.3)
+-- a reply by the ticket at a place, with its number, and the tickets that are left; if the record failed, no number changed (RFC 8613, 4.1.3.5 and 8.3)
 abbrev pub ReplyStep : {R : Type 0} {r : keeper.Ghosts R} → server.History → PeerSource R r → List (Option server.TicketValues) → ℕ → Bool → ℕ → List ℕ → ℕ → ServerEntry → server.History → PeerSource R r → List (Option server.TicketValues) → Type 0
-ReplyStep h old ts of own mid plain room (served.Replied (Ok text)) g new us = (t : server.TicketValues) × (server_run.ticket_at ts of ≡ Some t)
-    × (p : Parts) × IsDatagram p plain × Serves h (server.Reply t (asks_own t own) mid p room) (server.Replied text.now) old g new × (us ≡ slice_set ts of None)
+ReplyStep h old ts of own mid plain room (served.Replied (Ok sealed)) g new us = (t : server.TicketValues) × (server_run.ticket_at ts of ≡ Some t)
+    × (p : Parts) × IsDatagram p plain × Serves h (server.Reply t (asks_own t own) mid p room) (server.Replied sealed.datagram.now) old g new × (us ≡ slice_set ts of None)
+    × (option_map number_of sealed.number ≡ response_number (asks_own t own) (own_in old))
 ReplyStep h old ts of own mid plain room (served.Replied (Err replies.KeeperFailed)) g new us = (t : server.TicketValues) × (server_run.ticket_at ts of ≡ Some t)
     × (p : Parts) × IsDatagram p plain × (g ≡ h) × (own_in new ≡ own_in old) × Failed old new × (us ≡ ts)
 ReplyStep h old ts of own mid plain room (served.Replied (Err e)) g new us = (t : server.TicketValues) × (server_run.ticket_at ts of ≡ Some t)
@@ -143,18 +144,20 @@ ReplyStep h old ts of own mid plain room entry g new us = server_run.ReplyStep h
 -- the request wasn't obeyed; if the record failed, no number changed (RFC 8613, 8.3; RFC 9175, 2.3 and A, method 3)
 abbrev pub ChallengeStep : {R : Type 0} {r : keeper.Ghosts R} → server.History → PeerSource R r → List (Option server.TicketValues) → ℕ → ℕ → ℕ → ServerEntry → server.History → PeerSource R r → List (Option server.TicketValues) → Type 0
 ChallengeStep h old ts of mid room served.NoTicket g new us = (server_run.ticket_at ts of ≡ None) × (g ≡ h) × (us ≡ ts) × (new ≡ old)
-ChallengeStep h old ts of mid room (served.Replied (Ok text)) g new us = (t : server.TicketValues) × (server_run.ticket_at ts of ≡ Some t)
-    × Serves h (server.Reply t (asks_own t true) mid (unobeyed_message (echo_of (upcoming (own_in old)))) room) (server.Replied text.now) old g new × (us ≡ slice_set ts of None)
+ChallengeStep h old ts of mid room (served.Replied (Ok sealed)) g new us = (t : server.TicketValues) × (server_run.ticket_at ts of ≡ Some t)
+    × Serves h (server.Reply t (asks_own t true) mid (unobeyed_message (echo_of (upcoming (own_in old)))) room) (server.Replied sealed.datagram.now) old g new × (us ≡ slice_set ts of None)
+    × (option_map number_of sealed.number ≡ response_number true (own_in old))
 ChallengeStep h old ts of mid room (served.Replied (Err replies.KeeperFailed)) g new us = (t : server.TicketValues) × (server_run.ticket_at ts of ≡ Some t)
     × (g ≡ h) × (own_in new ≡ own_in old) × Failed old new × (us ≡ ts)
 ChallengeStep h old ts of mid room (served.Replied (Err e)) g new us = (t : server.TicketValues) × (server_run.ticket_at ts of ≡ Some t)
     × Serves h (server.Reply t (asks_own t true) mid (unobeyed_message (echo_of (upcoming (own_in old)))) room) (server.NotReplied e) old g new × (us ≡ ts)
 ChallengeStep h old ts of mid room entry g new us = ⊥
 
--- a notification by the ticket at a place, which stays; if the record failed, no number changed (RFC 8613, 8.3.1)
+-- a notification by the ticket at a place, which stays, with its number; if the record failed, no number changed (RFC 8613, 8.3.1)
 abbrev pub NotifyStep : {R : Type 0} {r : keeper.Ghosts R} → server.History → PeerSource R r → List (Option server.TicketValues) → ℕ → List ℕ → ℕ → ServerEntry → server.History → PeerSource R r → Type 0
-NotifyStep h old ts of plain room (served.Replied (Ok text)) g new = (t : server.TicketValues) × (server_run.ticket_at ts of ≡ Some t)
-    × (p : Parts) × IsDatagram p plain × Serves h (server.Notify t p room) (server.Replied text.now) old g new
+NotifyStep h old ts of plain room (served.Replied (Ok sealed)) g new = (t : server.TicketValues) × (server_run.ticket_at ts of ≡ Some t)
+    × (p : Parts) × IsDatagram p plain × Serves h (server.Notify t p room) (server.Replied sealed.datagram.now) old g new
+    × (option_map number_of sealed.number ≡ response_number true (own_in old))
 NotifyStep h old ts of plain room (served.Replied (Err replies.KeeperFailed)) g new = (t : server.TicketValues) × (server_run.ticket_at ts of ≡ Some t)
     × (p : Parts) × IsDatagram p plain × (g ≡ h) × (own_in new ≡ own_in old) × Failed old new
 NotifyStep h old ts of plain room (served.Replied (Err e)) g new = (t : server.TicketValues) × (server_run.ticket_at ts of ≡ Some t)

@@ -15,8 +15,10 @@ ghost use Rattle.osc_peer_runs.specs.PeerRuns.{ArrivalStep, ChallengeStep, Fresh
 use crate::peer_event::{Challenging, PeerArrival, PeerEntry, PeerEvent};
 use osc_coap::parse;
 use osc_context::{KeeperError, RecordKeeper};
-use osc_endpoint::siblings::{put_back, take_out, ticket_at};
-use osc_endpoint::{Answering, Decided, Notifying, Outcome, Seen, ServerEntry, Taken, Ticket};
+use osc_endpoint::siblings::{put_back, sealed_number, take_out, ticket_at};
+use osc_endpoint::{
+    Answering, Decided, Notifying, Outcome, SealedResponse, Seen, ServerEntry, Taken, Ticket,
+};
 use osc_fresh::{DecidedFresh, Wishes, challenge};
 use osc_kept_ends::KeptPeer;
 
@@ -142,8 +144,12 @@ fn reply_at<'a, R: RecordKeeper, const N: usize>(
             return ServerEntry::BadPlain(error);
         }
     };
+    let number = sealed_number(ticket.asks_own(own), Some(peer.upcoming()));
     match peer.reply(ticket, own, mid, &message, out) {
-        Ok(len) => ServerEntry::Replied(Ok(&out[..len])),
+        Ok(len) => ServerEntry::Replied(Ok(SealedResponse {
+            number,
+            datagram: &out[..len],
+        })),
         Err((error, ticket)) => {
             put_back(tickets, of, ticket);
             ServerEntry::Replied(Err(error))
@@ -185,8 +191,12 @@ fn challenge_at<'a, R: RecordKeeper, const N: usize>(
     let Some(ticket) = take_out(tickets, of) else {
         return ServerEntry::NoTicket;
     };
+    let number = sealed_number(true, Some(peer.upcoming()));
     match challenge(peer, ticket, mid, out) {
-        Ok(len) => ServerEntry::Replied(Ok(&out[..len])),
+        Ok(len) => ServerEntry::Replied(Ok(SealedResponse {
+            number,
+            datagram: &out[..len],
+        })),
         Err((error, ticket)) => {
             put_back(tickets, of, ticket);
             ServerEntry::Replied(Err(error))
@@ -226,8 +236,12 @@ fn notify_at<'a, R: RecordKeeper, const N: usize>(
         Ok(message) => message,
         Err(error) => return ServerEntry::BadPlain(error),
     };
+    let number = sealed_number(true, Some(peer.upcoming()));
     match peer.notify(ticket, &message, out) {
-        Ok(len) => ServerEntry::Replied(Ok(&out[..len])),
+        Ok(len) => ServerEntry::Replied(Ok(SealedResponse {
+            number,
+            datagram: &out[..len],
+        })),
         Err(error) => ServerEntry::Replied(Err(error)),
     }
 }

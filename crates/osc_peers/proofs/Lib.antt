@@ -1,4 +1,5 @@
 pub mod OneSource
+pub mod Turning
 pub mod Senders
 pub mod Peering
 pub mod Crossing

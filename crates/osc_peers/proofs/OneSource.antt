@@ -2,22 +2,15 @@
 -- what happened to the source, newest first.
 use Rattle.std.proofs.Common.{◌≡◌, ℕ, ◌<◌, ◌≤◌, ◌^◌, sym, subst, arith, Some, None, List, [], ◌∷◌, inl, inr}
 use Rattle.osc_context.specs.Reserving.{next_limit}
-use Rattle.osc_kept_ends.specs.Numbering.{Own, Effect, Stay, Draw, Reserve, Load, Use, after, Allowed, nothing_drawn}
+use Rattle.osc_kept_ends.specs.Numbering.{Own, Effect, Stay, Draw, Reserve, Load, Use, after, Allowed}
 use Rattle.osc_kept.specs.World.{Has}
 use Rattle.osc_kept.proofs.Lives.{some_is}
 use Rattle.osc_kept.proofs.Rising.{limit_above, used_after}
-
-abbrev pub source_of : List Effect → Own
-source_of [] = nothing_drawn 0
-source_of (e ∷ es) = after e (source_of es)
+use Rattle.osc_peers.specs.Turns.{AreAllowed, after_all}
 
 abbrev pub used_by : List Effect → List ℕ
 used_by [] = []
 used_by (e ∷ es) = used_after e (used_by es)
-
-abbrev pub AllAllowed : List Effect → Type 0
-AllAllowed [] = Unit {0}
-AllAllowed (e ∷ es) = AllAllowed es × Allowed e (source_of es)
 
 pub record SourceInv (ns : List ℕ) (o : Own) : Type 0 where
   pub ordered : o.next ≤ o.limit
@@ -88,7 +81,7 @@ source_step (Use m) o ns a i =
       hand_above = λ p n e h. let f : None ≡ Some p = e in cc;
     }
 
-pub source_inv : (es : List Effect) → AllAllowed es → SourceInv (used_by es) (source_of es)
+pub source_inv : (es : List Effect) → AreAllowed es → SourceInv (used_by es) (after_all es)
 source_inv [] a =
     record {
       ordered = omega arith;
@@ -101,26 +94,26 @@ source_inv [] a =
       hand_below = λ p e. let f : None ≡ Some p = e in cc;
       hand_above = λ p n e h. absurd h;
     }
-source_inv (e ∷ es) a = source_step e (source_of es) (used_by es) a.1 (source_inv es a.0)
+source_inv (e ∷ es) a = source_step e (after_all es) (used_by es) a.1 (source_inv es a.0)
 
 -- the number in hand is above all that were used, and small
-pub hand_above : (es : List Effect) (n m : ℕ) → AllAllowed es → (source_of es).hand ≡ Some n → Has m (used_by es) → m < n
+pub hand_above : (es : List Effect) (n m : ℕ) → AreAllowed es → (after_all es).hand ≡ Some n → Has m (used_by es) → m < n
 hand_above es n m a u h = (source_inv es a).hand_above n m u h
 
-pub hand_small : (es : List Effect) (n : ℕ) → AllAllowed es → (source_of es).hand ≡ Some n → n < 2 ^ 40
+pub hand_small : (es : List Effect) (n : ℕ) → AreAllowed es → (after_all es).hand ≡ Some n → n < 2 ^ 40
 hand_small es n a u =
     let i = source_inv es a in
-    let l : n < (source_of es).next = i.hand_low n u in
-    let o : (source_of es).next ≤ (source_of es).limit = i.ordered in
-    let t : (source_of es).limit ≤ 2 ^ 40 = i.top in
+    let l : n < (after_all es).next = i.hand_low n u in
+    let o : (after_all es).next ≤ (after_all es).limit = i.ordered in
+    let t : (after_all es).limit ≤ 2 ^ 40 = i.top in
     omega (arith, l, o, t)
 
-pub used_small : (es : List Effect) (n : ℕ) → AllAllowed es → Has n (used_by es) → n < 2 ^ 40
+pub used_small : (es : List Effect) (n : ℕ) → AreAllowed es → Has n (used_by es) → n < 2 ^ 40
 used_small es n a h =
     let i = source_inv es a in
-    let l : n < (source_of es).next = i.low n h in
-    let o : (source_of es).next ≤ (source_of es).limit = i.ordered in
-    let t : (source_of es).limit ≤ 2 ^ 40 = i.top in
+    let l : n < (after_all es).next = i.low n h in
+    let o : (after_all es).next ≤ (after_all es).limit = i.ordered in
+    let t : (after_all es).limit ≤ 2 ^ 40 = i.top in
     omega (arith, l, o, t)
 
 -- what is loaded is above all that were used
@@ -128,9 +121,9 @@ abbrev pub LoadsAbove : Effect → List ℕ → Type 0
 LoadsAbove (Load first) ns = (m : ℕ) → Has m ns → m < first
 LoadsAbove e ns = Unit {0}
 
-pub loads_above : (e : Effect) (es : List Effect) (ns : List ℕ) → AllAllowed es → Allowed e (source_of es) → ((m : ℕ) → Has m ns → Has m (used_by es)) → LoadsAbove e ns
+pub loads_above : (e : Effect) (es : List Effect) (ns : List ℕ) → AreAllowed es → Allowed e (after_all es) → ((m : ℕ) → Has m ns → Has m (used_by es)) → LoadsAbove e ns
 loads_above (Load first) es ns a b f = λ m h.
-    let less : m < (source_of es).floor = (source_inv es a).below m (f m h) in
-    let least : (source_of es).floor ≤ first = b.0 in
+    let less : m < (after_all es).floor = (source_inv es a).below m (f m h) in
+    let least : (after_all es).floor ≤ first = b.0 in
     omega (arith, less, least)
 loads_above e es ns a b f = tt

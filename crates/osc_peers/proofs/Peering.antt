@@ -17,7 +17,8 @@ use Rattle.osc_kept.proofs.Owned.{own_used, sent_used}
 use Rattle.osc_kept.proofs.Rising.{used, used_after}
 use Rattle.osc_peers.specs.Peers.{Forth, Back, Peers, Nothing, More, IsExchange, SourcesAreKept, TwoPeers, back, far_effect, far_numbers, forth, near_effect, near_numbers}
 use Rattle.osc_peers.specs.Roles.{turned}
-use Rattle.osc_peers.proofs.OneSource.{AllAllowed, LoadsAbove, hand_above, loads_above, source_of, used_by}
+use Rattle.osc_peers.specs.Turns.{AreAllowed, after_all}
+use Rattle.osc_peers.proofs.OneSource.{LoadsAbove, hand_above, loads_above, used_by}
 
 -- ---- what happens to the two sources, newest first
 
@@ -29,19 +30,19 @@ abbrev far_effects : SecurityContext → Peers → List Effect
 far_effects s Nothing = []
 far_effects s (More w event) = far_effect s w event ∷ far_effects s w
 
-near_is : (s : SecurityContext) (w : Peers) → source_of (near_effects s w) ≡ near_numbers s w
+near_is : (s : SecurityContext) (w : Peers) → after_all (near_effects s w) ≡ near_numbers s w
 near_is s Nothing = refl
 near_is s (More w event) = ap (λ o. after (near_effect s w event) o) (near_is s w)
 
-far_is : (s : SecurityContext) (w : Peers) → source_of (far_effects s w) ≡ far_numbers s w
+far_is : (s : SecurityContext) (w : Peers) → after_all (far_effects s w) ≡ far_numbers s w
 far_is s Nothing = refl
 far_is s (More w event) = ap (λ o. after (far_effect s w event) o) (far_is s w)
 
-near_allowed : (s : SecurityContext) (w : Peers) → SourcesAreKept s w → AllAllowed (near_effects s w)
+near_allowed : (s : SecurityContext) (w : Peers) → SourcesAreKept s w → AreAllowed (near_effects s w)
 near_allowed s Nothing k = tt
 near_allowed s (More w event) k = (near_allowed s w k.0, subst (λ o. Allowed (near_effect s w event) o) (sym (near_is s w)) k.1)
 
-far_allowed : (s : SecurityContext) (w : Peers) → SourcesAreKept s w → AllAllowed (far_effects s w)
+far_allowed : (s : SecurityContext) (w : Peers) → SourcesAreKept s w → AreAllowed (far_effects s w)
 far_allowed s Nothing k = tt
 far_allowed s (More w event) k = (far_allowed s w k.0, subst (λ o. Allowed (far_effect s w event) o) (sym (far_is s w)) k.2)
 
@@ -134,9 +135,9 @@ new_or_old Draw ns n h = inr h
 new_or_old Reserve ns n h = inr h
 new_or_old (Load k) ns n h = inr h
 
-not_old : (e : Effect) (es : List Effect) (n : ℕ) → AllAllowed es → Allowed e (source_of es) → e ≡ Use n → Has n (used_by es) → ⊥
+not_old : (e : Effect) (es : List Effect) (n : ℕ) → AreAllowed es → Allowed e (after_all es) → e ≡ Use n → Has n (used_by es) → ⊥
 not_old e es n a b is h =
-    let l : n < n = hand_above es n n a (subst (λ x. Allowed x (source_of es)) is b) h in
+    let l : n < n = hand_above es n n a (subst (λ x. Allowed x (after_all es)) is b) h in
     omega (arith, l)
 
 near_apart : (s : SecurityContext) (w : Peers) (n : ℕ) → SourcesAreKept s w → Has n (used Client s (forth w)) → Has n (used Server (turned s) (back w)) → ⊥

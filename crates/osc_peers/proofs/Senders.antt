@@ -10,24 +10,25 @@ use Rattle.osc_kept.specs.World.{Has}
 use Rattle.osc_peers.specs.Roles.{RolesApart}
 use Rattle.osc_peers.specs.Sender.{Step, Seal, Asks, Answers, Draws, Reserves, Loads, Seals, Sender, IsKept, IsOnce, OneSender, effect_of, seal_nonce, sealed, source, use_by}
 use Rattle.osc_peers.proofs.OneSource as one_source
-use Rattle.osc_peers.proofs.OneSource.{AllAllowed, source_of, used_by}
+use Rattle.osc_peers.specs.Turns.{AreAllowed, after_all}
+use Rattle.osc_peers.proofs.OneSource.{used_by}
 
 abbrev effects : List Step → List Effect
 effects [] = []
 effects (step ∷ w) = effect_of step ∷ effects w
 
-source_is : (w : List Step) → source_of (effects w) ≡ source w
+source_is : (w : List Step) → after_all (effects w) ≡ source w
 source_is [] = refl
 source_is (step ∷ w) = ap (λ o. after (effect_of step) o) (source_is w)
 
-all_allowed : (x : Sender) (w : List Step) → IsKept x w → AllAllowed (effects w)
+all_allowed : (x : Sender) (w : List Step) → IsKept x w → AreAllowed (effects w)
 all_allowed x [] a = tt
 all_allowed x (step ∷ w) a = (all_allowed x w a.0, subst (λ o. Allowed (effect_of step) o) (sym (source_is w)) a.1)
 
 abbrev used : List Step → List ℕ
 used w = used_by (effects w)
 
-hand_is : (w : List Step) (n : ℕ) → (source w).hand ≡ Some n → (source_of (effects w)).hand ≡ Some n
+hand_is : (w : List Step) (n : ℕ) → (source w).hand ≡ Some n → (after_all (effects w)).hand ≡ Some n
 hand_is w n u = subst (λ (o : Own). o.hand ≡ Some n) (sym (source_is w)) u
 
 hand_above : (x : Sender) (w : List Step) (n m : ℕ) → IsKept x w → (source w).hand ≡ Some n → Has m (used w) → m < n

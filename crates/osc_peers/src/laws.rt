@@ -6,6 +6,7 @@ ghost use Rattle.osc_peers.specs.Peers.{HonestPeers, TwoPeers};
 ghost use Rattle.osc_peers.specs.Roles.{RolesApart};
 ghost use Rattle.osc_peers.specs.Rows.{RowsAsBefore};
 ghost use Rattle.osc_peers.specs.Sender.{OneSender};
+ghost use Rattle.osc_peers.specs.Turns.{OneSourceInTurn};
 
 use osc_coap::one_datagram;
 use osc_context::{one_additional_data, one_nonce, one_option_value};
@@ -21,6 +22,13 @@ pub fn one_sender()
 {
     one_nonce();
 }
+
+/// States that ends which have one source of numbers in turn use no number twice: what they do could be done with one source that never
+/// moves, and each number is above all that were used before. Each end does what its own numbers allow, and the one that takes the source has
+/// the numbers of the one that had it, as `KeptPeer::release` and `KeptPeer::adopt` ensure. All begins with nothing drawn.
+pub fn one_source_in_turn()
+    ensures { OneSourceInTurn }
+{}
 
 /// States that in a context that a device uses in both roles, the cipher never takes one input for a request of the device and for a
 /// response that it gives, even if they share key and nonce: the additional data differ. So no text of one role opens in the other. The

@@ -5,6 +5,6 @@
 mod laws;
 
 pub use laws::{
-    honest_peers, one_sender, one_source_is_needed, peer_premises_can_be_met, roles_apart,
-    rows_as_before, two_peers,
+    honest_peers, one_sender, one_source_in_turn, one_source_is_needed, peer_premises_can_be_met,
+    roles_apart, rows_as_before, two_peers,
 };

@@ -43,8 +43,8 @@ reply_is : (h k : History) (ts us : List (Option TicketValues)) (of : ℕ) (own 
     → room ≡ reply_room plain → ReplyStep h ts of own mid plain room x k us → ReplyLine h ts of own mid plain (log_line x) k us
 reply_is h k ts us of own mid plain room entries.NoTicket is s = no_ticket s.0 refl s.1 s.2
 reply_is h k ts us of own mid plain room (entries.BadPlain e) is s = bad_plain s.0 e.fault e.place s.1 s.2 refl s.3 s.4
-reply_is h k ts us of own mid plain room (entries.Replied (Ok bytes)) is (t, at, p, reads, goes, used) =
-    replied t p bytes.now at reads (subst (λ (r : ℕ). GoesOn h (Reply t (asks_own t own) mid p r) (Replied bytes.now) k) is goes) refl used
+reply_is h k ts us of own mid plain room (entries.Replied (Ok sealed)) is (t, at, p, reads, goes, used, number) =
+    replied t p sealed.datagram.now at reads (subst (λ (r : ℕ). GoesOn h (Reply t (asks_own t own) mid p r) (Replied sealed.datagram.now) k) is goes) refl used
 reply_is h k ts us of own mid plain room (entries.Replied (Err e)) is (t, at, p, reads, goes, used) =
     refused t p e at reads (subst (λ (r : ℕ). GoesOn h (Reply t (asks_own t own) mid p r) (NotReplied e) k) is goes) refl used
 reply_is h k ts us of own mid plain room x is s = absurd s
@@ -54,8 +54,8 @@ notify_is : (h k : History) (ts : List (Option TicketValues)) (of : ℕ) (plain 
     → room ≡ reply_room plain → NotifyStep h ts of plain room x k → NotifyLine h ts of plain (log_line x) k
 notify_is h k ts of plain room entries.NoTicket is s = no_ticket s.0 refl s.1 refl
 notify_is h k ts of plain room (entries.BadPlain e) is s = bad_plain s.0 e.fault e.place s.1 s.2 refl s.3 refl
-notify_is h k ts of plain room (entries.Replied (Ok bytes)) is (t, at, p, reads, goes) =
-    replied t p bytes.now at reads (subst (λ (r : ℕ). GoesOn h (Notify t p r) (Replied bytes.now) k) is goes) refl refl
+notify_is h k ts of plain room (entries.Replied (Ok sealed)) is (t, at, p, reads, goes, number) =
+    replied t p sealed.datagram.now at reads (subst (λ (r : ℕ). GoesOn h (Notify t p r) (Replied sealed.datagram.now) k) is goes) refl refl
 notify_is h k ts of plain room (entries.Replied (Err e)) is (t, at, p, reads, goes) =
     refused t p e at reads (subst (λ (r : ℕ). GoesOn h (Notify t p r) (NotReplied e) k) is goes) refl refl
 notify_is h k ts of plain room x is s = absurd s

@@ -29,7 +29,7 @@ seen_text (seen.Deliver opened context number) = delivery_text context (number_o
 -- an entry, as it prints (how the code is seen)
 abbrev pub entry_text : ServerEntry → List ℕ
 entry_text (entries.Took x reply) = seen_text x ++ reply_text reply.now
-entry_text (entries.Replied (Ok bytes)) = codes "replied " ++ bytes_text bytes.now
+entry_text (entries.Replied (Ok sealed)) = codes "replied " ++ bytes_text sealed.datagram.now
 entry_text (entries.Replied (Err e)) = codes "refused: " ++ reply_error_text e
 entry_text entries.NoTicket = codes "no-ticket"
 entry_text (entries.BadPlain e) = codes "bad-plain " ++ fault_text e.fault e.place

@@ -68,7 +68,9 @@ impl LogEntry for ServerEntry<'_> {
     fn text(&self, alloc: Global) -> Result<String, AllocError> {
         match self {
             ServerEntry::Took { seen, reply } => took_text(alloc, seen, reply),
-            ServerEntry::Replied(Ok(bytes)) => named(alloc, "replied", bytes_text(alloc, bytes)),
+            ServerEntry::Replied(Ok(sealed)) => {
+                named(alloc, "replied", bytes_text(alloc, sealed.datagram))
+            }
             ServerEntry::Replied(Err(refusal)) => refused_text(alloc, *refusal),
             ServerEntry::NoTicket => String::from_str(alloc, "no-ticket"),
             ServerEntry::BadPlain(error) => named(alloc, "bad-plain", fault_text(alloc, *error)),

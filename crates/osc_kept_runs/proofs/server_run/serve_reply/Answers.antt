@@ -1,9 +1,14 @@
-use Rattle.std.proofs.Common.{◌∙◌, sym, ap, refl, slice_set, Some}
+use Rattle.std.proofs.Common.{◌∙◌, sym, ap, refl, slice_set, Some, None}
+use Rattle.std.specs.Prelude.{if◌then◌else◌}
 use Rattle.std.specs.Option.{option_map}
 use Rattle.osc_coap.specs.Views.{parts_of}
 use Rattle.osc_endpoint.specs.ServerRun.{values_in}
+use Rattle.osc_life.specs.LifeAnswer.{asks_own}
 use Rattle.osc_life.specs.Views.{values_of}
 use Rattle.osc_endpoint.proofs.Runs.{none_taken, put_again, ticket_seen, values_taken}
+use Rattle.osc_kept_ends.specs.Numbering.{upcoming}
+use Rattle.osc_kept_ends.specs.Owning.{own_in}
+use Rattle.osc_kept_ends.proofs.ServerSteps.{reply_left}
 use Rattle.osc_kept_runs.proofs.KeptRunLemmas.{refused_step}
 use Rattle.osc_kept_runs.proofs.server_run.serve_reply.Goals as goal
 
@@ -26,7 +31,12 @@ returns-in-Ok-reply g c = λ h k.
     let ticket = c.in-Some.ticket in
     let seen = ticket_seen ts c.args.of ∙ ap (option_map values_of) (sym c.in-Some.ensures.ticket) in
     let step = c.in-Ok-reply.ensures.answered tt h k in
-    (_, (values_of ticket, seen, parts_of c.in-Ok.message, c.in-Ok.ensures.accepted, (step.row, refl), (step.numbers, c.in-Ok-reply.ensures.worked tt), ap values_in c.take_out.ensures.rest ∙ values_taken ts c.args.of), step.kept)
+    let v = values_of ticket in
+    let own = own_in c.args.server.now.source in
+    let asks = asks_own v c.args.own in
+    let left = reply_left h v asks c.args.mid _ _ _ own _ _ step in
+    let number = c.sealed_number-number.ensures (upcoming own) (ap Some c.upcoming.ensures) (λ yes. left (sym c.asks_own.ensures ∙ yes)) ∙ ap (λ b. if b then Some (upcoming own) else None) c.asks_own.ensures in
+    (_, (v, seen, parts_of c.in-Ok.message, c.in-Ok.ensures.accepted, (step.row, refl), (step.numbers, c.in-Ok-reply.ensures.worked tt), ap values_in c.take_out.ensures.rest ∙ values_taken ts c.args.of, number), step.kept)
 
 pub returns-in-Err-reply : goal.returns-in-Err-reply
 returns-in-Err-reply g c = λ h k.

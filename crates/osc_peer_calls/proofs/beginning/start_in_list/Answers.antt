@@ -4,7 +4,7 @@ use Rattle.osc_peer_calls.proofs.CallLemmas.{begins}
 use Rattle.osc_peer_calls.proofs.beginning.start_in_list.Goals as goal
 
 pub returns-clause-begins : goal.returns-clause-begins
-returns-clause-begins g c = IfOk-weaker c.start_ahead.result _ _ (λ new (sender, received, mid, start, loads, least, rises, is, own, allowed, failures, server, client). (
+returns-clause-begins g c = IfOk-weaker c.start_ahead.result _ _ (λ new (sender, received, mid, start, loads, least, rises, is, own, allowed, failures, server, client, known). (
   sender,
   received,
   mid,

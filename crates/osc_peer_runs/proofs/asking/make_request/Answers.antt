@@ -4,7 +4,8 @@ use Rattle.osc_client.specs.ClientHistory as asked
 use Rattle.osc_coap.specs.Views.{parts_of}
 use Rattle.osc_kept_ends.specs.Numbering.{upcoming}
 use Rattle.osc_kept_ends.specs.PeerOwning.{own_in}
-use Rattle.osc_peer_runs.proofs.PeerRunLemmas.{asks_step, both_advance, number_in_hand, server_carried, unsent_step}
+use Rattle.osc_kept_ends.proofs.Drawing.{number_in_hand}
+use Rattle.osc_peer_runs.proofs.PeerRunLemmas.{asks_step, both_advance, server_carried, unsent_step}
 use Rattle.osc_peer_runs.proofs.asking.make_request.Goals as goal
 
 pub returns-in-Err : goal.returns-in-Err

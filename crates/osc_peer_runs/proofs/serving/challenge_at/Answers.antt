@@ -9,7 +9,8 @@ use Rattle.osc_kept_ends.specs.EchoNumber.{echo_of}
 use Rattle.osc_kept_ends.specs.Numbering.{upcoming}
 use Rattle.osc_kept_ends.specs.PeerOwning.{own_in}
 use Rattle.osc_fresh.specs.Wishing.{unobeyed_message}
-use Rattle.osc_peer_runs.proofs.PeerRunLemmas.{serves_step, unchallenged_step}
+use Rattle.osc_kept_ends.proofs.ServerSteps.{reply_left}
+use Rattle.osc_peer_runs.proofs.PeerRunLemmas.{asks_all, serves_step, unchallenged_step}
 use Rattle.osc_peer_runs.proofs.serving.challenge_at.Goals as goal
 
 pub returns-in_default-clause-served : goal.returns-in_default-clause-served
@@ -27,7 +28,11 @@ returns-in-Ok-clause-served g c = λ h b.
     let message = unobeyed_message (echo_of (upcoming (own_in c.args.peer.now.source))) in
     let (after, serves, behind) = serves_step h (Reply t (asks_own t true) c.args.mid message (length c.args.out.now)) (Replied (take c.in-Ok.len c.challenge.new.out)) c.args.peer.now.source new.source new.server
     (c.in-Ok.ensures.answered tt h b) (c.in-Ok.ensures.worked tt, c.challenge.ensures.rises) in
-    (after, (t, seen, serves, ap values_in c.take_out.ensures.rest ∙ values_taken ts c.args.of), behind)
+    let own = own_in c.args.peer.now.source in
+    let (passed, passes, step) = c.in-Ok.ensures.answered tt h b in
+    let left = reply_left passed t (asks_own t true) c.args.mid _ _ _ own _ _ step in
+    let number = c.sealed_number-number.ensures (upcoming own) (ap Some c.upcoming.ensures) (λ yes. left (asks_all t)) in
+    (after, (t, seen, serves, ap values_in c.take_out.ensures.rest ∙ values_taken ts c.args.of, number), behind)
 
 pub returns-in-Err-clause-served : goal.returns-in-Err-clause-served
 returns-in-Err-clause-served g c = λ h b.

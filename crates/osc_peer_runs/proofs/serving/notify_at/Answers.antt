@@ -1,10 +1,13 @@
-use Rattle.std.proofs.Common.{◌∙◌, sym, ap, refl, length, take}
+use Rattle.std.proofs.Common.{◌∙◌, sym, ap, refl, length, take, Some}
 use Rattle.std.specs.Option.{option_map}
 use Rattle.osc_coap.specs.Views.{parts_of}
 use Rattle.osc_endpoint.specs.ServerRun.{values_in}
 use Rattle.osc_life.specs.ServerHistory.{Notify, Replied}
 use Rattle.osc_life.specs.Views.{values_of}
 use Rattle.osc_endpoint.proofs.Runs.{ticket_seen}
+use Rattle.osc_kept_ends.specs.Numbering.{upcoming}
+use Rattle.osc_kept_ends.specs.PeerOwning.{own_in}
+use Rattle.osc_kept_ends.proofs.ServerSteps.{notification_left}
 use Rattle.osc_peer_runs.proofs.PeerRunLemmas.{serves_step, unnotified_step}
 use Rattle.osc_peer_runs.proofs.serving.notify_at.Goals as goal
 
@@ -21,7 +24,11 @@ returns-in-Ok-notify-clause-served g c = λ h b.
     let new = c.notify.new.self in
     let (after, serves, behind) = serves_step h (Notify t p (length c.args.out.now)) (Replied (take c.in-Ok-notify.len c.notify.new.out)) c.args.peer.now.source new.source new.server
     (c.in-Ok-notify.ensures.answered tt h b) (c.in-Ok-notify.ensures.worked tt, c.notify.ensures.rises) in
-    (after, (t, seen, p, c.in-Ok.ensures.accepted, serves), behind)
+    let own = own_in c.args.peer.now.source in
+    let (passed, passes, step) = c.in-Ok-notify.ensures.answered tt h b in
+    let left = notification_left passed t _ _ _ own _ _ step in
+    let number = c.sealed_number-number.ensures (upcoming own) (ap Some c.upcoming.ensures) (λ yes. left) in
+    (after, (t, seen, p, c.in-Ok.ensures.accepted, serves, number), behind)
 
 pub returns-in-Err-notify-clause-served : goal.returns-in-Err-notify-clause-served
 returns-in-Err-notify-clause-served g c = λ h b.

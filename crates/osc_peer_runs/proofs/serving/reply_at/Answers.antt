@@ -1,4 +1,5 @@
-use Rattle.std.proofs.Common.{◌∙◌, sym, ap, refl, length, slice_set, take, Some}
+use Rattle.std.proofs.Common.{◌∙◌, sym, ap, refl, length, slice_set, take, Some, None}
+use Rattle.std.specs.Prelude.{if◌then◌else◌}
 use Rattle.std.specs.Option.{option_map}
 use Rattle.osc_coap.specs.Views.{parts_of}
 use Rattle.osc_endpoint.specs.ServerRun.{values_in}
@@ -6,6 +7,9 @@ use Rattle.osc_life.specs.LifeAnswer.{asks_own}
 use Rattle.osc_life.specs.ServerHistory.{Replied, Reply}
 use Rattle.osc_life.specs.Views.{values_of}
 use Rattle.osc_endpoint.proofs.Runs.{none_taken, put_again, ticket_seen, values_taken}
+use Rattle.osc_kept_ends.specs.Numbering.{upcoming}
+use Rattle.osc_kept_ends.specs.PeerOwning.{own_in}
+use Rattle.osc_kept_ends.proofs.ServerSteps.{reply_left}
 use Rattle.osc_peer_runs.proofs.PeerRunLemmas.{refused_step, serves_step}
 use Rattle.osc_peer_runs.proofs.serving.reply_at.Goals as goal
 
@@ -32,7 +36,11 @@ returns-in-Ok-reply-clause-served g c = λ h b.
     let new = c.reply.new.self in
     let (after, serves, behind) = serves_step h (Reply t (asks_own t c.args.own) c.args.mid p (length c.args.out.now)) (Replied (take c.in-Ok-reply.len c.reply.new.out)) c.args.peer.now.source new.source new.server
     (c.in-Ok-reply.ensures.answered tt h b) (c.in-Ok-reply.ensures.worked tt, c.reply.ensures.rises) in
-    (after, (t, seen, p, c.in-Ok.ensures.accepted, serves, ap values_in c.take_out.ensures.rest ∙ values_taken ts c.args.of), behind)
+    let own = own_in c.args.peer.now.source in
+    let (passed, passes, step) = c.in-Ok-reply.ensures.answered tt h b in
+    let left = reply_left passed t (asks_own t c.args.own) c.args.mid _ _ _ own _ _ step in
+    let number = c.sealed_number-number.ensures (upcoming own) (ap Some c.upcoming.ensures) (λ yes. left (sym c.asks_own.ensures ∙ yes)) ∙ ap (λ b. if b then Some (upcoming own) else None) c.asks_own.ensures in
+    (after, (t, seen, p, c.in-Ok.ensures.accepted, serves, ap values_in c.take_out.ensures.rest ∙ values_taken ts c.args.of, number), behind)
 
 pub returns-in-Err-reply-clause-served : goal.returns-in-Err-reply-clause-served
 returns-in-Err-reply-clause-served g c = λ h b.

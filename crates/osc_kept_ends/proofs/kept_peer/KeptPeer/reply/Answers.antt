@@ -7,7 +7,7 @@ use Rattle.osc_life.specs.LifeAnswer.{asks_own}
 use Rattle.osc_life.specs.ServerHistory.{Reply, Then}
 use Rattle.osc_life.specs.Views.{values_of}
 use Rattle.osc_kept_ends.specs.Numbering.{Draws, upcoming}
-use Rattle.osc_kept_ends.specs.PeerOwning.{own_in}
+use Rattle.osc_kept_ends.specs.PeerOwning.{ahead_in, own_in, received_in}
 use Rattle.osc_kept_ends.specs.Views.{own_at}
 use Rattle.osc_kept_ends.proofs.Drawing.{still_last, upcoming_stays}
 use Rattle.osc_kept_ends.proofs.PeerSteps.{client_at, client_still, kept_at, kept_behind, rises, server_at}
@@ -82,3 +82,11 @@ returns-clause-answered g c = λ worked h b.
     let same = c.upcoming.ensures.value ∙ upcoming_stays (asks_own (values_of c.args.ticket) c.args.own) old (own_in source) drawn in
     let (behind, passes, kept, is_open) = c.pass_at_server.ensures h (server_at c.args.self.now.server h (upcoming old) c.upcoming.result same b) in
     (behind, passes, c.reply_drawn.ensures.answered behind old (g.R.RecordKeeper.sender_floor source.keeper) (next_of source.numbers) (limit_of source.numbers) (kept_at c.pass_at_server.new.server behind c.upcoming.result (upcoming old) (sym same) kept) drawn source.last_drawn)
+
+pub returns-clause-received : goal.returns-clause-received
+returns-clause-received g c =
+    let old = c.args.self.now.source in
+    elim c.if-asks_own.branch [
+      | then-asks_own+in-Ok w ↦ subst (λ s. (received_in s.1.1.1.0 ≡ received_in old) × (ahead_in s.1.1.1.0 ≡ ahead_in old)) (sym w.self-is) w.in-Ok.ensures.received
+      | else-asks_own w ↦ subst (λ s. (received_in s.1.1.1.0 ≡ received_in old) × (ahead_in s.1.1.1.0 ≡ ahead_in old)) (sym w.self-is) (refl, refl)
+    ]

@@ -5,7 +5,7 @@ use Rattle.osc_life.specs.ServerHistory.{Begin, Then, Add, Added}
 use Rattle.osc_life.specs.declared.start.Start.{Start}
 use Rattle.osc_kept_ends.specs.KeptServing.{started}
 use Rattle.osc_kept_ends.specs.Numbering.{nothing_drawn, upcoming}
-use Rattle.osc_kept_ends.specs.PeerOwning.{own_in}
+use Rattle.osc_kept_ends.specs.PeerOwning.{ahead_in, own_in, received_in}
 use Rattle.osc_kept_ends.specs.Peering.{ClientIsBehind, ServerIsBehind}
 use Rattle.osc_kept_ends.proofs.Drawing.{first_draw, upcoming_stays}
 use Rattle.osc_kept_ends.proofs.PeerSteps.{born_at, started_idle}
@@ -35,7 +35,9 @@ returns-in_default g c =
         ap (λ s. g.R.RecordKeeper.failures s.keeper) same ∙ c.in_ok-source.ensures.loaded.1,
         subst (λ s. ServerIsBehind c.begin.result.server (upcoming (own_in s)) (Then Begin (Add (as_server c.args.context) c.in-Ok.start c.args.size) (Added 0))) (sym same) c.begin.ensures.server,
         subst (λ s. ClientIsBehind c.begin.result.client (upcoming (own_in s)) (New (as_client c.args.context) sender c.args.life_ms)) (sym same) c.begin.ensures.client,
+        ap received_in same ∙ c.in_ok-source.ensures.received.0,
       );
+      ahead = ap ahead_in same ∙ c.in_ok-source.ensures.received.1;
       refused = tt;
     }
 
@@ -72,4 +74,5 @@ returns-clause-begins g c =
       ap (λ s. g.R.RecordKeeper.failures s.keeper) same ∙ c.in-Ok-draw.ensures.worked refl ∙ c.in_ok-source.ensures.loaded.1,
       subst (λ s. ServerIsBehind c.begin-2.result.server (upcoming (own_in s)) (Then Begin (Add (as_server c.args.context) c.in-Ok.start c.args.size) (Added 0))) (sym same) c.begin-2.ensures.server,
       subst (λ s. ClientIsBehind c.begin-2.result.client (upcoming (own_in s)) (New (as_client c.args.context) sender c.args.life_ms)) (sym same) c.begin-2.ensures.client,
+      ap received_in same ∙ c.in-Ok-draw.ensures.received.0 ∙ c.in_ok-source.ensures.received.0,
     )

@@ -19,7 +19,7 @@ returns-in-Ok g c =
     let bytes = c.args.input.now in
     let server = as_server c.args.context in
     let client = as_client c.args.context in
-    let (sender, received, mid, start, loads, least, rises, is_start, numbers, allowed, worked, served, asked) = c.in-Ok.ensures.begins in
+    let (sender, received, mid, start, loads, least, rises, is_start, numbers, allowed, worked, served, asked, known) = c.in-Ok.ensures.begins in
     let s = peer_state (Then Begin (Add server start peering.window) (Added 0)) (New client sender peering.life_ms) c.in-Ok.peer.source [] in
     begun_told (RefusesPeer r.loads r.failures keeper) (StartsPeer r server client peering keeper) g.W.Write.contents SpellsPeer (PeerLine places) bytes c.args.out.now _ c.write_input.result s
     (sender, received, mid, start, loads, least, rises, is_start, numbers, allowed, worked, refl, refl, refl, refl)
