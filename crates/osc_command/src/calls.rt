@@ -99,7 +99,11 @@ Events of a peer: reply, notify, drop, request and forget as above, and
                                     else a fresh one is asked for
   challenge EVENT MID               in place of a reply: the request of an event
                                     isn't obeyed, and a fresh one is asked for
+  echo NOW PLAIN                    a request is sent, with the Echo value that
+                                    was heard last
   hear NOW DATAGRAM                 a datagram comes that may be a response
+  follow NOW DATAGRAM               the same, but a challenge is told from every
+                                    other response
   advance NOW                       the clocks move
 
 Examples:

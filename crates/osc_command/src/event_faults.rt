@@ -67,6 +67,12 @@ const FRESH: Form = Form { word: "fresh", fields: &[Ms, Now, Mid, Datagram], nam
 const HEAR: Form = Form { word: "hear", fields: &[Now, Datagram], names: "followed by NOW DATAGRAM" };
 
 #[rattlefmt::skip]
+const FOLLOW: Form = Form { word: "follow", fields: &[Now, Datagram], names: "followed by NOW DATAGRAM" };
+
+#[rattlefmt::skip]
+const ECHO: Form = Form { word: "echo", fields: &[Now, Plain], names: "followed by NOW PLAIN" };
+
+#[rattlefmt::skip]
 const ADVANCE: Form = Form { word: "advance", fields: &[Now], names: "followed by NOW" };
 
 #[rattlefmt::skip]
@@ -113,11 +119,13 @@ pub(crate) const PEER: Forms = Forms {
         NOTIFY,
         DROP,
         REQUEST,
+        ECHO,
         HEAR,
+        FOLLOW,
         FORGET,
         ADVANCE,
     ],
-    words: "take, fresh, reply, challenge, notify, drop, request, hear, forget and advance",
+    words: "take, fresh, reply, challenge, notify, drop, request, echo, hear, follow, forget and advance",
 };
 
 /// Returns whether a word is hex digits.

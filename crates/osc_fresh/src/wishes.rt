@@ -1,6 +1,7 @@
 //! A server that wants fresh requests (RFC 8613, 7.3; RFC 9175, 2.3).
 
 ghost use Rattle.std.specs.Prelude.{◌≡◌, ◌≢◌, ◌<◌, ◌≤◌, ◌+◌, None, Some, true, false, IfErr, IfOk, IfNone, IfSome, OnErr, length, drop};
+ghost use Rattle.std.specs.Option.{option_map};
 ghost use Rattle.osc_coap.specs.Interpreted.{interpreted};
 ghost use Rattle.osc_coap.specs.OptionNumbers.{echo as echo_number};
 ghost use Rattle.osc_coap.specs.Views.{options_left};
@@ -101,6 +102,17 @@ impl Wishes {
             moment: now,
         });
         Ok(len)
+    }
+
+    /// Returns the Sender Sequence Number with which the last challenge was sealed, of which its Echo value is made, if there was one.
+    #[must_use]
+    pub fn challenge_number(&self) -> Option<u64>
+        ensures { result ≡ option_map (λ c. c.number) (last_of self.now) }
+    {
+        match self.last {
+            Some(last) => Some(last.number),
+            None => None,
+        }
     }
 
     /// Returns how old a request is at most at `now`, in milliseconds, if it carries the Echo value of the last challenge: it was sealed after

@@ -1,9 +1,10 @@
 -- What the record holds over a run: it never sinks, and the number of each delivery is below it. s and t are states.
-use Rattle.std.proofs.Common.{◌≡◌, ◌≤◌, ◌<◌, ℕ, ap, sym, subst, arith, get_or, inl, inr, All, List, Bool, [], ◌∷◌, Option, Ok, Err}
+use Rattle.std.proofs.Common.{◌≡◌, ◌≤◌, ◌<◌, ℕ, ap, sym, subst, arith, get_or, inl, inr, All, List, Bool, [], ◌∷◌, Option, Some, None, Ok, Err}
 use Rattle.std.specs.Option.{ForSome}
 use Rattle.std.proofs.lemmas.List.Elements.{All-cons, All-nil}
 use Rattle.std.proofs.lemmas.Bool.{cases_lt}
 use Rattle.std.proofs.lemmas.Grind.{not_there}
+use Rattle.osc_coap.specs.Datagram.{Parts}
 use Rattle.osc_context.specs.Views.{number_of}
 use Rattle.osc_context.specs.declared.partial_iv.Piv.{Piv}
 use Rattle.osc_context.specs.declared.record_keeper.RecordKeeper as keeper
@@ -23,9 +24,10 @@ use Rattle.osc_peer_runs.specs.declared.peer_event.PeerEvent.{PeerEvent}
 use Rattle.osc_peer_runs.specs.declared.peer_event.PeerEvent.TheVariants as events
 use Rattle.osc_peer_runs.specs.declared.peer_event.PeerEntry.{PeerEntry}
 use Rattle.osc_peer_runs.specs.declared.peer_event.PeerEntry.TheVariants as entries
-use Rattle.osc_fresh.specs.Wishing.{Asked}
+use Rattle.osc_fresh.specs.Echoing.{echo_in}
+use Rattle.osc_fresh.specs.WithEcho.{echoing}
 use Rattle.osc_peer_runs.specs.PeerCalls.{IsBehind}
-use Rattle.osc_peer_runs.specs.PeerRuns.{ChallengeStep, DeliversBelow, EventStep, NotifyStep, PeerRun, PeerState, ReplyStep, RequestStep, peer_state, with_last}
+use Rattle.osc_peer_runs.specs.PeerRuns.{ChallengeStep, DeliversBelow, EchoSealStep, EchoStep, Echoes, EventStep, NotifyStep, PeerRun, PeerState, ReplyStep, RequestStep, SealStep, peer_state, with_echoes}
 
 -- ---- it never sinks
 
@@ -56,13 +58,29 @@ notify_rises h old ts of plain room (served.Replied (Err replies.KeeperFailed)) 
 notify_rises h old ts of plain room (served.Replied (Err e)) g new step = step.4.4.1
 notify_rises h old ts of plain room x g new step = unchanged old new step.1
 
+seal_rises : {R : Type 0} {r : keeper.Ghosts R} (n : ℕ) (s t : PeerState r) (now : ℕ) (p : Parts) (room : ℕ) (x : ClientEntry)
+    → SealStep n s now p room x t → r.received_floor s.source.keeper ≤ r.received_floor t.source.keeper
+seal_rises n s t now p room (asked.Sent number text) step = step.1.4.1
+seal_rises n s t now p room (asked.NotSent requests.KeeperFailed) step = step.2.1
+seal_rises n s t now p room (asked.NotSent e) step = step.0.4.1
+seal_rises n s t now p room x step = absurd step
+
 request_rises : {R : Type 0} {r : keeper.Ghosts R} (n : ℕ) (s t : PeerState r) (now : ℕ) (plain : List ℕ) (room : ℕ) (x : ClientEntry)
     → RequestStep n s now plain room x t → r.received_floor s.source.keeper ≤ r.received_floor t.source.keeper
-request_rises n s t now plain room (asked.Sent number text) step = step.3.4.1
-request_rises n s t now plain room (asked.NotSent requests.KeeperFailed) step = step.4.1
-request_rises n s t now plain room (asked.NotSent e) step = step.2.4.1
 request_rises n s t now plain room (asked.BadPlain e) step = unchanged s.source t.source step.3
-request_rises n s t now plain room x step = absurd step
+request_rises n s t now plain room x step = seal_rises n s t now step.0 room x step.2
+
+echo_seal_rises : {R : Type 0} {r : keeper.Ghosts R} (o : Option (List ℕ)) (n : ℕ) (heard : Option (List ℕ)) (s t : PeerState r) (now : ℕ) (p : Parts) (room out : ℕ) (x : ClientEntry)
+    → EchoSealStep o n heard s now p room out x t → r.received_floor s.source.keeper ≤ r.received_floor t.source.keeper
+echo_seal_rises (Some value) n heard s t now p room out x step = unchanged s.source t.source step.1.2
+echo_seal_rises None n heard s t now p room out x step = seal_rises n s t now (echoing heard p) out x step.1
+
+echo_rises : {R : Type 0} {r : keeper.Ghosts R} (n : ℕ) (heard : Option (List ℕ)) (s t : PeerState r) (now : ℕ) (plain : List ℕ) (room out : ℕ) (x : PeerEntry)
+    → EchoStep n heard s now plain room out x t → r.received_floor s.source.keeper ≤ r.received_floor t.source.keeper
+echo_rises n heard s t now plain room out (entries.Asked (asked.BadPlain e)) step = unchanged s.source t.source step.3
+echo_rises n heard s t now plain room out (entries.Asked x) step = echo_seal_rises (echo_in step.0) n heard s t now step.0 room out x step.2
+echo_rises n heard s t now plain room out entries.NoRoomForEcho step = unchanged s.source t.source step.3.2
+echo_rises n heard s t now plain room out x step = absurd step
 
 both_rise : (low mid high : ℕ) → low ≤ mid → mid ≤ high → low ≤ high
 both_rise low mid high first second = omega (arith, first, second)
@@ -83,7 +101,9 @@ event_rises n s t (events.Challenge a) (entries.Served x) step = challenge_rises
 event_rises n s t (events.Notify a) (entries.Served x) step = notify_rises s.served s.source s.tickets _ _ _ x t.served t.source step.0
 event_rises n s t (events.Drop of) (entries.Served x) step = unchanged s.source t.source step.2
 event_rises n s t (events.Request now plain out) (entries.Asked x) step = request_rises n s t now _ _ x step.0
-event_rises n s t (events.Response now bytes) (entries.Asked (asked.Took outcome)) step = unchanged s.source t.source step.4
+event_rises n s t (events.Echo now plain room out) x step = echo_rises n s.echoes.heard s t now _ _ _ x step.0
+event_rises n s t (events.Response now bytes) (entries.Asked (asked.Took outcome)) step = unchanged s.source t.source step.0.4
+event_rises n s t (events.Follow now bytes) (entries.Followed x) step = unchanged s.source t.source step.2.4
 event_rises n s t (events.Forget token) (entries.Asked (asked.Forgot was_pending)) step = unchanged s.source t.source step.2
 event_rises n s t (events.Advance now) entries.Advanced step = unchanged s.source t.source step.2
 event_rises n s t e x step = absurd step
@@ -115,6 +135,7 @@ event_kept n s t (events.Reply a) (entries.Served (served.Took (seen.Deliver ope
 event_kept n s t (events.Challenge a) (entries.Served (served.Took (seen.Deliver opened context number) reply)) step = absurd step.1
 event_kept n s t (events.Notify a) (entries.Served (served.Took (seen.Deliver opened context number) reply)) step = absurd step.0.0
 event_kept n s t (events.Drop of) (entries.Served (served.Took (seen.Deliver opened context number) reply)) step = absurd step.1
+event_kept n s t (events.Echo now plain room out) (entries.Served (served.Took (seen.Deliver opened context number) reply)) step = absurd step.0
 event_kept n s t e (entries.Served (served.Took (seen.Deliver opened context number) reply)) step = absurd step
 event_kept n s t e x step = tt
 
@@ -145,21 +166,21 @@ all_anyway floor xs twice = λ k d less. one_anyway floor (get_or xs k d) (λ f.
 
 -- the peer has histories, so what is said of a run from each of them is so
 abbrev pub RunsFrom : {R : Type 0} {r : keeper.Ghosts R} {N : ℕ} → KeptPeer R N r → List PeerEvent → List PeerEntry → KeptPeer R N r → Type 0
-RunsFrom {N = N} old es xs new = (h : server.History) (k : client.History) → IsBehind old h k → (g : server.History) × (m : client.History) × (us : List (Option server.TicketValues)) × (last : Option Asked)
-    × PeerRun N (peer_state h k old.source []) es xs (with_last last (peer_state g m new.source us)) × IsBehind new g m
+RunsFrom {N = N} old es xs new = (h : server.History) (k : client.History) → IsBehind old h k → (g : server.History) × (m : client.History) × (us : List (Option server.TicketValues)) × (q : Echoes)
+    × PeerRun N (peer_state h k old.source []) es xs (with_echoes q (peer_state g m new.source us)) × IsBehind new g m
 
 pub deliveries_kept : {R : Type 0} {r : keeper.Ghosts R} {N : ℕ} (old new : KeptPeer R N r) (es : List PeerEvent) (xs : List PeerEntry) → RunsFrom old es xs new
     → All (DeliversBelow (r.received_floor new.source.keeper)) xs
 deliveries_kept {r = r} {N = N} old new es xs runs = all_anyway (r.received_floor new.source.keeper) xs (λ never. not_there old.served (λ a. not_there old.asked (λ b.
-    let (g, m, us, last, run, behind) = runs a.0 b.0 (record { server = a.1; client = b.1 }) in
-    never (run_kept N (peer_state a.0 b.0 old.source []) (with_last last (peer_state g m new.source us)) es xs run))))
+    let (g, m, us, q, run, behind) = runs a.0 b.0 (record { server = a.1; client = b.1 }) in
+    never (run_kept N (peer_state a.0 b.0 old.source []) (with_echoes q (peer_state g m new.source us)) es xs run))))
 
 pub floor_rises : {R : Type 0} {r : keeper.Ghosts R} {N : ℕ} (old new : KeptPeer R N r) (es : List PeerEvent) (xs : List PeerEntry) → RunsFrom old es xs new
     → r.received_floor old.source.keeper ≤ r.received_floor new.source.keeper
 floor_rises {r = r} {N = N} old new es xs runs = elim (cases_lt (r.received_floor new.source.keeper) (r.received_floor old.source.keeper)) [
   | inl less ↦ absurd (not_there old.served (λ a. not_there old.asked (λ b.
-      let (g, m, us, last, run, behind) = runs a.0 b.0 (record { server = a.1; client = b.1 }) in
-      let least : r.received_floor old.source.keeper ≤ r.received_floor new.source.keeper = run_rises N (peer_state a.0 b.0 old.source []) (with_last last (peer_state g m new.source us)) es xs run in
+      let (g, m, us, q, run, behind) = runs a.0 b.0 (record { server = a.1; client = b.1 }) in
+      let least : r.received_floor old.source.keeper ≤ r.received_floor new.source.keeper = run_rises N (peer_state a.0 b.0 old.source []) (with_echoes q (peer_state g m new.source us)) es xs run in
       omega (arith, less, least))))
   | inr least ↦ least
 ]

@@ -1,12 +1,15 @@
 -- A datagram of which no request is delivered that isn't known to be fresh, as a step of a run. w and v are what the server wishes before and after, a is the
 -- datagram's arrival.
-use Rattle.std.proofs.Common.{Bor, ◌≡◌, ◌<◌, ◌∙◌, ℕ, ap, sym, subst, refl, arith, List, [], take, Option, Some, None, Ok, Err}
-use Rattle.std.specs.Option.{ForSome}
+use Rattle.std.proofs.Common.{◌≡◌, ◌<◌, ◌^◌, ◌∙◌, Bor, ℕ, ap, sym, subst, refl, arith, true, List, [], take, Option, Some, None, Ok, Err}
+use Rattle.std.specs.Option.{ForSome, option_map}
 use Rattle.osc_coap.specs.Inner.{InnerParts}
+use Rattle.osc_context.specs.Views.{number_of}
 use Rattle.osc_context.specs.declared.record_keeper.RecordKeeper as keeper
 use Rattle.osc_endpoint.specs.declared.server.Server.{Server}
+use Rattle.osc_endpoint.specs.declared.server_event.SealedResponse.{SealedResponse}
 use Rattle.osc_endpoint.specs.declared.server_event.ServerEntry.TheVariants as served
 use Rattle.osc_life.specs.Deciding.{Decides}
+use Rattle.osc_life.specs.LifeAnswer.{asks_own}
 use Rattle.osc_life.specs.Logged.{Logs, ticket_of}
 use Rattle.osc_life.specs.ServerHistory as server
 use Rattle.osc_life.specs.Views.{values_of}
@@ -26,16 +29,17 @@ use Rattle.osc_kept_ends.specs.Numbering.{upcoming}
 use Rattle.osc_kept_ends.specs.PeerOwning.{own_in}
 use Rattle.osc_kept_ends.specs.Peering.{DeliversBelow, PeerDecides, ServerIsBehind}
 use Rattle.osc_kept_ends.proofs.PeerSteps.{from_delivery, kept_behind, server_at, some_is, upcoming_on}
+use Rattle.osc_kept_ends.proofs.ServerSteps.{reply_left}
 use Rattle.osc_fresh.specs.Admitting.{DecidesAndAsks, IfDecided, IfStale}
 use Rattle.osc_fresh.specs.Views.{last_of}
-use Rattle.osc_fresh.specs.Wishing.{IsFresh}
+use Rattle.osc_fresh.specs.Wishing.{Asked, IsFresh}
 use Rattle.osc_fresh.specs.declared.decided_fresh.DecidedFresh.{DecidedFresh}
 use Rattle.osc_fresh.specs.declared.decided_fresh.DecidedFresh.TheVariants as fresh
 use Rattle.osc_fresh.specs.declared.wishes.Wishes.{Wishes}
 use Rattle.osc_peer_runs.specs.declared.peer_event.PeerArrival.{PeerArrival}
 use Rattle.osc_peer_runs.specs.declared.peer_event.PeerEntry.TheVariants as entries
 use Rattle.osc_peer_runs.specs.PeerRuns.{FreshStep, IfDelivered, Serves, TakesStale, Worked, asking_anew}
-use Rattle.osc_peer_runs.proofs.PeerRunLemmas.{serves_step, took_step}
+use Rattle.osc_peer_runs.proofs.PeerRunLemmas.{asks_all, serves_step, took_step}
 
 -- ---- what is said of a decision that is known
 
@@ -117,17 +121,22 @@ taken_stale {r = r} h w v a left x room out old new s b =
     )
 
 -- and challenged
-pub challenged_step : {R : Type 0} {r : keeper.Ghosts R} {N : ℕ} (h : server.History) (w v : Wishes) (a : PeerArrival) (left : List ℕ) (n : ℕ) (room out : List ℕ) (text : Bor (List ℕ)) (old new : KeptPeer R N r)
-    → text.now ≡ take n out → DecidesAndAsks w a.now a.mid a.bytes.items left (fresh.Challenged n) room out v old new → ServerIsBehind old.server (upcoming (own_in old.source)) h
-    → (g : server.History) × FreshStep h old.source (last_of w) w.fresh_ms a (entries.Challenged (Ok text)) g new.source (last_of v) None × ServerIsBehind new.server (upcoming (own_in new.source)) g
-challenged_step {r = r} h w v a left n room out text old new is s b =
+pub challenged_step : {R : Type 0} {r : keeper.Ghosts R} {N : ℕ} (h : server.History) (w v : Wishes) (a : PeerArrival) (left : List ℕ) (n : ℕ) (room out : List ℕ) (sealed : SealedResponse) (old new : KeptPeer R N r)
+    → sealed.datagram.now ≡ take n out
+    → ((number : ℕ) → option_map (λ c. c.number) (last_of v) ≡ Some number → number < 2 ^ 40 → option_map number_of sealed.number ≡ Some number)
+    → DecidesAndAsks w a.now a.mid a.bytes.items left (fresh.Challenged n) room out v old new → ServerIsBehind old.server (upcoming (own_in old.source)) h
+    → (g : server.History) × FreshStep h old.source (last_of w) w.fresh_ms a (entries.Challenged (Ok sealed)) g new.source (last_of v) None × ServerIsBehind new.server (upcoming (own_in new.source)) g
+challenged_step {r = r} h w v a left n room out sealed old new is numbered s b =
     let t = values_of s.asks.ticket in
     let mid = s.between in
     let (between, stale, behind) = taken_stale h w v a left (fresh.Challenged n) room out old new s b in
     let failures : r.failures new.source.keeper ≡ r.failures mid.source.keeper = omega (arith, s.asks.failures) in
     let (g, serves, after) = serves_step between (asking_anew t a.mid mid.source) (server.Replied (take n out)) mid.source new.source new.server (s.asks.challenges between behind) (failures, s.asks.rises) in
     let said = subst (λ (z : List ℕ). Serves between (asking_anew t a.mid mid.source) (server.Replied z) mid.source g new.source) (sym is) serves in
-    (g, (between, mid.source, t, stale, said, s.asks.remembers, refl), after)
+    let (passed, passes, step) = s.asks.challenges between behind in
+    let left = reply_left passed t (asks_own t true) a.mid _ _ _ (own_in mid.source) _ _ step (asks_all t) in
+    let number = numbered (upcoming (own_in mid.source)) (ap (option_map (λ (c : Asked). c.number)) s.asks.remembers) left in
+    (g, (between, mid.source, t, stale, said, s.asks.remembers, refl, number), after)
 
 -- or not, for this reason
 pub unanswered_step : {R : Type 0} {r : keeper.Ghosts R} {N : ℕ} (h : server.History) (w v : Wishes) (a : PeerArrival) (left : List ℕ) (e : ReplyError) (room out : List ℕ) (old new : KeptPeer R N r)

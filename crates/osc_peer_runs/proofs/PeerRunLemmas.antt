@@ -1,4 +1,4 @@
--- Runs of a peer, one event after another. s, mid and t are states, next and more numbers with which the peer seals next.
+-- Runs of a peer, one event after another. s, mid and t are states, q is what is remembered of Echo values, next and more are numbers with which the peer seals next.
 use Rattle.std.proofs.Common.{Bor, ◌≡◌, ◌≢◌, ◌≤◌, ◌<◌, ◌+◌, ℕ, ◌∙◌, ap, sym, subst, refl, arith, inl, inr, List, Bool, true, false, ◌||◌, [], ◌∷◌, ◌++◌, take, Option, Some, None, Err}
 use Rattle.std.proofs.lemmas.List.{length-drop}
 use Rattle.std.specs.Prelude.{◌-◌, drop, length, slice_get}
@@ -39,7 +39,7 @@ use Rattle.osc_kept_ends.proofs.PeerSteps.{asked_behind, client_at, kept_behind,
 use Rattle.osc_peer_runs.specs.declared.peer_event.PeerArrival.{PeerArrival}
 use Rattle.osc_peer_runs.specs.declared.peer_event.PeerEvent.{PeerEvent}
 use Rattle.osc_peer_runs.specs.declared.peer_event.PeerEntry.{PeerEntry}
-use Rattle.osc_peer_runs.specs.PeerRuns.{AreBehind, ArrivalStep, Asks, ChallengeStep, NotifyStep, PeerRun, PeerState, ReplyStep, RequestStep, RunStep, SealsAbove, Serves, Takes, Worked, peer_state}
+use Rattle.osc_peer_runs.specs.PeerRuns.{AreBehind, ArrivalStep, Asks, ChallengeStep, Echoes, NotifyStep, PeerRun, PeerState, ReplyStep, RunStep, SealStep, SealsAbove, Serves, Takes, Worked, peer_state, with_echoes}
 
 -- ---- a role that a call leaves as it is
 
@@ -179,21 +179,21 @@ asks_step k event entry old new after (passed, passes, step) worked =
     (m, (passed, passes, (step.row, refl), step.numbers, worked), asked_behind after m (upcoming (own_in new)) step.kept)
 
 -- a refused request: by the record, which moves the client's clock alone, or as the client answers
-pub unsent_step : {R : Type 0} {r : keeper.Ghosts R} {N : ℕ} (h : server.History) (k : client.History) (ts us : List (Option server.TicketValues)) (old new : PeerSource R r) (now : ℕ) (plain : List ℕ) (room : ℕ)
-    (e : RequestError) (p : Parts) (s d : Server) (before after : Client N) → IsDatagram p plain → AreBehind s before (upcoming (own_in old)) h k
+pub unsent_step : {R : Type 0} {r : keeper.Ghosts R} {N : ℕ} (h : server.History) (k : client.History) (ts us : List (Option server.TicketValues)) (q : Echoes) (old new : PeerSource R r) (now room : ℕ)
+    (e : RequestError) (p : Parts) (s d : Server) (before after : Client N) → AreBehind s before (upcoming (own_in old)) h k
     → d ≡ s → ∥ ((g : server.History) × ServerIsBehind d (upcoming (own_in new)) g) ∥₁
     → (e ≡ requests.KeeperFailed → (own_in new ≡ own_in old)
     × ((k : client.History) → ClientIsBehind before (upcoming (own_in old)) k → ClientIsBehind after (upcoming (own_in new)) (client.Then k (client.Advance now) client.Advanced))
     × (r.failures new.keeper ≡ r.failures old.keeper + 1))
     → (e ≢ requests.KeeperFailed → r.failures new.keeper ≡ r.failures old.keeper) → r.received_floor old.keeper ≤ r.received_floor new.keeper
     → (e ≢ requests.KeeperFailed → (k : client.History) → ClientIsBehind before (upcoming (own_in old)) k → AskStep k (client.Request now p room) (client.NotSent e) (own_in old) (own_in new) after)
-    → (g : server.History) × (m : client.History) × RequestStep N (peer_state h k old ts) now plain room (asked.NotSent e) (peer_state g m new us) × AreBehind d after (upcoming (own_in new)) g m
-unsent_step h k ts us old new now plain room requests.KeeperFailed p s d before after is b same there failed worked rises answered =
+    → (g : server.History) × (m : client.History) × SealStep N (with_echoes q (peer_state h k old ts)) now p room (asked.NotSent e) (with_echoes q (peer_state g m new us)) × AreBehind d after (upcoming (own_in new)) g m
+unsent_step h k ts us q old new now room requests.KeeperFailed p s d before after b same there failed worked rises answered =
     let f = failed refl in
-    (h, _, (p, is, refl, f.0, (f.2, rises), refl), record { server = server_carried s d h (upcoming (own_in old)) (upcoming (own_in new)) b.server same there; client = f.1 k b.client })
-unsent_step h k ts us old new now plain room e p s d before after is b same there failed worked rises answered =
+    (h, _, (refl, f.0, (f.2, rises), refl), record { server = server_carried s d h (upcoming (own_in old)) (upcoming (own_in new)) b.server same there; client = f.1 k b.client })
+unsent_step h k ts us q old new now room e p s d before after b same there failed worked rises answered =
     let (m, asks, behind) = asks_step k (client.Request now p room) (client.NotSent e) old new after (answered (λ is. cc) k b.client) (worked (λ is. cc), rises) in
-    (h, m, (p, is, asks, refl), record { server = server_carried s d h (upcoming (own_in old)) (upcoming (own_in new)) b.server same there; client = behind })
+    (h, m, (asks, refl), record { server = server_carried s d h (upcoming (own_in old)) (upcoming (own_in new)) b.server same there; client = behind })
 
 -- an event of which only the client hears
 pub asked_alone : {R : Type 0} {r : keeper.Ghosts R} {N : ℕ} (s d : Server) (c : Client N) (old new : PeerSource R r) (h : server.History) (m : client.History)

@@ -3,6 +3,7 @@
 #![tactic(auto)]
 
 mod asking;
+mod echo_memory;
 mod peer_event;
 mod peer_run;
 mod serving;

@@ -1,6 +1,7 @@
 //! What happens in a run to a peer, and what comes of it.
 
-use osc_endpoint::{Answering, ClientEntry, Notifying, ReplyError, ServerEntry};
+use osc_endpoint::{Answering, ClientEntry, Notifying, ReplyError, SealedResponse, ServerEntry};
+use osc_fresh::Followed;
 
 /// A datagram that may be a request. It arrives at `now`, in milliseconds, with the Message ID of a reply that isn't an ACK, and room for
 /// the reply. The peer makes the Echo value of a challenge itself, of the number with which it seals next.
@@ -48,8 +49,21 @@ pub enum PeerEvent {
         plain: Vec<u8>,
         out: Vec<u8>,
     },
+    /// The application makes a request at `now`, in milliseconds, with the Echo value that was heard last, if one was (RFC 9175, 2.3). `plain`
+    /// is the plain message without that, `room` is room for it with that, and `out` is room for the request.
+    Echo {
+        now: u64,
+        plain: Vec<u8>,
+        room: Vec<u8>,
+        out: Vec<u8>,
+    },
     /// A datagram arrives at `now`, in milliseconds, that may be a response.
     Response {
+        now: u64,
+        bytes: Vec<u8>,
+    },
+    /// A datagram arrives at `now`, in milliseconds, that may be a response. A challenge is told from every other response (RFC 9175, 2.3).
+    Follow {
         now: u64,
         bytes: Vec<u8>,
     },
@@ -69,9 +83,13 @@ pub enum PeerEntry<'a> {
     /// What became of a datagram, a reply, a challenge, a notification or a ticket to drop, as in a server's run. KeeperFailed is possible too.
     Served(ServerEntry<'a>),
     /// A request was new, and isn't known to be fresh. It isn't delivered: this is the challenge, or why none could be sealed.
-    Challenged(Result<&'a [u8], ReplyError>),
+    Challenged(Result<SealedResponse<'a>, ReplyError>),
     /// What became of a request, a response or a forgotten token, as in a client's run. KeeperFailed is possible too.
     Asked(ClientEntry<'a>),
+    /// There is no room for a request's plain message with the Echo value that was heard last. Nothing was asked for.
+    NoRoomForEcho,
+    /// What became of a datagram at a client that follows challenges.
+    Followed(Followed<'a>),
     /// The clocks were moved.
     Advanced,
 }

@@ -3,11 +3,11 @@
 ghost use Rattle.std.specs.Prelude.{◌≡◌, ◌<◌, ◌≤◌, [], All, List, Option, length, take, drop, vec_len, OnOk, OnErr};
 ghost use Rattle.osc_client.specs.ClientHistory as asked;
 ghost use Rattle.osc_life.specs.ServerHistory as served;
-ghost use Rattle.osc_fresh.specs.Wishing.{Asked};
-ghost use Rattle.osc_peer_runs.specs.PeerCalls.{CallsWishing, IsBehind};
-ghost use Rattle.osc_peer_runs.specs.PeerRuns.{DeliversBelow, PeerRun, peer_state, with_last};
+ghost use Rattle.osc_peer_runs.specs.PeerCalls.{CallsOver, IsBehind, echoes_of};
+ghost use Rattle.osc_peer_runs.specs.PeerRuns.{DeliversBelow, Echoes, PeerRun, peer_state, with_echoes};
 
-use crate::asking::make_request;
+use crate::asking::{make_echo_request, make_request};
+use crate::echo_memory::EchoMemory;
 use crate::peer_event::{PeerEntry, PeerEvent};
 use crate::serving::{
     drop_ticket, serve_challenge, serve_datagram, serve_fresh, serve_notification, serve_reply,
@@ -15,7 +15,6 @@ use crate::serving::{
 use osc_context::RecordKeeper;
 use osc_endpoint::siblings::make_places;
 use osc_endpoint::{ClientEntry, Ticket};
-use osc_fresh::Wishes;
 use osc_kept_ends::KeptPeer;
 use std::alloc::{AllocError, Global};
 use std::mem;
@@ -23,16 +22,16 @@ use std::mem;
 /// Runs one event, and returns its entry, and the ticket that it gives, if it gives one. The entry borrows from the event.
 fn run_event<'a, R: RecordKeeper, const N: usize>(
     peer: &mut KeptPeer<R, N>,
-    wishes: &mut Wishes,
+    memory: &mut EchoMemory,
     event: &'a mut PeerEvent,
     tickets: &mut [Option<Ticket>],
 ) -> (PeerEntry<'a>, Option<Ticket>)
-    ensures { CallsWishing peer.old wishes.old tickets.old event.old result.0 peer.new wishes.new tickets.new result.1 }
+    ensures { CallsOver peer.old (echoes_of memory.old) tickets.old event.old result.0 peer.new (echoes_of memory.new) tickets.new result.1 }
 {
     match event {
         PeerEvent::Datagram(arrival) => serve_datagram(peer, arrival, tickets),
         PeerEvent::Fresh { fresh_ms, arrival } => {
-            serve_fresh(peer, wishes, *fresh_ms, arrival, tickets)
+            serve_fresh(peer, &mut memory.wishes, *fresh_ms, arrival, tickets)
         }
         PeerEvent::Reply(answering) => (serve_reply(peer, answering, tickets), None),
         PeerEvent::Challenge(challenging) => (serve_challenge(peer, challenging, tickets), None),
@@ -41,9 +40,22 @@ fn run_event<'a, R: RecordKeeper, const N: usize>(
         PeerEvent::Request { now, plain, out } => {
             (PeerEntry::Asked(make_request(peer, *now, plain, out)), None)
         }
+        PeerEvent::Echo {
+            now,
+            plain,
+            room,
+            out,
+        } => {
+            let entry = make_echo_request(peer, &memory.heard, *now, plain, room, out);
+            (entry, None)
+        }
         PeerEvent::Response { now, bytes } => {
-            let outcome = peer.hear(*now, bytes);
+            let outcome = memory.heard.hear(peer, *now, bytes);
             (PeerEntry::Asked(ClientEntry::Took(outcome)), None)
+        }
+        PeerEvent::Follow { now, bytes } => {
+            let followed = memory.heard.follow(peer, *now, bytes);
+            (PeerEntry::Followed(followed), None)
         }
         PeerEvent::Forget { token } => {
             let was_pending = peer.forget(token);
@@ -67,8 +79,8 @@ pub fn run_kept_peer_on<'a, R: RecordKeeper, const N: usize>(
     log: &mut Vec<PeerEntry<'a>>,
 ) -> Result<(), AllocError>
     requires { log.old.items ≡ [] }
-    ensures run { (h : served.History) (k : asked.History) → IsBehind peer.old h k → (g : served.History) × (m : asked.History) × (us : List (Option served.TicketValues)) × (last : Option Asked)
-        × PeerRun N (peer_state h k peer.old.source []) (take (vec_len log.new) events.old.now) log.new.items (with_last last (peer_state g m peer.new.source us)) × IsBehind peer.new g m }
+    ensures run { (h : served.History) (k : asked.History) → IsBehind peer.old h k → (g : served.History) × (m : asked.History) × (us : List (Option served.TicketValues)) × (echoes : Echoes)
+        × PeerRun N (peer_state h k peer.old.source []) (take (vec_len log.new) events.old.now) log.new.items (with_echoes echoes (peer_state g m peer.new.source us)) × IsBehind peer.new g m }
     ensures kept { All (DeliversBelow (R.received_floor peer.new.source.keeper)) log.new.items }
     ensures rises { R.received_floor peer.old.source.keeper ≤ R.received_floor peer.new.source.keeper }
     ensures rest { events.new.now ≡ drop (vec_len log.new) events.old.now }
@@ -76,7 +88,7 @@ pub fn run_kept_peer_on<'a, R: RecordKeeper, const N: usize>(
     ensures fewer { OnErr result (vec_len log.new < length events.old.now) }
 {
     let mut tickets = Vec::new(alloc);
-    let mut wishes = Wishes::new(0);
+    let mut memory = EchoMemory::new();
     let mut rest = mem::take(events);
     while !rest.is_empty() {
         if let Err(error) = make_places(log, &mut tickets) {
@@ -84,7 +96,7 @@ pub fn run_kept_peer_on<'a, R: RecordKeeper, const N: usize>(
             return Err(error);
         }
         let (front, tail) = rest.split_at_mut(1);
-        let (entry, ticket) = run_event(peer, &mut wishes, &mut front[0], &mut tickets);
+        let (entry, ticket) = run_event(peer, &mut memory, &mut front[0], &mut tickets);
         log.push_reserved(entry);
         tickets.push_reserved(ticket);
         rest = tail;
@@ -101,8 +113,8 @@ pub fn run_kept_peer<'a, R: RecordKeeper, const N: usize>(
     log: &mut Vec<PeerEntry<'a>>,
 ) -> Result<(), AllocError>
     requires { log.old.items ≡ [] }
-    ensures run { (h : served.History) (k : asked.History) → IsBehind peer.old h k → (g : served.History) × (m : asked.History) × (us : List (Option served.TicketValues)) × (last : Option Asked)
-        × PeerRun N (peer_state h k peer.old.source []) (take (vec_len log.new) events.old) log.new.items (with_last last (peer_state g m peer.new.source us)) × IsBehind peer.new g m }
+    ensures run { (h : served.History) (k : asked.History) → IsBehind peer.old h k → (g : served.History) × (m : asked.History) × (us : List (Option served.TicketValues)) × (echoes : Echoes)
+        × PeerRun N (peer_state h k peer.old.source []) (take (vec_len log.new) events.old) log.new.items (with_echoes echoes (peer_state g m peer.new.source us)) × IsBehind peer.new g m }
     ensures kept { All (DeliversBelow (R.received_floor peer.new.source.keeper)) log.new.items }
     ensures rises { R.received_floor peer.old.source.keeper ≤ R.received_floor peer.new.source.keeper }
     ensures all { OnOk result (vec_len log.new ≡ length events.old) }

@@ -1,6 +1,6 @@
 //! The events of a run that a peer serves: datagrams that may be requests, replies, challenges, notifications and dropped tickets.
 
-ghost use Rattle.std.specs.Prelude.{◌≡◌, None, length};
+ghost use Rattle.std.specs.Prelude.{◌≡◌, List, None, Option, length, ℕ};
 ghost use Rattle.std.specs.Option.{option_map};
 ghost use Rattle.osc_life.specs.ServerHistory.{History};
 ghost use Rattle.osc_life.specs.Views.{values_of};
@@ -9,7 +9,7 @@ ghost use Rattle.osc_kept_ends.specs.Numbering.{upcoming};
 ghost use Rattle.osc_kept_ends.specs.Peering.{ServerIsBehind};
 ghost use Rattle.osc_kept_ends.specs.PeerOwning.{own_in};
 ghost use Rattle.osc_fresh.specs.Views.{last_of};
-ghost use Rattle.osc_peer_runs.specs.PeerCalls.{Calls, CallsWishing};
+ghost use Rattle.osc_peer_runs.specs.PeerCalls.{Calls, CallsOver};
 ghost use Rattle.osc_peer_runs.specs.PeerRuns.{ArrivalStep, ChallengeStep, FreshStep, NotifyStep, ReplyStep};
 
 use crate::peer_event::{Challenging, PeerArrival, PeerEntry, PeerEvent};
@@ -86,7 +86,10 @@ fn take_fresh<'a, R: RecordKeeper, const N: usize>(
     let Decided { decision, reply } = match wishes.decide(peer, *now, *mid, bytes, out) {
         Ok(DecidedFresh::Decided(decided)) => decided,
         Ok(DecidedFresh::Challenged(len)) => {
-            return (PeerEntry::Challenged(Ok(&out[..len])), None);
+            let number = sealed_number(true, wishes.challenge_number());
+            let datagram = &out[..len];
+            let sealed = SealedResponse { number, datagram };
+            return (PeerEntry::Challenged(Ok(sealed)), None);
         }
         Ok(DecidedFresh::Unanswered(error)) => return (PeerEntry::Challenged(Err(error)), None),
         Err(KeeperError) => {
@@ -113,7 +116,8 @@ pub(crate) fn serve_fresh<'a, R: RecordKeeper, const N: usize>(
     arrival: &'a mut PeerArrival,
     tickets: &[Option<Ticket>],
 ) -> (PeerEntry<'a>, Option<Ticket>)
-    ensures { CallsWishing peer.old wishes.old tickets.now (PeerEvent.Fresh fresh_ms arrival.old) result.0 peer.new wishes.new tickets.now result.1 }
+    ensures { (heard : Option (List ℕ)) → CallsOver peer.old (record { last = last_of wishes.old; heard = heard }) tickets.now (PeerEvent.Fresh fresh_ms arrival.old) result.0
+        peer.new (record { last = last_of wishes.new; heard = heard }) tickets.now result.1 }
 {
     wishes.fresh_ms = fresh_ms;
     take_fresh(peer, wishes, arrival)

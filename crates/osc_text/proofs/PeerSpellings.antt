@@ -9,7 +9,7 @@ use Rattle.osc_text.specs.InputEvents.{InputEvent, SpellsEvent}
 use Rattle.osc_text.specs.InputEvents as served
 use Rattle.osc_text.specs.InputReading.{SpellsNone, SpellsSeen, split_once}
 use Rattle.osc_text.specs.Inputs.{parted}
-use Rattle.osc_text.specs.PeerEvents.{Advance, Challenge, Drop, Forget, Fresh, Hear, Notify, PeerInput, Reply, Request, SpellsPeer, Take}
+use Rattle.osc_text.specs.PeerEvents.{Advance, Challenge, Drop, Echo, Follow, Forget, Fresh, Hear, Notify, PeerInput, Reply, Request, SpellsPeer, Take}
 use Rattle.osc_text.specs.PeerReading.{SpellsAs, SpellsOwn, SpellsPeerEvent, arrival_of, arrival_read, asked_of, challenge_of, challenge_read, fresh_of, fresh_read, own_line_read, own_verb_read, served_of, three_read}
 use Rattle.osc_text.specs.PeerSeen.{IsRoomyPeer, peer_seen}
 use Rattle.osc_text.specs.ServedReading.{four_read}
@@ -92,8 +92,10 @@ verb_says verb fields e h =
     or_verb SpellsOwn verb (codes "take") fields _ _ e (arrival_says fields e)
     (or_verb SpellsOwn verb (codes "fresh") fields _ _ e (fresh_says fields e)
     (or_verb SpellsOwn verb (codes "hear") fields _ _ e (numbered_row SpellsOwn (codes "hear") fields (λ t. Hear t.0 t.1) (behind (codes "hear") fields) e)
+    (or_verb SpellsOwn verb (codes "follow") fields _ _ e (numbered_row SpellsOwn (codes "follow") fields (λ t. Follow t.0 t.1) (behind (codes "follow") fields) e)
+    (or_verb SpellsOwn verb (codes "echo") fields _ _ e (numbered_row SpellsOwn (codes "echo") fields (λ t. Echo t.0 t.1) (behind (codes "echo") fields) e)
     (or_verb SpellsOwn verb (codes "challenge") fields _ _ e (challenge_says fields e)
-    (or_verb SpellsOwn verb (codes "advance") fields _ _ e (number_row SpellsOwn (codes "advance") fields (2 ^ 64) Advance (λ n s. (fields, refl, s)) e) (λ bad. cc bad))))) h
+    (or_verb SpellsOwn verb (codes "advance") fields _ _ e (number_row SpellsOwn (codes "advance") fields (2 ^ 64) Advance (λ n s. (fields, refl, s)) e) (λ bad. cc bad))))))) h
 
 line_says : (line : List ℕ) (e : PeerInput) → own_line_read line ≡ Some e → SpellsOwn line e
 unfolding own_line_read
@@ -126,6 +128,10 @@ says_line line (Fresh ms now mid datagram) (s, n, m, d, is, says_s, says_n, says
     ) refl
 says_line line (Hear now datagram) (n, d, is, says_n, says_d) =
     rw (is, split_at 32 (codes "hear") (parted (n ∷ d ∷ [])) (no_space_test (codes "hear") refl), says_numbered n d now datagram says_n says_d) refl
+says_line line (Follow now datagram) (n, d, is, says_n, says_d) =
+    rw (is, split_at 32 (codes "follow") (parted (n ∷ d ∷ [])) (no_space_test (codes "follow") refl), says_numbered n d now datagram says_n says_d) refl
+says_line line (Echo now text) (n, p, is, says_n, says_p) =
+    rw (is, split_at 32 (codes "echo") (parted (n ∷ p ∷ [])) (no_space_test (codes "echo") refl), says_numbered n p now text says_n says_p) refl
 says_line line (Challenge of mid) (e, m, is, says_e, says_m) =
     rw (
       is,
@@ -151,6 +157,8 @@ own_spells : (line : List ℕ) (e : PeerInput) → SpellsOwn line e → SpellsPe
 own_spells line (Take now mid datagram) s = s
 own_spells line (Fresh ms now mid datagram) s = s
 own_spells line (Hear now datagram) s = s
+own_spells line (Follow now datagram) s = s
+own_spells line (Echo now text) s = s
 own_spells line (Challenge of mid) s = s
 own_spells line (Advance now) s = s
 own_spells line e s = absurd s
@@ -165,6 +173,8 @@ spelled_by line (Notify of text) s = inr (inl (served.Notify of text, refl, s))
 spelled_by line (Drop of) s = inr (inl (served.Drop of, refl, s))
 spelled_by line (Request now text) s = inr (inr (asked.Request now text, refl, s))
 spelled_by line (Hear now datagram) s = inl s
+spelled_by line (Follow now datagram) s = inl s
+spelled_by line (Echo now text) s = inl s
 spelled_by line (Forget token) s = inr (inr (asked.Forget token, refl, s))
 spelled_by line (Advance now) s = inl s
 

@@ -7,8 +7,8 @@ use Rattle.osc_text.specs.InputEvents as served
 use Rattle.osc_text.specs.Inputs.{SaysBelow, SaysBytes, parted}
 
 -- what a line asks of a peer: to take a datagram that may be a request, or so that none is delivered that isn't known to be so old at most, in milliseconds, to
--- answer, to challenge or to notify the request of an event, to drop the ticket of an event, to
--- send a request, to hear a datagram that may be a response, to forget a token, or to move its clocks (own rule)
+-- answer, to challenge or to notify the request of an event, to drop the ticket of an event, to send a request, or one with the Echo value that was heard last, to
+-- hear a datagram that may be a response, or so that a challenge is told from every other response, to forget a token, or to move its clocks (own rule)
 pub data PeerInput : Type 0 where
   Take : (now : ℕ) (mid : ℕ) (datagram : List ℕ) → PeerInput
   Fresh : (ms : ℕ) (now : ℕ) (mid : ℕ) (datagram : List ℕ) → PeerInput
@@ -17,7 +17,9 @@ pub data PeerInput : Type 0 where
   Notify : (of : ℕ) (plain : List ℕ) → PeerInput
   Drop : (of : ℕ) → PeerInput
   Request : (now : ℕ) (plain : List ℕ) → PeerInput
+  Echo : (now : ℕ) (plain : List ℕ) → PeerInput
   Hear : (now : ℕ) (datagram : List ℕ) → PeerInput
+  Follow : (now : ℕ) (datagram : List ℕ) → PeerInput
   Forget : (token : List ℕ) → PeerInput
   Advance : (now : ℕ) → PeerInput
 
@@ -34,7 +36,11 @@ SpellsPeer line (Challenge of mid) =
 SpellsPeer line (Notify of plain) = SpellsKept line (served.Notify of plain)
 SpellsPeer line (Drop of) = SpellsKept line (served.Drop of)
 SpellsPeer line (Request now plain) = SpellsKeptAsked line (asked.Request now plain)
+SpellsPeer line (Echo now plain) =
+    (n p : List ℕ) × (line ≡ parted (codes "echo" ∷ n ∷ p ∷ [])) × SaysBelow (2 ^ 64) n now × SaysBytes p plain
 SpellsPeer line (Hear now datagram) =
     (n d : List ℕ) × (line ≡ parted (codes "hear" ∷ n ∷ d ∷ [])) × SaysBelow (2 ^ 64) n now × SaysBytes d datagram
+SpellsPeer line (Follow now datagram) =
+    (n d : List ℕ) × (line ≡ parted (codes "follow" ∷ n ∷ d ∷ [])) × SaysBelow (2 ^ 64) n now × SaysBytes d datagram
 SpellsPeer line (Forget token) = SpellsKeptAsked line (asked.Forget token)
 SpellsPeer line (Advance now) = (n : List ℕ) × (line ≡ parted (codes "advance" ∷ n ∷ [])) × SaysBelow (2 ^ 64) n now

@@ -8,7 +8,7 @@ use Rattle.osc_text.specs.AskedEvents as asked
 use Rattle.osc_text.specs.InputEvents.{InputEvent}
 use Rattle.osc_text.specs.InputEvents as served
 use Rattle.osc_text.specs.InputReading.{SpellsSeen, bytes_read, number_read, numbered_read, split_once}
-use Rattle.osc_text.specs.PeerEvents.{Advance, Challenge, Drop, Forget, Fresh, Hear, Notify, PeerInput, Reply, Request, SpellsPeer, Take}
+use Rattle.osc_text.specs.PeerEvents.{Advance, Challenge, Drop, Echo, Follow, Forget, Fresh, Hear, Notify, PeerInput, Reply, Request, SpellsPeer, Take}
 use Rattle.osc_text.specs.PeerSeen.{IsRoomyPeer, peer_seen}
 use Rattle.osc_text.specs.ServedReading.{four_read, message_id_read}
 
@@ -54,6 +54,8 @@ own_verb_read verb fields =
     if bytes_eq verb (codes "take") then arrival_read fields
     else if bytes_eq verb (codes "fresh") then fresh_read fields
     else if bytes_eq verb (codes "hear") then option_map (λ t. Hear t.0 t.1) (numbered_read fields)
+    else if bytes_eq verb (codes "follow") then option_map (λ t. Follow t.0 t.1) (numbered_read fields)
+    else if bytes_eq verb (codes "echo") then option_map (λ t. Echo t.0 t.1) (numbered_read fields)
     else if bytes_eq verb (codes "challenge") then challenge_read fields
     else if bytes_eq verb (codes "advance") then option_map Advance (number_read (2 ^ 64) fields)
     else None
@@ -67,6 +69,8 @@ abbrev pub SpellsOwn : List ℕ → PeerInput → Type 0
 SpellsOwn line (Take now mid datagram) = SpellsPeer line (Take now mid datagram)
 SpellsOwn line (Fresh ms now mid datagram) = SpellsPeer line (Fresh ms now mid datagram)
 SpellsOwn line (Hear now datagram) = SpellsPeer line (Hear now datagram)
+SpellsOwn line (Follow now datagram) = SpellsPeer line (Follow now datagram)
+SpellsOwn line (Echo now plain) = SpellsPeer line (Echo now plain)
 SpellsOwn line (Challenge of mid) = SpellsPeer line (Challenge of mid)
 SpellsOwn line (Advance now) = SpellsPeer line (Advance now)
 SpellsOwn line event = ⊥

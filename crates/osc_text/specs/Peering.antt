@@ -1,6 +1,6 @@
 -- To be believed: what `run` prints for a peer, and its input (RFC 8613, 3.1, 7.2.1, 7.4, 8.1 to 8.4 and B.1; own rule: the lines). r says what the peer's
 -- record tells, keeper is the record before the call, g what the context is derived from, server and client are that context for both roles.
-use Rattle.std.specs.Prelude.{◌≡◌, ◌≤◌, ℕ, [], List, None}
+use Rattle.std.specs.Prelude.{◌≡◌, ◌≤◌, ℕ, [], List}
 use Rattle.osc_context.specs.SecurityContext.{SecurityContext}
 use Rattle.osc_context.specs.declared.record_keeper.RecordKeeper as keeper
 use Rattle.osc_client.specs.ClientHistory.{New}
@@ -11,7 +11,7 @@ use Rattle.osc_kept_ends.specs.PeerOwning.{own_in}
 use Rattle.osc_kept_ends.specs.Refusals.{RefusesPeer}
 use Rattle.osc_life.specs.ServerHistory.{Begin, Then, Add, Added}
 use Rattle.osc_life.specs.declared.start.Start.{Start}
-use Rattle.osc_peer_runs.specs.PeerRuns.{PeerState, RunStep}
+use Rattle.osc_peer_runs.specs.PeerRuns.{PeerState, RunStep, no_echoes}
 use Rattle.osc_text.specs.Asking.{places}
 use Rattle.osc_text.specs.Contexts.{agreed_client, agreed_server, InContext, Told}
 use Rattle.osc_text.specs.InputText.{HasBadLineOf, InputText}
@@ -26,14 +26,14 @@ use Rattle.osc_text.specs.declared.peering.Peering.{Peering}
 abbrev pub PeerLine : {R : Type 0} {r : keeper.Ghosts R} → ℕ → PeerState r → PeerInput → List ℕ → PeerState r → Type 0
 PeerLine n s event line t = LineOf (RunStep n) peer_seen IsRoomyPeer peer_entry_text s event line t
 
--- a peer that started at the two numbers that were loaded: what the record holds of received requests didn't sink, there is no ticket, no fresh request was asked for, and nothing is pending
+-- a peer that started at the two numbers that were loaded: what the record holds of received requests didn't sink, there is no ticket, no Echo value is remembered, and nothing is pending
 -- (RFC 8613, 7.4, 7.5, B.1.1 and B.1.2)
 abbrev pub StartsPeer : {R : Type 0} (r : keeper.Ghosts R) → (server client : SecurityContext) → Peering → R → PeerState r → Type 0
 StartsPeer {R} r server client peering keeper s = (sender : ℕ) × (received : ℕ) × (mid : R) × (start : Start) × r.loads keeper sender received mid
     × (r.received_floor keeper ≤ received) × (r.received_floor keeper ≤ r.received_floor s.source.keeper) × IsPeerStart peering.ahead start sender received
     × (own_in s.source ≡ started start sender (nothing_drawn (r.sender_floor keeper))) × Allowed (Load sender) (nothing_drawn (r.sender_floor keeper))
     × (r.failures s.source.keeper ≡ r.failures keeper)
-    × (s.served ≡ Then Begin (Add server start peering.window) (Added 0)) × (s.asked ≡ New client sender peering.life_ms) × (s.tickets ≡ []) × (s.last ≡ None)
+    × (s.served ≡ Then Begin (Add server start peering.window) (Added 0)) × (s.asked ≡ New client sender peering.life_ms) × (s.tickets ≡ []) × (s.echoes ≡ no_echoes)
 
 -- what `run` prints for a peer: one line for each event of the input (RFC 8613, 7.2.1, 7.4, 8.1 to 8.4 and B.1)
 abbrev pub PeerText : {R : Type 0} (r : keeper.Ghosts R) → Agreed → Peering → R → List ℕ → Told

@@ -25,7 +25,7 @@ fn response_text(alloc: Global, opened: &Opened<'_>, number: Piv) -> Result<Stri
 }
 
 /// Returns the text for what the client made of a datagram.
-fn outcome_text(alloc: Global, outcome: &ClientOutcome<'_>) -> Result<String, AllocError>
+pub(crate) fn outcome_text(alloc: Global, outcome: &ClientOutcome<'_>) -> Result<String, AllocError>
     ensures { IfOk result (λ text. string_bytes text ≡ outcome_text outcome.now) }
 {
     match outcome {

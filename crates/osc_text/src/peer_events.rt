@@ -5,7 +5,7 @@ ghost use Rattle.osc_text.specs.AskedEvents.{SpellsAsked};
 ghost use Rattle.osc_text.specs.AskedReading.{HasRoom, asked_seen};
 ghost use Rattle.osc_text.specs.InputEvents.{SpellsEvent};
 ghost use Rattle.osc_text.specs.InputReading.{SpellsNone, number_read, numbered_read};
-ghost use Rattle.osc_text.specs.PeerEvents.{Advance, Hear, SpellsPeer};
+ghost use Rattle.osc_text.specs.PeerEvents.{Advance, Echo, Follow, Hear, SpellsPeer};
 ghost use Rattle.osc_text.specs.PeerReading.{SpellsAs, SpellsOwn, SpellsPeerEvent, arrival_read, asked_of, challenge_read, fresh_read, own_verb_read, served_of};
 ghost use Rattle.osc_text.specs.PeerSeen.{IsRoomyPeer, peer_seen};
 ghost use Rattle.osc_text.specs.ServedReading.{IsOfRun, event_seen};
@@ -21,6 +21,10 @@ use std::alloc::{AllocError, Global};
 
 /// The length of the plain message of a challenge: a head without a token, the Echo option, the marker and the text `not obeyed`.
 const PLAIN_CHALLENGE: usize = 25;
+
+/// How many bytes longer a plain message can be with an Echo option: the option's first byte, two bytes for its number and its length, and a
+/// value of 40 bytes.
+const ECHO_ADDED: usize = 1 + 2 + 40;
 
 /// Reads the event of a datagram that may be a request: `NOW MID DATAGRAM`.
 #[tactic(auto, unfolding(crate::specs::PeerReading::arrival_read))]
@@ -85,6 +89,37 @@ fn read_hear(alloc: Global, fields: &[u8]) -> Result<Option<PeerEvent>, AllocErr
     Ok(Some(PeerEvent::Response { now, bytes }))
 }
 
+/// Reads the event of a datagram that may be a response, of which a challenge is told from every other response: `NOW DATAGRAM`.
+fn read_follow(alloc: Global, fields: &[u8]) -> Result<Option<PeerEvent>, AllocError>
+    ensures seen { IfOk result (λ event. option_map peer_seen event
+        ≡ option_map (λ t. Follow t.0 t.1) (numbered_read fields.now)) }
+    ensures room { IfOk result (λ event. IfSome event IsRoomyPeer) }
+{
+    let Some((now, bytes)) = read_numbered(alloc, fields)? else {
+        return Ok(None);
+    };
+    Ok(Some(PeerEvent::Follow { now, bytes }))
+}
+
+/// Reads the event of a request with the Echo value that was heard last: `NOW PLAIN`.
+fn read_echo(alloc: Global, fields: &[u8]) -> Result<Option<PeerEvent>, AllocError>
+    ensures seen { IfOk result (λ event. option_map peer_seen event
+        ≡ option_map (λ t. Echo t.0 t.1) (numbered_read fields.now)) }
+    ensures room { IfOk result (λ event. IfSome event IsRoomyPeer) }
+{
+    let Some((now, plain)) = read_numbered(alloc, fields)? else {
+        return Ok(None);
+    };
+    let room = vec![in alloc; 0u8; plain.len() + ECHO_ADDED]?;
+    let out = vec![in alloc; 0u8; plain.len() + ECHO_ADDED + MOST_ADDED]?;
+    Ok(Some(PeerEvent::Echo {
+        now,
+        plain,
+        room,
+        out,
+    }))
+}
+
 /// Reads the event of a challenge: `EVENT MID`.
 #[tactic(auto, unfolding(crate::specs::PeerReading::challenge_read))]
 fn read_challenge(alloc: Global, fields: &[u8]) -> Result<Option<PeerEvent>, AllocError>
@@ -128,6 +163,10 @@ fn read_fields(alloc: Global, verb: &[u8], fields: &[u8]) -> Result<Option<PeerE
         read_fresh(alloc, fields)
     } else if verb == b"hear".as_slice() {
         read_hear(alloc, fields)
+    } else if verb == b"follow".as_slice() {
+        read_follow(alloc, fields)
+    } else if verb == b"echo".as_slice() {
+        read_echo(alloc, fields)
     } else if verb == b"challenge".as_slice() {
         read_challenge(alloc, fields)
     } else if verb == b"advance".as_slice() {

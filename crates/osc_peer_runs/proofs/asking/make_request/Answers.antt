@@ -5,6 +5,7 @@ use Rattle.osc_coap.specs.Views.{parts_of}
 use Rattle.osc_kept_ends.specs.Numbering.{upcoming}
 use Rattle.osc_kept_ends.specs.PeerOwning.{own_in}
 use Rattle.osc_kept_ends.proofs.Drawing.{number_in_hand}
+use Rattle.osc_peer_runs.specs.PeerRuns.{no_echoes}
 use Rattle.osc_peer_runs.proofs.PeerRunLemmas.{asks_step, both_advance, server_carried, unsent_step}
 use Rattle.osc_peer_runs.proofs.asking.make_request.Goals as goal
 
@@ -23,8 +24,10 @@ pub returns-in-Err-request : goal.returns-in-Err-request
 returns-in-Err-request g c = λ h k ts us b.
     let old = c.args.peer.now in
     let new = c.request.new.self in
-    unsent_step h k ts us old.source new.source c.args.now c.args.plain.now (length c.args.out.now) c.in-Err-request.error (parts_of c.in-Ok.message) old.server new.server old.client new.client
-    c.in-Ok.ensures.accepted b c.request.ensures.server new.served c.in-Err-request.ensures.failed c.in-Err-request.ensures.worked c.request.ensures.rises c.in-Err-request.ensures.answered
+    let p = parts_of c.in-Ok.message in
+    let (after, m, step, both) = unsent_step h k ts us no_echoes old.source new.source c.args.now (length c.args.out.now) c.in-Err-request.error p old.server new.server old.client new.client
+    b c.request.ensures.server new.served c.in-Err-request.ensures.failed c.in-Err-request.ensures.worked c.request.ensures.rises c.in-Err-request.ensures.answered in
+    (after, m, (p, c.in-Ok.ensures.accepted, step), both)
 
 pub returns : goal.returns
 returns g c = λ h k ts us b.
@@ -35,7 +38,7 @@ returns g c = λ h k ts us b.
     (c.in-Ok-request.ensures.answered tt k b.client) (c.in-Ok-request.ensures.worked tt, c.request.ensures.rises) in (
       h,
       m,
-      (c.in-Some.ensures.made ∙ c.upcoming-next.ensures, p, c.in-Ok.ensures.accepted, asks, refl),
+      (p, c.in-Ok.ensures.accepted, (c.in-Some.ensures.made ∙ c.upcoming-next.ensures, asks, refl)),
       record { server = server_carried old.server new.server h (upcoming (own_in old.source)) (upcoming (own_in new.source)) b.server c.request.ensures.server new.served; client = behind },
     )
 

@@ -24,7 +24,8 @@ returns-in-Ok-Challenged-clause-served g c = λ h b.
     let asks : List ℕ → DecidedFresh → Type 0 = λ d x. DecidesAndAsks c.args.wishes.now a.now a.mid d c.decide.new.datagram x a.out c.decide.new.out c.decide.new.self old new in
     let s = stale_of c.in-Ok-Challenged.field-0 (fresh.Challenged c.in-Ok-Challenged.len) (asks c.deref_mut.result.now) c.in-Ok-Challenged.field-0-is c.in-Ok-Challenged.ensures.stale in
     challenged_step h c.args.wishes.now c.decide.new.self a c.decide.new.datagram c.in-Ok-Challenged.len a.out c.decide.new.out
-    (record { ref_ptr = (0, 0); now = take c.in-Ok-Challenged.len c.decide.new.out }) old new refl
+    (record { number = c.sealed_number-number.result; datagram = record { ref_ptr = (0, 0); now = take c.in-Ok-Challenged.len c.decide.new.out } }) old new refl
+    (λ n is below. c.sealed_number-number.ensures n (c.challenge_number.ensures ∙ is) (λ yes. below))
     (subst (λ (d : List ℕ). asks d (fresh.Challenged c.in-Ok-Challenged.len)) c.deref_mut.ensures.value s) b
 
 pub returns-in-Ok-Unanswered-clause-served : goal.returns-in-Ok-Unanswered-clause-served
