@@ -35,7 +35,31 @@ extern "C" {
 #define OSCORE_STACK 12288
 #endif
 
-OSCORE_ASSERT(sizeof(void *) == 8, "this library has pointers of 8 bytes: compile for 64 bits");
+/* One layout for pointers of 8 and of 4 bytes. A length, an index and what `detail` says have 8 bytes, since a number to save has up to 40
+   bits; a pointer stands in a slot of 8, of which it fills the lower half where it has 4. So a call writes to an `oscore_size len, detail;`,
+   and a `size_t` may be given wherever an `oscore_size` is taken by value. Where pointers have 8 bytes both are one type. */
+#if UINTPTR_MAX == UINT64_MAX
+typedef size_t oscore_size;
+#else
+typedef uint64_t oscore_size;
+#if !defined(__cplusplus) && (defined(__GNUC__) || defined(__clang__))
+#pragma GCC diagnostic error "-Wincompatible-pointer-types" /* a `size_t *` where a call writes 8 bytes */
+#endif
+#endif
+
+/* Before a member of 8 bytes, and before a pointer. */
+#ifdef __cplusplus
+#define OSCORE_SLOT alignas(8)
+#else
+#define OSCORE_SLOT _Alignas(8)
+#endif
+
+OSCORE_ASSERT(sizeof(oscore_size) == 8, "a length has 8 bytes");
+OSCORE_ASSERT(sizeof(void *) == 8 || sizeof(void *) == 4, "this library has pointers of 8 or of 4 bytes");
+OSCORE_ASSERT(sizeof(bool) == 1, "a bool has 1 byte");
+#if defined(__BYTE_ORDER__) && __BYTE_ORDER__ != __ORDER_LITTLE_ENDIAN__
+#error "this library is for little-endian machines"
+#endif
 
 /* All memory is the caller's. Nothing is allocated, nothing is global, nothing is called back; no call waits. Whatever the bytes of a
    handle or of a datagram are, a call is safe, ends, and refuses by name what it can't use.
@@ -101,11 +125,12 @@ typedef enum oscore_status {
     OSCORE_VALUE_TOO_LONG = 44,    /* an option's value has more than 65,804 bytes; `detail` is its index */
     OSCORE_NOT_OBSERVING = 45,     /* the ticket's request registers no observation, so nothing notifies it */
     OSCORE_NOT_NOTIFICATION = 46,  /* the message isn't of class 2, or has no Observe */
-    OSCORE_OLD = 47                /* a later response to the same registration came before this one */
+    OSCORE_OLD = 47,               /* a later response to the same registration came before this one */
+    OSCORE_STATUS_WIDTH = 0x7fffffff /* no call answers this: it gives the type its 4 bytes under -fshort-enums too */
 } oscore_status;
 
 /* What calls return has the bytes of a uint32_t. */
-OSCORE_ASSERT(sizeof(oscore_status) == 4, "a status has 4 bytes: compile without -fshort-enums");
+OSCORE_ASSERT(sizeof(oscore_status) == 4, "a status has 4 bytes");
 
 /* So many bytes of `out` are enough to seal a plain datagram of so many bytes, whatever its options are, and the context, and the number:
    by a context, a server or a client that calls wrote, no call then answers OSCORE_NO_ROOM. That is proved (docs/PROVED.md), but of the
@@ -135,8 +160,8 @@ typedef struct oscore_context {
 /* An option of a message: of one that was opened its value lies in the datagram; of one that is to be written, anywhere but in `out`. */
 typedef struct oscore_option {
     uint16_t number;
-    const uint8_t *value;
-    size_t value_len;
+    OSCORE_SLOT const uint8_t *value;
+    OSCORE_SLOT oscore_size value_len;
 } oscore_option;
 
 /* A message that was opened, in its datagram, where all slices lie: they hold for as long as the datagram stays there. Kind, message ID,
@@ -149,16 +174,16 @@ typedef struct oscore_opened {
     uint16_t message_id;
     uint8_t token[8], token_len;
     bool has_number; /* a request has its number; a response has one if it carries a Partial IV of its own */
-    uint64_t number;
+    OSCORE_SLOT uint64_t number;
     bool has_uri_host;
-    const uint8_t *uri_host;
-    size_t uri_host_len;
+    OSCORE_SLOT const uint8_t *uri_host;
+    OSCORE_SLOT oscore_size uri_host_len;
     bool has_uri_port;
-    const uint8_t *uri_port;
-    size_t uri_port_len;
-    const uint8_t *payload;
-    size_t payload_len;
-    size_t option_count;   /* how many options were put into the array, in ascending order of their numbers */
+    OSCORE_SLOT const uint8_t *uri_port;
+    OSCORE_SLOT oscore_size uri_port_len;
+    OSCORE_SLOT const uint8_t *payload;
+    OSCORE_SLOT oscore_size payload_len;
+    OSCORE_SLOT oscore_size option_count; /* how many options were put into the array, in ascending order of their numbers */
     bool has_more_options; /* the array is full, and there are more */
     bool is_notification;  /* from a client's take: the request stays pending, and may be notified again; else false */
 } oscore_opened;
@@ -168,12 +193,12 @@ typedef struct oscore_request_head {
     uint8_t kind; /* 0 CON, 1 NON */
     uint16_t message_id;
     uint8_t token[8], token_len;
-    uint64_t number;
-    const uint8_t *kid;
-    size_t kid_len;
+    OSCORE_SLOT uint64_t number;
+    OSCORE_SLOT const uint8_t *kid;
+    OSCORE_SLOT oscore_size kid_len;
     bool has_kid_context;
-    const uint8_t *kid_context;
-    size_t kid_context_len;
+    OSCORE_SLOT const uint8_t *kid_context;
+    OSCORE_SLOT oscore_size kid_context_len;
 } oscore_request_head;
 
 /* One context of a server: which of its numbers were seen, and which Sender Sequence Number is next. The calls write it:
@@ -184,15 +209,15 @@ typedef struct oscore_server_context {
     uint8_t window_places; /* of the window that is open */
     uint8_t gate;          /* 0 restarted, 1 restarted and challenged, 2 open with no number seen, 3 open */
     uint8_t echo[8];       /* the challenge */
-    uint64_t at;           /* when it was drawn, or the highest number that was seen */
-    uint64_t spent_mask;
-    uint64_t next; /* Sender Sequence Number of the next call: store it before you send what a call sealed */
-    uint64_t life; /* how often it was restarted */
+    OSCORE_SLOT uint64_t at;           /* when it was drawn, or the highest number that was seen */
+    OSCORE_SLOT uint64_t spent_mask;
+    OSCORE_SLOT uint64_t next; /* Sender Sequence Number of the next call: store it before you send what a call sealed */
+    OSCORE_SLOT uint64_t life; /* how often it was restarted */
 } oscore_server_context;
 
 /* The requests of one context that wait for their answers. */
 typedef struct oscore_unanswered {
-    uint64_t highest, mask;
+    OSCORE_SLOT uint64_t highest, mask;
 } oscore_unanswered;
 
 /* A server of up to eight contexts, which counts their numbers: plain bytes, begun by `oscore_server_begin`. Never go on with
@@ -200,8 +225,8 @@ typedef struct oscore_unanswered {
    its server begins a new one, and adds each context as `restarted`. One call at a time works on a server. It holds keys:
    `oscore_wipe(&server, sizeof server)` when it isn't needed. */
 typedef struct oscore_server {
-    uint64_t clock; /* the latest moment that a call was given */
-    size_t count;   /* how many of the contexts are in use */
+    OSCORE_SLOT uint64_t clock;    /* the latest moment that a call was given */
+    OSCORE_SLOT oscore_size count; /* how many of the contexts are in use */
     oscore_server_context contexts[8];
     oscore_unanswered unanswered[8];
 } oscore_server;
@@ -209,7 +234,7 @@ typedef struct oscore_server {
 /* A server of one context, which has the index 0, in the room of one. Its calls do what those of a server with this context alone do.
    What is said of copies of a server holds of it too. It holds keys: `oscore_wipe(&server, sizeof server)` when it isn't needed. */
 typedef struct oscore_server1 {
-    uint64_t clock; /* the latest moment that a call was given */
+    OSCORE_SLOT uint64_t clock; /* the latest moment that a call was given */
     oscore_server_context context;
     oscore_unanswered unanswered;
 } oscore_server1;
@@ -217,8 +242,8 @@ typedef struct oscore_server1 {
 /* The right to answer one request that was delivered, and to notify it where it registers an observation. It may be copied, and a copy
    gives no second answer. It holds no secret. */
 typedef struct oscore_ticket {
-    size_t context; /* its index, as `oscore_server_add` gave it */
-    uint64_t life, number;
+    OSCORE_SLOT oscore_size context; /* its index, as `oscore_server_add` gave it */
+    OSCORE_SLOT uint64_t life, number;
     uint8_t kind; /* 0 CON, 1 NON */
     uint16_t message_id;
     uint8_t token[8], token_len;
@@ -227,9 +252,9 @@ typedef struct oscore_ticket {
 
 /* A request of a client that waits for its response. It holds no secret. */
 typedef struct oscore_pending {
-    uint64_t number;
-    uint64_t moment; /* when it was sealed */
-    uint64_t from;   /* of a registration: what comes before this place among its responses is old */
+    OSCORE_SLOT uint64_t number;
+    OSCORE_SLOT uint64_t moment; /* when it was sealed */
+    OSCORE_SLOT uint64_t from;   /* of a registration: what comes before this place among its responses is old */
     uint8_t token[8], token_len;
     uint8_t observes; /* 1 where it registers an observation, else 0 */
 } oscore_pending;
@@ -239,10 +264,10 @@ typedef struct oscore_pending {
    holds keys: `oscore_wipe(&client, sizeof client)` when it isn't needed. */
 typedef struct oscore_client {
     oscore_context context;
-    uint64_t life_ms; /* for how long a request is pending that wasn't notified */
-    uint64_t clock;   /* the latest moment that a call was given */
-    uint64_t next;    /* number of the next request: store it before you send what a call sealed */
-    size_t count;     /* how many of the requests are pending, oldest first */
+    OSCORE_SLOT uint64_t life_ms; /* for how long a request is pending that wasn't notified */
+    OSCORE_SLOT uint64_t clock;   /* the latest moment that a call was given */
+    OSCORE_SLOT uint64_t next;    /* number of the next request: store it before you send what a call sealed */
+    OSCORE_SLOT oscore_size count; /* how many of the requests are pending, oldest first */
     oscore_pending pending[8];
 } oscore_client;
 
@@ -251,18 +276,64 @@ typedef struct oscore_client {
    nonce is used twice. What is said of copies of a server, and of its keys, holds of it too. */
 typedef struct oscore_kept_server {
     oscore_server1 server;
-    uint64_t reserved; /* its Sender Sequence Numbers below this one may be used */
+    OSCORE_SLOT uint64_t reserved; /* its Sender Sequence Numbers below this one may be used */
 } oscore_kept_server;
 
 /* The same of a client. */
 typedef struct oscore_kept_client {
     oscore_client client;
-    uint64_t reserved; /* its numbers below this one may be used */
+    OSCORE_SLOT uint64_t reserved; /* its numbers below this one may be used */
 } oscore_kept_client;
+
+/* The library's layout. What differs, by a compiler or by an option as -fpack-struct, fails here and not at a lock. */
+#define OSCORE_AT(type, member, place) OSCORE_ASSERT(offsetof(type, member) == (place), "the layout of " #type)
+#define OSCORE_HAS(type, size) OSCORE_ASSERT(sizeof(type) == (size), "the layout of " #type)
+OSCORE_HAS(oscore_context, 97); OSCORE_AT(oscore_context, sender, 0); OSCORE_AT(oscore_context, sender_len, 7);
+    OSCORE_AT(oscore_context, recipient, 8); OSCORE_AT(oscore_context, recipient_len, 15); OSCORE_AT(oscore_context, id_context, 16);
+    OSCORE_AT(oscore_context, id_context_len, 48); OSCORE_AT(oscore_context, sender_key, 49);
+    OSCORE_AT(oscore_context, recipient_key, 65); OSCORE_AT(oscore_context, common_iv, 81); OSCORE_AT(oscore_context, tables, 94);
+    OSCORE_AT(oscore_context, blocks, 95); OSCORE_AT(oscore_context, observe, 96);
+OSCORE_HAS(oscore_option, 24); OSCORE_AT(oscore_option, number, 0); OSCORE_AT(oscore_option, value, 8);
+    OSCORE_AT(oscore_option, value_len, 16);
+OSCORE_HAS(oscore_opened, 104); OSCORE_AT(oscore_opened, kind, 0); OSCORE_AT(oscore_opened, code, 1);
+    OSCORE_AT(oscore_opened, message_id, 2); OSCORE_AT(oscore_opened, token, 4); OSCORE_AT(oscore_opened, token_len, 12);
+    OSCORE_AT(oscore_opened, has_number, 13); OSCORE_AT(oscore_opened, number, 16); OSCORE_AT(oscore_opened, has_uri_host, 24);
+    OSCORE_AT(oscore_opened, uri_host, 32); OSCORE_AT(oscore_opened, uri_host_len, 40); OSCORE_AT(oscore_opened, has_uri_port, 48);
+    OSCORE_AT(oscore_opened, uri_port, 56); OSCORE_AT(oscore_opened, uri_port_len, 64); OSCORE_AT(oscore_opened, payload, 72);
+    OSCORE_AT(oscore_opened, payload_len, 80); OSCORE_AT(oscore_opened, option_count, 88); OSCORE_AT(oscore_opened, has_more_options, 96);
+    OSCORE_AT(oscore_opened, is_notification, 97);
+OSCORE_HAS(oscore_request_head, 64); OSCORE_AT(oscore_request_head, kind, 0); OSCORE_AT(oscore_request_head, message_id, 2);
+    OSCORE_AT(oscore_request_head, token, 4); OSCORE_AT(oscore_request_head, token_len, 12); OSCORE_AT(oscore_request_head, number, 16);
+    OSCORE_AT(oscore_request_head, kid, 24); OSCORE_AT(oscore_request_head, kid_len, 32);
+    OSCORE_AT(oscore_request_head, has_kid_context, 40); OSCORE_AT(oscore_request_head, kid_context, 48);
+    OSCORE_AT(oscore_request_head, kid_context_len, 56);
+OSCORE_HAS(oscore_server_context, 144); OSCORE_AT(oscore_server_context, context, 0); OSCORE_AT(oscore_server_context, places, 97);
+    OSCORE_AT(oscore_server_context, window_places, 98); OSCORE_AT(oscore_server_context, gate, 99);
+    OSCORE_AT(oscore_server_context, echo, 100); OSCORE_AT(oscore_server_context, at, 112);
+    OSCORE_AT(oscore_server_context, spent_mask, 120); OSCORE_AT(oscore_server_context, next, 128);
+    OSCORE_AT(oscore_server_context, life, 136);
+OSCORE_HAS(oscore_unanswered, 16); OSCORE_AT(oscore_unanswered, highest, 0); OSCORE_AT(oscore_unanswered, mask, 8);
+OSCORE_HAS(oscore_server, 1296); OSCORE_AT(oscore_server, clock, 0); OSCORE_AT(oscore_server, count, 8);
+    OSCORE_AT(oscore_server, contexts, 16); OSCORE_AT(oscore_server, unanswered, 1168);
+OSCORE_HAS(oscore_server1, 168); OSCORE_AT(oscore_server1, clock, 0); OSCORE_AT(oscore_server1, context, 8);
+    OSCORE_AT(oscore_server1, unanswered, 152);
+OSCORE_HAS(oscore_ticket, 40); OSCORE_AT(oscore_ticket, context, 0); OSCORE_AT(oscore_ticket, life, 8);
+    OSCORE_AT(oscore_ticket, number, 16); OSCORE_AT(oscore_ticket, kind, 24); OSCORE_AT(oscore_ticket, message_id, 26);
+    OSCORE_AT(oscore_ticket, token, 28); OSCORE_AT(oscore_ticket, token_len, 36); OSCORE_AT(oscore_ticket, observes, 37);
+OSCORE_HAS(oscore_pending, 40); OSCORE_AT(oscore_pending, number, 0); OSCORE_AT(oscore_pending, moment, 8);
+    OSCORE_AT(oscore_pending, from, 16); OSCORE_AT(oscore_pending, token, 24); OSCORE_AT(oscore_pending, token_len, 32);
+    OSCORE_AT(oscore_pending, observes, 33);
+OSCORE_HAS(oscore_client, 456); OSCORE_AT(oscore_client, context, 0); OSCORE_AT(oscore_client, life_ms, 104);
+    OSCORE_AT(oscore_client, clock, 112); OSCORE_AT(oscore_client, next, 120); OSCORE_AT(oscore_client, count, 128);
+    OSCORE_AT(oscore_client, pending, 136);
+OSCORE_HAS(oscore_kept_server, 176); OSCORE_AT(oscore_kept_server, server, 0); OSCORE_AT(oscore_kept_server, reserved, 168);
+OSCORE_HAS(oscore_kept_client, 464); OSCORE_AT(oscore_kept_client, client, 0); OSCORE_AT(oscore_kept_client, reserved, 456);
+#undef OSCORE_AT
+#undef OSCORE_HAS
 
 /* The sizes of the structs above, in bytes, as the library has them. */
 typedef struct oscore_struct_sizes {
-    size_t context, option, opened, request_head, server, ticket, client, server1, kept_server, kept_client;
+    OSCORE_SLOT oscore_size context, option, opened, request_head, server, ticket, client, server1, kept_server, kept_client;
 } oscore_struct_sizes;
 
 void oscore_sizes(oscore_struct_sizes *sizes);
@@ -282,10 +353,11 @@ void oscore_status_name(uint32_t status, char name[24]);
    which Observe is empty inside, and `oscore_client_take` opens them. Observe stands in no other response, so `oscore_server_reply` and
    `oscore_seal_response` seal none with it, and `oscore_open_response` opens none. Without `observe` no message with Observe is sealed,
    and none opens. Both ends must choose the same of `blocks` and of `observe`. */
-OSCORE_MUST_USE oscore_status oscore_derive(oscore_context *out, const uint8_t *secret, size_t secret_len, const uint8_t *salt,
-                                            size_t salt_len, bool has_id_context, const uint8_t *id_context, size_t id_context_len,
-                                            const uint8_t *sender, size_t sender_len, const uint8_t *recipient,
-                                            size_t recipient_len, bool tables, bool blocks, bool observe);
+OSCORE_MUST_USE oscore_status oscore_derive(oscore_context *out, const uint8_t *secret, oscore_size secret_len,
+                                            const uint8_t *salt, oscore_size salt_len, bool has_id_context,
+                                            const uint8_t *id_context, oscore_size id_context_len, const uint8_t *sender,
+                                            oscore_size sender_len, const uint8_t *recipient, oscore_size recipient_len,
+                                            bool tables, bool blocks, bool observe);
 
 /* Writes a plain message, as it is to be sealed: its kind (0 CON, 1 NON, 2 ACK, 3 RST), its code (1 GET .. ; 69 is 2.05), message ID and
    token, its options in ascending order of their numbers, and its payload, which is behind a marker where it isn't empty. The first
@@ -296,35 +368,37 @@ OSCORE_MUST_USE oscore_status oscore_derive(oscore_context *out, const uint8_t *
    (OSCORE_OPTION_ORDER); the first whose value is longer than an option can say (OSCORE_VALUE_TOO_LONG); and a message that is longer
    than `out`, or than 65,535 bytes (OSCORE_NO_ROOM). No refusal writes to `out`. */
 OSCORE_MUST_USE oscore_status oscore_write_message(uint8_t kind, uint8_t code, uint16_t message_id, const uint8_t *token,
-                                                   size_t token_len, const oscore_option *options, size_t option_count,
-                                                   const uint8_t *payload, size_t payload_len, uint8_t *out, size_t out_room,
-                                                   size_t *out_len, size_t *detail);
+                                                   oscore_size token_len, const oscore_option *options, oscore_size option_count,
+                                                   const uint8_t *payload, oscore_size payload_len, uint8_t *out,
+                                                   oscore_size out_room, oscore_size *out_len, oscore_size *detail);
 
 /* Reads which context a request names. */
-OSCORE_MUST_USE oscore_status oscore_head(const uint8_t *datagram, size_t datagram_len, oscore_request_head *head, size_t *detail);
+OSCORE_MUST_USE oscore_status oscore_head(const uint8_t *datagram, oscore_size datagram_len, oscore_request_head *head,
+                                          oscore_size *detail);
 
 /* Seals a request, as the client, under a number below 2^40 that this context never sealed under before. `plain` is the datagram of
    the message that is to be sealed; the sealed one is the first `out_len` bytes of `out`. */
 OSCORE_MUST_USE oscore_status oscore_seal_request(const oscore_context *context, uint64_t number, const uint8_t *plain,
-                                                  size_t plain_len, uint8_t *out, size_t out_room, size_t *out_len, size_t *detail);
+                                                  oscore_size plain_len, uint8_t *out, oscore_size out_room, oscore_size *out_len,
+                                                  oscore_size *detail);
 
 /* Seals the response to the request that had the number `request`, as the server: with a Partial IV of its own, which this
    context never sealed under before, or under the request's nonce, at most once for each request. */
 OSCORE_MUST_USE oscore_status oscore_seal_response(const oscore_context *context, uint64_t request, bool has_own, uint64_t own,
-                                                   const uint8_t *plain, size_t plain_len, uint8_t *out, size_t out_room,
-                                                   size_t *out_len, size_t *detail);
+                                                   const uint8_t *plain, oscore_size plain_len, uint8_t *out,
+                                                   oscore_size out_room, oscore_size *out_len, oscore_size *detail);
 
 /* Opens a request, as the server, inside its datagram. Whether its number is new is the caller's to see. Refused with OSCORE_INNER,
    the datagram holds the plaintext, and the old tag behind it; refused otherwise, it is as it was. */
-OSCORE_MUST_USE oscore_status oscore_open_request(const oscore_context *context, uint8_t *datagram, size_t datagram_len,
-                                                  oscore_option *options, size_t options_room, oscore_opened *opened,
-                                                  size_t *detail);
+OSCORE_MUST_USE oscore_status oscore_open_request(const oscore_context *context, uint8_t *datagram, oscore_size datagram_len,
+                                                  oscore_option *options, oscore_size options_room, oscore_opened *opened,
+                                                  oscore_size *detail);
 
 /* Opens the response to the request that had the number `request`, as the client, inside its datagram. What a refusal leaves is
    said at `oscore_open_request`. */
 OSCORE_MUST_USE oscore_status oscore_open_response(const oscore_context *context, uint64_t request, uint8_t *datagram,
-                                                   size_t datagram_len, oscore_option *options, size_t options_room,
-                                                   oscore_opened *opened, size_t *detail);
+                                                   oscore_size datagram_len, oscore_option *options, oscore_size options_room,
+                                                   oscore_opened *opened, oscore_size *detail);
 
 /* A server without contexts. */
 void oscore_server_begin(oscore_server *server);
@@ -335,12 +409,12 @@ void oscore_server_begin(oscore_server *server);
    on the server counts the numbers of the context's sender: seal neither requests nor responses by `context` beside it. Two contexts with
    the same Sender Key would each count from their own `next`, and share key and nonce, so the second is OSCORE_SAME_SENDER: contexts with
    the same Master Secret are to differ in Sender ID, Master Salt or ID Context (RFC 8613, 3.3). */
-OSCORE_MUST_USE oscore_status oscore_server_add(oscore_server *server, const oscore_context *context, bool restarted, uint64_t next,
-                                                uint8_t window_places, size_t *index);
+OSCORE_MUST_USE oscore_status oscore_server_add(oscore_server *server, const oscore_context *context, bool restarted,
+                                                uint64_t next, uint8_t window_places, oscore_size *index);
 
 /* Begins a new life of a context, as if it had been added as restarted: its earlier tickets are stale, and each request that opens is
    challenged until one brings back the Echo value. `next` is as at `oscore_server_add`. The server's clock stays as it is. */
-OSCORE_MUST_USE oscore_status oscore_server_restart(oscore_server *server, size_t context, uint64_t next);
+OSCORE_MUST_USE oscore_status oscore_server_restart(oscore_server *server, oscore_size context, uint64_t next);
 
 /* Answers a datagram, where it lies. 0: a request is delivered. `opened` and `options` show it, and `ticket` is the right to answer it;
    these three are written at 0 alone. `now` is the time in milliseconds, by a clock that doesn't go back; `echo` are 8 bytes that
@@ -357,9 +431,9 @@ OSCORE_MUST_USE oscore_status oscore_server_restart(oscore_server *server, size_
    reply again, a NON gets nothing, and this isn't called (RFC 7252, 4.5 and 4.8.2). Any other request that comes again is handed in
    again. An empty message, as an acknowledgment, a reset or a ping, is OSCORE_NOT_THAT_KIND. */
 OSCORE_MUST_USE oscore_status oscore_server_take(oscore_server *server, uint64_t now, const uint8_t echo[8], uint16_t mid,
-                                                 uint8_t *datagram, size_t datagram_len, oscore_option *options,
-                                                 size_t options_room, oscore_opened *opened, oscore_ticket *ticket, uint8_t out[64],
-                                                 size_t *out_len, size_t *detail);
+                                                 uint8_t *datagram, oscore_size datagram_len, oscore_option *options,
+                                                 oscore_size options_room, oscore_opened *opened, oscore_ticket *ticket,
+                                                 uint8_t out[64], oscore_size *out_len, oscore_size *detail);
 
 /* Seals the answer to the request of a ticket: with a Partial IV of its own where `own` says so, else under the request's nonce. Of
    `plain`, which is a datagram, the code, the options and the payload are used; kind, message ID and token are those that the request asks
@@ -368,8 +442,8 @@ OSCORE_MUST_USE oscore_status oscore_server_take(oscore_server *server, uint64_t
    The answer to a registration has a Partial IV of its own whatever `own` says. It has no Observe, and so it is the last: the client then
    waits for nothing more. */
 OSCORE_MUST_USE oscore_status oscore_server_reply(oscore_server *server, const oscore_ticket *ticket, bool own, uint16_t mid,
-                                                  const uint8_t *plain, size_t plain_len, uint8_t *out, size_t out_room,
-                                                  size_t *out_len, size_t *detail);
+                                                  const uint8_t *plain, oscore_size plain_len, uint8_t *out, oscore_size out_room,
+                                                  oscore_size *out_len, oscore_size *detail);
 
 /* Seals a notification to the registration of a ticket, with a new Partial IV of its own (RFC 7641, 3.2; RFC 8613, 8.3.1). Of `plain`,
    which is a datagram, all is used but the token, which is the ticket's: kind and message ID too, so the first is an ACK with the message
@@ -381,31 +455,33 @@ OSCORE_MUST_USE oscore_status oscore_server_reply(oscore_server *server, const o
    where one registers with the same token (the new ticket takes its place), and where a notification is answered by a reset. A ticket may
    be notified by however many requests came since; OSCORE_STALE_TICKET where its context was restarted. A refusal spends nothing. */
 OSCORE_MUST_USE oscore_status oscore_server_notify(oscore_server *server, const oscore_ticket *ticket, const uint8_t *plain,
-                                                   size_t plain_len, uint8_t *out, size_t out_room, size_t *out_len, size_t *detail);
+                                                   oscore_size plain_len, uint8_t *out, oscore_size out_room,
+                                                   oscore_size *out_len, oscore_size *detail);
 
 /* A server of this one context: `oscore_server_begin` and `oscore_server_add` in one. Refused with OSCORE_BAD_HANDLE or
    OSCORE_BAD_NUMBER, it leaves the server as it was. */
-OSCORE_MUST_USE oscore_status oscore_server1_begin(oscore_server1 *server, const oscore_context *context, bool restarted, uint64_t next,
-                                                   uint8_t window_places);
+OSCORE_MUST_USE oscore_status oscore_server1_begin(oscore_server1 *server, const oscore_context *context, bool restarted,
+                                                   uint64_t next, uint8_t window_places);
 
 /* Begins a new life of the context, as `oscore_server_restart` does. */
 OSCORE_MUST_USE oscore_status oscore_server1_restart(oscore_server1 *server, uint64_t next);
 
 /* Answers a datagram, as `oscore_server_take` does. */
 OSCORE_MUST_USE oscore_status oscore_server1_take(oscore_server1 *server, uint64_t now, const uint8_t echo[8], uint16_t mid,
-                                                  uint8_t *datagram, size_t datagram_len, oscore_option *options,
-                                                  size_t options_room, oscore_opened *opened, oscore_ticket *ticket,
-                                                  uint8_t out[64], size_t *out_len, size_t *detail);
+                                                  uint8_t *datagram, oscore_size datagram_len, oscore_option *options,
+                                                  oscore_size options_room, oscore_opened *opened, oscore_ticket *ticket,
+                                                  uint8_t out[64], oscore_size *out_len, oscore_size *detail);
 
 /* Seals the answer to the request of a ticket, as `oscore_server_reply` does. A ticket names no server: answer by the tickets that this
    one gave. */
 OSCORE_MUST_USE oscore_status oscore_server1_reply(oscore_server1 *server, const oscore_ticket *ticket, bool own, uint16_t mid,
-                                                   const uint8_t *plain, size_t plain_len, uint8_t *out, size_t out_room,
-                                                   size_t *out_len, size_t *detail);
+                                                   const uint8_t *plain, oscore_size plain_len, uint8_t *out,
+                                                   oscore_size out_room, oscore_size *out_len, oscore_size *detail);
 
 /* Seals a notification to the registration of a ticket, as `oscore_server_notify` does. */
 OSCORE_MUST_USE oscore_status oscore_server1_notify(oscore_server1 *server, const oscore_ticket *ticket, const uint8_t *plain,
-                                                    size_t plain_len, uint8_t *out, size_t out_room, size_t *out_len, size_t *detail);
+                                                    oscore_size plain_len, uint8_t *out, oscore_size out_room,
+                                                    oscore_size *out_len, oscore_size *detail);
 
 /* A client with nothing pending. `next` is its next number, above each that the context ever sealed under; 0 for a context that was
    never used. A request is pending for `life_ms` milliseconds and no longer; a registration that was notified, until its last response or
@@ -418,15 +494,16 @@ OSCORE_MUST_USE oscore_status oscore_client_begin(oscore_client *client, const o
 OSCORE_MUST_USE oscore_status oscore_client_restart(oscore_client *client, uint64_t next);
 
 /* Waits no more for the response to the request of a token; OSCORE_NOT_PENDING where there is none. */
-OSCORE_MUST_USE oscore_status oscore_client_forget(oscore_client *client, const uint8_t *token, size_t token_len);
+OSCORE_MUST_USE oscore_status oscore_client_forget(oscore_client *client, const uint8_t *token, oscore_size token_len);
 
 /* Seals a request with the client's next number. `plain` is its datagram, and its token is pending from then on. `now` is as at
    `oscore_server_take`; a moment from far ahead ends all that is pending, and what is sealed after it is pending until the time has come
    there. A refusal from OSCORE_NOT_THAT_KIND on moves the clock, which ends what was pending for too long. To send a request again
    (RFC 7252, 4.2), send the same bytes: what is sealed anew is another request, and is obeyed once more.
    To cancel an observation, or to register anew, under its token, call `oscore_client_forget` first. */
-OSCORE_MUST_USE oscore_status oscore_client_request(oscore_client *client, uint64_t now, const uint8_t *plain, size_t plain_len,
-                                                    uint8_t *out, size_t out_room, size_t *out_len, size_t *detail);
+OSCORE_MUST_USE oscore_status oscore_client_request(oscore_client *client, uint64_t now, const uint8_t *plain,
+                                                    oscore_size plain_len, uint8_t *out, oscore_size out_room,
+                                                    oscore_size *out_len, oscore_size *detail);
 
 /* Answers a datagram, where it lies. 0: a response to a pending request, which is pending no more, and `request` is its number; that,
    `opened` and `options` are written at 0 alone. Where `opened->is_notification` is true, it is a notification of the registration
@@ -443,9 +520,9 @@ OSCORE_MUST_USE oscore_status oscore_client_request(oscore_client *client, uint6
    sent again, or that it isn't answered (RST), so that it can be forgotten.
    Behind 0 and OSCORE_INNER the datagram holds what was inside, and the old tag behind it; else it is as it came. (What it holds is
    tested, and proved of the call behind this one.) */
-OSCORE_MUST_USE oscore_status oscore_client_take(oscore_client *client, uint64_t now, uint8_t *datagram, size_t datagram_len,
-                                                 oscore_option *options, size_t options_room, oscore_opened *opened,
-                                                 uint64_t *request, size_t *detail);
+OSCORE_MUST_USE oscore_status oscore_client_take(oscore_client *client, uint64_t now, uint8_t *datagram, oscore_size datagram_len,
+                                                 oscore_option *options, oscore_size options_room, oscore_opened *opened,
+                                                 uint64_t *request, oscore_size *detail);
 
 /* Ends whose numbers outlive them. A number is kept where it survives a power cut, as in a file or in flash, one for each end; where none
    was ever saved, it is 0. An end begins with the number that was saved last. A call that needs a number which isn't reserved answers
@@ -474,22 +551,23 @@ OSCORE_MUST_USE oscore_status oscore_kept_server_saved(oscore_kept_server *serve
 /* Answers a datagram, as `oscore_server_take` does. A server that began with 0 needs a number with its first datagram; another one needs
    one as long as no request was delivered in this life, since a challenge may be the answer. `out_len` is 0 at OSCORE_SAVE_FIRST: the
    same datagram is handed in again. */
-OSCORE_MUST_USE oscore_status oscore_kept_server_take(oscore_kept_server *server, uint64_t now, const uint8_t echo[8], uint16_t mid,
-                                                      uint8_t *datagram, size_t datagram_len, oscore_option *options,
-                                                      size_t options_room, oscore_opened *opened, oscore_ticket *ticket,
-                                                      uint8_t out[64], size_t *out_len, size_t *detail);
+OSCORE_MUST_USE oscore_status oscore_kept_server_take(oscore_kept_server *server, uint64_t now, const uint8_t echo[8],
+                                                      uint16_t mid, uint8_t *datagram, oscore_size datagram_len,
+                                                      oscore_option *options, oscore_size options_room, oscore_opened *opened,
+                                                      oscore_ticket *ticket, uint8_t out[64], oscore_size *out_len,
+                                                      oscore_size *detail);
 
 /* Seals the answer to the request of a ticket, as `oscore_server_reply` does. It needs a number where `own` says so, and where the ticket
    observes. */
-OSCORE_MUST_USE oscore_status oscore_kept_server_reply(oscore_kept_server *server, const oscore_ticket *ticket, bool own, uint16_t mid,
-                                                       const uint8_t *plain, size_t plain_len, uint8_t *out, size_t out_room,
-                                                       size_t *out_len, size_t *detail);
+OSCORE_MUST_USE oscore_status oscore_kept_server_reply(oscore_kept_server *server, const oscore_ticket *ticket, bool own,
+                                                       uint16_t mid, const uint8_t *plain, oscore_size plain_len, uint8_t *out,
+                                                       oscore_size out_room, oscore_size *out_len, oscore_size *detail);
 
 /* Seals a notification to the registration of a ticket, as `oscore_server_notify` does. It needs a number always. Behind a new
    begin drop the tickets of the life before: the server can't tell them from its own. */
-OSCORE_MUST_USE oscore_status oscore_kept_server_notify(oscore_kept_server *server, const oscore_ticket *ticket, const uint8_t *plain,
-                                                        size_t plain_len, uint8_t *out, size_t out_room, size_t *out_len,
-                                                        size_t *detail);
+OSCORE_MUST_USE oscore_status oscore_kept_server_notify(oscore_kept_server *server, const oscore_ticket *ticket,
+                                                        const uint8_t *plain, oscore_size plain_len, uint8_t *out,
+                                                        oscore_size out_room, oscore_size *out_len, oscore_size *detail);
 
 /* Begins a client with nothing pending, with the number that was saved last. A request is pending for `life_ms` milliseconds and no
    longer; a registration that was notified, until its last response or `oscore_kept_client_forget`. A refusal is OSCORE_BAD_HANDLE or
@@ -502,16 +580,16 @@ OSCORE_MUST_USE oscore_status oscore_kept_client_saved(oscore_kept_client *clien
 
 /* Seals a request, as `oscore_client_request` does. It needs a number always. */
 OSCORE_MUST_USE oscore_status oscore_kept_client_request(oscore_kept_client *client, uint64_t now, const uint8_t *plain,
-                                                         size_t plain_len, uint8_t *out, size_t out_room, size_t *out_len,
-                                                         size_t *detail);
+                                                         oscore_size plain_len, uint8_t *out, oscore_size out_room,
+                                                         oscore_size *out_len, oscore_size *detail);
 
 /* Answers a datagram, as `oscore_client_take` does. It needs no number. */
-OSCORE_MUST_USE oscore_status oscore_kept_client_take(oscore_kept_client *client, uint64_t now, uint8_t *datagram, size_t datagram_len,
-                                                      oscore_option *options, size_t options_room, oscore_opened *opened,
-                                                      uint64_t *request, size_t *detail);
+OSCORE_MUST_USE oscore_status oscore_kept_client_take(oscore_kept_client *client, uint64_t now, uint8_t *datagram,
+                                                      oscore_size datagram_len, oscore_option *options, oscore_size options_room,
+                                                      oscore_opened *opened, uint64_t *request, oscore_size *detail);
 
 /* Waits no more for the response to the request of a token, as `oscore_client_forget` does. */
-OSCORE_MUST_USE oscore_status oscore_kept_client_forget(oscore_kept_client *client, const uint8_t *token, size_t token_len);
+OSCORE_MUST_USE oscore_status oscore_kept_client_forget(oscore_kept_client *client, const uint8_t *token, oscore_size token_len);
 
 /* The library wipes nothing: what a call was given is the caller's, and below the caller's stack pointer lies what the call left there,
    keys among it (README.md, Wiping). The rest of this header wipes, and is code of the caller's program. */

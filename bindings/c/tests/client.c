@@ -25,7 +25,7 @@ static oscore_client *client;
 static oscore_option *options;
 static oscore_opened *opened;
 static uint8_t *out, *datagram;
-static size_t *out_len, *detail;
+static oscore_size *out_len, *detail;
 static uint64_t *number;
 static int rounds = 20000;
 
@@ -40,8 +40,8 @@ static void lay_out(bool before) {
     number = guarded_room(NUMBER, sizeof *number);
 }
 
-static size_t hex(const char *text, uint8_t *bytes) {
-    size_t len = 0;
+static oscore_size hex(const char *text, uint8_t *bytes) {
+    oscore_size len = 0;
     unsigned byte;
     for (; *text; text += 2, bytes[len++] = (uint8_t)byte) CHECK(sscanf(text, "%2x", &byte) == 1);
     return len;
@@ -59,15 +59,15 @@ static void begin(uint64_t next) {
 }
 
 /* What isn't written of the room stays. */
-static uint32_t ask(uint64_t now, const char *text, size_t filled, size_t room) {
+static uint32_t ask(uint64_t now, const char *text, oscore_size filled, oscore_size room) {
     uint8_t bytes[64];
-    size_t len = hex(text, bytes);
+    oscore_size len = hex(text, bytes);
     uint8_t *plain = guarded_room(PLAIN, len + filled);
     memcpy(plain, bytes, len);
     memset(plain + len, 'x', filled);
     out = guarded(OUT, room);
     uint32_t status = oscore_client_request(client, now, plain, len + filled, out, room, out_len, detail);
-    for (size_t i = status ? 0 : *out_len; i < room; i++) CHECK(!out[i]);
+    for (oscore_size i = status ? 0 : *out_len; i < room; i++) CHECK(!out[i]);
     CHECK(status || *out_len <= OSCORE_ROOM(len + filled));
     return status;
 }
@@ -80,14 +80,14 @@ static uint32_t ask_with(uint64_t now, uint8_t token) {
 }
 
 /* Where the payload was decrypted it isn't what came, and its head, its tag and nothing else is; any other refusal leaves the datagram. */
-static bool is_left(uint32_t status, const uint8_t *before, size_t len) {
+static bool is_left(uint32_t status, const uint8_t *before, oscore_size len) {
     if (status != OSCORE_DONE && status != OSCORE_INNER) return !memcmp(datagram, before, len);
     return memcmp(datagram, before, len) && !memcmp(datagram, before, 4) && !memcmp(datagram + len - 8, before + len - 8, 8);
 }
 
 static uint32_t take(uint64_t now, const char *text) {
     uint8_t before[128];
-    size_t len = hex(text, before);
+    oscore_size len = hex(text, before);
     datagram = guarded_copy(DATAGRAM, before, len);
     uint32_t status = oscore_client_take(client, now, datagram, len, options, 4, opened, number, detail);
     CHECK(is_left(status, before, len));
@@ -101,7 +101,7 @@ static uint32_t forget(uint8_t token) {
 static void exchanges(void) {
     uint8_t wanted[64];
     for (int own = 0; own < 2; own++) {
-        size_t len = hex(SEALED, wanted);
+        oscore_size len = hex(SEALED, wanted);
         begin(20);
         CHECK(ask(NOW, REQUEST, 0, len) == OSCORE_DONE && *out_len == len && !memcmp(out, wanted, len));
         CHECK(client->next == 21 && client->count == 1 && client->clock == NOW);
@@ -182,13 +182,13 @@ static void has_sizes(void) {
 /* What isn't protected may be turned: the kind, the code, the message ID. The token may not, nor what is protected. */
 static void spoils_datagrams(void) {
     uint8_t sealed[64], before[64];
-    size_t len = hex(ANSWERS[0], sealed);
+    oscore_size len = hex(ANSWERS[0], sealed);
     for (int i = 0; i < rounds; i++) {
         begin(20);
         CHECK(ask(NOW, REQUEST, 0, 64) == OSCORE_DONE);
-        size_t cut = i % 2 ? len : (size_t)rand() % (len + 1);
+        oscore_size cut = i % 2 ? len : (oscore_size)rand() % (len + 1);
         datagram = guarded_copy(DATAGRAM, sealed, cut);
-        if (i % 2) datagram[(size_t)rand() % cut] ^= (uint8_t)(1 << rand() % 8);
+        if (i % 2) datagram[(oscore_size)rand() % cut] ^= (uint8_t)(1 << rand() % 8);
         memcpy(before, datagram, cut);
         bool whole = cut == len && !memcmp(before, sealed, cut), opens = cut == len && !memcmp(before + 4, sealed + 4, len - 4);
         uint32_t status = oscore_client_take(client, NOW, datagram, cut, options, 4, opened, number, detail);
@@ -204,10 +204,10 @@ static bool is_none(const oscore_client *c) {
     const oscore_context *own = &c->context;
     bool none = own->sender_len > 7 || own->recipient_len > 7 || own->id_context_len > 32 || c->next > 1ull << 40 || c->count > 8;
     none = none || (own->sender_len == own->recipient_len && !memcmp(own->sender, own->recipient, own->sender_len));
-    for (size_t i = 0; !none && i < c->count; i++) {
+    for (oscore_size i = 0; !none && i < c->count; i++) {
         const oscore_pending *a = &c->pending[i];
         none = a->number >= 1ull << 40 || a->token_len > 8 || a->observes > 1 || (!a->observes && a->from);
-        for (size_t j = 0; !none && j < i; j++)
+        for (oscore_size j = 0; !none && j < i; j++)
             none = a->token_len == c->pending[j].token_len && !memcmp(a->token, c->pending[j].token, a->token_len);
     }
     return none;
@@ -217,7 +217,7 @@ static void spoils_clients(void) {
     for (int i = 0; i < rounds; i++) {
         begin(20);
         CHECK(ask_with(NOW, 0) == OSCORE_DONE && ask_with(NOW, 1) == OSCORE_DONE);
-        ((uint8_t *)client)[(size_t)rand() % sizeof *client] = (uint8_t)rand();
+        ((uint8_t *)client)[(oscore_size)rand() % sizeof *client] = (uint8_t)rand();
         oscore_client before = *client;
         bool none = is_none(client);
         uint32_t status = i % 2 ? ask_with(NOW, 2) : take(NOW, ANSWERS[0]);

@@ -33,12 +33,12 @@ static unsigned long reports(void) {
 }
 
 /* What everybody sees, or may: sent bytes, and what hangs on the verdict. */
-static void shown(void *bytes, size_t len) {
+static void shown(void *bytes, oscore_size len) {
     (void)VALGRIND_MAKE_MEM_DEFINED(bytes, len);
 }
 
 /* A message with a token of one byte and so many bytes of payload. */
-static size_t message(uint8_t *plain, uint8_t code, uint8_t token, size_t len) {
+static oscore_size message(uint8_t *plain, uint8_t code, uint8_t token, oscore_size len) {
     const uint8_t head[] = {0x41, code, 0, token, token};
     memcpy(plain, head, sizeof head);
     if (len == 0)
@@ -61,13 +61,13 @@ static void derive(oscore_context *client, oscore_context *server, bool tables) 
 }
 
 /* A request and its response, sealed, opened with a turned tag, and opened. */
-static void messages(const oscore_context *client, const oscore_context *server, size_t len) {
+static void messages(const oscore_context *client, const oscore_context *server, oscore_size len) {
     uint8_t plain[ROOM], datagram[ROOM], turned[ROOM];
-    size_t sealed = 0, detail = 0;
+    oscore_size sealed = 0, detail = 0;
     oscore_option options[4];
     oscore_opened opened;
     for (int response = 0; response < 2; response++) {
-        size_t plain_len = message(plain, response ? 0x45 : 0x01, 7, len);
+        oscore_size plain_len = message(plain, response ? 0x45 : 0x01, 7, len);
         CHECK(!(response ? oscore_seal_response(server, len, len % 2, 5, plain, plain_len, datagram, ROOM, &sealed, &detail)
                          : oscore_seal_request(client, len, plain, plain_len, datagram, ROOM, &sealed, &detail)));
         with_keys += reports();
@@ -85,14 +85,14 @@ static void messages(const oscore_context *client, const oscore_context *server,
 }
 
 /* The same by both ends: a request that comes with a turned tag and then whole, and its response. */
-static void ends(oscore_client *client, oscore_server *server, size_t len) {
+static void ends(oscore_client *client, oscore_server *server, oscore_size len) {
     uint8_t plain[ROOM], datagram[ROOM], turned[ROOM], out[64];
-    size_t sealed = 0, out_len = 0, detail = 0;
+    oscore_size sealed = 0, out_len = 0, detail = 0;
     uint64_t number = 0;
     oscore_option options[4];
     oscore_opened opened;
     oscore_ticket ticket = {0};
-    size_t plain_len = message(plain, 0x01, (uint8_t)len, len);
+    oscore_size plain_len = message(plain, 0x01, (uint8_t)len, len);
     CHECK(!oscore_client_request(client, len, plain, plain_len, datagram, ROOM, &sealed, &detail));
     with_keys += reports();
     shown(datagram, sealed);
@@ -124,14 +124,14 @@ int main(int count, char **words) {
     static oscore_server server;
     static oscore_client client;
     oscore_context client_context, server_context;
-    size_t index;
+    oscore_size index;
     CHECK(RUNNING_ON_VALGRIND);
     derive(&client_context, &server_context, tables);
     oscore_server_begin(&server);
     CHECK(!oscore_server_add(&server, &server_context, false, 0, 32, &index));
     CHECK(!oscore_client_begin(&client, &client_context, 0, 60000));
     with_keys += reports();
-    for (size_t len = 0; len <= LONGEST; len += tables ? LONGEST / 2 : 1) {
+    for (oscore_size len = 0; len <= LONGEST; len += tables ? LONGEST / 2 : 1) {
         messages(&client_context, &server_context, len);
         ends(&client, &server, len);
     }

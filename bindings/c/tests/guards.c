@@ -35,7 +35,7 @@ static bool can_be_read(const uint8_t *byte) {
     return write(ends[1], byte, 1) == 1 && read(ends[0], &same, 1) == 1;
 }
 
-static void lies_at_an_edge(const char *call, const char *name, const void *at, size_t len) {
+static void lies_at_an_edge(const char *call, const char *name, const void *at, oscore_size len) {
     const uint8_t *first = at;
     if (!first) return;
     bool before = !can_be_read(first + len), behind = !can_be_read(first - 1);
@@ -55,49 +55,49 @@ WRAP(status_name, void, (uint32_t status, char name[24])) {
     __real_oscore_status_name(status, name);
 }
 
-WRAP(derive, oscore_status, (oscore_context *out, const uint8_t *secret, size_t secret_len, const uint8_t *salt, size_t salt_len,
-                             bool has_id_context, const uint8_t *id_context, size_t id_context_len, const uint8_t *sender,
-                             size_t sender_len, const uint8_t *recipient, size_t recipient_len, bool tables, bool blocks,
+WRAP(derive, oscore_status, (oscore_context *out, const uint8_t *secret, oscore_size secret_len, const uint8_t *salt, oscore_size salt_len,
+                             bool has_id_context, const uint8_t *id_context, oscore_size id_context_len, const uint8_t *sender,
+                             oscore_size sender_len, const uint8_t *recipient, oscore_size recipient_len, bool tables, bool blocks,
                              bool observe)) {
     STRUCT(out), BYTES(secret), BYTES(salt), BYTES(id_context), BYTES(sender), BYTES(recipient);
     return __real_oscore_derive(out, secret, secret_len, salt, salt_len, has_id_context, id_context, id_context_len, sender, sender_len,
                                 recipient, recipient_len, tables, blocks, observe);
 }
 
-WRAP(write_message, oscore_status, (uint8_t kind, uint8_t code, uint16_t message_id, const uint8_t *token, size_t token_len,
-                                    const oscore_option *options, size_t option_count, const uint8_t *payload, size_t payload_len,
-                                    uint8_t *out, size_t out_room, size_t *out_len, size_t *detail)) {
+WRAP(write_message, oscore_status, (uint8_t kind, uint8_t code, uint16_t message_id, const uint8_t *token, oscore_size token_len,
+                                    const oscore_option *options, oscore_size option_count, const uint8_t *payload, oscore_size payload_len,
+                                    uint8_t *out, oscore_size out_room, oscore_size *out_len, oscore_size *detail)) {
     BYTES(token), SOME(options, option_count * sizeof *options), BYTES(payload), SOME(out, out_room), STRUCT(out_len), STRUCT(detail);
-    for (size_t i = 0; i < option_count; i++) SOME(options[i].value, options[i].value_len);
+    for (oscore_size i = 0; i < option_count; i++) SOME(options[i].value, options[i].value_len);
     return __real_oscore_write_message(kind, code, message_id, token, token_len, options, option_count, payload, payload_len, out, out_room,
                                        out_len, detail);
 }
 
-WRAP(head, oscore_status, (const uint8_t *datagram, size_t datagram_len, oscore_request_head *head, size_t *detail)) {
+WRAP(head, oscore_status, (const uint8_t *datagram, oscore_size datagram_len, oscore_request_head *head, oscore_size *detail)) {
     BYTES(datagram), STRUCT(head), STRUCT(detail);
     return __real_oscore_head(datagram, datagram_len, head, detail);
 }
 
-WRAP(seal_request, oscore_status, (const oscore_context *context, uint64_t number, const uint8_t *plain, size_t plain_len, uint8_t *out,
-                                   size_t out_room, size_t *out_len, size_t *detail)) {
+WRAP(seal_request, oscore_status, (const oscore_context *context, uint64_t number, const uint8_t *plain, oscore_size plain_len, uint8_t *out,
+                                   oscore_size out_room, oscore_size *out_len, oscore_size *detail)) {
     STRUCT(context), BYTES(plain), SOME(out, out_room), STRUCT(out_len), STRUCT(detail);
     return __real_oscore_seal_request(context, number, plain, plain_len, out, out_room, out_len, detail);
 }
 
 WRAP(seal_response, oscore_status, (const oscore_context *context, uint64_t request, bool has_own, uint64_t own, const uint8_t *plain,
-                                    size_t plain_len, uint8_t *out, size_t out_room, size_t *out_len, size_t *detail)) {
+                                    oscore_size plain_len, uint8_t *out, oscore_size out_room, oscore_size *out_len, oscore_size *detail)) {
     STRUCT(context), BYTES(plain), SOME(out, out_room), STRUCT(out_len), STRUCT(detail);
     return __real_oscore_seal_response(context, request, has_own, own, plain, plain_len, out, out_room, out_len, detail);
 }
 
-WRAP(open_request, oscore_status, (const oscore_context *context, uint8_t *datagram, size_t datagram_len, oscore_option *options,
-                                   size_t options_room, oscore_opened *opened, size_t *detail)) {
+WRAP(open_request, oscore_status, (const oscore_context *context, uint8_t *datagram, oscore_size datagram_len, oscore_option *options,
+                                   oscore_size options_room, oscore_opened *opened, oscore_size *detail)) {
     STRUCT(context), BYTES(datagram), SOME(options, options_room * sizeof *options), STRUCT(opened), STRUCT(detail);
     return __real_oscore_open_request(context, datagram, datagram_len, options, options_room, opened, detail);
 }
 
-WRAP(open_response, oscore_status, (const oscore_context *context, uint64_t request, uint8_t *datagram, size_t datagram_len,
-                                    oscore_option *options, size_t options_room, oscore_opened *opened, size_t *detail)) {
+WRAP(open_response, oscore_status, (const oscore_context *context, uint64_t request, uint8_t *datagram, oscore_size datagram_len,
+                                    oscore_option *options, oscore_size options_room, oscore_opened *opened, oscore_size *detail)) {
     STRUCT(context), BYTES(datagram), SOME(options, options_room * sizeof *options), STRUCT(opened), STRUCT(detail);
     return __real_oscore_open_response(context, request, datagram, datagram_len, options, options_room, opened, detail);
 }
@@ -108,19 +108,19 @@ WRAP(server_begin, void, (oscore_server *server)) {
 }
 
 WRAP(server_add, oscore_status, (oscore_server *server, const oscore_context *context, bool restarted, uint64_t next,
-                                 uint8_t window_places, size_t *index)) {
+                                 uint8_t window_places, oscore_size *index)) {
     STRUCT(server), STRUCT(context), STRUCT(index);
     return __real_oscore_server_add(server, context, restarted, next, window_places, index);
 }
 
-WRAP(server_restart, oscore_status, (oscore_server *server, size_t context, uint64_t next)) {
+WRAP(server_restart, oscore_status, (oscore_server *server, oscore_size context, uint64_t next)) {
     STRUCT(server);
     return __real_oscore_server_restart(server, context, next);
 }
 
 WRAP(server_take, oscore_status, (oscore_server *server, uint64_t now, const uint8_t echo[8], uint16_t mid, uint8_t *datagram,
-                                  size_t datagram_len, oscore_option *options, size_t options_room, oscore_opened *opened,
-                                  oscore_ticket *ticket, uint8_t out[64], size_t *out_len, size_t *detail)) {
+                                  oscore_size datagram_len, oscore_option *options, oscore_size options_room, oscore_opened *opened,
+                                  oscore_ticket *ticket, uint8_t out[64], oscore_size *out_len, oscore_size *detail)) {
     STRUCT(server), SOME(echo, 8), BYTES(datagram), SOME(options, options_room * sizeof *options), STRUCT(opened), STRUCT(ticket),
         SOME(out, 64), STRUCT(out_len), STRUCT(detail);
     return __real_oscore_server_take(server, now, echo, mid, datagram, datagram_len, options, options_room, opened, ticket, out,
@@ -128,13 +128,13 @@ WRAP(server_take, oscore_status, (oscore_server *server, uint64_t now, const uin
 }
 
 WRAP(server_reply, oscore_status, (oscore_server *server, const oscore_ticket *ticket, bool own, uint16_t mid, const uint8_t *plain,
-                                   size_t plain_len, uint8_t *out, size_t out_room, size_t *out_len, size_t *detail)) {
+                                   oscore_size plain_len, uint8_t *out, oscore_size out_room, oscore_size *out_len, oscore_size *detail)) {
     STRUCT(server), STRUCT(ticket), BYTES(plain), SOME(out, out_room), STRUCT(out_len), STRUCT(detail);
     return __real_oscore_server_reply(server, ticket, own, mid, plain, plain_len, out, out_room, out_len, detail);
 }
 
-WRAP(server_notify, oscore_status, (oscore_server *server, const oscore_ticket *ticket, const uint8_t *plain, size_t plain_len, uint8_t *out,
-                                    size_t out_room, size_t *out_len, size_t *detail)) {
+WRAP(server_notify, oscore_status, (oscore_server *server, const oscore_ticket *ticket, const uint8_t *plain, oscore_size plain_len, uint8_t *out,
+                                    oscore_size out_room, oscore_size *out_len, oscore_size *detail)) {
     STRUCT(server), STRUCT(ticket), BYTES(plain), SOME(out, out_room), STRUCT(out_len), STRUCT(detail);
     return __real_oscore_server_notify(server, ticket, plain, plain_len, out, out_room, out_len, detail);
 }
@@ -151,8 +151,8 @@ WRAP(server1_restart, oscore_status, (oscore_server1 *server, uint64_t next)) {
 }
 
 WRAP(server1_take, oscore_status, (oscore_server1 *server, uint64_t now, const uint8_t echo[8], uint16_t mid, uint8_t *datagram,
-                                   size_t datagram_len, oscore_option *options, size_t options_room, oscore_opened *opened,
-                                   oscore_ticket *ticket, uint8_t out[64], size_t *out_len, size_t *detail)) {
+                                   oscore_size datagram_len, oscore_option *options, oscore_size options_room, oscore_opened *opened,
+                                   oscore_ticket *ticket, uint8_t out[64], oscore_size *out_len, oscore_size *detail)) {
     STRUCT(server), SOME(echo, 8), BYTES(datagram), SOME(options, options_room * sizeof *options), STRUCT(opened), STRUCT(ticket),
         SOME(out, 64), STRUCT(out_len), STRUCT(detail);
     return __real_oscore_server1_take(server, now, echo, mid, datagram, datagram_len, options, options_room, opened, ticket, out,
@@ -160,13 +160,13 @@ WRAP(server1_take, oscore_status, (oscore_server1 *server, uint64_t now, const u
 }
 
 WRAP(server1_reply, oscore_status, (oscore_server1 *server, const oscore_ticket *ticket, bool own, uint16_t mid, const uint8_t *plain,
-                                    size_t plain_len, uint8_t *out, size_t out_room, size_t *out_len, size_t *detail)) {
+                                    oscore_size plain_len, uint8_t *out, oscore_size out_room, oscore_size *out_len, oscore_size *detail)) {
     STRUCT(server), STRUCT(ticket), BYTES(plain), SOME(out, out_room), STRUCT(out_len), STRUCT(detail);
     return __real_oscore_server1_reply(server, ticket, own, mid, plain, plain_len, out, out_room, out_len, detail);
 }
 
-WRAP(server1_notify, oscore_status, (oscore_server1 *server, const oscore_ticket *ticket, const uint8_t *plain, size_t plain_len, uint8_t *out,
-                                     size_t out_room, size_t *out_len, size_t *detail)) {
+WRAP(server1_notify, oscore_status, (oscore_server1 *server, const oscore_ticket *ticket, const uint8_t *plain, oscore_size plain_len, uint8_t *out,
+                                     oscore_size out_room, oscore_size *out_len, oscore_size *detail)) {
     STRUCT(server), STRUCT(ticket), BYTES(plain), SOME(out, out_room), STRUCT(out_len), STRUCT(detail);
     return __real_oscore_server1_notify(server, ticket, plain, plain_len, out, out_room, out_len, detail);
 }
@@ -181,19 +181,19 @@ WRAP(client_restart, oscore_status, (oscore_client *client, uint64_t next)) {
     return __real_oscore_client_restart(client, next);
 }
 
-WRAP(client_forget, oscore_status, (oscore_client *client, const uint8_t *token, size_t token_len)) {
+WRAP(client_forget, oscore_status, (oscore_client *client, const uint8_t *token, oscore_size token_len)) {
     STRUCT(client), BYTES(token);
     return __real_oscore_client_forget(client, token, token_len);
 }
 
-WRAP(client_request, oscore_status, (oscore_client *client, uint64_t now, const uint8_t *plain, size_t plain_len, uint8_t *out,
-                                     size_t out_room, size_t *out_len, size_t *detail)) {
+WRAP(client_request, oscore_status, (oscore_client *client, uint64_t now, const uint8_t *plain, oscore_size plain_len, uint8_t *out,
+                                     oscore_size out_room, oscore_size *out_len, oscore_size *detail)) {
     STRUCT(client), BYTES(plain), SOME(out, out_room), STRUCT(out_len), STRUCT(detail);
     return __real_oscore_client_request(client, now, plain, plain_len, out, out_room, out_len, detail);
 }
 
-WRAP(client_take, oscore_status, (oscore_client *client, uint64_t now, uint8_t *datagram, size_t datagram_len, oscore_option *options,
-                                  size_t options_room, oscore_opened *opened, uint64_t *request, size_t *detail)) {
+WRAP(client_take, oscore_status, (oscore_client *client, uint64_t now, uint8_t *datagram, oscore_size datagram_len, oscore_option *options,
+                                  oscore_size options_room, oscore_opened *opened, uint64_t *request, oscore_size *detail)) {
     STRUCT(client), BYTES(datagram), SOME(options, options_room * sizeof *options), STRUCT(opened), STRUCT(request), STRUCT(detail);
     return __real_oscore_client_take(client, now, datagram, datagram_len, options, options_room, opened, request, detail);
 }
@@ -209,8 +209,8 @@ WRAP(kept_server_saved, oscore_status, (oscore_kept_server *server, uint64_t num
 }
 
 WRAP(kept_server_take, oscore_status, (oscore_kept_server *server, uint64_t now, const uint8_t echo[8], uint16_t mid, uint8_t *datagram,
-                                       size_t datagram_len, oscore_option *options, size_t options_room, oscore_opened *opened,
-                                       oscore_ticket *ticket, uint8_t out[64], size_t *out_len, size_t *detail)) {
+                                       oscore_size datagram_len, oscore_option *options, oscore_size options_room, oscore_opened *opened,
+                                       oscore_ticket *ticket, uint8_t out[64], oscore_size *out_len, oscore_size *detail)) {
     STRUCT(server), SOME(echo, 8), BYTES(datagram), SOME(options, options_room * sizeof *options), STRUCT(opened), STRUCT(ticket),
         SOME(out, 64), STRUCT(out_len), STRUCT(detail);
     return __real_oscore_kept_server_take(server, now, echo, mid, datagram, datagram_len, options, options_room, opened, ticket, out,
@@ -218,14 +218,14 @@ WRAP(kept_server_take, oscore_status, (oscore_kept_server *server, uint64_t now,
 }
 
 WRAP(kept_server_reply, oscore_status, (oscore_kept_server *server, const oscore_ticket *ticket, bool own, uint16_t mid,
-                                        const uint8_t *plain, size_t plain_len, uint8_t *out, size_t out_room, size_t *out_len,
-                                        size_t *detail)) {
+                                        const uint8_t *plain, oscore_size plain_len, uint8_t *out, oscore_size out_room, oscore_size *out_len,
+                                        oscore_size *detail)) {
     STRUCT(server), STRUCT(ticket), BYTES(plain), SOME(out, out_room), STRUCT(out_len), STRUCT(detail);
     return __real_oscore_kept_server_reply(server, ticket, own, mid, plain, plain_len, out, out_room, out_len, detail);
 }
 
-WRAP(kept_server_notify, oscore_status, (oscore_kept_server *server, const oscore_ticket *ticket, const uint8_t *plain, size_t plain_len,
-                                         uint8_t *out, size_t out_room, size_t *out_len, size_t *detail)) {
+WRAP(kept_server_notify, oscore_status, (oscore_kept_server *server, const oscore_ticket *ticket, const uint8_t *plain, oscore_size plain_len,
+                                         uint8_t *out, oscore_size out_room, oscore_size *out_len, oscore_size *detail)) {
     STRUCT(server), STRUCT(ticket), BYTES(plain), SOME(out, out_room), STRUCT(out_len), STRUCT(detail);
     return __real_oscore_kept_server_notify(server, ticket, plain, plain_len, out, out_room, out_len, detail);
 }
@@ -240,20 +240,20 @@ WRAP(kept_client_saved, oscore_status, (oscore_kept_client *client, uint64_t num
     return __real_oscore_kept_client_saved(client, number);
 }
 
-WRAP(kept_client_request, oscore_status, (oscore_kept_client *client, uint64_t now, const uint8_t *plain, size_t plain_len, uint8_t *out,
-                                          size_t out_room, size_t *out_len, size_t *detail)) {
+WRAP(kept_client_request, oscore_status, (oscore_kept_client *client, uint64_t now, const uint8_t *plain, oscore_size plain_len, uint8_t *out,
+                                          oscore_size out_room, oscore_size *out_len, oscore_size *detail)) {
     STRUCT(client), BYTES(plain), SOME(out, out_room), STRUCT(out_len), STRUCT(detail);
     return __real_oscore_kept_client_request(client, now, plain, plain_len, out, out_room, out_len, detail);
 }
 
-WRAP(kept_client_take, oscore_status, (oscore_kept_client *client, uint64_t now, uint8_t *datagram, size_t datagram_len,
-                                       oscore_option *options, size_t options_room, oscore_opened *opened, uint64_t *request,
-                                       size_t *detail)) {
+WRAP(kept_client_take, oscore_status, (oscore_kept_client *client, uint64_t now, uint8_t *datagram, oscore_size datagram_len,
+                                       oscore_option *options, oscore_size options_room, oscore_opened *opened, uint64_t *request,
+                                       oscore_size *detail)) {
     STRUCT(client), BYTES(datagram), SOME(options, options_room * sizeof *options), STRUCT(opened), STRUCT(request), STRUCT(detail);
     return __real_oscore_kept_client_take(client, now, datagram, datagram_len, options, options_room, opened, request, detail);
 }
 
-WRAP(kept_client_forget, oscore_status, (oscore_kept_client *client, const uint8_t *token, size_t token_len)) {
+WRAP(kept_client_forget, oscore_status, (oscore_kept_client *client, const uint8_t *token, oscore_size token_len)) {
     STRUCT(client), BYTES(token);
     return __real_oscore_kept_client_forget(client, token, token_len);
 }

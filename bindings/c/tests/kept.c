@@ -40,7 +40,7 @@ static oscore_option *options;
 static oscore_opened *opened;
 static oscore_ticket *ticket;
 static uint8_t *out, *reply, *datagram;
-static size_t *out_len, *reply_len, *detail;
+static oscore_size *out_len, *reply_len, *detail;
 static uint64_t *number;
 static int rounds = 20000;
 
@@ -59,14 +59,14 @@ static void lay_out(bool before) {
     number = guarded_room(NUMBER, sizeof *number);
 }
 
-static size_t hex(const char *text, uint8_t *bytes) {
-    size_t len = 0;
+static oscore_size hex(const char *text, uint8_t *bytes) {
+    oscore_size len = 0;
     unsigned byte;
     for (; *text; text += 2, bytes[len++] = (uint8_t)byte) CHECK(sscanf(text, "%2x", &byte) == 1);
     return len;
 }
 
-static bool is(const uint8_t *bytes, size_t len, const char *text) {
+static bool is(const uint8_t *bytes, oscore_size len, const char *text) {
     uint8_t wanted[128];
     return hex(text, wanted) == len && !memcmp(bytes, wanted, len);
 }
@@ -109,7 +109,7 @@ static bool same_client(const oscore_kept_client *a, const oscore_kept_client *b
 /* ---- the calls */
 
 /* At OSCORE_SAVE_FIRST the server, the datagram, `out` and what is shown are as they were, and there is no reply. */
-static uint32_t take(uint64_t now, const uint8_t *bytes, size_t len) {
+static uint32_t take(uint64_t now, const uint8_t *bytes, oscore_size len) {
     oscore_kept_server before = *server;
     static const oscore_opened none_opened;
     static const oscore_option none_options[4];
@@ -125,7 +125,7 @@ static uint32_t take(uint64_t now, const uint8_t *bytes, size_t len) {
         && !memcmp(ticket, &none_ticket, sizeof none_ticket)));
     if (status != OSCORE_SAVE_FIRST && status != OSCORE_BAD_HANDLE) return status;
     CHECK(same_server(server, &before) && !memcmp(datagram, bytes, len) && *reply_len == 0);
-    for (size_t i = 0; i < 64; i++) CHECK(!reply[i]);
+    for (oscore_size i = 0; i < 64; i++) CHECK(!reply[i]);
     CHECK(*detail == (status == OSCORE_BAD_HANDLE ? 0 : before.reserved + BATCH < NUMBERS ? before.reserved + BATCH : NUMBERS));
     return status;
 }
@@ -138,7 +138,7 @@ static uint32_t take_text(const char *text) {
 /* A request that the other end seals under a number. */
 static uint32_t take_sealed(const char *text, uint64_t under) {
     uint8_t plain[64], sealed[128];
-    size_t len = hex(text, plain);
+    oscore_size len = hex(text, plain);
     out = guarded_room(OUT, sizeof sealed);
     CHECK(!oscore_seal_request(context, under, guarded_copy(PLAIN, plain, len), len, out, sizeof sealed, out_len, detail));
     memcpy(sealed, out, *out_len);
@@ -146,41 +146,41 @@ static uint32_t take_sealed(const char *text, uint64_t under) {
 }
 
 /* A refusal of a reply leaves the server and the room. */
-static uint32_t answer(const char *text, bool by_own, size_t room) {
+static uint32_t answer(const char *text, bool by_own, oscore_size room) {
     uint8_t bytes[64];
-    size_t len = hex(text, bytes);
+    oscore_size len = hex(text, bytes);
     oscore_kept_server before = *server;
     out = guarded(OUT, room);
     *out_len = 99;
     uint32_t status = oscore_kept_server_reply(server, ticket, by_own, MID, guarded_copy(PLAIN, bytes, len), len, out, room, out_len, detail);
-    for (size_t i = status ? 0 : *out_len; i < room; i++) CHECK(!out[i]);
+    for (oscore_size i = status ? 0 : *out_len; i < room; i++) CHECK(!out[i]);
     CHECK(!status || (same_server(server, &before) && *out_len == 99));
     return status;
 }
 
 /* The same of a notification. */
-static uint32_t notify(const char *text, size_t room) {
+static uint32_t notify(const char *text, oscore_size room) {
     uint8_t bytes[64];
-    size_t len = hex(text, bytes);
+    oscore_size len = hex(text, bytes);
     oscore_kept_server before = *server;
     out = guarded(OUT, room);
     *out_len = 99;
     uint32_t status = oscore_kept_server_notify(server, ticket, guarded_copy(PLAIN, bytes, len), len, out, room, out_len, detail);
-    for (size_t i = status ? 0 : *out_len; i < room; i++) CHECK(!out[i]);
+    for (oscore_size i = status ? 0 : *out_len; i < room; i++) CHECK(!out[i]);
     CHECK(!status || (same_server(server, &before) && *out_len == 99));
     CHECK(status || (server->reserved == before.reserved && server->server.context.next == before.server.context.next + 1));
     return status;
 }
 
 /* At OSCORE_SAVE_FIRST the client, its clock and the room are as they were. */
-static uint32_t ask(uint64_t now, const char *text, size_t room) {
+static uint32_t ask(uint64_t now, const char *text, oscore_size room) {
     uint8_t bytes[64];
-    size_t len = hex(text, bytes);
+    oscore_size len = hex(text, bytes);
     oscore_kept_client before = *client;
     out = guarded(OUT, room);
     *out_len = 99;
     uint32_t status = oscore_kept_client_request(client, now, guarded_copy(PLAIN, bytes, len), len, out, room, out_len, detail);
-    for (size_t i = status ? 0 : *out_len; i < room; i++) CHECK(!out[i]);
+    for (oscore_size i = status ? 0 : *out_len; i < room; i++) CHECK(!out[i]);
     CHECK((!status || *out_len == 99) && client->reserved == before.reserved);
     CHECK((status != OSCORE_SAVE_FIRST && status != OSCORE_BAD_HANDLE) || same_client(client, &before));
     return status;
@@ -196,7 +196,7 @@ static uint32_t ask_and_forget(uint64_t now) {
 
 static uint32_t take_response(uint64_t now, const char *text) {
     uint8_t bytes[128];
-    size_t len = hex(text, bytes);
+    oscore_size len = hex(text, bytes);
     datagram = guarded_copy(DATAGRAM, bytes, len);
     uint32_t status = oscore_kept_client_take(client, now, datagram, len, options, 4, opened, number, detail);
     CHECK(status == OSCORE_DONE || status == OSCORE_INNER || !memcmp(datagram, bytes, len));
@@ -225,7 +225,7 @@ static void begins(void) {
 static void server_is_told(uint64_t wanted) {
     oscore_kept_server before = *server;
     const uint64_t others[] = {0, 1, wanted - BATCH, wanted - 1, wanted + 1, wanted + BATCH, NUMBERS + 1, UINT64_MAX};
-    for (size_t i = 0; i < sizeof others / sizeof others[0]; i++)
+    for (oscore_size i = 0; i < sizeof others / sizeof others[0]; i++)
         CHECK(oscore_kept_server_saved(server, others[i]) == OSCORE_BAD_NUMBER && same_server(server, &before));
     CHECK(!oscore_kept_server_saved(server, wanted) && server->reserved == wanted);
     before.reserved = wanted;
@@ -341,7 +341,7 @@ static void is_notified(void) {
     CHECK(!oscore_kept_server_saved(server, BATCH) && !take_text(SEALED_REGISTRATION) && !opened->is_notification);
     CHECK(!notify(STATES[0], 64) && !notify(STATES[1], 64) && !answer(GONE, false, 64));
     uint8_t last[64];
-    size_t len = *out_len;
+    oscore_size len = *out_len;
     memcpy(last, out, len);
     datagram = guarded_copy(DATAGRAM, last, len);
     begin_client(20);
@@ -366,7 +366,7 @@ static void serves_to_the_last_number(void) {
 static void client_is_told(uint64_t wanted) {
     oscore_kept_client before = *client;
     const uint64_t others[] = {0, 1, wanted - BATCH, wanted - 1, wanted + 1, wanted + BATCH, NUMBERS + 1, UINT64_MAX};
-    for (size_t i = 0; i < sizeof others / sizeof others[0]; i++)
+    for (oscore_size i = 0; i < sizeof others / sizeof others[0]; i++)
         CHECK(oscore_kept_client_saved(client, others[i]) == OSCORE_BAD_NUMBER && same_client(client, &before));
     CHECK(!oscore_kept_client_saved(client, wanted) && client->reserved == wanted);
     CHECK(oscore_kept_client_saved(client, wanted) == OSCORE_BAD_NUMBER && client->reserved == wanted);
@@ -495,12 +495,12 @@ static void spoils_ends(void) {
     for (int i = 0; i < rounds; i++) {
         begin_server(i % 3 ? BATCH : 0);
         CHECK(!oscore_kept_server_saved(server, i % 3 ? 2 * BATCH : BATCH));
-        ((uint8_t *)server)[(size_t)rand() % sizeof *server] = (uint8_t)rand();
+        ((uint8_t *)server)[(oscore_size)rand() % sizeof *server] = (uint8_t)rand();
         uint32_t status = take_text(SEALED);
         CHECK(status == OSCORE_BAD_HANDLE || server->server.context.next <= server->reserved);
         begin_client(20);
         CHECK(!oscore_kept_client_saved(client, 20 + BATCH));
-        ((uint8_t *)client)[(size_t)rand() % sizeof *client] = (uint8_t)rand();
+        ((uint8_t *)client)[(oscore_size)rand() % sizeof *client] = (uint8_t)rand();
         status = ask(NOW, REQUEST, 64);
         CHECK(status == OSCORE_BAD_HANDLE || client->client.next <= client->reserved);
     }

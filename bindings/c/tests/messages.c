@@ -14,7 +14,7 @@ static oscore_context *clients[CONTEXTS], *servers[CONTEXTS];
 static oscore_option *options;
 static oscore_opened *opened;
 static oscore_request_head *head;
-static size_t *out_len, *detail;
+static oscore_size *out_len, *detail;
 static int rounds = 20000;
 
 static void lay_out(bool before) {
@@ -30,15 +30,15 @@ static void lay_out(bool before) {
     detail = guarded_room(DETAIL, sizeof *detail);
 }
 
-static size_t hex(const char *text, uint8_t *bytes) {
-    size_t len = 0;
+static oscore_size hex(const char *text, uint8_t *bytes) {
+    oscore_size len = 0;
     unsigned byte;
     for (; *text; text += 2, bytes[len++] = (uint8_t)byte) CHECK(sscanf(text, "%2x", &byte) == 1);
     return len;
 }
 
 /* The bytes of a text, and so many times the letter x behind them, at a place. */
-static uint8_t *bytes_at(size_t place, const char *text, size_t filled, size_t *len) {
+static uint8_t *bytes_at(oscore_size place, const char *text, oscore_size filled, oscore_size *len) {
     uint8_t bytes[128], *laid;
     *len = hex(text, bytes);
     laid = guarded_room(place, *len + filled);
@@ -56,7 +56,7 @@ static const struct { const char *salt, *id_context, *client, *server, *client_k
 };
 
 /* RFC 8613, C.4 to C.6: requests with the number 20, GET coap://localhost/tv1. */
-static const struct { const char *plain, *sealed; size_t kid_len; uint16_t message_id; } REQUESTS[CONTEXTS] = {
+static const struct { const char *plain, *sealed; oscore_size kid_len; uint16_t message_id; } REQUESTS[CONTEXTS] = {
     {"44015d1f00003974396c6f63616c686f737483747631", "44025d1f00003974396c6f63616c686f7374620914ff612f1092f1776f1c1668b3825e", 0, 0x5d1f},
     {"440171c30000b932396c6f63616c686f737483747631", "440271c30000b932396c6f63616c686f737463091400ff4ed339a5a379b0b8bc731fffb0", 1, 0x71c3},
     {"44012f8eef9bbf7a396c6f63616c686f737483747631", "44022f8eef9bbf7a396c6f63616c686f73746b19140837cbf3210017a2d3ff72cd7273fd331ac45cffbe55c3", 0, 0x2f8e},
@@ -67,9 +67,9 @@ static const char *ANSWER = "64455d1f00003974ff48656c6c6f20576f726c6421";
 static const char *SEALED_ANSWERS[2] = {"64445d1f0000397490ffdbaad1e9a7e7b2a813d3c31524378303cdafae119106",
                                         "64445d1f00003974920100ff4d4c13669384b67354b2b6175ff4b8658c666a6cf88e"};
 
-static uint32_t derive_into(oscore_context *context, const uint8_t *sender, size_t sender_len, const uint8_t *recipient, size_t recipient_len,
+static uint32_t derive_into(oscore_context *context, const uint8_t *sender, oscore_size sender_len, const uint8_t *recipient, oscore_size recipient_len,
                             int i, bool tables) {
-    size_t secret_len, salt_len, id_context_len = 0;
+    oscore_size secret_len, salt_len, id_context_len = 0;
     const uint8_t *secret = bytes_at(SECRET, "0102030405060708090a0b0c0d0e0f10", 0, &secret_len);
     const uint8_t *salt = bytes_at(SALT, DERIVED[i].salt, 0, &salt_len), *id_context = NULL;
     if (DERIVED[i].id_context) id_context = bytes_at(ID_CONTEXT, DERIVED[i].id_context, 0, &id_context_len);
@@ -81,7 +81,7 @@ static uint32_t derive_into(oscore_context *context, const uint8_t *sender, size
 static void derives(bool tables) {
     uint8_t client[1], server[1], wanted[16];
     for (int i = 0; i < CONTEXTS; i++) {
-        size_t client_len = hex(DERIVED[i].client, client), server_len = hex(DERIVED[i].server, server);
+        oscore_size client_len = hex(DERIVED[i].client, client), server_len = hex(DERIVED[i].server, server);
         CHECK(!derive_into(clients[i], client, client_len, server, server_len, i, tables));
         CHECK(!derive_into(servers[i], server, server_len, client, client_len, i, tables));
         CHECK(hex(DERIVED[i].client_key, wanted) == 16 && !memcmp(clients[i]->sender_key, wanted, 16)
@@ -92,7 +92,7 @@ static void derives(bool tables) {
             && !memcmp(servers[i]->common_iv, wanted, 13));
         CHECK(clients[i]->sender_len == client_len && clients[i]->recipient_len == 1 && clients[i]->recipient[0] == 1);
         CHECK(clients[i]->tables == tables && servers[i]->tables == tables);
-        size_t id_context_len = DERIVED[i].id_context ? hex(DERIVED[i].id_context, wanted) : 0;
+        oscore_size id_context_len = DERIVED[i].id_context ? hex(DERIVED[i].id_context, wanted) : 0;
         CHECK(clients[i]->id_context_len == id_context_len && !memcmp(clients[i]->id_context, wanted, id_context_len));
     }
 }
@@ -100,7 +100,7 @@ static void derives(bool tables) {
 static void exchanges_requests(void) {
     uint8_t wanted[64];
     for (int i = 0; i < CONTEXTS; i++) {
-        size_t plain_len, len = hex(REQUESTS[i].sealed, wanted);
+        oscore_size plain_len, len = hex(REQUESTS[i].sealed, wanted);
         uint8_t *plain = bytes_at(PLAIN, REQUESTS[i].plain, 0, &plain_len), *out = guarded_room(OUT, len);
         CHECK(!oscore_seal_request(clients[i], 20, plain, plain_len, out, len, out_len, detail));
         CHECK(*out_len == len && !memcmp(out, wanted, len) && len <= OSCORE_ROOM(plain_len));
@@ -122,7 +122,7 @@ static void exchanges_requests(void) {
 static void exchanges_responses(void) {
     uint8_t wanted[64];
     for (int own = 0; own < 2; own++) {
-        size_t plain_len, len = hex(SEALED_ANSWERS[own], wanted);
+        oscore_size plain_len, len = hex(SEALED_ANSWERS[own], wanted);
         uint8_t *plain = bytes_at(PLAIN, ANSWER, 0, &plain_len), *out = guarded_room(OUT, len);
         CHECK(!oscore_seal_response(servers[C1], 20, own, 0, plain, plain_len, out, len, out_len, detail));
         CHECK(*out_len == len && !memcmp(out, wanted, len) && len <= OSCORE_ROOM(plain_len));
@@ -139,7 +139,7 @@ static void exchanges_responses(void) {
    handle's byte is 0. The bytes are those of tests/interop/oscore_reading.py, as in the corpus. */
 static void allows_blocks(void) {
     uint8_t wanted[64];
-    size_t plain_len, len = hex("44025d1f00003974396c6f63616c686f7374620914ff612f1092f141690a7350c4cfe47765", wanted);
+    oscore_size plain_len, len = hex("44025d1f00003974396c6f63616c686f7374620914ff612f1092f141690a7350c4cfe47765", wanted);
     uint8_t *plain = bytes_at(PLAIN, "44015d1f00003974396c6f63616c686f737483747631c102", 0, &plain_len), *out = guarded_room(OUT, len);
     CHECK(clients[C1]->blocks == 0 && servers[C1]->blocks == 0);
     CHECK(oscore_seal_request(clients[C1], 20, plain, plain_len, out, len, out_len, detail) == OSCORE_UNSUPPORTED && *detail == 23);
@@ -170,7 +170,7 @@ static void is_registration(void) {
 /* Sealed and opened where both ends allow Observe, and refused where the handle's byte is 0. A response with Observe is refused always. */
 static void allows_observe(void) {
     uint8_t wanted[64];
-    size_t plain_len, answer_len, len = hex(REGISTERED, wanted);
+    oscore_size plain_len, answer_len, len = hex(REGISTERED, wanted);
     uint8_t *plain = bytes_at(PLAIN, REGISTRATION, 0, &plain_len), *out = guarded_room(OUT, len);
     CHECK(clients[C1]->observe == 0 && servers[C1]->observe == 0);
     CHECK(oscore_seal_request(clients[C1], 20, plain, plain_len, out, len, out_len, detail) == OSCORE_UNSUPPORTED && *detail == 6);
@@ -196,7 +196,7 @@ static void allows_observe(void) {
 /* A notification that another end sealed doesn't open, whatever the context allows; a plain response to a registration does. */
 static void takes_no_notification(void) {
     uint8_t notified[64];
-    size_t len = hex("614501014a6101320100ff4dd33bfccdd8f762dd9be55ed4da0a72", notified);
+    oscore_size len = hex("614501014a6101320100ff4dd33bfccdd8f762dd9be55ed4da0a72", notified);
     for (int observe = 0; observe < 2; observe++) {
         clients[C1]->observe = observe;
         uint8_t *datagram = guarded_copy(DATAGRAM, notified, len);
@@ -210,12 +210,12 @@ static void takes_no_notification(void) {
 static void serves_observe(void) {
     static const uint8_t echo_bytes[8] = {1};
     uint8_t wanted[64], answered[64];
-    size_t plain_len, len = hex("410501024a6101320915ff936409589edfdd4f42d67694bb1ccab7", wanted), answer_len;
-    size_t answered_len = hex("614401024a90ff084f7601a8fc2d24e35074827481bc", answered);
+    oscore_size plain_len, len = hex("410501024a6101320915ff936409589edfdd4f42d67694bb1ccab7", wanted), answer_len;
+    oscore_size answered_len = hex("614401024a90ff084f7601a8fc2d24e35074827481bc", answered);
     oscore_server *server = guarded(SERVER, sizeof *server);
     oscore_client *client = guarded(CLIENT, sizeof *client);
     oscore_ticket *ticket = guarded(TICKET, sizeof *ticket);
-    size_t *index = guarded_room(INDEX, sizeof *index);
+    oscore_size *index = guarded_room(INDEX, sizeof *index);
     uint8_t *reply = guarded_room(REPLY, 64), *out = guarded_room(OUT, answered_len);
     clients[C1]->observe = servers[C1]->observe = 1;
     oscore_server_begin(server);
@@ -247,7 +247,7 @@ static void serves_observe(void) {
 
 /* Three options where the array has room for two: Uri-Path a, b and c. */
 static void counts_options(void) {
-    size_t len;
+    oscore_size len;
     uint8_t *plain = bytes_at(PLAIN, "40010001b16101620163", 0, &len), *out = guarded_room(OUT, 64);
     CHECK(!oscore_seal_request(clients[C1], 1, plain, len, out, 64, out_len, detail));
     uint8_t *datagram = guarded_copy(DATAGRAM, out, *out_len);
@@ -260,7 +260,7 @@ static void counts_options(void) {
 
 /* What isn't there, behind an opened message in which everything was. */
 static void shows_what_is_not_there(void) {
-    size_t len;
+    oscore_size len;
     uint8_t *plain = bytes_at(PLAIN, "40010001", 0, &len), *out = guarded_room(OUT, 64);
     CHECK(!oscore_seal_request(clients[C1], 1, plain, len, out, 64, out_len, detail));
     uint8_t *datagram = guarded_copy(DATAGRAM, out, *out_len);
@@ -273,7 +273,7 @@ static void shows_what_is_not_there(void) {
     CHECK(!head->has_kid_context && head->kid_context_len == 0 && head->kid_len == 0);
 }
 
-static uint32_t derive(size_t secret, size_t salt, size_t id, size_t id_context) {
+static uint32_t derive(oscore_size secret, oscore_size salt, oscore_size id, oscore_size id_context) {
     static const uint8_t bytes[66] = {1};
     oscore_context *context = guarded(HANDLE, sizeof *context), none = OSCORE_ZERO;
     uint32_t status = oscore_derive(context, guarded_copy(SECRET, bytes, secret), secret, guarded_copy(SALT, bytes, salt), salt, true,
@@ -283,17 +283,17 @@ static uint32_t derive(size_t secret, size_t salt, size_t id, size_t id_context)
     return status;
 }
 
-static uint32_t seal(const char *text, size_t filled, size_t room) {
-    size_t len;
+static uint32_t seal(const char *text, oscore_size filled, oscore_size room) {
+    oscore_size len;
     uint8_t *plain = bytes_at(PLAIN, text, filled, &len), *out = guarded(OUT, room);
     uint32_t status = oscore_seal_request(clients[C1], 20, plain, len, out, room, out_len, detail);
-    for (size_t i = status ? 0 : *out_len; i < room; i++) CHECK(!out[i]);
+    for (oscore_size i = status ? 0 : *out_len; i < room; i++) CHECK(!out[i]);
     return status;
 }
 
 static uint32_t open_text(const char *text) {
     uint8_t before[64];
-    size_t len = hex(text, before);
+    oscore_size len = hex(text, before);
     uint8_t *datagram = guarded_copy(DATAGRAM, before, len);
     opened = guarded(OPENED, sizeof *opened);
     uint32_t status = oscore_open_request(servers[C1], datagram, len, options, 4, opened, detail);
@@ -302,7 +302,7 @@ static uint32_t open_text(const char *text) {
 }
 
 static void refuses_arguments(void) {
-    size_t len;
+    oscore_size len;
     oscore_context *bad = guarded_copy(HANDLE, clients[C1], sizeof *bad);
     uint8_t *plain = bytes_at(PLAIN, REQUESTS[C1].plain, 0, &len), *out = guarded_room(OUT, 64);
     bad->sender_len = 8;
@@ -371,9 +371,9 @@ static void has_sizes(void) {
 
 static void spoils_datagrams(void) {
     uint8_t sealed[64];
-    size_t len = hex(REQUESTS[C1].sealed, sealed);
+    oscore_size len = hex(REQUESTS[C1].sealed, sealed);
     for (int i = 0; i < rounds; i++) {
-        size_t cut = (size_t)rand() % (len + 1), turned = cut ? (size_t)rand() % cut : 0;
+        oscore_size cut = (oscore_size)rand() % (len + 1), turned = cut ? (oscore_size)rand() % cut : 0;
         uint8_t *datagram = guarded_copy(DATAGRAM, sealed, cut);
         if (cut && i % 2) datagram[turned] ^= (uint8_t)(1 << rand() % 8);
         bool whole = !memcmp(datagram, sealed, cut) && cut == len;
@@ -386,10 +386,10 @@ static void spoils_datagrams(void) {
 /* A spoilt handle is another context, or none. */
 static void spoils_handles(void) {
     uint8_t sealed[64];
-    size_t len = hex(REQUESTS[C1].sealed, sealed);
+    oscore_size len = hex(REQUESTS[C1].sealed, sealed);
     for (int i = 0; i < rounds; i++) {
         oscore_context *spoilt = guarded_copy(HANDLE, servers[C1], sizeof *spoilt);
-        ((uint8_t *)spoilt)[(size_t)rand() % sizeof *spoilt] = (uint8_t)rand();
+        ((uint8_t *)spoilt)[(oscore_size)rand() % sizeof *spoilt] = (uint8_t)rand();
         bool bad = spoilt->sender_len > 7 || spoilt->recipient_len > 7 || spoilt->id_context_len > 32
             || (spoilt->sender_len == spoilt->recipient_len && !memcmp(spoilt->sender, spoilt->recipient, spoilt->sender_len));
         uint32_t status = oscore_open_request(spoilt, guarded_copy(DATAGRAM, sealed, len), len, options, 4, opened, detail);
@@ -402,11 +402,11 @@ static void ciphers_agree(void) {
     uint8_t bytes[105] = {0x40, 0x01, 0, 1, 0xff}, by_tables[160];
     for (int i = 0; i < rounds / 2; i++) {
         oscore_context *context = guarded_copy(HANDLE, clients[C1], sizeof *context);
-        size_t len = 6 + (size_t)rand() % 100, len_by_tables;
+        oscore_size len = 6 + (oscore_size)rand() % 100, len_by_tables;
         uint64_t number = (uint64_t)rand();
-        for (size_t k = 0; k < sizeof context->sender_key; k++) context->sender_key[k] = (uint8_t)rand();
-        for (size_t k = 0; k < sizeof context->common_iv; k++) context->common_iv[k] = (uint8_t)rand();
-        for (size_t k = 5; k < len; k++) bytes[k] = (uint8_t)rand();
+        for (oscore_size k = 0; k < sizeof context->sender_key; k++) context->sender_key[k] = (uint8_t)rand();
+        for (oscore_size k = 0; k < sizeof context->common_iv; k++) context->common_iv[k] = (uint8_t)rand();
+        for (oscore_size k = 5; k < len; k++) bytes[k] = (uint8_t)rand();
         uint8_t *plain = guarded_copy(PLAIN, bytes, len), *out = guarded_room(OUT, OSCORE_ROOM(len));
         context->tables = (uint8_t)(1 + rand() % 255);
         CHECK(!oscore_seal_request(context, number, plain, len, out, OSCORE_ROOM(len), out_len, detail));
@@ -419,9 +419,9 @@ static void ciphers_agree(void) {
 }
 
 /* Writes an option by its delta and the length of its value (RFC 7252, 3.1). */
-static size_t put_option(uint8_t *bytes, unsigned delta, unsigned value_len) {
+static oscore_size put_option(uint8_t *bytes, unsigned delta, unsigned value_len) {
     unsigned parts[2] = {delta, value_len}, nibbles[2];
-    size_t len = 1;
+    oscore_size len = 1;
     for (int i = 0; i < 2; i++) {
         nibbles[i] = parts[i] < 13 ? parts[i] : parts[i] < 269 ? 13 : 14;
         if (nibbles[i] == 13) bytes[len++] = (uint8_t)(parts[i] - 13);
@@ -439,9 +439,9 @@ static unsigned random_part(void) {
 }
 
 /* A plain message of this code: a token, options that can be sealed, a payload, all at random. */
-static size_t random_plain(uint8_t code, uint8_t *bytes) {
+static oscore_size random_plain(uint8_t code, uint8_t *bytes) {
     unsigned token_len = (unsigned)rand() % 9, number = 0, payload_len = random_part();
-    size_t len = 4 + token_len;
+    oscore_size len = 4 + token_len;
     memset(bytes, 'x', len);
     bytes[0] = (uint8_t)(0x40 | token_len), bytes[1] = code;
     for (int left = rand() % 6; left > 0; left--) {
@@ -457,7 +457,7 @@ static size_t random_plain(uint8_t code, uint8_t *bytes) {
 
 /* How many bytes a message grows by, as a request or as a response, in as much room as the header says, under a context and a number at
    random. */
-static size_t growth(const uint8_t *bytes, size_t len, bool request, uint64_t number) {
+static oscore_size growth(const uint8_t *bytes, oscore_size len, bool request, uint64_t number) {
     uint8_t *plain = guarded_copy(PLAIN, bytes, len), *out = guarded_room(OUT, OSCORE_ROOM(len));
     oscore_context *context = guarded_copy(HANDLE, clients[C1], sizeof *context);
     context->sender_len = (uint8_t)(rand() % 8), context->recipient_len = (uint8_t)((context->sender_len + 1) % 8);
@@ -476,9 +476,9 @@ enum { PLAIN_GROWTH = 59 };
    inside alone. With Uri-Port and an option 19 behind it all of the room is taken, for 3 all that the header says: 19 has a delta of 12 in
    the plain message, and of 13 inside. */
 static void has_room_for_observe(void) {
-    for (size_t value_len = 0; value_len <= 5; value_len++) {
+    for (oscore_size value_len = 0; value_len <= 5; value_len++) {
         uint8_t bytes[16] = {0x40, 1, 0, 1, (uint8_t)(0x60 | value_len)};
-        size_t len = 7 + value_len, twice = value_len <= 3 ? 1 + value_len : 0, most = len + PLAIN_GROWTH + twice;
+        oscore_size len = 7 + value_len, twice = value_len <= 3 ? 1 + value_len : 0, most = len + PLAIN_GROWTH + twice;
         bytes[len - 2] = 0x10, bytes[len - 1] = 0xc0;
         oscore_context *context = guarded_copy(HANDLE, clients[C1], sizeof *context);
         context->sender_len = 7, context->recipient_len = 0, context->id_context_len = 32, context->observe = 1;
@@ -493,7 +493,7 @@ static void has_room_for_observe(void) {
 /* The largest growth is that of Uri-Port and Uri-Query, with the longest identifiers and number. */
 static void has_room(void) {
     static uint8_t bytes[8192];
-    size_t len = hex("40010001708161", bytes);
+    oscore_size len = hex("40010001708161", bytes);
     CHECK(growth(bytes, len, true, (1ull << 40) - 1) == PLAIN_GROWTH);
     has_room_for_observe();
     for (int i = 0; i < rounds; i++) {

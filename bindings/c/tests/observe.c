@@ -30,7 +30,7 @@ static oscore_option *options;
 static oscore_opened *opened;
 static oscore_ticket *ticket;
 static uint8_t *out;
-static size_t *out_len, *detail, *reply_len, *index_of;
+static oscore_size *out_len, *detail, *reply_len, *index_of;
 static uint64_t *number;
 
 static void lay_out(bool before) {
@@ -48,14 +48,14 @@ static void lay_out(bool before) {
     index_of = guarded_room(INDEX, sizeof *index_of);
 }
 
-static size_t hex(const char *text, uint8_t *bytes) {
-    size_t len = 0;
+static oscore_size hex(const char *text, uint8_t *bytes) {
+    oscore_size len = 0;
     unsigned byte;
     for (; *text; text += 2, bytes[len++] = (uint8_t)byte) CHECK(sscanf(text, "%2x", &byte) == 1);
     return len;
 }
 
-static bool is(const uint8_t *bytes, size_t len, const char *text) {
+static bool is(const uint8_t *bytes, oscore_size len, const char *text) {
     uint8_t wanted[64];
     return len == hex(text, wanted) && !memcmp(bytes, wanted, len);
 }
@@ -84,15 +84,15 @@ static oscore_server_context *context_of(void) {
 }
 
 /* What is called on the server that is tried, with the text of a plain message. */
-static oscore_status notify_in(const oscore_ticket *of, const char *text, size_t room) {
+static oscore_status notify_in(const oscore_ticket *of, const char *text, oscore_size room) {
     uint8_t bytes[64];
-    size_t len = hex(text, bytes);
+    oscore_size len = hex(text, bytes);
     uint8_t *plain = guarded_copy(PLAIN, bytes, len);
     of = guarded_copy(USED, of, sizeof *of);
     out = guarded(OUT, room);
     oscore_status status = single ? oscore_server1_notify(server1, of, plain, len, out, room, out_len, detail)
         : oscore_server_notify(server, of, plain, len, out, room, out_len, detail);
-    for (size_t i = status ? 0 : *out_len; i < room; i++) CHECK(!out[i]);
+    for (oscore_size i = status ? 0 : *out_len; i < room; i++) CHECK(!out[i]);
     CHECK(status || *out_len <= OSCORE_ROOM(len));
     return status;
 }
@@ -103,7 +103,7 @@ static oscore_status notify(const oscore_ticket *of, const char *text) {
 
 static oscore_status reply(const oscore_ticket *of, const char *text) {
     uint8_t bytes[64];
-    size_t len = hex(text, bytes);
+    oscore_size len = hex(text, bytes);
     uint8_t *plain = guarded_copy(PLAIN, bytes, len);
     of = guarded_copy(USED, of, sizeof *of);
     out = guarded_room(OUT, OSCORE_ROOM(len));
@@ -114,13 +114,13 @@ static oscore_status reply(const oscore_ticket *of, const char *text) {
 /* The client seals a request. */
 static oscore_status ask(uint64_t now, const char *text) {
     uint8_t bytes[64];
-    size_t len = hex(text, bytes);
+    oscore_size len = hex(text, bytes);
     out = guarded_room(OUT, OSCORE_ROOM(len));
     return oscore_client_request(client, now, guarded_copy(PLAIN, bytes, len), len, out, OSCORE_ROOM(len), out_len, detail);
 }
 
 /* The server takes bytes. */
-static oscore_status serve_bytes(const uint8_t *bytes, size_t len) {
+static oscore_status serve_bytes(const uint8_t *bytes, oscore_size len) {
     static const uint8_t echo[8] = "anything";
     uint8_t *datagram = guarded_copy(DATAGRAM, bytes, len), *answer = guarded_room(REPLY, 64);
     const uint8_t *fresh = guarded_copy(ECHO, echo, 8);
@@ -130,14 +130,14 @@ static oscore_status serve_bytes(const uint8_t *bytes, size_t len) {
 
 static oscore_status serve(const char *text) {
     uint8_t bytes[64];
-    size_t len = hex(text, bytes);
+    oscore_size len = hex(text, bytes);
     return serve_bytes(bytes, len);
 }
 
 /* The client takes a datagram, with a bit of its last byte turned or not. What isn't opened stays. */
 static oscore_status hear(uint64_t now, const char *text, uint8_t turned) {
     uint8_t bytes[64];
-    size_t len = hex(text, bytes);
+    oscore_size len = hex(text, bytes);
     bytes[len - 1] ^= turned;
     uint8_t *datagram = guarded_copy(DATAGRAM, bytes, len);
     opened->is_notification = turned != 0;
@@ -233,7 +233,7 @@ static void lasts_at_the_server(void) {
         const char plain[] = "410101024b";
         CHECK(!ask(0, plain));
         uint8_t sealed[64];
-        size_t len = *out_len;
+        oscore_size len = *out_len;
         memcpy(sealed, out, len);
         CHECK(!serve_bytes(sealed, len) && ticket->number == 21 + i && ticket->observes == 0);
         const uint8_t token = 0x4b;
@@ -258,7 +258,7 @@ static void ends_at_the_client(void) {
     oscore_ticket observing = registered();
     CHECK(!reply(&observing, GONE) && out[4] == 0x4a);
     uint8_t sealed[64];
-    size_t len = *out_len;
+    oscore_size len = *out_len;
     memcpy(sealed, out, len);
     uint8_t *datagram = guarded_copy(DATAGRAM, sealed, len);
     CHECK(!oscore_client_take(client, 1, datagram, len, options, 4, opened, number, detail));

@@ -33,7 +33,7 @@ static oscore_option *options;
 static oscore_opened *opened;
 static oscore_ticket *ticket;
 static uint8_t *out, *reply, *datagram;
-static size_t *out_len, *reply_len, *detail, *index_of;
+static oscore_size *out_len, *reply_len, *detail, *index_of;
 static int rounds = 20000;
 
 static void lay_out(bool before) {
@@ -50,19 +50,19 @@ static void lay_out(bool before) {
     index_of = guarded_room(INDEX, sizeof *index_of);
 }
 
-static size_t hex(const char *text, uint8_t *bytes) {
-    size_t len = 0;
+static oscore_size hex(const char *text, uint8_t *bytes) {
+    oscore_size len = 0;
     unsigned byte;
     for (; *text; text += 2, bytes[len++] = (uint8_t)byte) CHECK(sscanf(text, "%2x", &byte) == 1);
     return len;
 }
 
 /* The context of RFC 8613, C.1, or C.3 with an ID Context, for both ends; other identifiers for servers of several. */
-static void derive(uint8_t recipient, size_t recipient_len, const char *id_context) {
+static void derive(uint8_t recipient, oscore_size recipient_len, const char *id_context) {
     uint8_t bytes[16];
     const uint8_t *secret = guarded_copy(SECRET, bytes, hex("0102030405060708090a0b0c0d0e0f10", bytes));
     const uint8_t *salt = guarded_copy(SALT, bytes, hex("9e7ca92223786340", bytes));
-    size_t id_len = id_context ? hex(id_context, bytes) : 0;
+    oscore_size id_len = id_context ? hex(id_context, bytes) : 0;
     const uint8_t *id = guarded_copy(ID_CONTEXT, bytes, id_len), *client_id = guarded_copy(SENDER, &recipient, recipient_len);
     const uint8_t *server_id = guarded_copy(RECIPIENT, &sender, 1);
     CHECK(!oscore_derive(client, secret, 16, salt, 8, id_context, id, id_len, client_id, recipient_len, server_id, 1, tables, false, false));
@@ -88,14 +88,14 @@ static bool same(const oscore_server *a, const oscore_server *b) {
 }
 
 /* Whether a datagram that wasn't decrypted is as it was, and of one that was the head and the tag are. */
-static bool is_left(uint32_t status, size_t len, const uint8_t *before) {
+static bool is_left(uint32_t status, oscore_size len, const uint8_t *before) {
     bool decrypted = status == OSCORE_DONE || status == OSCORE_INNER || status == OSCORE_CHALLENGE || status == OSCORE_SEQUENCE_EXHAUSTED;
     if (!decrypted) return !memcmp(datagram, before, len);
     return memcmp(datagram, before, len) && !memcmp(datagram, before, 4) && !memcmp(datagram + len - 8, before + len - 8, 8);
 }
 
 /* Hands in a datagram. */
-static uint32_t take_plainly(uint64_t now, const uint8_t *bytes, size_t len) {
+static uint32_t take_plainly(uint64_t now, const uint8_t *bytes, oscore_size len) {
     datagram = guarded_copy(DATAGRAM, bytes, len);
     reply = guarded_room(REPLY, 64);
     *reply_len = 99;
@@ -106,7 +106,7 @@ static uint32_t take_plainly(uint64_t now, const uint8_t *bytes, size_t len) {
 }
 
 /* Where nothing is delivered, nothing is shown. */
-static uint32_t take(uint64_t now, const uint8_t *bytes, size_t len) {
+static uint32_t take(uint64_t now, const uint8_t *bytes, oscore_size len) {
     static const oscore_opened none_opened;
     static const oscore_option none_options[4];
     static const oscore_ticket none_ticket;
@@ -125,7 +125,7 @@ static uint32_t take_text(const char *text) {
 /* Seals a plain request under a number, and hands it in. */
 static uint32_t take_sealed(const char *plain, uint64_t number, uint64_t now) {
     uint8_t bytes[128];
-    size_t len = hex(plain, bytes);
+    oscore_size len = hex(plain, bytes);
     out = guarded_room(OUT, OSCORE_ROOM(len));
     CHECK(!oscore_seal_request(client, number, guarded_copy(PLAIN, bytes, len), len, out, OSCORE_ROOM(len), out_len, detail));
     memcpy(bytes, out, *out_len);
@@ -133,16 +133,16 @@ static uint32_t take_sealed(const char *plain, uint64_t number, uint64_t now) {
 }
 
 /* Answers the request of a ticket by a plain message, in so much room: what isn't written of it stays. */
-static uint32_t reply_in(const oscore_ticket *of, bool with_number, const char *text, size_t filled, size_t room) {
+static uint32_t reply_in(const oscore_ticket *of, bool with_number, const char *text, oscore_size filled, oscore_size room) {
     uint8_t bytes[64];
-    size_t len = hex(text, bytes);
+    oscore_size len = hex(text, bytes);
     uint8_t *plain = guarded_room(PLAIN, len + filled);
     memcpy(plain, bytes, len);
     memset(plain + len, 'x', filled);
     out = guarded(OUT, room);
     of = guarded_copy(ANSWERED, of, sizeof *of);
     uint32_t status = oscore_server_reply(server, of, with_number, MID, plain, len + filled, out, room, out_len, detail);
-    for (size_t i = status ? 0 : *out_len; i < room; i++) CHECK(!out[i]);
+    for (oscore_size i = status ? 0 : *out_len; i < room; i++) CHECK(!out[i]);
     CHECK(status || *out_len <= OSCORE_ROOM(len + filled));
     return status;
 }
@@ -151,16 +151,16 @@ static uint32_t answer(const oscore_ticket *of, bool with_number) {
     return reply_in(of, with_number, ANSWER, 0, 64);
 }
 
-static uint32_t reply_with(const char *text, size_t filled, size_t room) {
+static uint32_t reply_with(const char *text, oscore_size filled, oscore_size room) {
     return reply_in(ticket, true, text, filled, room);
 }
 
 /* Opens a response as the client. */
-static uint32_t open_response(uint64_t request, const uint8_t *bytes, size_t len) {
+static uint32_t open_response(uint64_t request, const uint8_t *bytes, oscore_size len) {
     return oscore_open_response(client, request, guarded_copy(DATAGRAM, bytes, len), len, options, 4, opened, detail);
 }
 
-static bool is(const uint8_t *bytes, size_t len, const char *text) {
+static bool is(const uint8_t *bytes, oscore_size len, const char *text) {
     uint8_t wanted[64];
     return len == hex(text, wanted) && !memcmp(bytes, wanted, len);
 }
@@ -189,7 +189,7 @@ static void exchanges(void) {
 /* An error (RFC 8613, 7.4 and 8.2): an ACK, the code, Max-Age (14) of no byte, which is 0, and the payload. */
 static bool refuses_by(const char *head, const char *text) {
     uint8_t wanted[64];
-    size_t len = hex(head, wanted);
+    oscore_size len = hex(head, wanted);
     len += hex("d001ff", wanted + len);
     memcpy(wanted + len, text, strlen(text));
     return *reply_len == len + strlen(text) && !memcmp(reply, wanted, *reply_len);
@@ -385,15 +385,15 @@ static void refuses_same_senders(void) {
 /* What is delivered differs from the whole one where nothing is protected. */
 static void spoils_datagrams(void) {
     uint8_t sealed[64], bytes[64];
-    size_t len = hex(SEALED, sealed);
+    oscore_size len = hex(SEALED, sealed);
     int delivered = 0;
     begin(false, 0);
     oscore_server before = *server;
     before.clock = NOW;
     for (int i = 0; i < rounds; i++) {
-        size_t cut = i % 4 ? (size_t)rand() % (len + 1) : len;
+        oscore_size cut = i % 4 ? (oscore_size)rand() % (len + 1) : len;
         memcpy(bytes, sealed, len);
-        if (cut && i % 2) bytes[(size_t)rand() % cut] ^= (uint8_t)(1 << rand() % 8);
+        if (cut && i % 2) bytes[(oscore_size)rand() % cut] ^= (uint8_t)(1 << rand() % 8);
         bool whole = cut == len && !memcmp(bytes, sealed, len);
         uint32_t status = take_plainly(NOW, bytes, cut);
         bool tells = status == OSCORE_UNDECODABLE || status == OSCORE_NO_CONTEXT || status == OSCORE_TAG;
@@ -420,7 +420,7 @@ static bool is_bad_context(const oscore_server_context *bytes) {
 
 static bool is_bad(const oscore_server *bytes) {
     if (bytes->count > 8) return true;
-    for (size_t i = 0; i < bytes->count; i++)
+    for (oscore_size i = 0; i < bytes->count; i++)
         if (is_bad_context(&bytes->contexts[i])) return true;
     return false;
 }
@@ -439,8 +439,8 @@ static void spoils_servers(void) {
     sender = 1;
     for (int i = 0; i < rounds; i++) {
         *server = whole;
-        size_t used = offsetof(oscore_server, contexts) + 2 * sizeof(oscore_server_context);
-        ((uint8_t *)server)[(size_t)rand() % (i % 2 ? sizeof whole : used)] = (uint8_t)rand();
+        oscore_size used = offsetof(oscore_server, contexts) + 2 * sizeof(oscore_server_context);
+        ((uint8_t *)server)[(oscore_size)rand() % (i % 2 ? sizeof whole : used)] = (uint8_t)rand();
         bool is_none = is_bad(server);
         oscore_server before = *server;
         uint32_t status;
@@ -465,7 +465,7 @@ static void spoils_tickets(void) {
     for (int i = 0; i < rounds; i++) {
         oscore_ticket spoilt = good;
         *server = whole;
-        ((uint8_t *)&spoilt)[(size_t)rand() % sizeof spoilt] = (uint8_t)rand();
+        ((uint8_t *)&spoilt)[(oscore_size)rand() % sizeof spoilt] = (uint8_t)rand();
         bool is_none = spoilt.kind > 3 || spoilt.number >= NUMBERS || spoilt.token_len > 8 || spoilt.observes > 1;
         bool stale = spoilt.context != 0 || spoilt.life != 0, spent = spoilt.number != 20;
         uint32_t status = answer(&spoilt, i % 2);

@@ -33,7 +33,7 @@ typedef struct written {
     oscore_option options[4];
     oscore_ticket ticket;
     uint8_t out[128], datagram[128];
-    size_t out_len, detail;
+    oscore_size out_len, detail;
     uint32_t status;
 } written;
 
@@ -45,14 +45,14 @@ static void lay_out(bool before) {
     one = guarded(ONE, sizeof *one);
 }
 
-static size_t hex(const char *text, uint8_t *bytes) {
-    size_t len = 0;
+static oscore_size hex(const char *text, uint8_t *bytes) {
+    oscore_size len = 0;
     unsigned byte;
     for (; *text; text += 2, bytes[len++] = (uint8_t)byte) CHECK(sscanf(text, "%2x", &byte) == 1);
     return len;
 }
 
-static bool is(const uint8_t *bytes, size_t len, const char *text) {
+static bool is(const uint8_t *bytes, oscore_size len, const char *text) {
     uint8_t wanted[64];
     return len == hex(text, wanted) && !memcmp(bytes, wanted, len);
 }
@@ -68,7 +68,7 @@ static void derive(bool tables) {
 }
 
 static void begin(bool restarted, uint64_t next, uint8_t places) {
-    size_t *index = guarded_room(INDEX, sizeof *index);
+    oscore_size *index = guarded_room(INDEX, sizeof *index);
     oscore_server_begin(eight);
     CHECK(!oscore_server_add(eight, own, restarted, next, places, index) && *index == 0);
     CHECK(!oscore_server1_begin(one, own, restarted, next, places));
@@ -91,14 +91,14 @@ static bool same_one(const oscore_server1 *a, const oscore_server1 *b) {
 }
 
 /* Hands a datagram to one of the two servers. */
-static written take_at(bool alone, uint64_t now, const uint8_t *echo, const uint8_t *bytes, size_t len) {
+static written take_at(bool alone, uint64_t now, const uint8_t *echo, const uint8_t *bytes, oscore_size len) {
     written w;
     memset(&w, 0, sizeof w);
     uint8_t *datagram = guarded_copy(DATAGRAM, bytes, len), *out = guarded(OUT, 64);
     oscore_option *options = guarded(OPTIONS, sizeof w.options);
     oscore_opened *opened = guarded(OPENED, sizeof *opened);
     oscore_ticket *ticket = guarded(TICKET, sizeof *ticket);
-    size_t *out_len = guarded(OUT_LEN, sizeof *out_len), *detail = guarded(DETAIL, sizeof *detail);
+    oscore_size *out_len = guarded(OUT_LEN, sizeof *out_len), *detail = guarded(DETAIL, sizeof *detail);
     *out_len = 99;
     const uint8_t *value = guarded_copy(CHALLENGE, echo, 8);
     w.status = alone ? oscore_server1_take(one, now, value, MID, datagram, len, options, 4, opened, ticket, out, out_len, detail)
@@ -110,11 +110,11 @@ static written take_at(bool alone, uint64_t now, const uint8_t *echo, const uint
     return w;
 }
 
-static written notify_at(bool alone, const oscore_ticket *of, const uint8_t *bytes, size_t len, size_t room) {
+static written notify_at(bool alone, const oscore_ticket *of, const uint8_t *bytes, oscore_size len, oscore_size room) {
     written w;
     memset(&w, 0, sizeof w);
     uint8_t *out = guarded(OUT, room);
-    size_t *out_len = guarded(OUT_LEN, sizeof *out_len), *detail = guarded(DETAIL, sizeof *detail);
+    oscore_size *out_len = guarded(OUT_LEN, sizeof *out_len), *detail = guarded(DETAIL, sizeof *detail);
     const uint8_t *plain = guarded_copy(PLAIN, bytes, len);
     *out_len = 99;
     of = guarded_copy(ANSWERED, of, sizeof *of);
@@ -125,11 +125,11 @@ static written notify_at(bool alone, const oscore_ticket *of, const uint8_t *byt
     return w;
 }
 
-static written reply_at(bool alone, const oscore_ticket *of, bool with_number, const uint8_t *bytes, size_t len, size_t room) {
+static written reply_at(bool alone, const oscore_ticket *of, bool with_number, const uint8_t *bytes, oscore_size len, oscore_size room) {
     written w;
     memset(&w, 0, sizeof w);
     uint8_t *out = guarded(OUT, room);
-    size_t *out_len = guarded(OUT_LEN, sizeof *out_len), *detail = guarded(DETAIL, sizeof *detail);
+    oscore_size *out_len = guarded(OUT_LEN, sizeof *out_len), *detail = guarded(DETAIL, sizeof *detail);
     const uint8_t *plain = guarded_copy(PLAIN, bytes, len);
     *out_len = 99;
     of = guarded_copy(ANSWERED, of, sizeof *of);
@@ -141,7 +141,7 @@ static written reply_at(bool alone, const oscore_ticket *of, bool with_number, c
 }
 
 /* What both wrote is the same, byte for byte: the datagrams lie at one place, so slices do too. */
-static written both_take(uint64_t now, const uint8_t *echo, const uint8_t *bytes, size_t len) {
+static written both_take(uint64_t now, const uint8_t *echo, const uint8_t *bytes, oscore_size len) {
     written w = take_at(false, now, echo, bytes, len), v = take_at(true, now, echo, bytes, len);
     CHECK(v.status == w.status && v.out_len == w.out_len && v.detail == w.detail && !memcmp(v.out, w.out, 64));
     CHECK(!memcmp(v.datagram, w.datagram, len) && !memcmp(&v.opened, &w.opened, sizeof w.opened) && !memcmp(v.options, w.options, sizeof w.options));
@@ -149,13 +149,13 @@ static written both_take(uint64_t now, const uint8_t *echo, const uint8_t *bytes
     return v;
 }
 
-static written both_reply(const oscore_ticket *of, bool with_number, const uint8_t *bytes, size_t len, size_t room) {
+static written both_reply(const oscore_ticket *of, bool with_number, const uint8_t *bytes, oscore_size len, oscore_size room) {
     written w = reply_at(false, of, with_number, bytes, len, room), v = reply_at(true, of, with_number, bytes, len, room);
     CHECK(v.status == w.status && v.out_len == w.out_len && v.detail == w.detail && !memcmp(v.out, w.out, room) && agree());
     return v;
 }
 
-static written both_notify(const oscore_ticket *of, const uint8_t *bytes, size_t len, size_t room) {
+static written both_notify(const oscore_ticket *of, const uint8_t *bytes, oscore_size len, oscore_size room) {
     written w = notify_at(false, of, bytes, len, room), v = notify_at(true, of, bytes, len, room);
     CHECK(v.status == w.status && v.out_len == w.out_len && v.detail == w.detail && !memcmp(v.out, w.out, room) && agree());
     return v;
@@ -165,7 +165,7 @@ static const uint8_t ECHO[8] = {1, 2, 3, 4, 5, 6, 7, 8};
 
 static void exchanges(void) {
     uint8_t bytes[64], plain[64];
-    size_t len = hex(SEALED, bytes), plain_len = hex(ANSWER, plain);
+    oscore_size len = hex(SEALED, bytes), plain_len = hex(ANSWER, plain);
     for (int with_number = 0; with_number < 2; with_number++) {
         CHECK(!oscore_server1_begin(one, own, false, 0, 32) && one->context.places == 32 && one->context.gate == 2 && !one->clock);
         written w = take_at(true, NOW, ECHO, bytes, len);
@@ -183,7 +183,7 @@ static void exchanges(void) {
 /* What refuses changes nothing. */
 static void refuses(void) {
     uint8_t plain[64];
-    size_t len = hex(ANSWER, plain);
+    oscore_size len = hex(ANSWER, plain);
     begin(false, 3, 32);
     oscore_server1 before = *one;
     CHECK(oscore_server1_begin(one, own, false, NUMBERS, 32) == OSCORE_BAD_NUMBER && same_one(one, &before));
@@ -205,7 +205,7 @@ static void refuses(void) {
 /* A random event at both. */
 static void event(oscore_ticket *tickets, uint64_t *clock, int *delivered, int *notified) {
     static uint8_t last[128];
-    static size_t last_len;
+    static oscore_size last_len;
     uint8_t echo[8], bytes[128];
     for (int i = 0; i < 8; i++) echo[i] = (uint8_t)rand();
     *clock += (uint64_t)(rand() % 8 ? rand() % 9 : rand() % 40000);
@@ -215,10 +215,10 @@ static void event(oscore_ticket *tickets, uint64_t *clock, int *delivered, int *
         CHECK(oscore_server_restart(eight, 0, next) == oscore_server1_restart(one, next) && agree());
     } else if (what < 6) {
         bool notifies = rand() % 2;
-        size_t len = hex(notifies ? NOTE : ANSWER, bytes), room = rand() % 8 ? 64 : (size_t)rand() % 64;
+        oscore_size len = hex(notifies ? NOTE : ANSWER, bytes), room = rand() % 8 ? 64 : (oscore_size)rand() % 64;
         oscore_ticket ticket = tickets[rand() % TICKETS];
-        if (rand() % 4 == 0) ((uint8_t *)&ticket)[(size_t)rand() % sizeof ticket] ^= (uint8_t)(1 << rand() % 8);
-        if (rand() % 8 == 0) bytes[(size_t)rand() % len] ^= (uint8_t)(1 << rand() % 8);
+        if (rand() % 4 == 0) ((uint8_t *)&ticket)[(oscore_size)rand() % sizeof ticket] ^= (uint8_t)(1 << rand() % 8);
+        if (rand() % 8 == 0) bytes[(oscore_size)rand() % len] ^= (uint8_t)(1 << rand() % 8);
         if (notifies)
             *notified += !both_notify(&ticket, bytes, len, room).status;
         else
@@ -226,10 +226,10 @@ static void event(oscore_ticket *tickets, uint64_t *clock, int *delivered, int *
     } else {
         /* A GET with a token of 0 to 8 bytes; half of them register, and half have the Echo value that is asked for. */
         bool registers = rand() % 2;
-        size_t len = 4 + (size_t)(rand() % 9), *sealed_len = guarded_room(INDEX, sizeof *sealed_len), *detail = guarded_room(DETAIL, sizeof *detail);
+        oscore_size len = 4 + (oscore_size)(rand() % 9), *sealed_len = guarded_room(INDEX, sizeof *sealed_len), *detail = guarded_room(DETAIL, sizeof *detail);
         memcpy(bytes, (const uint8_t[]){(uint8_t)(0x40 | rand() % 2 << 4), 1, 0x5d, 0x1f}, 4);
         bytes[0] |= (uint8_t)(len - 4);
-        for (size_t i = 4; i < len; i++) bytes[i] = (uint8_t)rand();
+        for (oscore_size i = 4; i < len; i++) bytes[i] = (uint8_t)rand();
         if (registers) bytes[len++] = 0x60;
         if (rand() % 2) {
             memcpy(bytes + len, (const uint8_t[]){0xd8, registers ? 0xe9 : 0xef}, 2);
@@ -242,8 +242,8 @@ static void event(oscore_ticket *tickets, uint64_t *clock, int *delivered, int *
         CHECK(!oscore_seal_request(client, number, guarded_copy(PLAIN, bytes, len), len, out, OSCORE_ROOM(len), sealed_len, detail));
         if (what != 6 || !last_len) last_len = *sealed_len, memcpy(last, out, last_len);
         memcpy(bytes, last, last_len);
-        if (what == 7) bytes[(size_t)rand() % last_len] ^= (uint8_t)(1 << rand() % 8);
-        written w = both_take(*clock, echo, bytes, what == 8 ? (size_t)rand() % (last_len + 1) : last_len);
+        if (what == 7) bytes[(oscore_size)rand() % last_len] ^= (uint8_t)(1 << rand() % 8);
+        written w = both_take(*clock, echo, bytes, what == 8 ? (oscore_size)rand() % (last_len + 1) : last_len);
         if (!w.status) tickets[rand() % TICKETS] = w.ticket, ++*delivered;
     }
 }
@@ -263,7 +263,7 @@ static void answers_alike(void) {
 /* One byte of the server: where the other refuses the same bytes, so does this one. */
 static void spoils_servers(void) {
     uint8_t bytes[64], plain[64];
-    size_t len = hex(SEALED, bytes), plain_len = hex(ANSWER, plain);
+    oscore_size len = hex(SEALED, bytes), plain_len = hex(ANSWER, plain);
     begin(false, 0, 32);
     oscore_ticket ticket = both_take(NOW, ECHO, bytes, len).ticket;
     oscore_server1 whole = *one;
@@ -271,7 +271,7 @@ static void spoils_servers(void) {
     int bad = 0;
     for (int i = 0; i < rounds; i++) {
         *one = whole, *eight = more;
-        ((uint8_t *)one)[(size_t)rand() % sizeof *one] = (uint8_t)rand();
+        ((uint8_t *)one)[(oscore_size)rand() % sizeof *one] = (uint8_t)rand();
         eight->clock = one->clock, eight->contexts[0] = one->context, eight->unanswered[0] = one->unanswered;
         oscore_server1 before = *one;
         uint32_t status = i % 3 == 0 ? both_take(NOW, ECHO, bytes, len).status : i % 3 == 1 ? both_reply(&ticket, i % 2, plain, plain_len, 64).status

@@ -10,7 +10,7 @@
 /* What is handed in, each at a place of its own. */
 enum { TOKEN, OPTIONS, PAYLOAD, OUT, WRITTEN_LEN, DETAIL, NAME, VALUES, MOST_OPTIONS = 8 };
 enum { CON, NON, ACK, RST };
-static size_t *out_len, *detail;
+static oscore_size *out_len, *detail;
 static int rounds = 20000;
 
 static void lay_out(bool before) {
@@ -19,8 +19,8 @@ static void lay_out(bool before) {
     detail = guarded_room(DETAIL, sizeof *detail);
 }
 
-static size_t hex(const char *text, uint8_t *bytes) {
-    size_t len = 0;
+static oscore_size hex(const char *text, uint8_t *bytes) {
+    oscore_size len = 0;
     unsigned byte;
     for (; *text; text += 2, bytes[len++] = (uint8_t)byte) CHECK(sscanf(text, "%2x", &byte) == 1);
     return len;
@@ -31,31 +31,31 @@ typedef struct message {
     uint8_t kind, code;
     uint16_t message_id;
     uint8_t token[9];
-    size_t token_len;
+    oscore_size token_len;
     oscore_option options[MOST_OPTIONS];
-    size_t option_count;
+    oscore_size option_count;
     const uint8_t *payload;
-    size_t payload_len;
+    oscore_size payload_len;
 } message;
 
 /* Asks for a message in so much room, which holds the byte ee before. Nothing but the message is changed, and by a refusal nothing. */
-static uint32_t write_in(const message *m, size_t room, const uint8_t **written) {
+static uint32_t write_in(const message *m, oscore_size room, const uint8_t **written) {
     uint8_t *token = guarded_copy(TOKEN, m->token, m->token_len), *payload = guarded_copy(PAYLOAD, m->payload, m->payload_len);
     oscore_option *options = guarded_copy(OPTIONS, m->options, m->option_count * sizeof *options);
-    for (size_t i = 0; i < m->option_count; i++) options[i].value = guarded_copy(VALUES + i, m->options[i].value, options[i].value_len);
+    for (oscore_size i = 0; i < m->option_count; i++) options[i].value = guarded_copy(VALUES + i, m->options[i].value, options[i].value_len);
     uint8_t *out = guarded_room(OUT, room);
     memset(out, 0xee, room);
     *out_len = 99999, *detail = 99999;
     uint32_t status = oscore_write_message(m->kind, m->code, m->message_id, token, m->token_len, options, m->option_count, payload,
                                            m->payload_len, out, room, out_len, detail);
     CHECK(status ? *out_len == 99999 && *detail != 99999 : *out_len <= room && *detail == 99999);
-    for (size_t i = status ? 0 : *out_len; i < room; i++) CHECK(out[i] == 0xee);
+    for (oscore_size i = status ? 0 : *out_len; i < room; i++) CHECK(out[i] == 0xee);
     *written = out;
     return status;
 }
 
 /* The message is these bytes, in as much room as they take and in more, and has no room in less. */
-static void is(const message *m, const uint8_t *wanted, size_t len) {
+static void is(const message *m, const uint8_t *wanted, oscore_size len) {
     const uint8_t *out;
     CHECK(!write_in(m, len, &out) && *out_len == len && !memcmp(out, wanted, len));
     CHECK(!write_in(m, len + 7, &out) && *out_len == len && !memcmp(out, wanted, len));
@@ -91,7 +91,7 @@ static void spells_numbers(void) {
         {270, "40010001e00001"}, {525, "40010001e00100"}, {65535, "40010001e0fef2"},
     };
     message m = {CON, 1, 1, {0}, 0, {OPTION(0, "")}, 1, NULL, 0};
-    for (size_t i = 0; i < sizeof ROWS / sizeof ROWS[0]; i++) {
+    for (oscore_size i = 0; i < sizeof ROWS / sizeof ROWS[0]; i++) {
         m.options[0].number = ROWS[i].number;
         is_text(&m, ROWS[i].wanted);
     }
@@ -103,15 +103,15 @@ static void spells_numbers(void) {
 
 /* So is the length of a value. A value of no bytes may have no place. */
 static void spells_lengths(void) {
-    static const struct { size_t len; const char *front; } ROWS[] = {
+    static const struct { oscore_size len; const char *front; } ROWS[] = {
         {0, "40010001b0"}, {1, "40010001b1"}, {12, "40010001bc"}, {13, "40010001bd00"}, {268, "40010001bdff"}, {269, "40010001be0000"},
         {270, "40010001be0001"}, {65528, "40010001befeeb"},
     };
     static uint8_t value[65528], wanted[65600];
     memset(value, 'v', sizeof value);
-    for (size_t i = 0; i < sizeof ROWS / sizeof ROWS[0]; i++) {
+    for (oscore_size i = 0; i < sizeof ROWS / sizeof ROWS[0]; i++) {
         message m = {CON, 1, 1, {0}, 0, {{11, value, ROWS[i].len}}, 1, NULL, 0};
-        size_t len = hex(ROWS[i].front, wanted);
+        oscore_size len = hex(ROWS[i].front, wanted);
         memset(wanted + len, 'v', ROWS[i].len);
         is(&m, wanted, len + ROWS[i].len);
     }
@@ -122,7 +122,7 @@ static void spells_lengths(void) {
     CHECK(oscore_write_message(CON, 1, 1, NULL, 0, NULL, 0, NULL, 0, NULL, 0, out_len, detail) == OSCORE_NO_ROOM);
 }
 
-static uint32_t refused(const message *m, size_t room) {
+static uint32_t refused(const message *m, oscore_size room) {
     const uint8_t *out;
     return write_in(m, room, &out);
 }
@@ -187,27 +187,27 @@ static unsigned half(unsigned n) {
     return n < 13 ? n : n < 269 ? 13 : 14;
 }
 
-static size_t put_behind(uint8_t *bytes, size_t len, unsigned n) {
+static oscore_size put_behind(uint8_t *bytes, oscore_size len, unsigned n) {
     if (half(n) == 13) bytes[len++] = (uint8_t)(n - 13);
     if (half(n) == 14) bytes[len++] = (uint8_t)((n - 269) >> 8), bytes[len++] = (uint8_t)(n - 269);
     return len;
 }
 
-static size_t encode(const message *m, uint8_t *bytes) {
-    size_t len = 4;
+static oscore_size encode(const message *m, uint8_t *bytes) {
+    oscore_size len = 4;
     unsigned last = 0;
     bytes[0] = (uint8_t)(1 << 6 | m->kind << 4 | (int)m->token_len), bytes[1] = m->code;
     bytes[2] = (uint8_t)(m->message_id >> 8), bytes[3] = (uint8_t)m->message_id;
-    for (size_t i = 0; i < m->token_len; i++) bytes[len++] = m->token[i];
-    for (size_t i = 0; i < m->option_count; i++) {
+    for (oscore_size i = 0; i < m->token_len; i++) bytes[len++] = m->token[i];
+    for (oscore_size i = 0; i < m->option_count; i++) {
         unsigned delta = m->options[i].number - last, value_len = (unsigned)m->options[i].value_len;
         bytes[len++] = (uint8_t)(half(delta) << 4 | half(value_len));
         len = put_behind(bytes, put_behind(bytes, len, delta), value_len);
-        for (size_t k = 0; k < value_len; k++) bytes[len++] = m->options[i].value[k];
+        for (oscore_size k = 0; k < value_len; k++) bytes[len++] = m->options[i].value[k];
         last = m->options[i].number;
     }
     if (m->payload_len > 0) bytes[len++] = 0xff;
-    for (size_t i = 0; i < m->payload_len; i++) bytes[len++] = m->payload[i];
+    for (oscore_size i = 0; i < m->payload_len; i++) bytes[len++] = m->payload[i];
     return len;
 }
 
@@ -219,20 +219,20 @@ static unsigned random_part(void) {
 
 static void writes_at_random(void) {
     static uint8_t noise[1024], wanted[16384];
-    for (size_t i = 0; i < sizeof noise; i++) noise[i] = (uint8_t)rand();
+    for (oscore_size i = 0; i < sizeof noise; i++) noise[i] = (uint8_t)rand();
     for (int i = 0; i < rounds; i++) {
-        message m = {(uint8_t)(rand() % 4), (uint8_t)(1 + rand() % 255), (uint16_t)rand(), {0}, (size_t)rand() % 9, {OPTION(0, "")}, 0,
+        message m = {(uint8_t)(rand() % 4), (uint8_t)(1 + rand() % 255), (uint16_t)rand(), {0}, (oscore_size)rand() % 9, {OPTION(0, "")}, 0,
                      noise + rand() % 256, random_part()};
         unsigned number = 0;
-        for (size_t k = 0; k < m.token_len; k++) m.token[k] = (uint8_t)rand();
-        for (size_t left = (size_t)rand() % (MOST_OPTIONS + 1); left > 0; left--) {
+        for (oscore_size k = 0; k < m.token_len; k++) m.token[k] = (uint8_t)rand();
+        for (oscore_size left = (oscore_size)rand() % (MOST_OPTIONS + 1); left > 0; left--) {
             number += random_part();
             m.options[m.option_count++] = (oscore_option){(uint16_t)number, noise + rand() % 256, random_part()};
         }
-        size_t len = encode(&m, wanted);
+        oscore_size len = encode(&m, wanted);
         const uint8_t *out;
-        CHECK(!write_in(&m, len + (size_t)rand() % 9, &out) && *out_len == len && !memcmp(out, wanted, len));
-        CHECK(write_in(&m, (size_t)rand() % len, &out) == OSCORE_NO_ROOM);
+        CHECK(!write_in(&m, len + (oscore_size)rand() % 9, &out) && *out_len == len && !memcmp(out, wanted, len));
+        CHECK(write_in(&m, (oscore_size)rand() % len, &out) == OSCORE_NO_ROOM);
         if (m.option_count < 2 || number == 0) continue;
         /* The last option in front of the first: the one that was first then comes late, or one before that doesn't ascend. */
         oscore_option last = m.options[m.option_count - 1];

@@ -4,7 +4,7 @@
 enum { MOST = 96 };
 
 static struct sealed kept[MOST];
-static size_t count, newest, newest_by_library[2];
+static oscore_size count, newest, newest_by_library[2];
 
 void keep(const struct sealed *sealed) {
     newest = count++ % MOST;
@@ -18,9 +18,9 @@ static bool is_as(struct sealed_as one, struct sealed_as other) {
 }
 
 const struct sealed *opens(struct sealed_as as, struct bytes ciphertext) {
-    for (size_t i = 0; i < MOST && i < count; i++) {
+    for (oscore_size i = 0; i < MOST && i < count; i++) {
         struct bytes datagram = bytes_of(&kept[i].datagram);
-        size_t len = kept[i].plaintext.len + TAG_LEN;
+        oscore_size len = kept[i].plaintext.len + TAG_LEN;
         if (is_as(kept[i].as, as) && is_same(behind(datagram, datagram.len - len), ciphertext)) return &kept[i];
     }
     return NULL;

@@ -11,11 +11,11 @@ void fails(const char *file, int line, const char *what) {
     exit(2);
 }
 
-struct bytes front_of(struct bytes bytes, size_t len) {
+struct bytes front_of(struct bytes bytes, oscore_size len) {
     return (struct bytes){bytes.at, len < bytes.len ? len : bytes.len};
 }
 
-struct bytes behind(struct bytes bytes, size_t len) {
+struct bytes behind(struct bytes bytes, oscore_size len) {
     return len < bytes.len ? (struct bytes){bytes.at + len, bytes.len - len} : (struct bytes){NULL, 0};
 }
 
@@ -57,11 +57,11 @@ bool one_in(uint64_t times) {
     return below(times) == 0;
 }
 
-void draw_bytes(uint8_t *at, size_t len) {
-    for (size_t i = 0; i < len; i++) at[i] = (uint8_t)draw();
+void draw_bytes(uint8_t *at, oscore_size len) {
+    for (oscore_size i = 0; i < len; i++) at[i] = (uint8_t)draw();
 }
 
-struct text draw_text(size_t limit) {
+struct text draw_text(oscore_size limit) {
     struct text text = {.len = below(limit)};
     draw_bytes(text.at, text.len);
     return text;

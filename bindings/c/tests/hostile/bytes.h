@@ -2,6 +2,7 @@
 #ifndef HOSTILE_BYTES_H
 #define HOSTILE_BYTES_H
 
+#include "oscore.h"
 #include <stdbool.h>
 #include <stddef.h>
 #include <stdint.h>
@@ -9,7 +10,7 @@
 /* Some bytes that lie elsewhere. */
 struct bytes {
     const uint8_t *at;
-    size_t len;
+    oscore_size len;
 };
 
 /* Bytes of one's own. What the test makes is never longer, but for what `delivered` makes long. */
@@ -17,7 +18,7 @@ enum { TEXT_ROOM = 256 };
 
 struct text {
     uint8_t at[TEXT_ROOM];
-    size_t len;
+    oscore_size len;
 };
 
 /* These bytes, as long as the block lasts that they stand in. */
@@ -28,8 +29,8 @@ struct text {
 _Noreturn void fails(const char *file, int line, const char *what);
 
 /* The first so many bytes, or all; and what lies behind these. */
-struct bytes front_of(struct bytes bytes, size_t len);
-struct bytes behind(struct bytes bytes, size_t len);
+struct bytes front_of(struct bytes bytes, oscore_size len);
+struct bytes behind(struct bytes bytes, oscore_size len);
 bool is_same(struct bytes one, struct bytes other);
 
 struct bytes bytes_of(const struct text *text);
@@ -42,8 +43,8 @@ void begin_chance(uint64_t seed);
 /* A number below a limit, which isn't 0. */
 uint64_t below(uint64_t limit);
 bool one_in(uint64_t times);
-void draw_bytes(uint8_t *at, size_t len);
+void draw_bytes(uint8_t *at, oscore_size len);
 /* Fewer than so many bytes. */
-struct text draw_text(size_t limit);
+struct text draw_text(oscore_size limit);
 
 #endif

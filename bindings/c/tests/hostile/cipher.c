@@ -69,15 +69,15 @@ void encrypt_block(const struct aes_key *key, uint8_t block[16]) {
 }
 
 /* Goes on with the CBC-MAC over some bytes, the first of them at a place of a block, and 0 behind the last (RFC 3610, 2.2). */
-static void add_to_mac(const struct aes_key *key, uint8_t mac[16], size_t place, struct bytes bytes) {
-    for (size_t i = 0; i < bytes.len; i++) {
+static void add_to_mac(const struct aes_key *key, uint8_t mac[16], oscore_size place, struct bytes bytes) {
+    for (oscore_size i = 0; i < bytes.len; i++) {
         mac[place++] ^= bytes.at[i];
         if (place == 16) encrypt_block(key, mac), place = 0;
     }
     if (place) encrypt_block(key, mac);
 }
 
-static void encrypt_counter(const struct aes_key *key, const uint8_t nonce[NONCE_LEN], size_t counter, uint8_t block[16]) {
+static void encrypt_counter(const struct aes_key *key, const uint8_t nonce[NONCE_LEN], oscore_size counter, uint8_t block[16]) {
     block[0] = 0x01; /* L - 1 */
     memcpy(block + 1, nonce, NONCE_LEN);
     block[14] = (uint8_t)(counter >> 8), block[15] = (uint8_t)counter;
@@ -95,7 +95,7 @@ struct text ccm_seal(const struct aes_key *key, const uint8_t nonce[NONCE_LEN], 
     mac[0] ^= (uint8_t)(additional.len >> 8), mac[1] ^= (uint8_t)additional.len;
     add_to_mac(key, mac, 2, additional);
     add_to_mac(key, mac, 0, plaintext);
-    for (size_t i = 0; i < plaintext.len; i++) {
+    for (oscore_size i = 0; i < plaintext.len; i++) {
         if (i % 16 == 0) encrypt_counter(key, nonce, i / 16 + 1, stream);
         add_byte(&sealed, plaintext.at[i] ^ stream[i % 16]);
     }

@@ -3,8 +3,8 @@
 
 /* Ends the requests under a token, or, where there is none, those that are older than their life; of those that were notified none is. */
 static void end_pending(struct client_judge *judge, const struct bytes *token) {
-    size_t left = 0;
-    for (size_t i = 0; i < judge->count; i++) {
+    oscore_size left = 0;
+    for (oscore_size i = 0; i < judge->count; i++) {
         const struct pending *pending = &judge->pending[i];
         bool ends = token ? is_same(bytes_of(&pending->token), *token) : !pending->from && judge->clock - pending->moment > REQUEST_LIFE_MS;
         if (!ends) judge->pending[left++] = *pending;
@@ -18,7 +18,7 @@ static void advance(struct client_judge *judge, uint64_t now) {
 }
 
 static struct pending *under(struct client_judge *judge, struct bytes token) {
-    for (size_t i = 0; i < judge->count; i++)
+    for (oscore_size i = 0; i < judge->count; i++)
         if (is_same(bytes_of(&judge->pending[i].token), token)) return &judge->pending[i];
     return NULL;
 }

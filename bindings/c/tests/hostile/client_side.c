@@ -18,13 +18,13 @@ static uint64_t next_own;
 static void make_rooms(struct client_end *end, int place) {
     const struct {
         struct room *room;
-        size_t most;
+        oscore_size most;
     } rooms[] = {
         {&end->handle, sizeof(oscore_client)}, {&end->context, sizeof(oscore_context)}, {&end->datagram, 65600},
         {&end->options, OPTIONS_ROOM * sizeof(oscore_option)}, {&end->opened, sizeof(oscore_opened)}, {&end->request, sizeof(uint64_t)},
-        {&end->plain, TEXT_ROOM}, {&end->token, 8}, {&end->out, OUT_ROOM}, {&end->out_len, sizeof(size_t)}, {&end->detail, sizeof(size_t)},
+        {&end->plain, TEXT_ROOM}, {&end->token, 8}, {&end->out, OUT_ROOM}, {&end->out_len, sizeof(oscore_size)}, {&end->detail, sizeof(oscore_size)},
     };
-    for (size_t i = 0; i < sizeof rooms / sizeof *rooms; i++) make_end_room(rooms[i].room, place, rooms[i].most);
+    for (oscore_size i = 0; i < sizeof rooms / sizeof *rooms; i++) make_end_room(rooms[i].room, place, rooms[i].most);
 }
 
 void begin_clients(void) {
@@ -42,7 +42,7 @@ void begin_clients(void) {
 static struct text draw_token(void) {
     struct text token = {.len = 0};
     uint8_t which = (uint8_t)below(13);
-    for (size_t len = which == 0 ? 0 : which < 10 ? 1 : 8; token.len < len;) add_byte(&token, which);
+    for (oscore_size len = which == 0 ? 0 : which < 10 ? 1 : 8; token.len < len;) add_byte(&token, which);
     return token;
 }
 
@@ -62,7 +62,7 @@ static struct pending draw_target(void) {
 /* What a client shows of itself: its clock, its next number, and what is pending, oldest first. */
 static bool is_state(const oscore_client *client) {
     if (client->clock != judge.clock || client->next != judge.next || client->count != judge.count) return false;
-    for (size_t i = 0; i < judge.count; i++) {
+    for (oscore_size i = 0; i < judge.count; i++) {
         const oscore_pending *pending = &client->pending[i];
         const struct pending *wanted = &judge.pending[i];
         if (pending->number != wanted->number || pending->moment != wanted->moment) return false;
@@ -79,7 +79,7 @@ static struct came take(struct client_end *end, uint64_t now, struct bytes hande
     oscore_option *options = lay_zeros(&end->options, OPTIONS_ROOM * sizeof *options);
     oscore_opened *opened = lay_zeros(&end->opened, sizeof *opened);
     uint64_t *request = lay_zeros(&end->request, sizeof *request);
-    size_t *detail = lay(&end->detail, sizeof *detail);
+    oscore_size *detail = lay(&end->detail, sizeof *detail);
     uint32_t status = oscore_client_take(end->client, now, datagram, handed.len, options, OPTIONS_ROOM, opened, request, detail);
     struct bytes left = {datagram, handed.len};
     const char *differs = status != judged->status ? "answer"
@@ -96,7 +96,7 @@ static struct came request(struct client_end *end, const struct asked *asked, co
     const struct room *const rooms[] = {&end->handle, &end->plain, &end->out_len, &end->detail, NULL};
     const uint8_t *plain = lay_bytes(&end->plain, asked->plain);
     uint8_t *out = lay(&end->out, asked->room);
-    size_t *out_len = lay_zeros(&end->out_len, sizeof *out_len), *detail = lay(&end->detail, sizeof *detail);
+    oscore_size *out_len = lay_zeros(&end->out_len, sizeof *out_len), *detail = lay(&end->detail, sizeof *detail);
     uint32_t status = oscore_client_request(end->client, asked->now, plain, asked->plain.len, out, asked->room, out_len, detail);
     struct bytes written = {out, *out_len <= asked->room ? *out_len : asked->room};
     const char *differs = status != judged->status ? "answer"

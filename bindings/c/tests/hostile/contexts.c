@@ -26,7 +26,7 @@ static const uint8_t PRINTED[CONTEXTS][45] = {
      0x2c, 0xa5, 0x8f, 0xb8, 0x5f, 0xf1, 0xb8, 0x1c, 0x0b, 0x71, 0x81, 0xb8, 0x5e},
 };
 
-void derive(size_t place, bool of_server, bool tables, oscore_context *context) {
+void derive(oscore_size place, bool of_server, bool tables, oscore_context *context) {
     const struct agreed *agreed = &AGREED[place];
     struct bytes client = agreed->client, server = {SERVER, 1}, own = of_server ? server : client, other = of_server ? client : server;
     memset(context, 0, sizeof *context);

@@ -8,14 +8,14 @@
 /* How many bytes past the open edge are looked at. */
 enum { MARGIN = 64 };
 
-void make_room(struct room *room, size_t most, bool at_end, uint8_t fill) {
-    size_t page = (size_t)sysconf(_SC_PAGESIZE), size = (most + MARGIN + page - 1) / page * page;
+void make_room(struct room *room, oscore_size most, bool at_end, uint8_t fill) {
+    oscore_size page = (oscore_size)sysconf(_SC_PAGESIZE), size = (most + MARGIN + page - 1) / page * page;
     uint8_t *pages = mmap(NULL, size + 2 * page, PROT_NONE, MAP_PRIVATE | MAP_ANONYMOUS, -1, 0);
     NEEDS(pages != MAP_FAILED && !mprotect(pages + page, size, PROT_READ | PROT_WRITE));
     *room = (struct room){.pages = pages + page, .size = size, .at_end = at_end, .fill = fill};
 }
 
-void *lay(struct room *room, size_t len) {
+void *lay(struct room *room, oscore_size len) {
     NEEDS(len + MARGIN <= room->size);
     room->at = room->at_end ? room->pages + room->size - len : room->pages;
     room->len = len;
@@ -29,15 +29,15 @@ void *lay_bytes(struct room *room, struct bytes bytes) {
     return room->at;
 }
 
-void *lay_zeros(struct room *room, size_t len) {
+void *lay_zeros(struct room *room, oscore_size len) {
     return memset(lay(room, len), 0, len);
 }
 
-bool is_clean(const struct room *room, size_t written) {
-    for (size_t i = written; i < room->len; i++)
+bool is_clean(const struct room *room, oscore_size written) {
+    for (oscore_size i = written; i < room->len; i++)
         if (room->at[i] != room->fill) return false;
     const uint8_t *margin = room->at_end ? room->at - MARGIN : room->at + room->len;
-    for (size_t i = 0; i < MARGIN; i++)
+    for (oscore_size i = 0; i < MARGIN; i++)
         if (margin[i] != room->fill) return false;
     return true;
 }

@@ -7,21 +7,21 @@
 
 struct room {
     uint8_t *pages;
-    size_t size;
+    oscore_size size;
     bool at_end;
     uint8_t fill;
     uint8_t *at;
-    size_t len;
+    oscore_size len;
 };
 
 /* Room for at most so many bytes. What isn't written is seen by the fill. */
-void make_room(struct room *room, size_t most, bool at_end, uint8_t fill);
+void make_room(struct room *room, oscore_size most, bool at_end, uint8_t fill);
 /* Room for exactly so many bytes, filled. */
-void *lay(struct room *room, size_t len);
+void *lay(struct room *room, oscore_size len);
 void *lay_bytes(struct room *room, struct bytes bytes);
 /* Room for exactly so many bytes, all 0. */
-void *lay_zeros(struct room *room, size_t len);
+void *lay_zeros(struct room *room, oscore_size len);
 /* Whether the bytes behind the first so many, and those past the open edge, are as they were filled. */
-bool is_clean(const struct room *room, size_t written);
+bool is_clean(const struct room *room, oscore_size written);
 
 #endif

@@ -15,7 +15,7 @@ enum { MOST_PENDING = 8 };
 /* What a call has to answer and to leave. */
 struct judged {
     uint32_t status;
-    size_t detail;
+    oscore_size detail;
     struct seen seen;            /* the datagram that was handed in, where it is one */
     const struct sealed *opened; /* what it opened to, or NULL */
     uint64_t request;            /* the number of the request that is delivered, or answered */
@@ -29,7 +29,7 @@ struct judged {
 /* Distinct numbers, none of which lies far below another. */
 struct numbers {
     uint64_t at[65];
-    size_t count;
+    oscore_size count;
 };
 
 struct challenge {
@@ -82,7 +82,7 @@ struct answer {
     bool own;
     uint16_t message_id;
     struct bytes plain;
-    size_t room;
+    oscore_size room;
 };
 
 void judge_reply(struct server_judge *judge, const struct answer *answer, struct judged *judged);
@@ -102,14 +102,14 @@ struct pending {
 struct client_judge {
     uint64_t clock, next;
     struct pending pending[MOST_PENDING];
-    size_t count;
+    oscore_size count;
 };
 
 /* A request that is asked for, and the room for it. */
 struct asked {
     uint64_t now;
     struct bytes plain;
-    size_t room;
+    oscore_size room;
 };
 
 void judge_request(struct client_judge *judge, const struct asked *asked, struct judged *judged);

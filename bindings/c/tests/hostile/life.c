@@ -6,15 +6,15 @@
 enum { ANSWERED_WITHIN = 64 };
 
 static bool has(const struct numbers *numbers, uint64_t number) {
-    for (size_t i = 0; i < numbers->count; i++)
+    for (oscore_size i = 0; i < numbers->count; i++)
         if (numbers->at[i] == number) return true;
     return false;
 }
 
 /* Drops the numbers that lie so far below a new one, and adds that. */
 static void add_number(struct numbers *numbers, uint64_t number, uint64_t reach) {
-    size_t left = 0;
-    for (size_t i = 0; i < numbers->count; i++)
+    oscore_size left = 0;
+    for (oscore_size i = 0; i < numbers->count; i++)
         if (numbers->at[i] + reach > number) numbers->at[left++] = numbers->at[i];
     NEEDS(left < sizeof numbers->at / sizeof *numbers->at);
     numbers->at[left] = number;
@@ -31,7 +31,7 @@ void restart_life(struct life *life, uint64_t next) {
 
 uint64_t highest_of(const struct life *life) {
     uint64_t highest = 0;
-    for (size_t i = 0; i < life->spent.count; i++)
+    for (oscore_size i = 0; i < life->spent.count; i++)
         if (life->spent.at[i] > highest) highest = life->spent.at[i];
     return highest;
 }
@@ -80,6 +80,6 @@ bool is_waiting(const struct life *life, uint64_t number) {
 
 void answered_in(struct life *life, uint64_t number) {
     struct numbers *waiting = &life->waiting;
-    for (size_t i = 0; i < waiting->count; i++)
+    for (oscore_size i = 0; i < waiting->count; i++)
         if (waiting->at[i] == number) waiting->at[i] = waiting->at[--waiting->count];
 }

@@ -12,7 +12,7 @@ struct plain {
     struct text token, observe, further_observe, payload;
     bool has_host, has_observe, has_further_observe, has_block, has_proxy;
     struct bytes echoes[2];
-    size_t echo_count;
+    oscore_size echo_count;
 };
 
 struct plain draw_plain(uint8_t kind, uint8_t code, struct bytes token);
@@ -24,7 +24,7 @@ void seal_by_chance(struct sealed_as as, const struct plain *plain, uint8_t othe
 
 /* The client of one of the server's contexts: its next number, and the last two Echo values of the server. */
 struct requester {
-    size_t context;
+    oscore_size context;
     uint64_t next;
     uint8_t last[8], older[8];
 };

@@ -30,7 +30,7 @@ struct text spell_plain(const struct plain *plain) {
     spell_option(&spelling, URI_PATH, (struct bytes){(const uint8_t *)"tv1", 3});
     if (plain->has_block) spell_option(&spelling, BLOCK1, BYTES(0x06));
     if (plain->has_proxy) spell_option(&spelling, PROXY_SCHEME, (struct bytes){(const uint8_t *)"coap", 4});
-    for (size_t i = 0; i < plain->echo_count; i++) spell_option(&spelling, ECHO, plain->echoes[i]);
+    for (oscore_size i = 0; i < plain->echo_count; i++) spell_option(&spelling, ECHO, plain->echoes[i]);
     return spell_end(&spelling, bytes_of(&plain->payload));
 }
 
@@ -63,7 +63,7 @@ void seal_by_chance(struct sealed_as as, const struct plain *plain, uint8_t othe
 }
 
 void learn(struct requester *requester, const struct life *life) {
-    size_t len = sizeof requester->last;
+    oscore_size len = sizeof requester->last;
     if (!life->is_challenged || !memcmp(requester->last, life->challenge.echo, len)) return;
     memcpy(requester->older, requester->last, len);
     memcpy(requester->last, life->challenge.echo, len);

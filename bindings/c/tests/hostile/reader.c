@@ -23,7 +23,7 @@ bool is_response(struct head head) {
 
 /* A delta or a length by its nibble, and by the bytes at the front of the rest where it is 13 or 14 (RFC 7252, 3.1). */
 static bool read_amount(uint8_t nibble, struct bytes *rest, uint32_t *amount) {
-    size_t more = nibble < 13 ? 0 : nibble - 12u;
+    oscore_size more = nibble < 13 ? 0 : nibble - 12u;
     if (more > rest->len) return false;
     *amount = more == 0 ? nibble : more == 1 ? 13u + rest->at[0] : 269u + (rest->at[0] * 256u + rest->at[1]);
     *rest = behind(*rest, more);
@@ -50,8 +50,8 @@ bool next_of(struct option *option) {
     return option->rest.len && read_option(option) == OSCORE_DONE;
 }
 
-size_t count_of(const struct body *body, uint32_t number) {
-    size_t count = 0;
+oscore_size count_of(const struct body *body, uint32_t number) {
+    oscore_size count = 0;
     for (struct option option = begun(body); next_of(&option);) count += option.number == number;
     return count;
 }
@@ -67,7 +67,7 @@ bool first_of(const struct body *body, uint32_t number, struct bytes *value) {
 
 bool is_outer(uint32_t number) {
     static const uint32_t numbers[] = {URI_HOST, URI_PORT, OSCORE, PROXY_URI, PROXY_SCHEME};
-    for (size_t i = 0; i < sizeof numbers / sizeof *numbers; i++)
+    for (oscore_size i = 0; i < sizeof numbers / sizeof *numbers; i++)
         if (numbers[i] == number) return true;
     return false;
 }
@@ -85,7 +85,7 @@ bool has_observe(const struct body *body) {
 bool is_registration(uint8_t code, const struct body *body) {
     struct bytes value;
     if ((code != 1 && code != 5) || !observe_of(body, &value)) return false;
-    for (size_t i = 0; i < value.len; i++)
+    for (oscore_size i = 0; i < value.len; i++)
         if (value.at[i]) return false;
     return true;
 }
@@ -112,7 +112,7 @@ uint32_t unsupported_of(const struct body *body, struct allowed allowed) {
 }
 
 /* Options and payload, or the first fault and its place. */
-static uint32_t read_body(struct bytes bytes, struct body *body, size_t *place) {
+static uint32_t read_body(struct bytes bytes, struct body *body, oscore_size *place) {
     struct option option = {0, {NULL, 0}, bytes};
     while (option.rest.len && option.rest.at[0] != 0xff) {
         *place = bytes.len - option.rest.len;
@@ -125,12 +125,12 @@ static uint32_t read_body(struct bytes bytes, struct body *body, size_t *place) 
     return OSCORE_DONE;
 }
 
-uint32_t read_datagram(struct bytes datagram, struct seen *seen, size_t *place) {
+uint32_t read_datagram(struct bytes datagram, struct seen *seen, oscore_size *place) {
     *place = datagram.len > MOST_DATAGRAM ? MOST_DATAGRAM : 0;
     if (datagram.len > MOST_DATAGRAM) return OSCORE_DATAGRAM_TOO_LONG;
     if (datagram.len < 4) return OSCORE_SHORT;
     uint8_t first = datagram.at[0], code = datagram.at[1];
-    size_t token_len = first & 15, in_body;
+    oscore_size token_len = first & 15, in_body;
     if (first >> 6 != 1) return OSCORE_VERSION;
     if (token_len > 8) return OSCORE_TOKEN_LENGTH;
     /* An empty message has nothing behind its message ID (RFC 7252, 4.1). */
@@ -145,7 +145,7 @@ uint32_t read_datagram(struct bytes datagram, struct seen *seen, size_t *place) 
 }
 
 bool read_inner(struct bytes plaintext, struct allowed allowed, uint8_t *code, struct body *body) {
-    size_t place;
+    oscore_size place;
     if (!plaintext.len || read_body(behind(plaintext, 1), body, &place)) return false;
     *code = plaintext.at[0];
     for (struct option option = begun(body); next_of(&option);)
@@ -154,7 +154,7 @@ bool read_inner(struct bytes plaintext, struct allowed allowed, uint8_t *code, s
 }
 
 /* Cuts so many bytes from the front of the rest. */
-static bool cut(struct bytes *rest, size_t len, struct bytes *front) {
+static bool cut(struct bytes *rest, oscore_size len, struct bytes *front) {
     if (len > rest->len) return false;
     *front = front_of(*rest, len), *rest = behind(*rest, len);
     return true;
@@ -171,7 +171,7 @@ bool read_value(struct bytes bytes, struct value *value) {
     if (bytes.len > 255 || flag == 0 || flag > 31 || (flag & 7) > 5 || !cut(&rest, flag & 7, &piv)) return false;
     if (piv.len > 1 && piv.at[0] == 0) return false;
     value->has_number = piv.len > 0, value->has_kid_context = flag & 16, value->has_kid = flag & 8;
-    for (size_t i = 0; i < piv.len; i++) value->number = value->number << 8 | piv.at[i];
+    for (oscore_size i = 0; i < piv.len; i++) value->number = value->number << 8 | piv.at[i];
     if (value->has_kid_context && (!cut(&rest, 1, &len) || !cut(&rest, len.at[0], &value->kid_context))) return false;
     if (value->has_kid) value->kid = rest;
     return value->has_kid || !rest.len;

@@ -55,7 +55,7 @@ bool is_request_code(uint8_t code);
 bool is_response_code(uint8_t code);
 
 /* 0, or the first fault of what is no datagram, and its place. */
-uint32_t read_datagram(struct bytes datagram, struct seen *seen, size_t *place);
+uint32_t read_datagram(struct bytes datagram, struct seen *seen, oscore_size *place);
 /* Whether the bytes are a code, options that may stand inside, and a payload. */
 bool read_inner(struct bytes plaintext, struct allowed allowed, uint8_t *code, struct body *body);
 bool read_value(struct bytes bytes, struct value *value);
@@ -65,7 +65,7 @@ bool usable_value(const struct body *body, struct value *value);
 /* The options of a body, one by one: the first call is given `begun`. False behind the last. */
 struct option begun(const struct body *body);
 bool next_of(struct option *option);
-size_t count_of(const struct body *body, uint32_t number);
+oscore_size count_of(const struct body *body, uint32_t number);
 /* The first option of a number, where there is one. */
 bool first_of(const struct body *body, uint32_t number, struct bytes *value);
 /* Whether options of this number stand outside the protection (RFC 8613, 4.1.2). */

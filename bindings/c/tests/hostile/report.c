@@ -47,8 +47,8 @@ static const char *name_of(uint32_t status) {
 }
 
 static void print_bytes(const char *what, struct bytes bytes) {
-    printf("  %s, %zu bytes: ", what, bytes.len);
-    for (size_t i = 0; i < bytes.len && i < MOST_BYTES; i++) printf("%02x", bytes.at[i]);
+    printf("  %s, %llu bytes: ", what, (unsigned long long)bytes.len);
+    for (oscore_size i = 0; i < bytes.len && i < MOST_BYTES; i++) printf("%02x", bytes.at[i]);
     puts(bytes.len > MOST_BYTES ? ".." : "");
 }
 

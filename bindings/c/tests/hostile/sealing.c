@@ -93,7 +93,7 @@ void seal_other(struct sealed_as as, struct head head, struct bytes plain, struc
     struct text ciphertext = encrypt(as, plaintext), value = oscore_value(as);
     struct spelling spelling = spell_datagram(head);
     struct seen seen;
-    size_t place;
+    oscore_size place;
     NEEDS(!read_datagram(plain, &seen, &place));
     /* Observe stands outside too, where it is allowed (RFC 8613, 4.1.3.5). */
     bool sought = allowed_as(as).observe;
@@ -108,7 +108,7 @@ void seal_other(struct sealed_as as, struct head head, struct bytes plain, struc
 
 void seal_plain(struct sealed_as as, struct head head, struct bytes plain, struct sealed *sealed) {
     struct seen seen;
-    size_t place;
+    oscore_size place;
     NEEDS(!read_datagram(plain, &seen, &place));
     struct text plaintext = plaintext_of(as, &seen);
     seal_other(as, head, plain, bytes_of(&plaintext), sealed);
@@ -132,7 +132,7 @@ static void needs_messages(void) {
                                            {(const uint8_t *)"\x64\x45\x5d\x1f\0\0\x39\x74\xffHello World!", 21}};
     static const struct {
         struct sealed_as as;
-        size_t len;
+        oscore_size len;
         const char *oscore; /* from the OSCORE option on */
     } printed[] = {
         {{false, false, 0, 20, 0, false}, 17, "\x62\x09\x14\xff\x61\x2f\x10\x92\xf1\x77\x6f\x1c\x16\x68\xb3\x82\x5e"},
@@ -143,7 +143,7 @@ static void needs_messages(void) {
         {{true, true, 0, 20, 0, false}, 26,
          "\x92\x01\x00\xff\x4d\x4c\x13\x66\x93\x84\xb6\x73\x54\xb2\xb6\x17\x5f\xf4\xb8\x65\x8c\x66\x6a\x6c\xf8\x8e"},
     };
-    for (size_t i = 0; i < sizeof printed / sizeof *printed; i++) {
+    for (oscore_size i = 0; i < sizeof printed / sizeof *printed; i++) {
         struct sealed_as as = printed[i].as;
         struct bytes plain = plains[as.is_response], wanted = {(const uint8_t *)printed[i].oscore, printed[i].len};
         struct head head = {as.is_response ? ACK : CON, as.is_response ? OUTER_RESPONSE : OUTER_REQUEST, 0x5d1f, {plain.at + 4, 4}};
@@ -156,7 +156,7 @@ static void needs_messages(void) {
 
 void begin_sealing(void) {
     needs_cipher();
-    for (size_t i = 0; i < CONTEXTS; i++) {
+    for (oscore_size i = 0; i < CONTEXTS; i++) {
         for (int is_server = 0; is_server < 2; is_server++) {
             derive(i, is_server, false, &ends[i][is_server].context);
             expand_key(&ends[i][is_server].key, ends[i][is_server].context.sender_key);

@@ -18,14 +18,14 @@ struct agreed {
 
 /* C.1 to C.3, in the server's order. The client has the first. C.1 and C.3 share all but the ID Context. */
 extern const struct agreed AGREED[CONTEXTS];
-void derive(size_t place, bool of_server, bool tables, oscore_context *context);
+void derive(oscore_size place, bool of_server, bool tables, oscore_context *context);
 
 /* What a plaintext was sealed as: a request of the client of a context, by its place, under the number `request`; or the response to the
    request of that number, with a Partial IV of its own or without. A response to a registration may be a notification (RFC 8613,
    4.1.3.5.2). */
 struct sealed_as {
     bool is_response, has_own;
-    size_t context;
+    oscore_size context;
     uint64_t request, own;
     bool to_registration;
 };

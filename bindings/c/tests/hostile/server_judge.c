@@ -21,7 +21,7 @@ static void write_error(const struct handed *handed, struct judged *judged) {
         {OSCORE_TAG, 0x80, "Decryption failed"},
     };
     struct head asked = judged->seen.head;
-    for (size_t i = 0; i < sizeof errors / sizeof *errors; i++) {
+    for (oscore_size i = 0; i < sizeof errors / sizeof *errors; i++) {
         if (errors[i].status != judged->status) continue;
         struct spelling reply = spell_datagram(reply_head(errors[i].code, asked.kind, asked.message_id, handed->message_id, asked.token));
         spell_option(&reply, MAX_AGE, (struct bytes){NULL, 0});
@@ -42,8 +42,8 @@ static void write_challenge(const struct life *life, const struct handed *handed
 }
 
 /* The place of the context that a request names, by its kid and its kid context alike (RFC 8613, 8.2). */
-static size_t named(const struct value *value) {
-    for (size_t i = 0; i < CONTEXTS; i++) {
+static oscore_size named(const struct value *value) {
+    for (oscore_size i = 0; i < CONTEXTS; i++) {
         struct bytes id_context = AGREED[i].id_context;
         bool is_its = value->has_kid_context == (id_context.len > 0) && is_same(value->kid_context, id_context);
         if (is_its && is_same(value->kid, AGREED[i].client)) return i;
@@ -60,7 +60,7 @@ static uint32_t open_request(const struct server_judge *judge, const struct hand
     if (!count_of(&judged->seen.body, OSCORE)) return OSCORE_NO_OSCORE;
     /* A request has a Partial IV and a kid (RFC 8613, 5). */
     if (!usable_value(&judged->seen.body, &value) || !value.has_number || !value.has_kid) return OSCORE_UNDECODABLE;
-    size_t context = named(&value);
+    oscore_size context = named(&value);
     if (context == CONTEXTS) return OSCORE_NO_CONTEXT;
     if (is_replay(&judge->lives[context], value.number)) return OSCORE_REPLAY;
     struct sealed_as as = {.context = context, .request = value.number};

@@ -17,7 +17,7 @@ static struct requester requesters[CONTEXTS];
 static uint64_t last_moment;
 /* The last tickets that were given, and those that observe. */
 static oscore_ticket tickets[TICKETS], observing[TICKETS];
-static size_t ticket_count, observing_count;
+static oscore_size ticket_count, observing_count;
 
 struct requester *requester_of_clients(void) {
     return &requesters[0];
@@ -26,14 +26,14 @@ struct requester *requester_of_clients(void) {
 static void make_rooms(struct server_end *end, int place) {
     const struct {
         struct room *room;
-        size_t most;
+        oscore_size most;
     } rooms[] = {
-        {&end->handle, sizeof(oscore_server)}, {&end->context, sizeof(oscore_context)}, {&end->index, sizeof(size_t)},
+        {&end->handle, sizeof(oscore_server)}, {&end->context, sizeof(oscore_context)}, {&end->index, sizeof(oscore_size)},
         {&end->echo, 8}, {&end->datagram, 65600}, {&end->options, OPTIONS_ROOM * sizeof(oscore_option)},
         {&end->opened, sizeof(oscore_opened)}, {&end->ticket, sizeof(oscore_ticket)}, {&end->plain, TEXT_ROOM},
-        {&end->out, OUT_ROOM}, {&end->out_len, sizeof(size_t)}, {&end->detail, sizeof(size_t)},
+        {&end->out, OUT_ROOM}, {&end->out_len, sizeof(oscore_size)}, {&end->detail, sizeof(oscore_size)},
     };
-    for (size_t i = 0; i < sizeof rooms / sizeof *rooms; i++) make_end_room(rooms[i].room, place, rooms[i].most);
+    for (oscore_size i = 0; i < sizeof rooms / sizeof *rooms; i++) make_end_room(rooms[i].room, place, rooms[i].most);
 }
 
 /* A server of three contexts that have never received a request. */
@@ -41,11 +41,11 @@ static void begin(struct server_end *end, int place) {
     make_rooms(end, place);
     end->server = lay_zeros(&end->handle, sizeof *end->server);
     oscore_server_begin(end->server);
-    for (size_t i = 0; i < CONTEXTS; i++) {
+    for (oscore_size i = 0; i < CONTEXTS; i++) {
         oscore_context context;
         derive(i, true, place == 0, &context);
         lay_bytes(&end->context, (struct bytes){(const uint8_t *)&context, sizeof context});
-        size_t *index = lay_zeros(&end->index, sizeof *index);
+        oscore_size *index = lay_zeros(&end->index, sizeof *index);
         uint32_t status = oscore_server_add(end->server, (const oscore_context *)end->context.at, false, 0, AGREED[i].window_places, index);
         NEEDS(status == OSCORE_DONE && *index == i);
     }
@@ -53,7 +53,7 @@ static void begin(struct server_end *end, int place) {
 
 void begin_servers(void) {
     for (int i = 0; i < ENDS; i++) begin(&ends[i], i);
-    for (size_t i = 0; i < CONTEXTS; i++) {
+    for (oscore_size i = 0; i < CONTEXTS; i++) {
         judge.lives[i] = fresh_life(&AGREED[i]);
         requesters[i].context = i;
     }
@@ -62,7 +62,7 @@ void begin_servers(void) {
 /* What a server shows of itself: its clock, and of each context the next Sender Sequence Number, the life, and what opens and closes it. */
 static bool is_state(const oscore_server *server) {
     if (server->clock != judge.clock || server->count != CONTEXTS) return false;
-    for (size_t i = 0; i < CONTEXTS; i++) {
+    for (oscore_size i = 0; i < CONTEXTS; i++) {
         const oscore_server_context *context = &server->contexts[i];
         const struct life *life = &judge.lives[i];
         uint8_t gate = life->is_open ? (life->spent.count ? 3 : 2) : life->is_challenged ? 1 : 0;
@@ -76,7 +76,7 @@ static bool is_state(const oscore_server *server) {
 static bool is_ticket(const oscore_ticket *ticket, const struct judged *judged) {
     if (judged->status) return is_zero(ticket, sizeof *ticket);
     struct head head = judged->seen.head;
-    size_t context = judged->opened->as.context;
+    oscore_size context = judged->opened->as.context;
     return ticket->context == context && ticket->life == judge.lives[context].restarts && ticket->number == judged->request
         && ticket->kind == head.kind && ticket->message_id == head.message_id
         && ticket->observes == judged->registers && is_same((struct bytes){ticket->token, ticket->token_len}, head.token);
@@ -91,7 +91,7 @@ static struct came take(struct server_end *end, const struct handed *handed, con
     oscore_option *options = lay_zeros(&end->options, OPTIONS_ROOM * sizeof *options);
     oscore_opened *opened = lay_zeros(&end->opened, sizeof *opened);
     oscore_ticket *ticket = lay_zeros(&end->ticket, sizeof *ticket);
-    size_t *out_len = lay(&end->out_len, sizeof *out_len), *detail = lay(&end->detail, sizeof *detail);
+    oscore_size *out_len = lay(&end->out_len, sizeof *out_len), *detail = lay(&end->detail, sizeof *detail);
     uint32_t status = oscore_server_take(end->server, handed->now, echo, handed->message_id, datagram, handed->datagram.len, options,
                                          OPTIONS_ROOM, opened, ticket, out, out_len, detail);
     struct bytes left = {datagram, handed->datagram.len}, written = {out, *out_len <= REPLY_ROOM ? *out_len : REPLY_ROOM};
@@ -111,7 +111,7 @@ static struct came reply(struct server_end *end, enum call call, const struct an
     const oscore_ticket *ticket = lay_bytes(&end->ticket, (struct bytes){(const uint8_t *)&answer->ticket, sizeof *ticket});
     const uint8_t *plain = lay_bytes(&end->plain, answer->plain);
     uint8_t *out = lay(&end->out, answer->room);
-    size_t *out_len = lay_zeros(&end->out_len, sizeof *out_len), *detail = lay(&end->detail, sizeof *detail);
+    oscore_size *out_len = lay_zeros(&end->out_len, sizeof *out_len), *detail = lay(&end->detail, sizeof *detail);
     uint32_t status = call == REPLY ? oscore_server_reply(end->server, ticket, answer->own, answer->message_id, plain, answer->plain.len, out,
                                                           answer->room, out_len, detail)
         : oscore_server_notify(end->server, ticket, plain, answer->plain.len, out, answer->room, out_len, detail);
@@ -126,7 +126,7 @@ static struct came reply(struct server_end *end, enum call call, const struct an
 }
 
 /* Restarts a context: all its tickets are stale from then on. */
-static void restart(size_t context) {
+static void restart(oscore_size context) {
     uint64_t next = next_number(4);
     struct came came[ENDS];
     struct judged judged = {.status = OSCORE_DONE};
@@ -140,8 +140,8 @@ static void restart(size_t context) {
 }
 
 /* The place of a ticket whose request is about to lie too far back, or just does; of the last where there is none. */
-static size_t edge_ticket(void) {
-    for (size_t i = 0; i < TICKETS && i < ticket_count; i++) {
+static oscore_size edge_ticket(void) {
+    for (oscore_size i = 0; i < TICKETS && i < ticket_count; i++) {
         const struct life *life = &judge.lives[tickets[i].context];
         uint64_t far = highest_of(life) - tickets[i].number;
         if (life->restarts == tickets[i].life && (far == 63 || far == 64)) return i;
@@ -151,7 +151,7 @@ static size_t edge_ticket(void) {
 
 /* A ticket, mostly the last, now and then altered. */
 static oscore_ticket draw_ticket(void) {
-    size_t older = below(ticket_count < TICKETS ? ticket_count : TICKETS), which = below(4);
+    oscore_size older = below(ticket_count < TICKETS ? ticket_count : TICKETS), which = below(4);
     oscore_ticket ticket = tickets[which == 0 ? older : which == 1 ? edge_ticket() : (ticket_count - 1) % TICKETS];
     switch (below(40)) {
     case 0: ticket.number++; break;
@@ -168,10 +168,10 @@ static oscore_ticket draw_ticket(void) {
 
 /* Mostly a ticket that observes in a life that goes on, where there is one; half of the time the last. */
 static oscore_ticket draw_observing(void) {
-    size_t among = observing_count < TICKETS ? observing_count : TICKETS, any = below(TICKETS);
-    size_t first = one_in(2) ? observing_count + TICKETS - 1 : any;
+    oscore_size among = observing_count < TICKETS ? observing_count : TICKETS, any = below(TICKETS);
+    oscore_size first = one_in(2) ? observing_count + TICKETS - 1 : any;
     bool is_any = one_in(6);
-    for (size_t i = 0; !is_any && i < among; i++) {
+    for (oscore_size i = 0; !is_any && i < among; i++) {
         const oscore_ticket *ticket = &observing[(first + among - i) % among];
         if (judge.lives[ticket->context].restarts == ticket->life) return *ticket;
     }
@@ -207,7 +207,7 @@ static void ask_for(enum call call) {
 
 /* Makes a datagram, hands it to each, and compares what came of it; now and then asks for answers and notifications. */
 void step_servers(void) {
-    size_t context = below(CONTEXTS);
+    oscore_size context = below(CONTEXTS);
     struct life *life = &judge.lives[context];
     struct sealed sealed;
     struct judged judged;

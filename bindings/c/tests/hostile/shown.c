@@ -4,14 +4,14 @@
 
 const char *const END_NAMES[ENDS] = {"by tables", "in constant time"};
 
-void make_end_room(struct room *room, int end, size_t most) {
+void make_end_room(struct room *room, int end, oscore_size most) {
     static const uint8_t fills[ENDS] = {0xaa, 0x55};
     make_room(room, most, end == 0, fills[end]);
 }
 
-bool is_zero(const void *at, size_t len) {
+bool is_zero(const void *at, oscore_size len) {
     const uint8_t *bytes = at;
-    for (size_t i = 0; i < len; i++)
+    for (oscore_size i = 0; i < len; i++)
         if (bytes[i]) return false;
     return true;
 }
@@ -25,13 +25,13 @@ bool are_clean(const struct room *const rooms[]) {
 bool is_left(struct bytes left, struct bytes handed, const struct judged *judged) {
     if (!judged->opened) return is_same(left, handed);
     struct bytes plaintext = bytes_of(&judged->opened->plaintext);
-    size_t front_len = handed.len - plaintext.len - TAG_LEN, tag = handed.len - TAG_LEN;
+    oscore_size front_len = handed.len - plaintext.len - TAG_LEN, tag = handed.len - TAG_LEN;
     return left.len == handed.len && is_same(front_of(left, front_len), front_of(handed, front_len))
         && is_same(front_of(behind(left, front_len), plaintext.len), plaintext) && is_same(behind(left, tag), behind(handed, tag));
 }
 
 /* Whether a slice lies in what is left of the datagram, and is this. */
-static bool is_slice(const uint8_t *at, size_t len, struct bytes left, struct bytes wanted) {
+static bool is_slice(const uint8_t *at, oscore_size len, struct bytes left, struct bytes wanted) {
     uintptr_t from = (uintptr_t)at, first = (uintptr_t)left.at;
     return len == wanted.len && (!len || (from >= first && from - first <= left.len - len && !memcmp(at, wanted.at, len)));
 }
@@ -39,7 +39,7 @@ static bool is_slice(const uint8_t *at, size_t len, struct bytes left, struct by
 /* The inner options, as many as there is room for (RFC 8613, 5.3). */
 static bool are_options(const struct shown *shown, struct bytes left, const struct body *inner) {
     const oscore_opened *opened = shown->opened;
-    size_t count = 0;
+    oscore_size count = 0;
     for (struct option option = begun(inner); next_of(&option); count++) {
         if (count >= OPTIONS_ROOM) continue;
         const oscore_option *entry = &shown->options[count];
@@ -49,7 +49,7 @@ static bool are_options(const struct shown *shown, struct bytes left, const stru
 }
 
 /* Uri-Host and Uri-Port stand outside (RFC 8613, 4.1.2). */
-static bool is_outside(bool has, const uint8_t *at, size_t len, struct bytes left, const struct body *outer, uint32_t number) {
+static bool is_outside(bool has, const uint8_t *at, oscore_size len, struct bytes left, const struct body *outer, uint32_t number) {
     struct bytes value = {NULL, 0};
     return has == first_of(outer, number, &value) && (!has || is_slice(at, len, left, value));
 }
@@ -73,7 +73,7 @@ bool is_shown(const struct shown *shown, struct bytes left, const struct judged 
         && is_slice(opened->payload, opened->payload_len, left, inner.payload) && are_options(shown, left, &inner);
 }
 
-size_t draw_room(size_t exact) {
+oscore_size draw_room(oscore_size exact) {
     uint64_t choice = below(12), any = below(OUT_ROOM + 1);
     if (choice == 0) return exact ? exact - 1 : 0;
     if (choice == 1) return any;

@@ -9,7 +9,7 @@
    its rooms beginning behind one. */
 enum { ENDS = 2, OPTIONS_ROOM = 2, OUT_ROOM = 128 };
 extern const char *const END_NAMES[ENDS];
-void make_end_room(struct room *room, int end, size_t most);
+void make_end_room(struct room *room, int end, oscore_size most);
 
 enum call { TAKE, REPLY, NOTIFY, SERVER_RESTART, RESPONSE, REQUEST, FORGET, CLIENT_RESTART, CALLS };
 
@@ -31,10 +31,10 @@ struct shown {
 bool is_left(struct bytes left, struct bytes handed, const struct judged *judged);
 /* Whether the message that is delivered is the one that opened, in the datagram that is left; or, where none is, nothing is shown. */
 bool is_shown(const struct shown *shown, struct bytes left, const struct judged *judged);
-bool is_zero(const void *at, size_t len);
+bool is_zero(const void *at, oscore_size len);
 bool are_clean(const struct room *const rooms[]);
 /* A room for what is sealed: one that it fills, one that is a byte too short, or another. */
-size_t draw_room(size_t exact);
+oscore_size draw_room(oscore_size exact);
 
 void count_step(void);
 /* Counts what came of a call at the first, and tells what differs at either. */

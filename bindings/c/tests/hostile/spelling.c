@@ -19,7 +19,7 @@ struct spelling spell_plaintext(uint8_t code) {
 
 /* The values and numbers that are made here are so small that neither amount takes more than a byte behind its nibble. */
 void spell_option(struct spelling *spelling, uint32_t number, struct bytes value) {
-    size_t amounts[2] = {number - spelling->number, value.len};
+    oscore_size amounts[2] = {number - spelling->number, value.len};
     NEEDS(number >= spelling->number && amounts[0] < 269 && amounts[1] < 269);
     add_byte(&spelling->text, (uint8_t)((amounts[0] < 13 ? amounts[0] : 13) << 4 | (amounts[1] < 13 ? amounts[1] : 13)));
     for (int i = 0; i < 2; i++)

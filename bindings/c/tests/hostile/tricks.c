@@ -7,7 +7,7 @@ static uint8_t way[65600];
 
 /* Values of the OSCORE option beside an empty one: good ones and bad ones. */
 static const struct {
-    size_t len;
+    oscore_size len;
     const char *at;
 } VALUES[] = {
     {0, ""}, {1, "\x00"}, {1, "\x08"}, {1, "\x10"}, {1, "\x09"}, {2, "\x09\x14"}, {2, "\x01\x14"}, {3, "\x01\x14\xaa"},
@@ -16,7 +16,7 @@ static const struct {
 };
 
 static struct bytes draw_value(void) {
-    size_t place = below(sizeof VALUES / sizeof *VALUES);
+    oscore_size place = below(sizeof VALUES / sizeof *VALUES);
     return (struct bytes){(const uint8_t *)VALUES[place].at, VALUES[place].len};
 }
 
@@ -61,9 +61,9 @@ static struct text respell(struct bytes datagram) {
     struct seen seen;
     struct bytes bytes = {NULL, 0}, other = draw_value(), none = {NULL, 0};
     struct value value;
-    size_t place;
+    oscore_size place;
     if (read_datagram(datagram, &seen, &place)) return whole(datagram);
-    size_t times = count_of(&seen.body, OSCORE);
+    oscore_size times = count_of(&seen.body, OSCORE);
     if (times != 1 || !first_of(&seen.body, OSCORE, &bytes)) times = 0;
     if (!read_value(bytes, &value)) value = (struct value){.has_number = false};
     change(&value);
@@ -86,7 +86,7 @@ static struct text respell(struct bytes datagram) {
 
 /* Some bytes of a datagram's front, and some of another's end. */
 static struct text splice(struct bytes front, struct bytes end) {
-    size_t front_len = front.len ? below(front.len) : 0, cut = end.len ? below(end.len) : 0;
+    oscore_size front_len = front.len ? below(front.len) : 0, cut = end.len ? below(end.len) : 0;
     struct text text = {.len = 0};
     add_bytes(&text, front_of(front, front_len));
     add_bytes(&text, behind(end, cut));
@@ -118,7 +118,7 @@ struct bytes delivered(bool to_client) {
     static const uint8_t again[2] = {0x00, 0x10};
     struct text text = changed_on_its_way(to_client);
     bool is_long = one_in(1000);
-    size_t len = is_long ? 65534 + below(4) : text.len;
+    oscore_size len = is_long ? 65534 + below(4) : text.len;
     uint8_t byte = again[below(2)];
     memcpy(way, text.at, text.len);
     if (len > text.len) memset(way + text.len, byte, len - text.len);
