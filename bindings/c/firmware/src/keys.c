@@ -18,6 +18,10 @@ int main(void) {
     oscore_context client = OSCORE_ZERO, server = OSCORE_ZERO;
     oscore_size len = 0, detail;
     for (uint32_t i = 0; i < sizeof secret; i++) secret[i] = (uint8_t)(key_byte * (i + 3) + 77 * key_byte * i * i);
+#ifdef DEPENDS
+    /* A way that depends on the key, which has to be found. */
+    for (volatile uint32_t i = 0; i < (key_byte & 7u); i++) {}
+#endif
     uint32_t wrong = 0;
     wrong |= oscore_derive(&client, secret, sizeof secret, NULL, 0, false, NULL, 0, NULL, 0, one, 1, TABLES, false, false);
     wrong |= oscore_derive(&server, secret, sizeof secret, NULL, 0, false, NULL, 0, one, 1, NULL, 0, TABLES, false, false);
