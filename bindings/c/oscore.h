@@ -9,6 +9,8 @@
 /* Which library this is the header of. (OSCORE_VERSION is a status, below.) The number is 10,000 major + 100 minor + patch. */
 #define OSCORE_LIBRARY_VERSION 100
 #define OSCORE_LIBRARY_VERSION_STRING "0.1.0"
+/* Which layout: another number where a status, a struct or a call changed that was there, so that a program has to be compiled anew. */
+#define OSCORE_LAYOUT 1
 
 /* What a struct or an array of structs is begun with, as `oscore_context context = OSCORE_ZERO;`: zero, without a warning. */
 #ifdef __cplusplus
@@ -54,6 +56,17 @@ typedef uint64_t oscore_size;
 #define OSCORE_SLOT _Alignas(8)
 #endif
 
+/* How many elements an array has, for what is counted in elements, as `options_room`. GCC, Clang and C++ refuse a pointer here. */
+#ifdef __cplusplus
+extern "C++" template <typename element, size_t count> char (&oscore_array(element (&)[count]))[count];
+#define OSCORE_COUNT(array) sizeof(oscore_array(array))
+#elif defined(__GNUC__) || defined(__clang__)
+#define OSCORE_COUNT(array) \
+    (sizeof(array) / sizeof((array)[0]) + 0 * sizeof(char[1 - 2 * __builtin_types_compatible_p(__typeof__(array), __typeof__(&(array)[0]))]))
+#else
+#define OSCORE_COUNT(array) (sizeof(array) / sizeof((array)[0]))
+#endif
+
 OSCORE_ASSERT(sizeof(oscore_size) == 8, "a length has 8 bytes");
 OSCORE_ASSERT(sizeof(void *) == 8 || sizeof(void *) == 4, "this library has pointers of 8 or of 4 bytes");
 OSCORE_ASSERT(sizeof(bool) == 1, "a bool has 1 byte");
@@ -80,7 +93,8 @@ OSCORE_ASSERT(sizeof(bool) == 1, "a bool has 1 byte");
 typedef enum oscore_status {
     OSCORE_DONE = 0,
     OSCORE_BAD_HANDLE = 1,         /* no call wrote such a handle: as a length that is too large, or two identifiers that are one */
-    OSCORE_BAD_NUMBER = 2,         /* a number is 2^40 or more, a kind above 3, or a window has neither 1, 32 nor 64 places */
+    OSCORE_BAD_NUMBER = 2,         /* a number is 2^40 or more, a kind above 3, a window has neither 1, 32 nor 64 places, or parameters
+                                      have what this header doesn't know */
     OSCORE_SECRET_LENGTH = 3,      /* the Master Secret has no byte, or more than 64 */
     OSCORE_SALT_LENGTH = 4,        /* the Master Salt has more than 64 bytes */
     OSCORE_ID_TOO_LONG = 5,        /* an identifier has more than 7 bytes */
@@ -156,6 +170,24 @@ typedef struct oscore_context {
     uint8_t blocks; /* any value but 0 lets block-wise options pass inside the protection */
     uint8_t observe; /* any value but 0 lets Observe pass, in requests and in notifications, inside and outside the protection */
 } oscore_context;
+
+/* What a context is derived of (RFC 8613, 3.2), begun by `oscore_parameters parameters = OSCORE_ZERO;`: no salt, no ID Context, both
+   identifiers without a byte, the cipher in constant time, neither blocks nor Observe. The choices are 0 or 1, and say what those of
+   `oscore_derive` say. `zero` stays zero: a later header may have members there. */
+typedef struct oscore_parameters {
+    OSCORE_SLOT const uint8_t *secret; /* Master Secret */
+    OSCORE_SLOT oscore_size secret_len;
+    OSCORE_SLOT const uint8_t *salt; /* Master Salt */
+    OSCORE_SLOT oscore_size salt_len;
+    OSCORE_SLOT const uint8_t *id_context;
+    OSCORE_SLOT oscore_size id_context_len; /* 0: none */
+    OSCORE_SLOT const uint8_t *sender_id; /* of this end */
+    OSCORE_SLOT oscore_size sender_id_len;
+    OSCORE_SLOT const uint8_t *recipient_id; /* of the other end */
+    OSCORE_SLOT oscore_size recipient_id_len;
+    uint8_t tables, blocks, observe;
+    uint8_t zero[29];
+} oscore_parameters;
 
 /* An option of a message: of one that was opened its value lies in the datagram; of one that is to be written, anywhere but in `out`. */
 typedef struct oscore_option {
@@ -293,6 +325,12 @@ OSCORE_HAS(oscore_context, 97); OSCORE_AT(oscore_context, sender, 0); OSCORE_AT(
     OSCORE_AT(oscore_context, id_context_len, 48); OSCORE_AT(oscore_context, sender_key, 49);
     OSCORE_AT(oscore_context, recipient_key, 65); OSCORE_AT(oscore_context, common_iv, 81); OSCORE_AT(oscore_context, tables, 94);
     OSCORE_AT(oscore_context, blocks, 95); OSCORE_AT(oscore_context, observe, 96);
+OSCORE_HAS(oscore_parameters, 112); OSCORE_AT(oscore_parameters, secret, 0); OSCORE_AT(oscore_parameters, secret_len, 8);
+    OSCORE_AT(oscore_parameters, salt, 16); OSCORE_AT(oscore_parameters, salt_len, 24); OSCORE_AT(oscore_parameters, id_context, 32);
+    OSCORE_AT(oscore_parameters, id_context_len, 40); OSCORE_AT(oscore_parameters, sender_id, 48);
+    OSCORE_AT(oscore_parameters, sender_id_len, 56); OSCORE_AT(oscore_parameters, recipient_id, 64);
+    OSCORE_AT(oscore_parameters, recipient_id_len, 72); OSCORE_AT(oscore_parameters, tables, 80); OSCORE_AT(oscore_parameters, blocks, 81);
+    OSCORE_AT(oscore_parameters, observe, 82); OSCORE_AT(oscore_parameters, zero, 83);
 OSCORE_HAS(oscore_option, 24); OSCORE_AT(oscore_option, number, 0); OSCORE_AT(oscore_option, value, 8);
     OSCORE_AT(oscore_option, value_len, 16);
 OSCORE_HAS(oscore_opened, 104); OSCORE_AT(oscore_opened, kind, 0); OSCORE_AT(oscore_opened, code, 1);
@@ -358,6 +396,18 @@ OSCORE_MUST_USE oscore_status oscore_derive(oscore_context *out, const uint8_t *
                                             const uint8_t *id_context, oscore_size id_context_len, const uint8_t *sender,
                                             oscore_size sender_len, const uint8_t *recipient, oscore_size recipient_len,
                                             bool tables, bool blocks, bool observe);
+
+/* Derives a context of parameters, as `oscore_derive` does of its arguments. Before all else it refuses with OSCORE_BAD_NUMBER a choice that
+   is neither 0 nor 1, and a byte of `zero` that isn't 0. A refusal leaves the context. */
+OSCORE_MUST_USE static inline oscore_status oscore_derive_from(oscore_context *out, const oscore_parameters *parameters) {
+    uint8_t unknown = (uint8_t)((parameters->tables | parameters->blocks | parameters->observe) & 0xfe);
+    for (size_t i = 0; i < sizeof parameters->zero; i++) unknown |= parameters->zero[i];
+    if (unknown != 0) return OSCORE_BAD_NUMBER;
+    return oscore_derive(out, parameters->secret, parameters->secret_len, parameters->salt, parameters->salt_len,
+                         parameters->id_context_len > 0, parameters->id_context, parameters->id_context_len, parameters->sender_id,
+                         parameters->sender_id_len, parameters->recipient_id, parameters->recipient_id_len, parameters->tables == 1,
+                         parameters->blocks == 1, parameters->observe == 1);
+}
 
 /* Writes a plain message, as it is to be sealed: its kind (0 CON, 1 NON, 2 ACK, 3 RST), its code (1 GET .. ; 69 is 2.05), message ID and
    token, its options in ascending order of their numbers, and its payload, which is behind a marker where it isn't empty. The first
@@ -591,6 +641,20 @@ OSCORE_MUST_USE oscore_status oscore_kept_client_take(oscore_kept_client *client
 /* Waits no more for the response to the request of a token, as `oscore_client_forget` does. */
 OSCORE_MUST_USE oscore_status oscore_kept_client_forget(oscore_kept_client *client, const uint8_t *token, oscore_size token_len);
 
+/* Milliseconds of a tick that counts them in 32 bits and begins anew at 0 after 49 days: zero begins it. */
+typedef struct oscore_clock {
+    OSCORE_SLOT uint64_t now;
+    uint32_t last;
+} oscore_clock;
+
+/* The moment of a tick, for `now` of the calls: the first is the tick itself, and each later one is as much later as the tick is. Ask it
+   at least once in each 2^32 - 1 ticks, in the order in which they were read: an earlier tick counts as one of the next round. */
+static inline uint64_t oscore_clock_at(oscore_clock *clock, uint32_t tick) {
+    clock->now += (uint32_t)(tick - clock->last);
+    clock->last = tick;
+    return clock->now;
+}
+
 /* The library wipes nothing: what a call was given is the caller's, and below the caller's stack pointer lies what the call left there,
    keys among it (README.md, Wiping). The rest of this header wipes, and is code of the caller's program. */
 #if defined(__GNUC__) || defined(__clang__)
@@ -607,19 +671,34 @@ static inline void oscore_wipe(void *bytes, size_t len) {
     OSCORE_BARRIER(bytes);
 }
 
+/* 1 where the compiler has a way to set registers to 0 at the end of a function: GCC from 11, Clang from 15 for x86 and for 64-bit ARM. A
+   program for 32-bit x86 without SSE2 doesn't reach the registers that the library uses. */
+#define OSCORE_WIPES_REGISTERS 0
+#if defined(__has_attribute) && (!defined(__clang__) || defined(__x86_64__) || defined(__i386__) || defined(__aarch64__)) \
+    && (!defined(__i386__) || defined(__SSE2__))
+#if __has_attribute(__zero_call_used_regs__)
+#undef OSCORE_WIPES_REGISTERS
+#define OSCORE_WIPES_REGISTERS 1
+#endif
+#endif
+
 /* The stack is wiped where a compiler has a way to say that a function is never made a part of its caller. */
 #if defined(__GNUC__) || defined(__clang__)
 /* For `oscore_wipe_stack` alone. Its array lies where a call's stack lay. */
+#if OSCORE_WIPES_REGISTERS
+__attribute__((__zero_call_used_regs__("all")))
+#endif
 __attribute__((__noinline__, __unused__)) static void oscore_wipe_below(void) {
     volatile uint64_t below[(OSCORE_STACK + 7) / 8];
     for (size_t i = 0; i < sizeof below / sizeof below[0]; i++) below[i] = 0;
     OSCORE_BARRIER(below);
 }
 
-/* Sets OSCORE_STACK bytes below the caller's stack pointer to 0, and so what earlier calls left there. Call it in the function that
-   called the library, or in one that called that one, where fewer than 4,000 bytes of stack lie between: called from deeper, it begins
-   too low. It reaches no other stack, as another thread's or a signal handler's, no register, and no copy that the system made. Under
-   AddressSanitizer and SafeStack it reaches nothing: they lay arrays elsewhere. */
+/* Sets OSCORE_STACK bytes below the caller's stack pointer to 0, and so what earlier calls left there; and where OSCORE_WIPES_REGISTERS is 1,
+   each register that a call may leave otherwise than it found it: behind `oscore_derive` a key stands in one for vectors. Call it in the
+   function that called the library, or in one that called that one, where fewer than 4,000 bytes of stack lie between: called from deeper,
+   it begins too low. It reaches no other stack, as another thread's or a signal handler's, and no copy that the system made. Under
+   AddressSanitizer and SafeStack it reaches no stack: they lay arrays elsewhere. */
 __attribute__((__always_inline__)) static inline void oscore_wipe_stack(void) {
     oscore_wipe_below();
     /* So the call isn't the last thing of a function, which would give up its own stack before it: then it would begin too high. */

@@ -189,8 +189,11 @@ static void begin(void) {
     oscore_context context = OSCORE_ZERO;
     uint64_t loaded;
     if (!load_number(number_file, &loaded)) stop("no number in FILE");
-    oscore_status status = oscore_derive(&context, SECRET, sizeof SECRET, NULL, 0, false, NULL, 0, KEY, sizeof KEY, LOCK, sizeof LOCK,
-                                         false, false, false);
+    oscore_parameters parameters = OSCORE_ZERO;
+    parameters.secret = SECRET, parameters.secret_len = sizeof SECRET;
+    parameters.sender_id = KEY, parameters.sender_id_len = sizeof KEY;
+    parameters.recipient_id = LOCK, parameters.recipient_id_len = sizeof LOCK;
+    oscore_status status = oscore_derive_from(&context, &parameters);
     if (!status) status = oscore_kept_client_begin(&client, &context, loaded, EXCHANGE_LIFETIME_MS);
     oscore_wipe(&context, sizeof context); /* the client has a copy */
     if (status) stop("no client");

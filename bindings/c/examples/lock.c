@@ -189,8 +189,11 @@ int main(int count, char **words) {
     uint64_t loaded;
     number_file = words[3];
     if (!load_number(number_file, &loaded)) stop("no number in FILE");
-    oscore_status status = oscore_derive(&context, SECRET, sizeof SECRET, NULL, 0, false, NULL, 0, LOCK, sizeof LOCK, KEY, sizeof KEY,
-                                         false, false, false);
+    oscore_parameters parameters = OSCORE_ZERO;
+    parameters.secret = SECRET, parameters.secret_len = sizeof SECRET;
+    parameters.sender_id = LOCK, parameters.sender_id_len = sizeof LOCK;
+    parameters.recipient_id = KEY, parameters.recipient_id_len = sizeof KEY;
+    oscore_status status = oscore_derive_from(&context, &parameters);
     if (!status) status = oscore_kept_server_begin(&server, &context, loaded, 32);
     oscore_wipe(&context, sizeof context); /* the server has a copy */
     if (status) stop("no server");

@@ -277,8 +277,12 @@ static void begin(void) {
     oscore_context context = OSCORE_ZERO;
     uint64_t loaded;
     if (!load_number(number_file, &loaded)) stop("no number in FILE");
-    oscore_status status = oscore_derive(&context, SECRET, sizeof SECRET, NULL, 0, false, NULL, 0, SENSOR, sizeof SENSOR, READER,
-                                         sizeof READER, false, false, true);
+    oscore_parameters parameters = OSCORE_ZERO;
+    parameters.secret = SECRET, parameters.secret_len = sizeof SECRET;
+    parameters.sender_id = SENSOR, parameters.sender_id_len = sizeof SENSOR;
+    parameters.recipient_id = READER, parameters.recipient_id_len = sizeof READER;
+    parameters.observe = 1;
+    oscore_status status = oscore_derive_from(&context, &parameters);
     if (!status) status = oscore_kept_server_begin(&server, &context, loaded, 32);
     oscore_wipe(&context, sizeof context); /* the server has a copy */
     if (status) stop("no server");

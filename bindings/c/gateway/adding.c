@@ -65,8 +65,14 @@ static const char *read_words(char *words[], size_t count, description *to) {
 
 static oscore_status make_context(const description *of, oscore_context *context) {
     const named_bytes *b = of->bytes;
-    return oscore_derive(context, b[SECRET].bytes, b[SECRET].len, b[SALT].bytes, b[SALT].len, b[ID_CONTEXT].len > 0, b[ID_CONTEXT].bytes,
-                         b[ID_CONTEXT].len, b[OWN].bytes, b[OWN].len, b[THEIR].bytes, b[THEIR].len, of->tables, of->blocks, of->observe);
+    oscore_parameters parameters = OSCORE_ZERO;
+    parameters.secret = b[SECRET].bytes, parameters.secret_len = b[SECRET].len;
+    parameters.salt = b[SALT].bytes, parameters.salt_len = b[SALT].len;
+    parameters.id_context = b[ID_CONTEXT].bytes, parameters.id_context_len = b[ID_CONTEXT].len;
+    parameters.sender_id = b[OWN].bytes, parameters.sender_id_len = b[OWN].len;
+    parameters.recipient_id = b[THEIR].bytes, parameters.recipient_id_len = b[THEIR].len;
+    parameters.tables = of->tables, parameters.blocks = of->blocks, parameters.observe = of->observe;
+    return oscore_derive_from(context, &parameters);
 }
 
 static store_answer refuse(char why[WHY_ROOM], const char *what) {

@@ -186,8 +186,11 @@ oscore_status row_renew(row *of, uint64_t era) {
 bool row_fingerprint(const oscore_context *context, uint8_t fingerprint[FINGERPRINT_LEN]) {
     static const uint8_t NAME[] = "gateway: fingerprint", END[] = {1};
     oscore_context of = OSCORE_ZERO;
-    oscore_status status = oscore_derive(&of, context->sender_key, sizeof context->sender_key, NAME, sizeof NAME - 1, true, NAME,
-                                         sizeof NAME - 1, NULL, 0, END, sizeof END, false, false, false);
+    oscore_parameters parameters = OSCORE_ZERO;
+    parameters.secret = context->sender_key, parameters.secret_len = sizeof context->sender_key;
+    parameters.salt = parameters.id_context = NAME, parameters.salt_len = parameters.id_context_len = sizeof NAME - 1;
+    parameters.recipient_id = END, parameters.recipient_id_len = sizeof END;
+    oscore_status status = oscore_derive_from(&of, &parameters);
     if (status == OSCORE_DONE) memcpy(fingerprint, of.sender_key, FINGERPRINT_LEN);
     oscore_wipe(&of, sizeof of);
     oscore_wipe_stack();

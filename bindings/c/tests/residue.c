@@ -1,7 +1,8 @@
-/* What a call leaves below its caller's stack pointer, and that `oscore_wipe_stack` leaves nothing of it. Each call is made on a stack of
-   its own, by tables and in constant time, and that whole stack is then searched for the Master Secret, for what HKDF makes of it, for
-   the keys, the Common IV, and words of the schedules of the keys. Then the call and all it stands on is made under another Master
-   Secret: each byte of that stack that differs now depends on the secret. (Not all of these are secret: what is sent depends on it too.)
+/* What a call leaves below its caller's stack pointer and in registers, and that `oscore_wipe_stack` leaves nothing of it. Each call is made
+   on a stack of its own, by tables and in constant time, and that whole stack is then searched for the Master Secret, for what HKDF makes of
+   it, for the keys, the Common IV, and words of the schedules of the keys; and so are the registers that a function may change, as they
+   are behind the call. Then the call and all it stands on is made under another Master Secret: each byte of that stack and of those
+   registers that differs now depends on the secret. (Not all of these are secret: what is sent depends on it too.)
    Once the stack was wiped none of these may be there. The counts without wiping are printed; they depend on the library's compiler.
 
    Not for AddressSanitizer, which lays arrays elsewhere, so that the stack isn't as it is without it; nor for memcheck, which reports
@@ -16,7 +17,8 @@
 
 #define CHECK(holds) ((holds) ? (void)0 : fails(__LINE__, #holds))
 
-enum { AREA = 1 << 16, UNTOUCHED = 0xa5, ROOM = 128, NUMBER = 20, LIFE = 60000 };
+/* The stack, and behind it what stood in registers. */
+enum { AREA = 1 << 16, REGISTERS = 512, WHOLE = AREA + REGISTERS, UNTOUCHED = 0xa5, ROOM = 128, NUMBER = 20, LIFE = 60000 };
 /* Of round keys 1 to 10: the words, and what they are bitsliced. So many words by chance are none. */
 enum { WORDS = 40, PLANES = 80, BY_CHANCE = 7 };
 
@@ -48,7 +50,7 @@ static oscore_ticket ticket;
 static oscore_opened opened;
 static oscore_option options[4];
 static uint8_t request[ROOM], response[ROOM], out[ROOM];
-static size_t request_len, response_len, out_len, at, detail;
+static oscore_size request_len, response_len, out_len, at, detail;
 static uint64_t number;
 
 static void fails(int line, const char *condition) {
@@ -128,25 +130,52 @@ static void prepare(int which, before before) {
     if (before == RESTARTED) CHECK(!server_restart());
 }
 
-/* The stack that calls are made on, and a copy of it. */
-static uint8_t *area, kept[AREA];
+/* The registers that a function may change: those for vectors, and behind these the others. */
+#if defined(__x86_64__)
+enum { SEES_REGISTERS = 1 };
+static struct { uint8_t vectors[16][16]; uint64_t others[9]; } registers;
+#define STORE(i) "movups %%xmm" #i ", 16*" #i "+%0\n"
+#define READ_REGISTERS() \
+    __asm__ __volatile__(STORE(0) STORE(1) STORE(2) STORE(3) STORE(4) STORE(5) STORE(6) STORE(7) STORE(8) STORE(9) STORE(10) STORE(11) \
+                         STORE(12) STORE(13) STORE(14) STORE(15) "movq %%rax, %1\nmovq %%rcx, 8+%1\nmovq %%rdx, 16+%1\nmovq %%rsi, 24+%1\n" \
+                         "movq %%rdi, 32+%1\nmovq %%r8, 40+%1\nmovq %%r9, 48+%1\nmovq %%r10, 56+%1\nmovq %%r11, 64+%1" \
+                         : "=m"(registers.vectors), "=m"(registers.others))
+/* Those for vectors come from whoever ran before: a context of this C library doesn't have them. */
+#define EMPTY(i) "pxor %%xmm" #i ", %%xmm" #i "\n"
+#define EMPTY_VECTORS() \
+    __asm__ __volatile__(EMPTY(0) EMPTY(1) EMPTY(2) EMPTY(3) EMPTY(4) EMPTY(5) EMPTY(6) EMPTY(7) EMPTY(8) EMPTY(9) EMPTY(10) EMPTY(11) \
+                         EMPTY(12) EMPTY(13) EMPTY(14) EMPTY(15) : : : "xmm0", "xmm1", "xmm2", "xmm3", "xmm4", "xmm5", "xmm6", "xmm7", \
+                         "xmm8", "xmm9", "xmm10", "xmm11", "xmm12", "xmm13", "xmm14", "xmm15")
+#else
+enum { SEES_REGISTERS = 0 };
+static uint8_t registers[1];
+#define READ_REGISTERS() ((void)0)
+#define EMPTY_VECTORS() ((void)0)
+#endif
+
+/* The stack that calls are made on with room for the registers behind it, and a copy of both. */
+static uint8_t *area, kept[WHOLE];
 static ucontext_t here, fresh, there;
 static const row *now;
 static oscore_status status;
 
 static void on_area(void) {
-    status = now->call();
+    EMPTY_VECTORS();
+    oscore_status answer = now->call();
     if (wiping == ITS_CALLER) oscore_wipe_stack();
+    READ_REGISTERS();
+    status = answer;
 }
 
 /* Makes a call on the area. It begins with the registers of `fresh`, which know of no secret. */
 static void run(const row *row, int which) {
     prepare(which, row->before);
-    memset(area, UNTOUCHED, AREA);
+    memset(area, UNTOUCHED, WHOLE);
     now = row, there = fresh;
     there.uc_stack.ss_sp = area, there.uc_stack.ss_size = AREA, there.uc_link = &here;
     makecontext(&there, on_area, 0);
     CHECK(!swapcontext(&here, &there) && status == row->wanted);
+    if (SEES_REGISTERS && (wiping == NOBODY || OSCORE_WIPES_REGISTERS)) memcpy(area + AREA, &registers, sizeof registers);
 }
 
 /* The deepest byte that was written. */
@@ -195,7 +224,7 @@ static size_t words_of(const uint8_t key[16]) {
     size_t met = 0;
     expand(key, schedule);
     for (int i = 0; i < WORDS + PLANES; i++)
-        for (size_t place = deepest() / 4 * 4; place < AREA; place += 4) {
+        for (size_t place = deepest() / 4 * 4; place < WHOLE; place += 4) {
             memcpy(&word, area + place, 4);
             if (word != schedule[i] && turned(word) != schedule[i]) continue;
             met++;
@@ -204,21 +233,28 @@ static size_t words_of(const uint8_t key[16]) {
     return met;
 }
 
-/* At how many places of the area these bytes stand, each with `pad` added, as they are or with each four of them turned. */
-static size_t places(const uint8_t *bytes, size_t len, uint8_t pad) {
+/* At how many places from this one on these bytes stand, each with `pad` added, as they are or with each four of them turned. */
+static size_t places_from(size_t first, const uint8_t *bytes, size_t len, uint8_t pad) {
     uint8_t plain[32], swapped[32];
     size_t met = 0;
     for (size_t i = 0; i < len; i++) plain[i] = bytes[i] ^ pad, swapped[i] = bytes[len % 4 ? i : i ^ 3] ^ pad;
-    for (size_t i = 0; i + len <= AREA; i++) met += !memcmp(area + i, plain, len) || !memcmp(area + i, swapped, len);
+    for (size_t i = first; i + len <= WHOLE; i++) met += !memcmp(area + i, plain, len) || !memcmp(area + i, swapped, len);
     return met;
 }
 
-typedef struct left { size_t secret, prk, keys, iv, words, depending, stack; } left;
+/* The same of the whole area. */
+static size_t places(const uint8_t *bytes, size_t len, uint8_t pad) {
+    return places_from(0, bytes, len, pad);
+}
+
+/* `in_registers` counts keys, which `keys` counts too. */
+typedef struct left { size_t secret, prk, keys, iv, words, depending, in_registers, stack; } left;
 
 static left search(void) {
     left left = {.secret = places(SECRETS[0], 16, 0), .iv = places(client_end.common_iv, 13, 0), .stack = AREA - deepest()};
     left.prk = places(PRK[0], 32, 0) + places(PRK[0], 32, 0x36) + places(PRK[0], 32, 0x5c) + places(PRK[1], 32, 0) + places(PRK[2], 32, 0);
     left.keys = places(client_end.sender_key, 16, 0) + places(client_end.recipient_key, 16, 0);
+    left.in_registers = places_from(AREA, client_end.sender_key, 16, 0) + places_from(AREA, client_end.recipient_key, 16, 0);
     size_t one = words_of(client_end.sender_key), other = words_of(client_end.recipient_key);
     left.words = one > other ? one : other;
     return left;
@@ -226,10 +262,10 @@ static left search(void) {
 
 static left left_by(const row *row) {
     run(row, 0);
-    memcpy(kept, area, AREA);
+    memcpy(kept, area, WHOLE);
     left left = search();
     run(row, 1);
-    for (size_t i = 0; i < AREA; i++) left.depending += area[i] != kept[i];
+    for (size_t i = 0; i < WHOLE; i++) left.depending += area[i] != kept[i];
     return left;
 }
 
@@ -249,14 +285,16 @@ static void check_search(void) {
     expand(key, schedule);
     CHECK(!memcmp(schedule + WORDS - 1, "\xb6\x63\x0c\xa6", 4)); /* FIPS 197, A.1 */
     prepare(0, SENT);
-    memset(area, UNTOUCHED, AREA);
+    memset(area, UNTOUCHED, WHOLE);
     memcpy(area + 101, SECRETS[0], 16);
     memcpy(area + 201, PRK[0], 32), memcpy(area + 301, PRK[2], 32);
     memcpy(area + 401, client_end.recipient_key, 16), memcpy(area + 501, client_end.common_iv, 13);
     expand(client_end.sender_key, schedule);
     memcpy(area + 600, schedule + WORDS - 2, 16);
+    memcpy(area + AREA + 16, client_end.sender_key, 16);
     left left = search();
-    CHECK(left.secret == 1 && left.prk == 2 && left.keys == 1 && left.iv == 1 && left.words == 4 && left.stack == AREA - 101);
+    CHECK(left.secret == 1 && left.prk == 2 && left.keys == 2 && left.iv == 1 && left.words == 4 && left.stack == AREA - 101);
+    CHECK(left.in_registers == 1);
 }
 
 /* All bytes are wiped, and none beside them. A handle that was wiped is refused, or has no context. */
@@ -273,8 +311,8 @@ static void check_handles(void) {
 static left check_row(const row *row) {
     wiping = NOBODY;
     left left = left_by(row);
-    printf("%-22s %-13s %6zu %3zu %4zu %9zu %18zu %17zu\n", row->name, tables ? "tables" : "constant time", left.secret, left.prk,
-           left.keys, left.iv, left.words, left.depending);
+    printf("%-22s %-13s %6zu %3zu %4zu %12zu %9zu %18zu %17zu\n", row->name, tables ? "tables" : "constant time", left.secret, left.prk,
+           left.keys, left.in_registers, left.iv, left.words, left.depending);
     /* As oscore.h says of OSCORE_STACK. */
     CHECK(left.stack + 4000 < OSCORE_STACK);
     wiping = CALLER;
@@ -285,18 +323,19 @@ static left check_row(const row *row) {
 }
 
 int main(void) {
-    area = mmap(NULL, AREA, PROT_READ | PROT_WRITE, MAP_PRIVATE | MAP_ANONYMOUS, -1, 0);
+    area = mmap(NULL, WHOLE, PROT_READ | PROT_WRITE, MAP_PRIVATE | MAP_ANONYMOUS, -1, 0);
     CHECK(area != MAP_FAILED && !getcontext(&fresh));
     make_box(), check_search(), check_handles();
-    puts("                                     secret PRK keys Common IV words of a schedule bytes that depend");
+    puts("                                     secret PRK keys in registers Common IV words of a schedule bytes that depend");
     for (int way = 0; way < 2; way++) {
-        bool seen = false;
+        bool seen = false, in_registers = !SEES_REGISTERS;
         tables = way == 0;
         for (size_t i = 0; i < sizeof ROWS / sizeof *ROWS; i++) {
             left left = check_row(&ROWS[i]);
             seen = seen || (left.keys > 0 && left.words > BY_CHANCE && left.depending > 0);
+            in_registers = in_registers || left.in_registers > 0;
         }
-        CHECK(seen);
+        CHECK(seen && in_registers);
     }
     puts("wiped: nothing of these");
     return 0;
