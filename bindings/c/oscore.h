@@ -671,8 +671,8 @@ static inline void oscore_wipe(void *bytes, size_t len) {
     OSCORE_BARRIER(bytes);
 }
 
-/* 1 where the compiler has a way to set registers to 0 at the end of a function: GCC from 11, Clang from 15 for x86 and for 64-bit ARM. A
-   program for 32-bit x86 without SSE2 doesn't reach the registers that the library uses. */
+/* 1 where the compiler has a way to set registers to 0 at the end of a function: GCC from 11, Clang from 15 for x86 and for 64-bit ARM. For
+   32-bit x86 it is 1 only where the program is compiled with SSE2: without that, registers for vectors wouldn't be reached. */
 #define OSCORE_WIPES_REGISTERS 0
 #if defined(__has_attribute) && (!defined(__clang__) || defined(__x86_64__) || defined(__i386__) || defined(__aarch64__)) \
     && (!defined(__i386__) || defined(__SSE2__))
