@@ -1,14 +1,15 @@
 -- The written tables against the definitions, by computation.
-use Rattle.std.proofs.Common.{◌≡◌, ℕ, zero, suc, ◌+◌, ◌-◌, ◌*◌, ◌/◌, ◌%◌, ◌^◌, ◌<◌, List, [], ◌∷◌, refl, ap, ◌∙◌, sym, get_or, map, bit_and, bit_xor, arith, w32}
+use Rattle.std.proofs.Common.{◌≡◌, ℕ, ◌+◌, ◌-◌, ◌*◌, ◌/◌, ◌%◌, ◌^◌, ◌<◌, List, [], ◌∷◌, refl, ap, ◌∙◌, sym, get_or, map, bit_and, bit_xor, arith, w32}
 use Rattle.std.specs.Int.{to_be_bytes}
 use Rattle.std.specs.List.{range_with_len}
+use Rattle.std.proofs.lemmas.Nat.{and_mask}
 use Rattle.std.proofs.lemmas.List.FromFn.{get_or-map-range_with_len}
 use Rattle.osc_aes.specs.Field.{mul, power, product_of_squares, inverse}
 use Rattle.osc_aes.specs.SubstitutionBox.{substitute}
-use Rattle.osc_aes.specs.RoundWords.{lone_byte, round_word}
+use Rattle.osc_aes.specs.RoundWords.{round_word}
 use Rattle.osc_aes.specs.declared.substitution_box.TheConstants.{SUBSTITUTION_BOX}
 use Rattle.osc_aes.specs.declared.key_schedule.TheConstants.{ROUND_CONSTANTS}
-use Rattle.osc_aes.specs.declared.round_words.TheConstants.{TABLES}
+use Rattle.osc_aes.specs.declared.round_words.TheConstants.{TABLE}
 
 -- a table that lists f has f x at x
 table_entry : (f : ℕ → ℕ) (n : ℕ) (table : List ℕ) → table ≡ map f (range_with_len 0 n) → (x : ℕ) → x < n → get_or table x 0 ≡ f x
@@ -73,52 +74,32 @@ round_constant_values = refl
 pub round_constants-entry : (j : ℕ) → j < 10 → get_or ROUND_CONSTANTS j 0 ≡ power 2 j
 round_constants-entry = table_entry (power 2) 10 ROUND_CONSTANTS round_constant_values
 
--- ---- the tables of a round
+-- ---- the table of a round
 
--- all four tables
-table_values : (t : ℕ) → t < 4 → get_or TABLES t [] ≡ map (round_word t) (range_with_len 0 256)
+-- the whole table
+table_values : TABLE ≡ map round_word (range_with_len 0 256)
 unfolding mul power product_of_squares inverse substitute round_word
-table_values zero h = refl
-table_values (suc zero) h = refl
-table_values (suc (suc zero)) h = refl
-table_values (suc (suc (suc zero))) h = refl
-table_values (suc (suc (suc (suc t)))) h = absurd (omega arith)
+table_values = refl
 
--- a table, entry by entry
-pub table-entry : (t : ℕ) → t < 4 → (b : ℕ) → b < 256 → get_or (get_or TABLES t []) b 0 ≡ round_word t b
-table-entry t h = table_entry (round_word t) 256 (get_or TABLES t []) (table_values t h)
+-- the table, entry by entry
+pub table-entry : (b : ℕ) → b < 256 → get_or TABLE b 0 ≡ round_word b
+table-entry = table_entry round_word 256 TABLE table_values
 
--- what table t has for each row: 02·S, S, S and 03·S, rotated right by t
-abbrev pub rows : ℕ → ℕ → List ℕ
-rows t b =
-    map (λ r. get_or (mul 2 (substitute b) ∷ substitute b ∷ substitute b ∷ mul 3 (substitute b) ∷ []) ((r + 4 - t) % 4) 0) (range_with_len 0 4)
+-- the column that a byte of row 0 becomes
+abbrev pub column_of_byte : ℕ → List ℕ
+column_of_byte b = mul 2 (substitute b) ∷ substitute b ∷ substitute b ∷ mul 3 (substitute b) ∷ []
 
--- the bytes of all words of a table
-table_rows : (t : ℕ) → t < 4 → map (λ b. to_be_bytes w32 (round_word t b)) (range_with_len 0 256) ≡ map (rows t) (range_with_len 0 256)
+-- the bytes of all words of the table
+table_columns : map (λ b. to_be_bytes w32 (round_word b)) (range_with_len 0 256) ≡ map column_of_byte (range_with_len 0 256)
 unfolding mul power product_of_squares inverse substitute round_word
-table_rows zero h = refl
-table_rows (suc zero) h = refl
-table_rows (suc (suc zero)) h = refl
-table_rows (suc (suc (suc zero))) h = refl
-table_rows (suc (suc (suc (suc t)))) h = absurd (omega arith)
+table_columns = refl
 
--- the bytes of a word of table t for byte b, which is x
-pub table-rows : (t : ℕ) → t < 4 → (w b x : ℕ) → w ≡ round_word t b → b < 256 → b ≡ x → to_be_bytes w32 w ≡ rows t x
-table-rows t h w b x e lt same = ap (to_be_bytes w32) e ∙ same_on_bytes (λ n. to_be_bytes w32 (round_word t n)) (rows t) (table_rows t h) b lt ∙ ap (rows t) same
+-- the bytes of the word for byte b, which is x
+pub table-column : (w b x : ℕ) → w ≡ round_word b → b < 256 → b ≡ x → to_be_bytes w32 w ≡ column_of_byte x
+table-column w b x e lt same =
+    ap (to_be_bytes w32) e ∙ same_on_bytes (λ n. to_be_bytes w32 (round_word n)) column_of_byte table_columns b lt ∙ ap column_of_byte same
 
--- what is left of all words in the last round
-left_rows : (r : ℕ) → r < 4 → map (λ b. to_be_bytes w32 (bit_and (round_word ((r + 2) % 4) b) (0xff000000 / 2 ^ (8 * r)))) (range_with_len 0 256)
-    ≡ map (λ b. lone_byte r (substitute b)) (range_with_len 0 256)
-unfolding mul power product_of_squares inverse substitute round_word
-left_rows zero h = refl
-left_rows (suc zero) h = refl
-left_rows (suc (suc zero)) h = refl
-left_rows (suc (suc (suc zero))) h = refl
-left_rows (suc (suc (suc (suc r)))) h = absurd (omega arith)
-
--- what is left of a word in the last round
-pub left-rows : (r : ℕ) → r < 4 → (w b : ℕ) → w ≡ round_word ((r + 2) % 4) b → b < 256
-    → to_be_bytes w32 (bit_and w (0xff000000 / 2 ^ (8 * r))) ≡ lone_byte r (substitute b)
-left-rows r h w b e lt =
-    let kept : ℕ → List ℕ = λ n. to_be_bytes w32 (bit_and n (0xff000000 / 2 ^ (8 * r))) in
-    ap kept e ∙ same_on_bytes (λ n. kept (round_word ((r + 2) % 4) n)) (λ n. lone_byte r (substitute n)) (left_rows r h) b lt
+-- the word for byte b has the substituted byte in row 2
+pub row2-substituted : (w b : ℕ) → w ≡ round_word b → b < 256 → bit_and (w / 2 ^ 8) 255 ≡ substitute b
+row2-substituted w b e lt =
+    and_mask (w / 2 ^ 8) 8 ∙ ap (λ (bytes : List ℕ). get_or bytes 2 0) (table-column w b b e lt refl)

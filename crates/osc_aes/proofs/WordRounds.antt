@@ -1,14 +1,14 @@
 -- A word's bytes under xor, and rounds on words.
-use Rattle.std.proofs.Common.{◌≡◌, ℕ, zero, suc, ◌+◌, ◌-◌, ◌*◌, ◌/◌, ◌%◌, ◌^◌, ◌<◌, List, [], ◌∷◌, ◌++◌, get_or, bit_xor, refl, ap, ap₂, ◌∙◌, sym, arith, add-zero, add-one, w32}
-use Rattle.std.proofs.lemmas.Nat.{xor_mod, xor_shr, xor_comm}
+use Rattle.std.proofs.Common.{◌≡◌, ℕ, zero, suc, ◌+◌, ◌-◌, ◌*◌, ◌/◌, ◌%◌, ◌^◌, ◌<◌, List, [], ◌∷◌, ◌++◌, get_or, bit_or, bit_xor, refl, ap, ap₂, ◌∙◌, sym, arith, add-zero, add-one, w32}
+use Rattle.std.proofs.lemmas.Nat.{or_comm, or_shifted, xor_mod, xor_shr, xor_comm}
 use Rattle.std.proofs.lemmas.List.FromFn.{fill_by_all, get_or-map-range_with_len}
-use Rattle.std.specs.Int.{byte_at, to_be_bytes}
+use Rattle.std.specs.Int.{byte_at, rotate_right, to_be_bytes}
 use Rattle.osc_aes.specs.Field.{mul}
 use Rattle.osc_aes.specs.SubstitutionBox.{substitute}
-use lib.Bits.{xor_assoc, xor_zero_r}
+use lib.Bits.{xor_assoc}
 use Rattle.osc_aes.specs.Aes128.{State, add_round_key, after_rounds, block_of, cipher, mix_columns, shift_rows, state_of, sub_bytes, word_at, xor_word}
-use Rattle.osc_aes.specs.RoundWords.{AreWordsOf, add_round_words, block_of_words, lone_byte, mixed_column}
-use Rattle.osc_aes.proofs.Entries.{rows}
+use Rattle.osc_aes.specs.RoundWords.{AreWordsOf, add_round_words, block_of_words, mixed_column, one_row_down}
+use Rattle.osc_aes.proofs.Entries.{column_of_byte}
 
 -- eight bits of a number from bit k on are added bit by bit
 bits_at-xor : (k x y : ℕ) → bit_xor x y / 2 ^ k % 2 ^ 8 ≡ bit_xor (x / 2 ^ k % 2 ^ 8) (y / 2 ^ k % 2 ^ 8)
@@ -21,45 +21,47 @@ to_be_bytes-xor x y =
     ap₂ before (bits_at-xor 24 x y)
     (ap₂ before (bits_at-xor 16 x y) (ap₂ before (bits_at-xor 8 x y) (ap (λ (b : ℕ). b ∷ []) (xor_mod x y 8))))
 
--- the bytes of the sum of four words and a key
-pub sum-bytes : (p q r s key : ℕ) (P Q R S : List ℕ)
-    → to_be_bytes w32 p ≡ P → to_be_bytes w32 q ≡ Q → to_be_bytes w32 r ≡ R → to_be_bytes w32 s ≡ S
-    → to_be_bytes w32 (bit_xor (bit_xor (bit_xor p q) (bit_xor r s)) key)
-    ≡ xor_word (xor_word (xor_word P Q) (xor_word R S)) (to_be_bytes w32 key)
-sum-bytes p q r s key P Q R S ep eq er es =
-    to_be_bytes-xor (bit_xor (bit_xor p q) (bit_xor r s)) key
-    ∙ ap (λ (u : List ℕ). xor_word u (to_be_bytes w32 key))
-    (to_be_bytes-xor (bit_xor p q) (bit_xor r s)
-    ∙ ap₂ xor_word (to_be_bytes-xor p q ∙ ap₂ xor_word ep eq) (to_be_bytes-xor r s ∙ ap₂ xor_word er es))
+-- the bytes of a sum, from the bytes of its words
+pub bytes-sum : (x y : ℕ) (X Y : List ℕ) → to_be_bytes w32 x ≡ X → to_be_bytes w32 y ≡ Y → to_be_bytes w32 (bit_xor x y) ≡ xor_word X Y
+bytes-sum x y X Y ex ey = to_be_bytes-xor x y ∙ ap₂ xor_word ex ey
 
--- a sum of four, from the second on
-xor_turn : (a b c d : ℕ) → bit_xor (bit_xor a b) (bit_xor c d) ≡ bit_xor (bit_xor b c) (bit_xor d a)
+-- the bytes of a word that is rotated by one of them
+pub bytes-rotated : (n : ℕ) → n < 2 ^ 32 → to_be_bytes w32 (rotate_right w32 n 8) ≡ one_row_down (to_be_bytes w32 n)
+bytes-rotated n fits =
+    let high : ℕ = n / 2 ^ 8 in
+    let low : ℕ = n % 2 ^ 8 in
+    let short : high < 2 ^ 24 = omega arith in
+    let moved : n * 2 ^ 24 % 2 ^ 32 ≡ low * 2 ^ 24 = omega arith in
+    let e : rotate_right w32 n 8 ≡ low * 2 ^ 24 + high =
+    ap (bit_or high) moved ∙ or_comm high (low * 2 ^ 24) ∙ or_shifted low 24 high short in
+    let before : ℕ → List ℕ → List ℕ = λ b bs. b ∷ bs in
+    let m : ℕ = rotate_right w32 n 8 in
+    let row0 : byte_at 3 m ≡ byte_at 0 n = omega (arith, e) in
+    let row1 : byte_at 2 m ≡ byte_at 3 n = omega (arith, e) in
+    let row2 : byte_at 1 m ≡ byte_at 2 n = omega (arith, e) in
+    let row3 : byte_at 0 m ≡ byte_at 1 n = omega (arith, e) in
+    ap₂ before row0 (ap₂ before row1 (ap₂ before row2 (ap (λ (b : ℕ). b ∷ []) row3)))
+
+-- a sum of four, with the first one last
+xor_turn : (a b c d : ℕ) → bit_xor a (bit_xor b (bit_xor c d)) ≡ bit_xor (bit_xor b c) (bit_xor d a)
 xor_turn a b c d =
-    xor_assoc a b (bit_xor c d) ∙ xor_comm a (bit_xor b (bit_xor c d))
-    ∙ ap (λ (x : ℕ). bit_xor x a) (sym (xor_assoc b c d)) ∙ xor_assoc (bit_xor b c) d a
+    xor_comm a (bit_xor b (bit_xor c d)) ∙ ap (λ (x : ℕ). bit_xor x a) (sym (xor_assoc b c d)) ∙ xor_assoc (bit_xor b c) d a
 
--- the sum of a column's four words in the tables is the mixed column
-pub rows-mixed : (a b c d : ℕ) → xor_word (xor_word (rows 0 a) (rows 1 b)) (xor_word (rows 2 c) (rows 3 d)) ≡ mixed_column a b c d
-rows-mixed a b c d =
+-- the mixed column is the sum of four columns, each as many rows down as its byte
+pub columns-mixed : (a b c d : ℕ)
+    → xor_word (column_of_byte a) (one_row_down (xor_word (column_of_byte b) (one_row_down (xor_word (column_of_byte c) (one_row_down (column_of_byte d))))))
+    ≡ mixed_column a b c d
+columns-mixed a b c d =
     let two : ℕ → ℕ = λ x. mul 2 (substitute x) in
     let three : ℕ → ℕ = λ x. mul 3 (substitute x) in
     let one : ℕ → ℕ = substitute in
     let before : ℕ → List ℕ → List ℕ = λ x xs. x ∷ xs in
-    ap (before _)
+    ap₂ before (sym (xor_assoc (two a) (three b) (bit_xor (one c) (one d))))
     (ap₂ before (xor_turn (one a) (two b) (three c) (one d))
-    (ap₂ before (xor_turn (one a) (one b) (two c) (three d) ∙ xor_turn (one b) (two c) (three d) (one a))
+    (ap₂ before (sym (xor_assoc (one a) (one b) (bit_xor (two c) (three d))) ∙ xor_comm (bit_xor (one a) (one b)) (bit_xor (two c) (three d)))
     (ap (λ (x : ℕ). x ∷ []) (
-    xor_turn (three a) (one b) (one c) (two d) ∙ xor_turn (one b) (one c) (two d) (three a) ∙ xor_turn (one c) (two d) (three a) (one b)
+    xor_turn (three a) (one b) (one c) (two d) ∙ xor_comm (bit_xor (one b) (one c)) (bit_xor (two d) (three a))
     ))))
-
--- the sum of four bytes, each in a row of its own, has those rows
-pub lone-sum : (a b c d : ℕ) → xor_word (xor_word (lone_byte 0 a) (lone_byte 1 b)) (xor_word (lone_byte 2 c) (lone_byte 3 d)) ≡ a ∷ b ∷ c ∷ d ∷ []
-lone-sum a b c d =
-    let zero_l : (x : ℕ) → bit_xor 0 x ≡ x = λ x. xor_comm 0 x ∙ xor_zero_r x in
-    let before : ℕ → List ℕ → List ℕ = λ x xs. x ∷ xs in
-    ap₂ before (xor_zero_r (bit_xor a 0) ∙ xor_zero_r a)
-    (ap₂ before (xor_zero_r (bit_xor 0 b) ∙ zero_l b)
-    (ap₂ before (zero_l (bit_xor c 0) ∙ xor_zero_r c) (ap (λ (x : ℕ). x ∷ []) (zero_l (bit_xor 0 d) ∙ zero_l d))))
 
 -- a byte of a word in its list
 byte_of_word : (r n : ℕ) → r < 4 → byte_at (3 - r) n ≡ get_or (to_be_bytes w32 n) r 0

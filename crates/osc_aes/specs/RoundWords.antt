@@ -1,17 +1,20 @@
 -- For the proofs: AES-128 on words of 32 bits, as in the Rijndael proposal of Daemen and Rijmen, section 5.2.1. A column
 -- is a word, and its highest byte is in row 0. words holds 4 columns, or the 44 words of an expanded key.
-use Rattle.std.specs.Prelude.{◌≡◌, ℕ, ◌+◌, ◌-◌, ◌*◌, ◌/◌, ◌%◌, ◌<◌, ◌≤◌, List, [], ◌∷◌, ◌==◌, map, slice_index, bit_xor, if◌then◌else◌}
-use Rattle.std.specs.Int.{byte_at, to_be_bytes, from_be_bytes, rotate_right, w32}
+use Rattle.std.specs.Prelude.{◌≡◌, ℕ, ◌+◌, ◌-◌, ◌*◌, ◌/◌, ◌%◌, ◌<◌, ◌≤◌, List, [], ◌∷◌, map, slice_index, bit_xor}
+use Rattle.std.specs.Int.{byte_at, to_be_bytes, from_be_bytes, w32}
 use Rattle.std.specs.List.{range_with_len}
 use Rattle.osc_aes.specs.Field.{mul}
 use Rattle.osc_aes.specs.SubstitutionBox.{substitute}
 use Rattle.osc_aes.specs.Aes128.{State, block_of, word_at}
 
--- entry b of table t: 02·S(b), S(b), S(b), 03·S(b), high byte first, rotated right by t bytes (Rijndael, 5.2.1)
-unfoldable pub round_word : ℕ → ℕ → ℕ
-round_word t b =
-    rotate_right w32
-    (from_be_bytes w32 (mul 2 (substitute b) ∷ substitute b ∷ substitute b ∷ mul 3 (substitute b) ∷ [])) (8 * t)
+-- the column that byte b of row 0 becomes, as a word: 02·S(b), S(b), S(b), 03·S(b), high byte first (Rijndael, 5.2.1)
+unfoldable pub round_word : ℕ → ℕ
+round_word b =
+    from_be_bytes w32 (mul 2 (substitute b) ∷ substitute b ∷ substitute b ∷ mul 3 (substitute b) ∷ [])
+
+-- a column whose bytes are one row further down, and the last of them in row 0 (Rijndael, 5.2.1)
+abbrev pub one_row_down : List ℕ → List ℕ
+one_row_down column = map (λ row. slice_index column ((row + 3) % 4)) (range_with_len 0 4)
 
 -- a row of a column after substitution and mixing; before them, a is in this row and b, c, d are below it (FIPS 197, 5.1.3)
 abbrev pub mixed_byte : ℕ → ℕ → ℕ → ℕ → ℕ
@@ -21,10 +24,6 @@ mixed_byte a b c d =
 -- a column after substitution and mixing, whose bytes are a, b, c and d before them (FIPS 197, 5.1.3)
 abbrev pub mixed_column : ℕ → ℕ → ℕ → ℕ → List ℕ
 mixed_column a b c d = mixed_byte a b c d ∷ mixed_byte b c d a ∷ mixed_byte c d a b ∷ mixed_byte d a b c ∷ []
-
--- a column with a byte in one row, and zeros in the others (Rijndael, 5.2.1)
-abbrev pub lone_byte : ℕ → ℕ → List ℕ
-lone_byte row x = map (λ k. if k == row then x else 0) (range_with_len 0 4)
 
 -- the state whose columns are four words (FIPS 197, 3.5)
 abbrev pub state_of_words : List ℕ → State

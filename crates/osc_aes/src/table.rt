@@ -1,16 +1,15 @@
-//! AES-128 with tables of words (Daemen and Rijmen, AES Proposal: Rijndael, 5.2.1). A column is a word, and its highest
+//! AES-128 with a table of words (Daemen and Rijmen, AES Proposal: Rijndael, 5.2.1). A column is a word, and its highest
 //! byte is in row 0.
 
 ghost use Rattle.std.specs.Prelude.{◌≡◌, ◌+◌, ◌*◌, ◌<◌, ◌≤◌, ℕ, List, [], ◌∷◌, length, slice_index};
 ghost use Rattle.std.specs.Int.{byte_at, to_be_bytes, w32};
 ghost use Rattle.osc_aes.specs.Aes128.{added_word, block_of, cipher, expanded_key, mix_columns, shift_rows, state_of, sub_bytes, sub_word, word_at, xor_word};
-ghost use Rattle.osc_aes.specs.RoundWords.{AreRoundKey, AreWordsOf, AreWordsTo, add_round_words, block_of_words, mixed_column};
+ghost use Rattle.osc_aes.specs.RoundWords.{AreRoundKey, AreWordsOf, AreWordsTo, add_round_words, block_of_words, mixed_column, one_row_down};
 ghost use Rattle.osc_aes.specs.Views.{key_of_words};
 
 use crate::block_cipher::BlockCipher;
 use crate::key_schedule::round_constant;
 use crate::round_words::{substituted, table_word};
-use crate::substitution_box::substitute_byte;
 use byteorder::{BigEndian, ByteOrder};
 
 /// AES-128 under one key, with tables. It keeps the words w0 to w43 of the key as numbers.
@@ -86,10 +85,10 @@ fn added_word(last: u32, round: usize) -> u32
     requires { round < 10 }
     ensures { to_be_bytes w32 result ≡ added_word (to_be_bytes w32 last) (4 * round + 4) }
 {
-    let row0 = substitute_byte(byte2(last)) ^ round_constant(round);
-    let row1 = substitute_byte(byte1(last));
-    let row2 = substitute_byte(byte0(last));
-    let row3 = substitute_byte(byte3(last));
+    let row0 = substituted(byte2(last)) ^ round_constant(round);
+    let row1 = substituted(byte1(last));
+    let row2 = substituted(byte0(last));
+    let row3 = substituted(byte3(last));
     word_of(row0, row1, row2, row3)
 }
 
@@ -177,9 +176,18 @@ fn mixed_word(a: u32, b: u32, c: u32, d: u32, key: u32) -> u32
     ensures { to_be_bytes w32 result
         ≡ xor_word (mixed_column (byte_at 3 a) (byte_at 2 b) (byte_at 1 c) (byte_at 0 d)) (to_be_bytes w32 key) }
 {
-    (table_word(0, byte3(a)) ^ table_word(1, byte2(b)))
-        ^ (table_word(2, byte1(c)) ^ table_word(3, byte0(d)))
-        ^ key
+    let row3 = table_word(byte0(d));
+    let rows23 = table_word(byte1(c)) ^ one_row_down(row3);
+    let rows123 = table_word(byte2(b)) ^ one_row_down(rows23);
+    table_word(byte3(a)) ^ one_row_down(rows123) ^ key
+}
+
+/// Moves the bytes of a column one row down, and the lowest to row 0.
+#[inline(always)]
+fn one_row_down(column: u32) -> u32
+    ensures { to_be_bytes w32 result ≡ one_row_down (to_be_bytes w32 column) }
+{
+    column.rotate_right(8)
 }
 
 /// Returns the columns after the last round, which doesn't mix columns.
@@ -204,9 +212,11 @@ fn last_word(a: u32, b: u32, c: u32, d: u32, key: u32) -> u32
     ensures { to_be_bytes w32 result
         ≡ xor_word (sub_word (byte_at 3 a ∷ byte_at 2 b ∷ byte_at 1 c ∷ byte_at 0 d ∷ [])) (to_be_bytes w32 key) }
 {
-    (substituted(0, byte3(a)) ^ substituted(1, byte2(b)))
-        ^ (substituted(2, byte1(c)) ^ substituted(3, byte0(d)))
-        ^ key
+    let row0 = substituted(byte3(a));
+    let row1 = substituted(byte2(b));
+    let row2 = substituted(byte1(c));
+    let row3 = substituted(byte0(d));
+    word_of(row0, row1, row2, row3) ^ key
 }
 
 /// Returns the word with these bytes, the highest first. It calls std, whose law gives the bytes back.

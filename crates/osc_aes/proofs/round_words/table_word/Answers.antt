@@ -3,4 +3,4 @@ use Rattle.osc_aes.proofs.Entries.{table-entry}
 use Rattle.osc_aes.proofs.round_words.table_word.Goals as goal
 
 pub returns : goal.returns
-returns c = table-entry c.args.row c.requires c.args.byte (omega arith)
+returns c = table-entry c.args.byte (omega arith)
