@@ -165,12 +165,16 @@ class Bench:
         """The lines that a server of ours printed, once it has ended, which the end of its input tells a mirror to."""
         return process.communicate(timeout=GIVEN_UP_S)[0].splitlines()
 
-    def lock(self, number_file: str, datagrams: int):
-        """Our lock, which keeps its number in a file of that name."""
-        return self.server("lock", "0", str(datagrams), str(self.work / number_file))
+    def first(self, record: str) -> List[str]:
+        """The word that makes a record, where none of our programs has one of that name yet."""
+        return [] if (self.work / record).exists() else ["first"]
+
+    def lock(self, record: str, datagrams: int):
+        """Our lock, which keeps its number in a record of that name."""
+        return self.server("lock", "0", str(datagrams), str(self.work / record), *self.first(record))
 
     def key(self, port: int, wish: str) -> Tuple[int, List[str]]:
-        """The status of our key, which keeps its number in one file, and the codes and payloads that came."""
-        words = [str(self.ours / "key"), str(port), str(self.work / "key.number"), wish]
+        """The status of our key, which keeps its number in one record, and the codes and payloads that came."""
+        words = [str(self.ours / "key"), str(port), str(self.work / "key.record"), wish, *self.first("key.record")]
         done = subprocess.run(words, capture_output=True, text=True, timeout=6 * GIVEN_UP_S)
         return done.returncode, [line for line in done.stdout.splitlines() if line[:1].isdigit()]

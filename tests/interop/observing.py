@@ -73,8 +73,8 @@ class Observing(Rows):
     @contextlib.contextmanager
     def at_sensor(self, datagrams: int, name: str = "sensor", program: str = "sensor", **more: int) -> Iterator[AtSensor]:
         """A sensor that takes so many datagrams. Of one name the next one goes on where the last one was."""
-        with self.bench.server(program, "0", str(datagrams), str(self.bench.work / name)) as (sensor, port), Relay(port) as relay, \
-                self.peer.observer("sensor", THE_SENSOR, relay.port, self.bench.next_token_len(), **more) as observer:
+        with self.bench.server(program, "0", str(datagrams), str(self.bench.work / name), *self.bench.first(name)) as (sensor, port), \
+                Relay(port) as relay, self.peer.observer("sensor", THE_SENSOR, relay.port, self.bench.next_token_len(), **more) as observer:
             yield AtSensor(sensor, relay, observer)
 
     @contextlib.contextmanager
@@ -83,7 +83,8 @@ class Observing(Rows):
         self.lives += 1
         with self.peer.observed("temperature", THE_SENSOR, kind) as server, Relay(server.port) as relay:
             server.measure(temperature(0))
-            line = [str(self.bench.ours / "reader"), str(relay.port), str(self.bench.work / "reader.number"), str(count)]
+            line = [str(self.bench.ours / "reader"), str(relay.port), str(self.bench.work / "reader.record"), str(count)]
+            line += self.bench.first("reader.record")
             with ended(subprocess.Popen(line, stdout=subprocess.PIPE, text=True)) as reader:
                 yield AtServer(server, relay, reader, relay.notification())
 

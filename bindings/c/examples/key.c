@@ -1,17 +1,19 @@
 /* The key to lock.c.
 
-       key PORT FILE open|shut [SENT]
+       key PORT FILE open|shut [SENT] [first]
 
-   FILE is where it keeps a number over its runs, ahead of each number that it uses, so that a crash doesn't lose it. It seals PUT /lock,
-   says under which number, sends the datagram to 127.0.0.1, and says what came back. Where the lock asks for an Echo value (RFC 9175), it
-   asks once more with the value, under the number behind. The lock may have obeyed the first request too, before it was restarted, so
-   only what may be done twice is asked for in this way. Each datagram that it sends is kept in SENT.NUMBER.
+   FILE is where it keeps a number over its runs, ahead of each number that it uses, so that a crash doesn't lose it (oscore_store.h). The
+   word `first` makes FILE, and stands in the first run alone.
+
+   It seals PUT /lock, says under which number, sends the datagram to 127.0.0.1, and says what came back. Where the lock asks for an Echo
+   value (RFC 9175), it asks once more with the value, under the number behind. The lock may have obeyed the first request too, before it
+   was restarted, so only what may be done twice is asked for in this way. Each datagram that it sends is kept in SENT.NUMBER.
 
    While neither a reply nor an acknowledgment comes it sends the same bytes again (RFC 7252, 4.2), which the lock knows by the message
    ID: a request that is sealed anew would be another one, and be obeyed once more. */
 #define _DEFAULT_SOURCE
-#include "number.h"
 #include "oscore.h"
+#include "oscore_store.h"
 #include <arpa/inet.h>
 #include <poll.h>
 #include <stdio.h>
@@ -31,9 +33,12 @@ enum { CON = 0, ACK = 2, RST = 3, PUT = 3, UNAUTHORIZED = 129, URI_PATH = 11, EC
 /* As lock.c has them. */
 static const uint8_t SECRET[] = "a secret for a try";
 static const uint8_t LOCK[] = {1}, KEY[] = {2};
+/* What the record of this context is told by. */
+static const uint8_t NAME[8] = {'k', 'e', 'y', 0, 2, 1};
 
 static oscore_kept_client client;
-static const char *number_file;
+static oscore_store store;
+static oscore_record record;
 static uint8_t received[1500];
 static size_t received_len;
 
@@ -151,13 +156,22 @@ static size_t asked_echo(const oscore_opened *response, const oscore_option *opt
     return 0;
 }
 
+/* Opens FILE, or makes it where `first` says that this end was never used: a file that is gone doesn't say that. */
+static void open_store(const char *file, bool first) {
+    oscore_stored stored = oscore_store_open(&store, file, first, NAME, &record);
+    if (stored == OSCORE_STORED || stored == OSCORE_STORE_EMPTY) return;
+    printf("FILE: %s\n", oscore_stored_name(stored));
+    exit(1);
+}
+
 /* Seals a request. A number that has to be saved first is saved, and then the client is told, in this order: told before, it could be used
    again after a crash. */
 static size_t seal(const uint8_t *plain, size_t plain_len, uint8_t *out, size_t room) {
     size_t len, detail;
     oscore_status status;
     while ((status = oscore_kept_client_request(&client, milliseconds(), plain, plain_len, out, room, &len, &detail)) == OSCORE_SAVE_FIRST) {
-        if (!save_number(number_file, detail)) stop("no number saved");
+        record.numbers[0] = detail;
+        if (oscore_store_save(&store, &record)) stop("no number saved");
         if (oscore_kept_client_saved(&client, detail)) stop("not the number that was asked for");
         printf("saved %llu\n", (unsigned long long)detail);
     }
@@ -187,27 +201,28 @@ static bool ask(int udp, const char *wish, const char *sent) {
 
 static void begin(void) {
     oscore_context context = OSCORE_ZERO;
-    uint64_t loaded;
-    if (!load_number(number_file, &loaded)) stop("no number in FILE");
     oscore_parameters parameters = OSCORE_ZERO;
     parameters.secret = SECRET, parameters.secret_len = sizeof SECRET;
     parameters.sender_id = KEY, parameters.sender_id_len = sizeof KEY;
     parameters.recipient_id = LOCK, parameters.recipient_id_len = sizeof LOCK;
     oscore_status status = oscore_derive_from(&context, &parameters);
-    if (!status) status = oscore_kept_client_begin(&client, &context, loaded, EXCHANGE_LIFETIME_MS);
+    if (!status) status = oscore_kept_client_begin(&client, &context, record.numbers[0], EXCHANGE_LIFETIME_MS);
     oscore_wipe(&context, sizeof context); /* the client has a copy */
     if (status) stop("no client");
 }
 
 int main(int count, char **words) {
-    if ((count != 4 && count != 5) || strlen(words[3]) > 16) stop("key PORT FILE open|shut [SENT]");
+    bool first = count > 4 && !strcmp(words[count - 1], "first");
+    if (first) count--;
+    if ((count != 4 && count != 5) || strlen(words[3]) > 16) stop("key PORT FILE open|shut [SENT] [first]");
     struct sockaddr_in lock = {.sin_family = AF_INET, .sin_addr.s_addr = htonl(INADDR_LOOPBACK)};
     lock.sin_port = htons((uint16_t)atoi(words[1]));
     int udp = socket(AF_INET, SOCK_DGRAM, 0);
     if (udp < 0 || connect(udp, (struct sockaddr *)&lock, sizeof lock)) stop("no such port");
-    number_file = words[2];
+    open_store(words[2], first);
     begin();
     bool answered = ask(udp, words[3], count == 5 ? words[4] : NULL);
+    oscore_store_close(&store);
     oscore_wipe(&client, sizeof client);
     oscore_wipe_stack();
     return answered ? 0 : 1;

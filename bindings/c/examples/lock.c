@@ -1,16 +1,17 @@
 /* A lock on the network: it obeys PUT /lock with "open" or "shut" where the request is protected by its context, and is new.
 
-       lock PORT DATAGRAMS FILE
+       lock PORT DATAGRAMS FILE [first]
 
    It takes so many datagrams at 127.0.0.1 and ends. PORT 0 is one that the system picks; the first line says which. FILE is where it
-   keeps a number over its runs, ahead of each Sender Sequence Number that it uses, so that a crash doesn't lose it. One that ran before
-   has lost which requests it saw; by the number in FILE it knows that, and asks for an Echo value before it obeys.
+   keeps a number over its runs, ahead of each Sender Sequence Number that it uses, so that a crash doesn't lose it (oscore_store.h). The
+   word `first` makes FILE, and stands in the first run alone. One that ran before has lost which requests it saw; by the number in FILE it
+   knows that, and asks for an Echo value before it obeys.
 
    A key whose reply was lost sends its request once more (RFC 7252, 4.2), which is a replay to the library. So the lock looks first
    whether it knows the sender and the message ID, and then sends what it sent before. */
 #define _DEFAULT_SOURCE
-#include "number.h"
 #include "oscore.h"
+#include "oscore_store.h"
 #include <arpa/inet.h>
 #include <poll.h>
 #include <stdio.h>
@@ -26,6 +27,8 @@ enum { CON = 0, NON = 1, ACK = 2, EXCHANGE_LIFETIME_MS = 247000, REPLIES = 32, M
 /* For a try only: a real secret is drawn at random for each pair, and kept safe. */
 static const uint8_t SECRET[] = "a secret for a try";
 static const uint8_t LOCK[] = {1}, KEY[] = {2};
+/* What the record of this context is told by. */
+static const uint8_t NAME[8] = {'l', 'o', 'c', 'k', 1, 2};
 
 typedef struct received {
     struct sockaddr_in from;
@@ -42,7 +45,9 @@ typedef struct sent {
     size_t len;
 } sent;
 
-static const char *state = "shut", *number_file;
+static const char *state = "shut";
+static oscore_store store;
+static oscore_record record;
 /* The last replies. Where more are sent in their lifetime, the oldest is forgotten: its request, come again, is refused as a replay. */
 static sent replies[REPLIES];
 static size_t reply_count;
@@ -135,9 +140,18 @@ static void keep_reply(const received *request, const uint8_t *out, size_t len) 
     memcpy(reply->bytes, out, len);
 }
 
+/* Opens FILE, or makes it where `first` says that this end was never used: a file that is gone doesn't say that. */
+static void open_store(const char *file, bool first) {
+    oscore_stored stored = oscore_store_open(&store, file, first, NAME, &record);
+    if (stored == OSCORE_STORED || stored == OSCORE_STORE_EMPTY) return;
+    printf("FILE: %s\n", oscore_stored_name(stored));
+    exit(1);
+}
+
 /* Saves a number, and then tells the server, in this order: told before, it could be used again after a crash. */
 static void save_first(oscore_kept_server *server, uint64_t number) {
-    if (!save_number(number_file, number)) stop("no number saved");
+    record.numbers[0] = number;
+    if (oscore_store_save(&store, &record)) stop("no number saved");
     if (oscore_kept_server_saved(server, number)) stop("not the number that was asked for");
     printf("saved %llu\n", (unsigned long long)number);
 }
@@ -183,18 +197,17 @@ static void serve_one(oscore_kept_server *server, int udp) {
 }
 
 int main(int count, char **words) {
-    if (count != 4) stop("lock PORT DATAGRAMS FILE");
+    bool first = count == 5 && !strcmp(words[4], "first");
+    if (count != 4 && !first) stop("lock PORT DATAGRAMS FILE [first]");
     static oscore_context context;
     static oscore_kept_server server;
-    uint64_t loaded;
-    number_file = words[3];
-    if (!load_number(number_file, &loaded)) stop("no number in FILE");
+    open_store(words[3], first);
     oscore_parameters parameters = OSCORE_ZERO;
     parameters.secret = SECRET, parameters.secret_len = sizeof SECRET;
     parameters.sender_id = LOCK, parameters.sender_id_len = sizeof LOCK;
     parameters.recipient_id = KEY, parameters.recipient_id_len = sizeof KEY;
     oscore_status status = oscore_derive_from(&context, &parameters);
-    if (!status) status = oscore_kept_server_begin(&server, &context, loaded, 32);
+    if (!status) status = oscore_kept_server_begin(&server, &context, record.numbers[0], 32);
     oscore_wipe(&context, sizeof context); /* the server has a copy */
     if (status) stop("no server");
 
@@ -207,6 +220,7 @@ int main(int count, char **words) {
     fflush(stdout);
     for (int left = atoi(words[2]); left > 0; left--) serve_one(&server, udp);
     printf("next Sender Sequence Number %llu\n", (unsigned long long)server.server.context.next);
+    oscore_store_close(&store);
     oscore_wipe(&server, sizeof server);
     oscore_wipe_stack();
     return 0;

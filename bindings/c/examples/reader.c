@@ -1,15 +1,15 @@
 /* The reader of sensor.c.
 
-       reader PORT FILE COUNT
+       reader PORT FILE COUNT [first]
 
-   FILE is where it keeps a number over its runs, as key.c does. It registers for GET /temperature at 127.0.0.1 and says what it hears.
-   After COUNT notifications it cancels the observation, and says what the answer is. Where the sensor asks for an Echo value (RFC 9175),
-   it registers once more with the value: a GET may be done twice.
+   FILE is where it keeps a number over its runs, which the word `first` makes, as key.c does. It registers for GET /temperature at
+   127.0.0.1 and says what it hears. After COUNT notifications it cancels the observation, and says what the answer is. Where the sensor
+   asks for an Echo value (RFC 9175), it registers once more with the value: a GET may be done twice.
 
    A notification that comes behind a newer one, or twice, is old: the library tells by its number. */
 #define _DEFAULT_SOURCE
-#include "number.h"
 #include "oscore.h"
+#include "oscore_store.h"
 #include <arpa/inet.h>
 #include <poll.h>
 #include <stdio.h>
@@ -29,10 +29,13 @@ enum { CON = 0, ACK = 2, RST = 3, GET = 1, UNAUTHORIZED = 129, OBSERVE = 6, URI_
 /* As sensor.c has them. */
 static const uint8_t SECRET[] = "a secret for a try";
 static const uint8_t SENSOR[] = {3}, READER[] = {4};
+/* What the record of this context is told by. */
+static const uint8_t NAME[8] = {'r', 'e', 'a', 'd', 4, 3};
 
 static oscore_kept_client client;
 static int udp;
-static const char *number_file;
+static oscore_store store;
+static oscore_record record;
 static uint8_t token[4], received[1500];
 static size_t received_len;
 static oscore_option options[8];
@@ -150,13 +153,22 @@ static size_t asked_echo(const oscore_opened *response, uint8_t echo[12]) {
     return 0;
 }
 
+/* Opens FILE, or makes it where `first` says that this end was never used: a file that is gone doesn't say that. */
+static void open_store(const char *file, bool first) {
+    oscore_stored stored = oscore_store_open(&store, file, first, NAME, &record);
+    if (stored == OSCORE_STORED || stored == OSCORE_STORE_EMPTY) return;
+    printf("FILE: %s\n", oscore_stored_name(stored));
+    exit(1);
+}
+
 /* Seals a request. A number that has to be saved first is saved, and then the client is told, in this order: told before, it could be used
    again after a crash. */
 static size_t seal(const uint8_t *plain, size_t plain_len, uint8_t *out, size_t room) {
     size_t len, detail;
     oscore_status status;
     while ((status = oscore_kept_client_request(&client, milliseconds(), plain, plain_len, out, room, &len, &detail)) == OSCORE_SAVE_FIRST) {
-        if (!save_number(number_file, detail)) stop("no number saved");
+        record.numbers[0] = detail;
+        if (oscore_store_save(&store, &record)) stop("no number saved");
         if (oscore_kept_client_saved(&client, detail)) stop("not the number that was asked for");
         printf("saved %llu\n", (unsigned long long)detail);
     }
@@ -182,26 +194,25 @@ static oscore_opened ask(bool cancels) {
 
 static void begin(void) {
     oscore_context context = OSCORE_ZERO;
-    uint64_t loaded;
-    if (!load_number(number_file, &loaded)) stop("no number in FILE");
     oscore_parameters parameters = OSCORE_ZERO;
     parameters.secret = SECRET, parameters.secret_len = sizeof SECRET;
     parameters.sender_id = READER, parameters.sender_id_len = sizeof READER;
     parameters.recipient_id = SENSOR, parameters.recipient_id_len = sizeof SENSOR;
     parameters.observe = 1;
     oscore_status status = oscore_derive_from(&context, &parameters);
-    if (!status) status = oscore_kept_client_begin(&client, &context, loaded, EXCHANGE_LIFETIME_MS);
+    if (!status) status = oscore_kept_client_begin(&client, &context, record.numbers[0], EXCHANGE_LIFETIME_MS);
     oscore_wipe(&context, sizeof context); /* the client has a copy */
     if (status) stop("no client");
 }
 
 int main(int count, char **words) {
-    if (count != 4) stop("reader PORT FILE COUNT");
+    bool first = count == 5 && !strcmp(words[4], "first");
+    if (count != 4 && !first) stop("reader PORT FILE COUNT [first]");
     struct sockaddr_in sensor = {.sin_family = AF_INET, .sin_addr.s_addr = htonl(INADDR_LOOPBACK)};
     sensor.sin_port = htons((uint16_t)atoi(words[1]));
     udp = socket(AF_INET, SOCK_DGRAM, 0);
     if (udp < 0 || connect(udp, (struct sockaddr *)&sensor, sizeof sensor)) stop("no such port");
-    number_file = words[2];
+    open_store(words[2], first);
     begin();
     oscore_opened response = ask(false);
     for (int left = atoi(words[3]); response.is_notification; response = left > 0 ? hear() : ask(true)) {
@@ -213,6 +224,7 @@ int main(int count, char **words) {
     }
     printf("last: %u.%02u%s%.*s\n", response.code >> 5, response.code & 31u, response.payload_len > 0 ? " " : "", (int)response.payload_len,
            (const char *)response.payload);
+    oscore_store_close(&store);
     oscore_wipe(&client, sizeof client);
     oscore_wipe_stack();
     return 0;

@@ -24,6 +24,13 @@ begin() {
     read -r -t 10 _ port <&3
 }
 
+# Shows what a program says that stops at once, for the sake of its record.
+refused() {
+    echo "-- $*"
+    (cd "$work" && timeout 20 "./$1" "${@:2}") | sed "s/^/$1: /" && return 1
+    return 0
+}
+
 # Shows what it printed until it ended.
 finish() {
     timeout 20 cat <&3 | sed "s/^/$serves: /"
@@ -65,56 +72,68 @@ behind() {
     exec 5<&-
 }
 
+# The number in a record: that of the place with the greater generation (oscore_store.h).
+kept() {
+    local place
+    for place in 0 4096; do od -An -v -tu8 -j $((place + 8)) -N 16 "$work/$1"; done | sort -n | awk 'END { print $2 }'
+}
+
 of_lock_and_key() {
-    begin lock 3 lock.number
-    ask key key.number shut
-    ask key key.number open sent
+    # Where no first run made the record, nothing runs.
+    refused lock 0 1 lock.record
+    begin lock 3 lock.record first
+    ask key key.record shut first
+    # A second lock over the same record doesn't run beside the first.
+    refused lock 0 1 lock.record
+    ask key key.record open sent
     replay sent.64
     finish
+    # What was made isn't made again.
+    refused lock 0 1 lock.record first
     # A lock that ran before knows it by its number.
-    begin lock 4 lock.number
+    begin lock 4 lock.record
     replay sent.64
-    ask key key.number shut sent
+    ask key key.record shut sent
     replay sent.64
     finish
     # A datagram that is lost: the door opens once, and the key learns it. The second one's request comes twice.
-    begin lock 6 lock.number
-    ask key key.number shut
-    behind request key key.number open
-    behind reply key key.number shut
-    behind separate key key.number open
+    begin lock 6 lock.record
+    ask key key.record shut
+    behind request key key.record open
+    behind reply key key.record shut
+    behind separate key key.record open
     finish
-    echo "numbers kept: $(cat "$work/lock.number") of the lock, $(cat "$work/key.number") of the key"
+    echo "numbers kept: $(kept lock.record) of the lock, $(kept key.record) of the key"
 }
 
 of_sensor_and_reader() {
     # The sensor ends the observation.
-    begin sensor 4 sensor.number
-    ask reader reader.number 9
+    begin sensor 4 sensor.record first
+    ask reader reader.record 9 first
     finish
     # The reader ends it. A fourth notification is on its way then.
-    begin sensor 5 sensor.number
-    ask reader reader.number 3
+    begin sensor 5 sensor.record
+    ask reader reader.record 3
     finish
     # A notification is lost, comes behind a newer one, or twice.
-    begin sensor 4 sensor.number
-    behind lost reader reader.number 9
+    begin sensor 4 sensor.record
+    behind lost reader reader.record 9
     finish
-    begin sensor 5 sensor.number
-    behind late reader reader.number 9
+    begin sensor 5 sensor.record
+    behind late reader reader.record 9
     finish
-    begin sensor 5 sensor.number
-    behind twice reader reader.number 9
+    begin sensor 5 sensor.record
+    behind twice reader reader.record 9
     finish
     # The ACK of the registration is lost: what comes next is heard all the same.
-    begin sensor 4 sensor.number
-    behind first reader reader.number 9
+    begin sensor 4 sensor.record
+    behind first reader reader.record 9
     finish
     # The answer to a cancellation is lost, so that comes again.
-    begin sensor 4 sensor.number
-    behind answer reader reader.number 1
+    begin sensor 4 sensor.record
+    behind answer reader reader.record 1
     finish
-    echo "numbers kept: $(cat "$work/sensor.number") of the sensor, $(cat "$work/reader.number") of the reader"
+    echo "numbers kept: $(kept sensor.record) of the sensor, $(kept reader.record) of the reader"
 }
 
 says() {

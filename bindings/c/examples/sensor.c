@@ -1,15 +1,15 @@
 /* A sensor on the network: who registers for GET /temperature under its context hears each new temperature (RFC 7641; RFC 8613, 4.1.3.5).
 
-       sensor PORT DATAGRAMS FILE
+       sensor PORT DATAGRAMS FILE [first]
 
-   It takes so many datagrams at 127.0.0.1 and ends; who observes it then gets 4.04. PORT and FILE are as lock.c has them.
+   It takes so many datagrams at 127.0.0.1 and ends; who observes it then gets 4.04. PORT, FILE and `first` are as lock.c has them.
 
    One reader at a time observes it, the one that registered last. The first notification is the ACK of its registration. Each later one
    is confirmable, and is sent where the one before was acknowledged. Where no acknowledgment comes in time, the same bytes aren't sent
    again: the sensor measures, and sends a notification of what is new (RFC 7641, 4.5.2). */
 #define _DEFAULT_SOURCE
-#include "number.h"
 #include "oscore.h"
+#include "oscore_store.h"
 #include <arpa/inet.h>
 #include <poll.h>
 #include <stdio.h>
@@ -30,10 +30,13 @@ enum { GET = 1, CONTENT = 69, BAD_OPTION = 130, NOT_FOUND = 132, NOT_ALLOWED = 1
 /* For a try only: a real secret is drawn at random for each pair, and kept safe. */
 static const uint8_t SECRET[] = "a secret for a try";
 static const uint8_t SENSOR[] = {3}, READER[] = {4};
+/* What the record of this context is told by. */
+static const uint8_t NAME[8] = {'s', 'e', 'n', 's', 3, 4};
 
 static oscore_kept_server server;
 static int udp;
-static const char *number_file;
+static oscore_store store;
+static oscore_record record;
 static uint16_t next_id;
 static uint32_t measured; /* how often: the temperature grows with it, and so does Observe (RFC 7641, 4.4) */
 
@@ -86,9 +89,18 @@ static void send_to(const struct sockaddr_in *to, const uint8_t *bytes, size_t l
     if (len > 0) sendto(udp, bytes, len, 0, (const struct sockaddr *)to, sizeof *to);
 }
 
+/* Opens FILE, or makes it where `first` says that this end was never used: a file that is gone doesn't say that. */
+static void open_store(const char *file, bool first) {
+    oscore_stored stored = oscore_store_open(&store, file, first, NAME, &record);
+    if (stored == OSCORE_STORED || stored == OSCORE_STORE_EMPTY) return;
+    printf("FILE: %s\n", oscore_stored_name(stored));
+    exit(1);
+}
+
 /* Saves a number, and then tells the server, in this order: told before, it could be used again after a crash. */
 static void save_first(uint64_t number) {
-    if (!save_number(number_file, number)) stop("no number saved");
+    record.numbers[0] = number;
+    if (oscore_store_save(&store, &record)) stop("no number saved");
     if (oscore_kept_server_saved(&server, number)) stop("not the number that was asked for");
     printf("saved %llu\n", (unsigned long long)number);
 }
@@ -275,22 +287,21 @@ static void serve_one(void) {
 
 static void begin(void) {
     oscore_context context = OSCORE_ZERO;
-    uint64_t loaded;
-    if (!load_number(number_file, &loaded)) stop("no number in FILE");
     oscore_parameters parameters = OSCORE_ZERO;
     parameters.secret = SECRET, parameters.secret_len = sizeof SECRET;
     parameters.sender_id = SENSOR, parameters.sender_id_len = sizeof SENSOR;
     parameters.recipient_id = READER, parameters.recipient_id_len = sizeof READER;
     parameters.observe = 1;
     oscore_status status = oscore_derive_from(&context, &parameters);
-    if (!status) status = oscore_kept_server_begin(&server, &context, loaded, 32);
+    if (!status) status = oscore_kept_server_begin(&server, &context, record.numbers[0], 32);
     oscore_wipe(&context, sizeof context); /* the server has a copy */
     if (status) stop("no server");
 }
 
 int main(int count, char **words) {
-    if (count != 4) stop("sensor PORT DATAGRAMS FILE");
-    number_file = words[3];
+    bool first = count == 5 && !strcmp(words[4], "first");
+    if (count != 4 && !first) stop("sensor PORT DATAGRAMS FILE [first]");
+    open_store(words[3], first);
     begin();
     draw(&next_id, sizeof next_id);
     struct sockaddr_in own = {.sin_family = AF_INET, .sin_addr.s_addr = htonl(INADDR_LOOPBACK)};
@@ -306,6 +317,7 @@ int main(int count, char **words) {
     }
     if (observation.on) end_observation();
     printf("next Sender Sequence Number %llu\n", (unsigned long long)server.server.context.next);
+    oscore_store_close(&store);
     oscore_wipe(&server, sizeof server);
     oscore_wipe_stack();
     return 0;

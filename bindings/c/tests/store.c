@@ -1,0 +1,508 @@
+/* Records of oscore_store.h: their bytes; each status of each call; two threads and two processes at one file, and one that is killed; a file
+   of which each byte of a place is torn or spoilt, which is put back from a backup, or to which the system writes nothing; power cuts between
+   a write and its sync, with any part of it done. store/flash.c has those in flash.
+
+   What is expected follows from the rule that the header states: a cut leaves the record that was saved last or the one that is being saved.
+   The checksums are CRC-32's own check value and one by zlib. Built with the sanitizers by .ci/run, and run under valgrind's memcheck with
+   fewer saves, which its only word says. */
+#define _DEFAULT_SOURCE
+#include <errno.h>
+#include <fcntl.h>
+#include <pthread.h>
+#include <sched.h>
+#include <signal.h>
+#include <stdio.h>
+#include <stdlib.h>
+#include <string.h>
+#include <sys/mman.h>
+#include <sys/resource.h>
+#include <sys/stat.h>
+#include <sys/wait.h>
+#include <unistd.h>
+
+/* The header's calls of the system come by here. */
+static ssize_t tried_write(int file, const void *bytes, size_t len, off_t at);
+static ssize_t tried_read(int file, void *bytes, size_t len, off_t at);
+static int tried_sync(int file);
+#define pwrite tried_write
+#define pread tried_read
+#define fsync tried_sync
+#include "store/tried.h"
+#undef pwrite
+#undef pread
+#undef fsync
+
+enum { PLACE = 4096, IMAGE = PLACE + LEN };
+static char folder[200], name[256], other[256];
+static uint32_t saves = 2000;
+
+/* ---- a record's bytes */
+
+static void bytes_of_a_record(void) {
+    static const char *const NAMES[] = {"Stored", "Empty", "Locked", "Broken", "Other", "There", "Behind", "Lower", "Failed"};
+    for (int stored = OSCORE_STORED; stored <= OSCORE_STORE_FAILED; stored++) CHECK(!strcmp(oscore_stored_name((oscore_stored)stored), NAMES[stored]));
+    CHECK(OSCORE_STORED == 0 && OSCORE_STORE_FAILED == 8 && !strcmp(oscore_stored_name((oscore_stored)9), "Failed"));
+    static const uint8_t WANTED[LEN] = {
+        'o', 's', 'c', '-', 'n', 'u', 'm', 1, 0x02, 0x01, 0, 0, 0, 0, 0, 0, 0x32, 0x31, 0x30, 0x29, 0x28, 0, 0, 0, 7, 0, 0, 0, 0, 0, 0, 0,
+        'l', 'o', 'c', 'k', 1, 2, 0, 0, 0, 0, 0, 0, 0xc7, 0x35, 0x6d, 0xb6};
+    const oscore_record record = record_of(0x2829303132, 7);
+    oscore_record read;
+    uint64_t generation;
+    uint8_t bytes[LEN];
+    CHECK(oscore_record_checksum((const uint8_t *)"123456789", 9) == 0xcbf43926);
+    oscore_record_write(&record, 0x0102, bytes);
+    CHECK(!memcmp(bytes, WANTED, LEN));
+    CHECK(oscore_record_read(bytes, &generation, &read) && generation == 0x0102 && is(&read, 0x2829303132, 7));
+    for (int bit = 0; bit < 8 * LEN; bit++) {
+        bytes[bit / 8] ^= (uint8_t)(1 << bit % 8);
+        CHECK(!oscore_record_read(bytes, &generation, &read));
+        bytes[bit / 8] ^= (uint8_t)(1 << bit % 8);
+    }
+    /* Another version, or bytes that aren't 0 where they have to be, with a checksum that holds. */
+    for (int at = 0; at < 44; at = at == 7 ? 40 : at + 1) {
+        memcpy(bytes, WANTED, LEN);
+        bytes[at]++;
+        oscore_record_put(bytes + 44, oscore_record_checksum(bytes, 44), 4);
+        CHECK(!oscore_record_read(bytes, &generation, &read));
+    }
+}
+
+/* ---- what the system does */
+
+/* What is in a file for good, and the one write that isn't yet. */
+static uint8_t durable[IMAGE], written[LEN];
+static size_t durable_len, written_len;
+static off_t written_at;
+enum { NOTHING, SHORT_WRITES, WRITES, SYNCS, READS };
+static int refused;
+static bool cuts; /* a power cut is tried before each sync */
+static bool hastes; /* nothing waits for the disk */
+static _Thread_local int syncs, folder_syncs;
+
+static ssize_t tried_read(int file, void *bytes, size_t len, off_t at) {
+    static _Thread_local int interrupted;
+    if (refused == READS) return errno = EIO, -1;
+    if (++interrupted % 3 == 0) return errno = EINTR, -1;
+    return pread(file, bytes, len, at);
+}
+
+static ssize_t tried_write(int file, const void *bytes, size_t len, off_t at) {
+    static _Thread_local int interrupted;
+    if (refused == WRITES) return errno = ENOSPC, -1;
+    if (refused == SHORT_WRITES && ++interrupted % 2) return errno = EINTR, -1;
+    if (refused == SHORT_WRITES && len > 7) len = 7;
+    ssize_t done = pwrite(file, bytes, len, at);
+    if (!cuts || done < 0) return done;
+    CHECK(written_len == 0 && done == LEN);
+    memcpy(written, bytes, LEN), written_len = LEN, written_at = at;
+    return done;
+}
+
+static void put(const char *file, const uint8_t *bytes, size_t len) {
+    int to = open(file, O_WRONLY | O_CREAT | O_TRUNC, 0600);
+    CHECK(to >= 0 && write(to, bytes, len) == (ssize_t)len && !close(to));
+}
+
+static size_t get(const char *file, uint8_t *bytes) {
+    int from = open(file, O_RDONLY);
+    ssize_t len = read(from, bytes, IMAGE);
+    CHECK(from >= 0 && len >= 0 && !close(from));
+    return (size_t)len;
+}
+
+/* What a store over these bytes holds. */
+static oscore_stored opened(const uint8_t *bytes, size_t len, oscore_record *record) {
+    oscore_store store;
+    put(other, bytes, len);
+    oscore_stored stored = oscore_store_open(&store, other, false, LOCK, record);
+    oscore_store_close(&store);
+    return stored;
+}
+
+/* The power is cut before a sync: of the write any first bytes are there, or any others. */
+static void cut_before_sync(void) {
+    oscore_record old, new;
+    uint8_t torn[IMAGE] = {0};
+    size_t len = durable_len > (size_t)written_at + LEN ? durable_len : (size_t)written_at + LEN;
+    memcpy(torn, durable, durable_len);
+    CHECK(opened(durable, durable_len, &old) <= OSCORE_STORE_EMPTY);
+    for (int by = 0; by < 2 * LEN; by++) {
+        for (int i = 0; i < LEN; i++) {
+            bool there = by < LEN ? i < by : draw() % 2;
+            torn[written_at + i] = there ? written[i] : (size_t)written_at + (size_t)i < durable_len ? durable[written_at + i] : 0;
+        }
+        CHECK(opened(torn, len, &new) <= OSCORE_STORE_EMPTY);
+        CHECK(is(&new, old.numbers[0], old.numbers[1]) || !memcmp(torn + written_at, written, LEN));
+    }
+}
+
+static int tried_sync(int file) {
+    struct stat which;
+    if (refused == SYNCS) return errno = EIO, -1;
+    if (++syncs % 3 == 0) return errno = EINTR, -1;
+    CHECK(!fstat(file, &which));
+    folder_syncs += S_ISDIR(which.st_mode);
+    if (!cuts || !S_ISREG(which.st_mode)) return hastes ? 0 : fsync(file);
+    cuts = false;
+    if (written_len > 0) {
+        if (durable_len > 0) cut_before_sync();
+        if (durable_len < (size_t)written_at + LEN) durable_len = (size_t)written_at + LEN;
+        memcpy(durable + written_at, written, LEN), written_len = 0;
+    }
+    cuts = true;
+    return 0;
+}
+
+/* ---- a file */
+
+static oscore_store store;
+
+static oscore_stored open_as(const uint8_t *context, bool provision, oscore_record *record) {
+    return oscore_store_open(&store, name, provision, context, record);
+}
+
+static oscore_stored save(uint64_t own, uint64_t received) {
+    const oscore_record record = record_of(own, received);
+    return oscore_store_save(&store, &record);
+}
+
+/* A file with a store that saved 64 and 3, then 128 and 5, and is closed. */
+static void begin(void) {
+    oscore_record record;
+    unlink(name);
+    CHECK(open_as(LOCK, true, &record) == OSCORE_STORE_EMPTY && is(&record, 0, 0));
+    CHECK(!save(64, 3) && !save(128, 5));
+    oscore_store_close(&store);
+}
+
+static void reopen(uint64_t own, uint64_t received) {
+    oscore_record record;
+    oscore_store_close(&store);
+    CHECK(!open_as(LOCK, false, &record) && is(&record, own, received));
+}
+
+/* Answers, and leaves the record as it was. */
+static void is_refused(const uint8_t *context, bool provision, oscore_stored wanted) {
+    oscore_record record = record_of(77, 78);
+    CHECK(open_as(context, provision, &record) == wanted && is(&record, 77, 78));
+    CHECK(save(1000, 1000) == OSCORE_STORE_FAILED);
+    oscore_store_close(&store);
+}
+
+static void opens(void) {
+    oscore_record record;
+    uint8_t bytes[IMAGE], first[IMAGE];
+    memset(&store, 0, sizeof store);
+    CHECK(save(1, 1) == OSCORE_STORE_FAILED);
+    oscore_store_close(&store);
+    /* What isn't there, or is empty, is no first start. */
+    unlink(name);
+    is_refused(LOCK, false, OSCORE_STORE_BROKEN);
+    CHECK(access(name, F_OK));
+    put(name, bytes, 0);
+    is_refused(LOCK, false, OSCORE_STORE_BROKEN);
+    /* A provisioned store is empty until its first save; until then it may be provisioned again. */
+    for (int again = 0; again < 2; again++) {
+        folder_syncs = 0;
+        CHECK(open_as(LOCK, true, &record) == OSCORE_STORE_EMPTY && is(&record, 0, 0) && folder_syncs == 1);
+        oscore_store_close(&store);
+    }
+    CHECK(get(name, first) == LEN);
+    is_refused(METER, true, OSCORE_STORE_OTHER);
+    CHECK(open_as(LOCK, false, &record) == OSCORE_STORE_EMPTY && is(&record, 0, 0) && !save(0, 0));
+    reopen(0, 0);
+    CHECK(!save(64, 0) && !save(64, 0) && !save(64, 3) && !save(128, 3) && !save((uint64_t)1 << 40, 3));
+    reopen((uint64_t)1 << 40, 3);
+    CHECK(store.generation == 6);
+    oscore_store_close(&store), oscore_store_close(&store);
+    /* Judged in this order. */
+    is_refused(METER, true, OSCORE_STORE_OTHER);
+    is_refused(METER, false, OSCORE_STORE_OTHER);
+    is_refused(LOCK, true, OSCORE_STORE_THERE);
+    reopen((uint64_t)1 << 40, 3);
+    oscore_store_close(&store);
+    /* What a provision that was stopped leaves may be provisioned; nothing else that is there. */
+    for (int len = 0; len <= LEN; len++) {
+        memset(bytes, 0, LEN), memcpy(bytes, first, (size_t)len);
+        put(name, bytes, LEN);
+        if (memcmp(bytes, first, LEN)) is_refused(LOCK, false, OSCORE_STORE_BROKEN);
+        CHECK(open_as(LOCK, true, &record) == OSCORE_STORE_EMPTY);
+        oscore_store_close(&store);
+        if (len == LEN) continue;
+        bytes[len] = (uint8_t)(first[len] == 0xff ? 1 : first[len] + 1);
+        put(name, bytes, (size_t)len + 1);
+        is_refused(LOCK, true, OSCORE_STORE_BROKEN);
+        CHECK(get(name, durable) == (size_t)len + 1 && !memcmp(durable, bytes, (size_t)len + 1));
+    }
+    memset(bytes, 0, IMAGE);
+    put(name, bytes, IMAGE);
+    is_refused(LOCK, true, OSCORE_STORE_BROKEN);
+    /* No folder; a folder; the system. */
+    CHECK(oscore_store_open(&store, "no such folder/lock", true, LOCK, &record) == OSCORE_STORE_FAILED);
+    CHECK(oscore_store_open(&store, folder, false, LOCK, &record) == OSCORE_STORE_FAILED);
+    begin();
+    for (refused = SYNCS; refused <= READS; refused++) CHECK(open_as(LOCK, false, &record) == OSCORE_STORE_FAILED);
+    for (unlink(name), refused = WRITES; refused <= READS; refused++) CHECK(open_as(LOCK, true, &record) == OSCORE_STORE_FAILED);
+    refused = NOTHING;
+    unlink(name);
+    CHECK(chdir(folder) == 0 && oscore_store_open(&store, "bare", true, LOCK, &record) == OSCORE_STORE_EMPTY && !save(1, 1));
+    oscore_store_close(&store);
+    CHECK(!unlink("bare"));
+}
+
+/* A place that is torn or spoilt loses to the other one; where both are, the file is broken. */
+static void torn(void) {
+    uint8_t whole[IMAGE], old[IMAGE], bytes[IMAGE], both[IMAGE];
+    oscore_record record;
+    begin();
+    reopen(128, 5);
+    CHECK(get(name, old) == IMAGE && !save(192, 6) && get(name, whole) == IMAGE);
+    oscore_store_close(&store);
+    /* The third save is of generation 3, so it wrote the second place, over that of generation 1. */
+    CHECK(!memcmp(old, whole, PLACE) && memcmp(old + PLACE, whole + PLACE, LEN));
+    for (int len = 0; len < LEN; len++) {
+        memcpy(bytes, old, IMAGE), memcpy(bytes + PLACE, whole + PLACE, (size_t)len);
+        bool is_whole = !memcmp(bytes, whole, IMAGE); /* where the bytes that lack are those that were there */
+        CHECK(!opened(bytes, IMAGE, &record) && (is_whole ? is(&record, 192, 6) : is(&record, 128, 5)));
+        CHECK(!opened(bytes, PLACE + (size_t)len, &record) && is(&record, 128, 5));
+    }
+    for (int bit = 0; bit < 8 * LEN; bit++) {
+        memcpy(bytes, whole, IMAGE);
+        bytes[PLACE + bit / 8] ^= (uint8_t)(1 << bit % 8);
+        CHECK(!opened(bytes, IMAGE, &record) && is(&record, 128, 5));
+        memcpy(both, bytes, IMAGE), memcpy(bytes, whole, IMAGE);
+        bytes[bit / 8] ^= (uint8_t)(1 << bit % 8), both[bit / 8] ^= (uint8_t)(1 << bit % 8);
+        CHECK(!opened(bytes, IMAGE, &record) && is(&record, 192, 6));
+        CHECK(opened(both, IMAGE, &record) == OSCORE_STORE_BROKEN);
+    }
+    /* A record that stands in the place of the other one isn't good. */
+    memcpy(bytes, whole, IMAGE), memcpy(bytes + PLACE, whole, LEN);
+    CHECK(!opened(bytes, IMAGE, &record) && is(&record, 128, 5));
+    memcpy(bytes, whole + PLACE, LEN);
+    CHECK(opened(bytes, IMAGE, &record) == OSCORE_STORE_BROKEN);
+}
+
+/* Somebody else's save, a file that is put back, in its place or as another file, one that is gone, or spoilt: nothing is written. */
+static void behind(void) {
+    uint8_t old[IMAGE], there[IMAGE], bytes[IMAGE];
+    begin();
+    CHECK(get(name, old) == IMAGE);
+    reopen(128, 5);
+    CHECK(!save(192, 6) && get(name, there) == IMAGE);
+    put(name, old, IMAGE);
+    CHECK(save(256, 7) == OSCORE_STORE_BEHIND && save(1, 1) == OSCORE_STORE_BEHIND && get(name, bytes) == IMAGE && !memcmp(bytes, old, IMAGE));
+    /* A record of the same generation with other numbers. */
+    const oscore_record same = record_of(191, 6);
+    memcpy(bytes, there, IMAGE), oscore_record_write(&same, 3, bytes + PLACE);
+    put(name, bytes, IMAGE);
+    CHECK(save(256, 7) == OSCORE_STORE_BEHIND);
+    put(name, bytes, 0);
+    CHECK(save(256, 7) == OSCORE_STORE_BROKEN);
+    /* The same numbers of an earlier save. */
+    put(name, there, IMAGE);
+    CHECK(!save(192, 6));
+    put(name, there, IMAGE);
+    CHECK(save(256, 7) == OSCORE_STORE_BEHIND);
+    reopen(192, 6);
+    CHECK(!save(256, 7) && get(name, there) == IMAGE);
+    put(other, there, IMAGE);
+    CHECK(!rename(other, name) && save(320, 8) == OSCORE_STORE_BEHIND && get(name, bytes) == IMAGE && !memcmp(bytes, there, IMAGE));
+    CHECK(!unlink(name) && save(320, 8) == OSCORE_STORE_BEHIND);
+    oscore_store_close(&store);
+}
+
+static void refuses(void) {
+    oscore_record record = record_of(192, 6);
+    begin();
+    reopen(128, 5);
+    CHECK(save(127, 6) == OSCORE_STORE_LOWER && save(192, 4) == OSCORE_STORE_LOWER && !save(128, 5));
+    memcpy(record.context, METER, sizeof METER);
+    CHECK(oscore_store_save(&store, &record) == OSCORE_STORE_OTHER);
+    record.numbers[0] = 1;
+    CHECK(oscore_store_save(&store, &record) == OSCORE_STORE_OTHER);
+    reopen(128, 5);
+    oscore_store_close(&store);
+}
+
+/* What fails saves nothing, and what is saved after it isn't told apart from it: so nothing is saved until the store is opened again. */
+static void fails(void) {
+    struct rlimit before, none;
+    begin();
+    reopen(128, 5);
+    refused = SHORT_WRITES;
+    CHECK(!save(192, 6));
+    refused = NOTHING;
+    for (int step = WRITES; step <= READS; step++) {
+        reopen(192, 6);
+        refused = step;
+        CHECK(save(step == SYNCS ? 192 : 256, 6) == OSCORE_STORE_FAILED);
+        refused = NOTHING;
+        CHECK(save(256, 7) == OSCORE_STORE_FAILED);
+    }
+    reopen(192, 6);
+    CHECK(!getrlimit(RLIMIT_FSIZE, &before) && signal(SIGXFSZ, SIG_IGN) != SIG_ERR);
+    none = before, none.rlim_cur = 0;
+    CHECK(!setrlimit(RLIMIT_FSIZE, &none));
+    oscore_stored stored = save(256, 7);
+    CHECK(!setrlimit(RLIMIT_FSIZE, &before) && stored == OSCORE_STORE_FAILED);
+    reopen(192, 6);
+    int from = open(name, O_RDONLY);
+    CHECK(from >= 0 && dup2(from, store.file) == store.file && !close(from) && save(256, 7) == OSCORE_STORE_FAILED);
+    reopen(192, 6);
+    CHECK(!save(256, 7));
+    oscore_store_close(&store);
+}
+
+/* A power cut at any moment of some saves, also of the first one: what was saved is there, and nothing lower, and what is loaded stays. */
+static void cut_in_a_file(void) {
+    oscore_record record;
+    unlink(name);
+    durable_len = written_len = 0, cuts = true;
+    CHECK(open_as(LOCK, true, &record) == OSCORE_STORE_EMPTY);
+    for (uint64_t number = 1; number <= 20; number++) {
+        CHECK(!save(number, 2 * number) && written_len == 0);
+        cuts = false;
+        CHECK(!opened(durable, durable_len, &record) && is(&record, number, 2 * number));
+        cuts = true;
+    }
+    refused = SYNCS;
+    CHECK(save(21, 42) == OSCORE_STORE_FAILED && written_len == LEN);
+    refused = NOTHING;
+    reopen(21, 42);
+    CHECK(written_len == 0);
+    cuts = false;
+    CHECK(!opened(durable, durable_len, &record) && is(&record, 21, 42));
+    oscore_store_close(&store);
+}
+
+/* ---- two at one file */
+
+typedef struct race {
+    uint32_t taken[4096], done, locked;
+} race;
+static race *shared;
+
+/* Takes numbers as fast as it can, some with each opening. Each is the one behind that of the last save, whoever made it. */
+static void *take_numbers(void *unused) {
+    uint64_t seed = (uint64_t)getpid();
+    while (__atomic_load_n(&shared->done, __ATOMIC_SEQ_CST) < saves) {
+        oscore_store own;
+        oscore_record record;
+        oscore_stored stored = oscore_store_open(&own, name, false, LOCK, &record);
+        if (stored == OSCORE_STORE_LOCKED) {
+            __atomic_fetch_add(&shared->locked, 1, __ATOMIC_SEQ_CST);
+            sched_yield();
+            continue;
+        }
+        CHECK(stored <= OSCORE_STORE_EMPTY && own.generation == record.numbers[0]);
+        for (uint64_t count = seed++ % 3; count < 4; count++) {
+            record.numbers[0]++;
+            CHECK(!oscore_store_save(&own, &record) && own.generation == record.numbers[0] && record.numbers[0] < 4096);
+            CHECK(__atomic_fetch_add(&shared->taken[record.numbers[0]], 1, __ATOMIC_SEQ_CST) == 0);
+            __atomic_fetch_add(&shared->done, 1, __ATOMIC_SEQ_CST);
+        }
+        oscore_store_close(&own);
+    }
+    return unused;
+}
+
+static void race_is_fair(void) {
+    oscore_record record;
+    CHECK(!open_as(LOCK, false, &record) && record.numbers[0] == shared->done && shared->done >= saves);
+    for (uint32_t number = 1; number < 4096; number++) CHECK(shared->taken[number] == (number <= shared->done));
+    oscore_store_close(&store);
+}
+
+static void begin_race(void) {
+    oscore_record record;
+    memset(shared, 0, sizeof *shared);
+    unlink(name);
+    CHECK(open_as(LOCK, true, &record) == OSCORE_STORE_EMPTY);
+}
+
+/* Whoever is second is locked out, until the first one closes. */
+static void locks(void) {
+    oscore_record record;
+    oscore_store second;
+    int status;
+    begin_race();
+    for (int provision = 0; provision < 2; provision++)
+        CHECK(oscore_store_open(&second, name, provision, LOCK, &record) == OSCORE_STORE_LOCKED && oscore_store_save(&second, &record) == OSCORE_STORE_FAILED);
+    CHECK(!save(1, 0));
+    pid_t child = fork();
+    if (child == 0) {
+        CHECK(oscore_store_open(&second, name, false, LOCK, &record) == OSCORE_STORE_LOCKED);
+        CHECK(save(2, 0) == OSCORE_STORE_LOCKED);
+        exit(0);
+    }
+    CHECK(child > 0 && waitpid(child, &status, 0) == child && status == 0);
+    oscore_store_close(&store);
+    CHECK(!oscore_store_open(&second, name, false, LOCK, &record) && is(&record, 1, 0));
+    oscore_store_close(&second);
+}
+
+/* A process is killed anywhere while it saves: what it was answered is there, or the save that it was at, and the lock is gone with it. */
+static void kills(void) {
+    uint64_t answered = 0;
+    begin_race();
+    for (uint32_t kill_count = 0; kill_count < saves / 20; kill_count++) {
+        oscore_record record;
+        oscore_store_close(&store);
+        pid_t child = fork();
+        if (child == 0) {
+            CHECK(open_as(LOCK, false, &record) <= OSCORE_STORE_EMPTY);
+            for (uint32_t number = (uint32_t)record.numbers[0]; !save(number + 1, 2 * number + 2); number++)
+                __atomic_store_n(&shared->done, number + 1, __ATOMIC_SEQ_CST);
+            exit(1);
+        }
+        int status;
+        CHECK(child > 0 && !usleep((useconds_t)(draw() % 3000)) && !kill(child, SIGKILL) && waitpid(child, &status, 0) == child && WIFSIGNALED(status));
+        CHECK(open_as(LOCK, false, &record) <= OSCORE_STORE_EMPTY);
+        uint64_t number = record.numbers[0], done_now = __atomic_load_n(&shared->done, __ATOMIC_SEQ_CST);
+        CHECK(number >= answered && (number == done_now || number == done_now + 1) && is(&record, number, 2 * number));
+        answered = number, shared->done = (uint32_t)number;
+    }
+    CHECK(answered > 0);
+    oscore_store_close(&store);
+}
+
+static void races(void) {
+    pthread_t threads[2];
+    pid_t children[2];
+    int status;
+    shared = mmap(NULL, sizeof *shared, PROT_READ | PROT_WRITE, MAP_SHARED | MAP_ANONYMOUS, -1, 0);
+    CHECK(shared != MAP_FAILED);
+    locks(), kills();
+    begin_race();
+    oscore_store_close(&store);
+    for (int i = 0; i < 2; i++) CHECK(!pthread_create(&threads[i], NULL, take_numbers, NULL));
+    for (int i = 0; i < 2; i++) CHECK(!pthread_join(threads[i], NULL));
+    race_is_fair();
+    begin_race();
+    oscore_store_close(&store);
+    for (int i = 0; i < 2; i++) {
+        children[i] = fork();
+        if (children[i] == 0) {
+            take_numbers(NULL);
+            exit(0);
+        }
+    }
+    for (int i = 0; i < 2; i++) CHECK(waitpid(children[i], &status, 0) == children[i] && status == 0);
+    race_is_fair();
+}
+
+int main(int count, char **words) {
+    if (count > 1) saves = (uint32_t)atoi(words[1]);
+    snprintf(folder, sizeof folder, "%s/oscore-store-XXXXXX", getenv("TMPDIR") ? getenv("TMPDIR") : P_tmpdir);
+    CHECK(mkdtemp(folder));
+    snprintf(name, sizeof name, "%s/lock", folder), snprintf(other, sizeof other, "%s/other", folder);
+    bytes_of_a_record();
+    opens(), behind(), refuses(), fails();
+    hastes = true;
+    torn(), cut_in_a_file(), races();
+    tries_flash(saves);
+    unlink(name), unlink(other);
+    CHECK(!rmdir(folder));
+    puts("all as said");
+    return 0;
+}
