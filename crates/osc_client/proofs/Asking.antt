@@ -5,19 +5,16 @@ use Rattle.std.proofs.lemmas.Bool.{cases_order, false_from_ne_true, not_from_fal
 use Rattle.std.proofs.lemmas.Bool.Decides.{nat_tests}
 use Rattle.std.specs.List.{refill}
 use Rattle.std.proofs.Math.Seq.{take-append_seam}
-use Rattle.std.proofs.lemmas.List.{get_or-map, get_or_default, length-map, length-set}
+use Rattle.std.proofs.lemmas.List.{get_or-map, get_or_default, length-map, length-set, map-set}
 use Rattle.std.proofs.lemmas.Option.{get_or_from_slice_get, slice_get_within}
 use Rattle.std.proofs.lemmas.Slice.Eq.{bytes_eq-Decides}
 use Rattle.std.proofs.lemmas.List.Elements.{All-contains, All-contains_itself, All-filter}
 use Rattle.std.proofs.lemmas.List.Kept.{AllPairs-filter}
 use Rattle.std.proofs.lemmas.List.Quantifiers.{all_pairs_remove}
-use Rattle.osc_context.specs.Views.{as_client}
-use Rattle.osc_protect.specs.Views.{context_of}
-use Rattle.osc_client.specs.declared.client.Client.{Client}
 use Rattle.osc_client.specs.declared.pending.Pending.{Pending}
 use Rattle.osc_client.specs.declared.pending.Wait.{Wait}
 use Rattle.osc_client.specs.declared.pending.Wait.TheVariants.{Once, Observing}
-use Rattle.osc_client.specs.Agrees.{ClientAgrees, TokensDiffer}
+use Rattle.osc_client.specs.Agrees.{ClientParts, PartsAgree, TokensDiffer}
 use Rattle.osc_client.specs.ClientAnswer.{IsAmong}
 use Rattle.osc_client.specs.ClientHistory.{Advance, Advanced, Asked, Entry, Event, History, Then, after_place, after_response, alive, asked, clock, first_place, is_alive, life_ms, next, pending, pending_at, without}
 use Rattle.osc_client.specs.Views.{asked_of}
@@ -95,22 +92,19 @@ untouched xs token none =
     kept (λ q. not (bytes_eq q.token token)) xs (λ k d less. is_other token (slice_index_or xs k d) (λ e. none (slice_index_or xs k d, (k, less, get_or_default xs k (slice_index_or xs k d) d less), e)))
 
 -- where no two have one token, the requests but that of a token are those but that at its place
-pub removed : (xs : List Pending) (i : ℕ) (r : Asked) (token : List ℕ) → TokensDiffer (map asked_of xs) → slice_get (map asked_of xs) i ≡ Some r → r.token ≡ token
-    → map asked_of (remove xs i) ≡ without token (map asked_of xs)
+pub removed : (xs : List Asked) (i : ℕ) (r : Asked) (token : List ℕ) → TokensDiffer xs → slice_get xs i ≡ Some r → r.token ≡ token → remove xs i ≡ without token xs
 removed [] i r token differ is same = absurd (let f : None ≡ Some r = is in cc)
 removed (x ∷ xs) zero r token differ is same =
-    let ys = map asked_of xs in
-    let here : asked_of x ≡ r = let f : Some (asked_of x) ≡ Some r = is in cc in
-    let that : (asked_of x).token ≡ token = ap (λ (q : Asked). q.token) here ∙ same in
-    let rest = kept (λ q. not (bytes_eq q.token token)) ys (λ k d less. is_other token (slice_index_or ys k d) (λ e. differ 0 (suc k) d (omega arith) (omega (arith, less)) (that ∙ sym e))) in
-    sym (fails (λ q. not (bytes_eq q.token token)) (asked_of x) ys (is_that token (asked_of x) that) ∙ rest)
+    let here : x ≡ r = let f : Some x ≡ Some r = is in cc in
+    let that : x.token ≡ token = ap (λ (q : Asked). q.token) here ∙ same in
+    let rest = kept (λ q. not (bytes_eq q.token token)) xs (λ k d less. is_other token (slice_index_or xs k d) (λ e. differ 0 (suc k) d (omega arith) (omega (arith, less)) (that ∙ sym e))) in
+    sym (fails (λ q. not (bytes_eq q.token token)) x xs (is_that token x that) ∙ rest)
 removed (x ∷ xs) (suc i) r token differ is same =
-    let ys = map asked_of xs in
-    let less = slice_get_within ys i r is in
-    let apart : (asked_of x).token ≢ (slice_index_or ys i r).token = differ 0 (suc i) r (omega arith) (omega (arith, less)) in
-    let other : (asked_of x).token ≢ token = λ e. apart (e ∙ sym same ∙ ap (λ (q : Asked). q.token) (sym (get_or_from_slice_get ys i r r is))) in
-    ap (λ zs. asked_of x ∷ zs) (removed xs i r token (λ j k d below within. differ (suc j) (suc k) d (omega (arith, below)) (omega (arith, within))) is same)
-    ∙ sym (passes (λ q. not (bytes_eq q.token token)) (asked_of x) ys (is_other token (asked_of x) other))
+    let less = slice_get_within xs i r is in
+    let apart : x.token ≢ (slice_index_or xs i r).token = differ 0 (suc i) r (omega arith) (omega (arith, less)) in
+    let other : x.token ≢ token = λ e. apart (e ∙ sym same ∙ ap (λ (q : Asked). q.token) (sym (get_or_from_slice_get xs i r r is))) in
+    ap (λ zs. x ∷ zs) (removed xs i r token (λ j k d below within. differ (suc j) (suc k) d (omega (arith, below)) (omega (arith, within))) is same)
+    ∙ sym (passes (λ q. not (bytes_eq q.token token)) x xs (is_other token x other))
 
 -- what is left of the requests is some of them
 pub contains_filter : (p : Asked → Bool) (xs : List Asked) (r : Asked) → Contains (filter p xs) r → Contains xs r
@@ -124,17 +118,16 @@ differ_filter p xs h = AllPairs-filter (λ (r q : Asked). r.token ≢ q.token) p
 pub differ_alive : (moment ms : ℕ) (xs ys : List Asked) → ys ≡ alive moment ms xs → TokensDiffer xs → TokensDiffer ys
 differ_alive moment ms xs ys is d = subst TokensDiffer (sym is) (differ_filter (is_alive moment ms) xs d)
 
-map_remove : (xs : List Pending) (i : ℕ) → map asked_of (remove xs i) ≡ remove (map asked_of xs) i
+-- what is left of the table stands for what is left of its requests
+pub map_remove : (xs : List Pending) (i : ℕ) → map asked_of (remove xs i) ≡ remove (map asked_of xs) i
 map_remove [] zero = refl
 map_remove [] (suc i) = refl
 map_remove (x ∷ xs) zero = refl
 map_remove (x ∷ xs) (suc i) = ap (λ zs. asked_of x ∷ zs) (map_remove xs i)
 
 -- nor one of those but that at a place
-pub differ_removed : (xs ys : List Pending) (i : ℕ) → ys ≡ remove xs i → i < length xs → TokensDiffer (map asked_of xs) → TokensDiffer (map asked_of ys)
-differ_removed xs ys i is less d =
-    let within : i < length (map asked_of xs) = subst (λ n. i < n) (sym (length-map xs asked_of)) less in
-    subst TokensDiffer (sym (ap (map asked_of) is ∙ map_remove xs i)) (all_pairs_remove (λ (r q : Asked). r.token ≢ q.token) (map asked_of xs) i within d)
+pub differ_removed : (xs ys : List Asked) (i : ℕ) → ys ≡ remove xs i → i < length xs → TokensDiffer xs → TokensDiffer ys
+differ_removed xs ys i is less d = subst TokensDiffer (sym is) (all_pairs_remove (λ (r q : Asked). r.token ≢ q.token) xs i less d)
 
 pub differ_later : (h : History) (now : ℕ) → TokensDiffer (pending h) → TokensDiffer (pending_at h (max (clock h) now))
 differ_later h now d =
@@ -227,59 +220,55 @@ unheard token f (x ∷ xs) others =
     ap (λ b. (if b then record x { wait = f x.wait } else x) ∷ map (rewaited token f) xs) other
     ∙ ap (λ zs. x ∷ zs) (unheard token f xs (λ k d less. others (suc k) d (omega (arith, less))))
 
+-- where no two have one token, the requests of which that at a place waits otherwise are those that wait so
+noted : (xs : List Asked) (i : ℕ) (f : Wait → Wait) (r : Asked) → TokensDiffer xs → slice_get xs i ≡ Some r
+    → slice_set xs i (record r { wait = f r.wait }) ≡ map (rewaited r.token f) xs
+noted [] i f r differ is = absurd (let e : None ≡ Some r = is in cc)
+noted (y ∷ ys) zero f r differ is =
+    let here : y ≡ r = let e : Some y ≡ Some r = is in cc in
+    let that : rewaited r.token f r ≡ record r { wait = f r.wait } =
+    ap (λ b. if b then record r { wait = f r.wait } else r) ((bytes_eq-Decides r.token r.token).1 refl) in
+    let rest = unheard r.token f ys (λ k d less same. differ 0 (suc k) d (omega arith) (omega (arith, less)) (ap (λ (q : Asked). q.token) here ∙ sym same)) in
+    ap (λ q. q ∷ ys) (sym that ∙ ap (rewaited r.token f) (sym here)) ∙ ap (λ qs. rewaited r.token f y ∷ qs) (sym rest)
+noted (y ∷ ys) (suc i) f r differ is =
+    let less = slice_get_within ys i r is in
+    let apart : y.token ≢ (slice_index_or ys i r).token = differ 0 (suc i) r (omega arith) (omega (arith, less)) in
+    let other = false_from_ne_true _ (λ same. apart ((bytes_eq-Decides y.token r.token).0 same ∙ ap (λ (q : Asked). q.token) (sym (get_or_from_slice_get ys i r r is)))) in
+    ap (λ qs. y ∷ qs) (noted ys i f r (λ j k d below within. differ (suc j) (suc k) d (omega (arith, below)) (omega (arith, within))) is)
+    ∙ ap (λ b. (if b then record y { wait = f y.wait } else y) ∷ map (rewaited r.token f) ys) (sym other)
+
+-- a response to the request at a place
+pub heard_at : (xs : List Asked) (i place : ℕ) (wait : Wait) (r : Asked) → TokensDiffer xs → slice_get xs i ≡ Some r → wait ≡ after_place place r.wait
+    → slice_set xs i (record r { wait = wait }) ≡ heard r.token place xs
+heard_at xs i place wait r differ is wait_is = ap (λ w. slice_set xs i (record r { wait = w })) wait_is ∙ noted xs i (after_place place) r differ is
+
+there_is : (xs : List Asked) (i : ℕ) → i < length xs → (r : Asked) × (slice_get xs i ≡ Some r)
+there_is [] i less = absurd (omega (arith, less))
+there_is (x ∷ xs) zero less = (x, refl)
+there_is (x ∷ xs) (suc i) less = there_is xs i (omega (arith, less))
+
+-- then no two have one token
+pub differ_at : (xs ys : List Asked) (i : ℕ) (wait : Wait) → i < length xs → ((r : Asked) → slice_get xs i ≡ Some r → ys ≡ slice_set xs i (record r { wait = wait }))
+    → TokensDiffer xs → TokensDiffer ys
+differ_at xs ys i wait less set differ =
+    let (r, is) = there_is xs i less in
+    subst TokensDiffer (sym (set r is ∙ noted xs i (λ w. wait) r differ is)) (differ_rewaited r.token (λ w. wait) xs differ)
+
 -- what stands at a place of the table stands for the request there
-pub at_index : (xs : List Pending) (i : ℕ) (d : Pending) (r : Asked) → slice_get (map asked_of xs) i ≡ Some r → asked_of (slice_index_or xs i d) ≡ r
+at_index : (xs : List Pending) (i : ℕ) (d : Pending) (r : Asked) → slice_get (map asked_of xs) i ≡ Some r → asked_of (slice_index_or xs i d) ≡ r
 at_index [] i d r is = absurd (let f : None ≡ Some r = is in cc)
 at_index (x ∷ xs) zero d r is = let f : Some (asked_of x) ≡ Some r = is in cc
 at_index (x ∷ xs) (suc i) d r is = at_index xs i d r is
 
-at_place : (xs : List Pending) (i : ℕ) (d : Pending) → i < length xs → slice_get (map asked_of xs) i ≡ Some (asked_of (slice_index_or xs i d))
-at_place [] i d less = absurd (omega (arith, less))
-at_place (x ∷ xs) zero d less = refl
-at_place (x ∷ xs) (suc i) d less = at_place xs i d (omega (arith, less))
-
--- where no two have one token, the table with another wait at a place stands for the requests that wait so
-noted : (xs : List Pending) (i : ℕ) (f : Wait → Wait) (x : Pending) (r : Asked) → TokensDiffer (map asked_of xs) → slice_get (map asked_of xs) i ≡ Some r
-    → asked_of x ≡ record r { wait = f r.wait } → map asked_of (slice_set xs i x) ≡ map (rewaited r.token f) (map asked_of xs)
-noted [] i f x r differ is x_is = absurd (let e : None ≡ Some r = is in cc)
-noted (y ∷ ys) zero f x r differ is x_is =
-    let here : asked_of y ≡ r = let e : Some (asked_of y) ≡ Some r = is in cc in
-    let zs = map asked_of ys in
-    let that : rewaited r.token f r ≡ record r { wait = f r.wait } =
-    ap (λ b. if b then record r { wait = f r.wait } else r) ((bytes_eq-Decides r.token r.token).1 refl) in
-    let rest = unheard r.token f zs (λ k d less same. differ 0 (suc k) d (omega arith) (omega (arith, less)) (ap (λ (q : Asked). q.token) here ∙ sym same)) in
-    ap (λ q. q ∷ zs) (x_is ∙ sym that ∙ ap (rewaited r.token f) (sym here)) ∙ ap (λ qs. rewaited r.token f (asked_of y) ∷ qs) (sym rest)
-noted (y ∷ ys) (suc i) f x r differ is x_is =
-    let zs = map asked_of ys in
-    let less = slice_get_within zs i r is in
-    let apart : (asked_of y).token ≢ (slice_index_or zs i r).token = differ 0 (suc i) r (omega arith) (omega (arith, less)) in
-    let other = false_from_ne_true _ (λ same. apart ((bytes_eq-Decides (asked_of y).token r.token).0 same ∙ ap (λ (q : Asked). q.token) (sym (get_or_from_slice_get zs i r r is)))) in
-    ap (λ qs. asked_of y ∷ qs) (noted ys i f x r (λ j k d below within. differ (suc j) (suc k) d (omega (arith, below)) (omega (arith, within))) is x_is)
-    ∙ ap (λ b. (if b then record (asked_of y) { wait = f (asked_of y).wait } else asked_of y) ∷ map (rewaited r.token f) zs) (sym other)
-
 -- the same of a table that is written back
-written : (n : ℕ) (xs ds : List Pending) (i : ℕ) (x : Pending) → n ≡ length xs → ds ≡ xs → refill n xs (slice_set ds i x) ≡ slice_set xs i x
-written n xs ds i x len same =
+pub written : (n : ℕ) (xs ds : List Pending) (i : ℕ) (x d : Pending) (wait : Wait) (r : Asked) → n ≡ length xs → ds ≡ xs → slice_get (map asked_of xs) i ≡ Some r
+    → asked_of x ≡ record (asked_of (slice_index_or ds i d)) { wait = wait } → map asked_of (refill n xs (slice_set ds i x)) ≡ slice_set (map asked_of xs) i (record r { wait = wait })
+written n xs ds i x d wait r len same is x_is =
     let ws = slice_set xs i x in
-    ap (λ ys. refill n xs (slice_set ys i x)) same ∙ ap (λ k. take k (ws ++ drop (length ws) xs)) (len ∙ sym (length-set xs i x)) ∙ take-append_seam ws (drop (length ws) xs)
-
--- a response to the request at a place
-pub heard_at : (n : ℕ) (xs ds : List Pending) (i place : ℕ) (x d : Pending) (wait : Wait) (r : Asked) → n ≡ length xs → ds ≡ xs → TokensDiffer (map asked_of xs)
-    → slice_get (map asked_of xs) i ≡ Some r → wait ≡ after_place place r.wait → asked_of x ≡ record (asked_of (slice_index_or ds i d)) { wait = wait }
-    → map asked_of (refill n xs (slice_set ds i x)) ≡ heard r.token place (map asked_of xs)
-heard_at n xs ds i place x d wait r len same differ is wait_is x_is =
+    let back : refill n xs (slice_set ds i x) ≡ ws =
+    ap (λ ys. refill n xs (slice_set ys i x)) same ∙ ap (λ k. take k (ws ++ drop (length ws) xs)) (len ∙ sym (length-set xs i x)) ∙ take-append_seam ws (drop (length ws) xs) in
     let before : asked_of (slice_index_or ds i d) ≡ r = ap (λ ys. asked_of (slice_index_or ys i d)) same ∙ at_index xs i d r is in
-    let x_as : asked_of x ≡ record r { wait = after_place place r.wait } = x_is ∙ ap (λ (q : Asked). record q { wait = wait }) before ∙ ap (λ w. record r { wait = w }) wait_is in
-    ap (map asked_of) (written n xs ds i x len same) ∙ noted xs i (after_place place) x r differ is x_as
-
--- then no two have one token
-pub differ_at : (n : ℕ) (xs ds : List Pending) (i : ℕ) (x d : Pending) (wait : Wait) → n ≡ length xs → ds ≡ xs → TokensDiffer (map asked_of xs)
-    → i < length xs → asked_of x ≡ record (asked_of (slice_index_or ds i d)) { wait = wait } → TokensDiffer (map asked_of (refill n xs (slice_set ds i x)))
-differ_at n xs ds i x d wait len same differ less x_is =
-    let r = asked_of (slice_index_or xs i d) in
-    let f : Wait → Wait = λ w. wait in
-    let x_as : asked_of x ≡ record r { wait = wait } = x_is ∙ ap (λ ys. record (asked_of (slice_index_or ys i d)) { wait = wait }) same in
-    subst TokensDiffer (sym (ap (map asked_of) (written n xs ds i x len same) ∙ noted xs i f x r differ (at_place xs i d less) x_as)) (differ_rewaited r.token f (map asked_of xs) differ)
+    ap (map asked_of) back ∙ map-set asked_of xs i x ∙ ap (slice_set (map asked_of xs) i) (x_is ∙ ap (λ (q : Asked). record q { wait = wait }) before)
 
 -- ---- steps of a client
 
@@ -287,27 +276,26 @@ differ_at n xs ds i x d wait len same differ less x_is =
 pub ended : (h : History) (moment : ℕ) (token : List ℕ) → without token (pending_at h moment) ≡ alive moment (life_ms h) (without token (asked h))
 ended h moment token = filter_swap (λ r. not (bytes_eq r.token token)) (is_alive moment (life_ms h)) (asked h)
 
-module _ {N : ℕ} (c new : Client N) (h : History) where
-  -- the clock moves, and those whose time has passed are dropped
-  pub advanced : (now : ℕ) → ClientAgrees c h → new.context ≡ c.context → new.life_ms ≡ c.life_ms → new.next ≡ c.next → new.clock ≡ max c.clock now
-      → map asked_of new.pending.items ≡ alive new.clock c.life_ms (map asked_of c.pending.items) → ClientAgrees new (Then h (Advance now) Advanced)
-  advanced now a same_context same_life same_next clock_is table =
-      let moment : new.clock ≡ max (clock h) now = clock_is ∙ ap (λ x. max x now) a.clock_is in
-      record {
-        context_is = ap (λ k. as_client (context_of k)) same_context ∙ a.context_is;
-        life_is = same_life ∙ a.life_is;
-        clock_is = moment;
-        next_is = same_next ∙ a.next_is;
-        table =
-            table ∙ ap (alive new.clock c.life_ms) a.table ∙ ap (λ x. alive x c.life_ms (pending h)) moment ∙ ap (λ x. alive (max (clock h) now) x (pending h)) a.life_is
-            ∙ alive_again (clock h) (max (clock h) now) (life_ms h) (asked h) (omega arith);
-        differ = differ_later h now a.differ;
-      }
+-- the clock moves, and those whose time has passed are dropped
+pub advanced : (c new : ClientParts) (h : History) (now : ℕ) → PartsAgree c h → new.context ≡ c.context → new.life_ms ≡ c.life_ms → new.next ≡ c.next → new.clock ≡ max c.clock now
+    → new.pending ≡ alive new.clock c.life_ms c.pending → PartsAgree new (Then h (Advance now) Advanced)
+advanced c new h now a same_context same_life same_next clock_is table =
+    let moment : new.clock ≡ max (clock h) now = clock_is ∙ ap (λ x. max x now) a.clock_is in
+    record {
+      context_is = same_context ∙ a.context_is;
+      life_is = same_life ∙ a.life_is;
+      clock_is = moment;
+      next_is = same_next ∙ a.next_is;
+      table =
+          table ∙ ap (alive new.clock c.life_ms) a.table ∙ ap (λ x. alive x c.life_ms (pending h)) moment ∙ ap (λ x. alive (max (clock h) now) x (pending h)) a.life_is
+          ∙ alive_again (clock h) (max (clock h) now) (life_ms h) (asked h) (omega arith);
+      differ = differ_later h now a.differ;
+    }
 
 -- an event at a moment, after which no more is asked and nothing more is waited for
-pub moved : {N : ℕ} (c : Client N) (h : History) (now : ℕ) (event : Event) (entry : Entry)
+pub moved : (c : ClientParts) (h : History) (now : ℕ) (event : Event) (entry : Entry)
     → clock (Then h event entry) ≡ max (clock h) now → next (Then h event entry) ≡ next h → asked (Then h event entry) ≡ asked h
-    → ClientAgrees c (Then h (Advance now) Advanced) → ClientAgrees c (Then h event entry)
+    → PartsAgree c (Then h (Advance now) Advanced) → PartsAgree c (Then h event entry)
 moved c h now event entry same_clock same_next same_asked a =
     let same : pending (Then h event entry) ≡ pending_at h (max (clock h) now) = λ i. alive (same_clock i) (life_ms h) (same_asked i) in
     record {

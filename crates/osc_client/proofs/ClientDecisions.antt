@@ -1,6 +1,6 @@
 -- What a client decides of a datagram, after a history.
 use Rattle.std.proofs.Common.{◌≡◌, ℕ, ◌+◌, ◌≤◌, ◌∙◌, sym, ap, subst, refl, bytes_eq, not, Bool, true, false, Option, Some, None, List, if◌then◌else◌}
-use Rattle.std.specs.Prelude.{Contains, map, max, remove, slice_get}
+use Rattle.std.specs.Prelude.{Contains, max, remove}
 use Rattle.std.specs.Option.{option_map}
 use Rattle.osc_coap.specs.Code.{is_response}
 use Rattle.osc_coap.specs.Datagram.{Parts, IsDatagram}
@@ -8,31 +8,28 @@ use Rattle.osc_coap.specs.Inner.{InnerParts}
 use Rattle.osc_coap.specs.Laws.{DatagramIsOneMessage}
 use Rattle.osc_context.specs.OscoreValue.{OscoreParts}
 use Rattle.osc_context.specs.SecurityContext.{SecurityContext}
-use Rattle.osc_context.specs.Views.{as_client, number_of}
+use Rattle.osc_context.specs.Views.{number_of}
 use Rattle.osc_protect.specs.Head.{Head, HasResponseHead}
 use Rattle.osc_protect.specs.Laws.{NotificationsShowHeads, OneNotification, OneResponse, OneResponseHead, ResponsesShowHeads}
 use Rattle.osc_protect.specs.Opening.{Opens}
 use Rattle.osc_protect.specs.Protection.{Protection, Protects, responses_to}
 use Rattle.osc_protect.specs.StageViews.{AcceptsResponseAfter, CanLendResponse, DecryptsResponse}
-use Rattle.osc_protect.specs.Views.{context_of, message_of, opened_number, seen_response_head}
+use Rattle.osc_protect.specs.Views.{message_of, opened_number, seen_response_head}
 use Rattle.osc_protect.specs.declared.opened.Opened.{Opened}
 use Rattle.osc_protect.specs.declared.response_head.ResponseHead.{ResponseHead}
 use Rattle.osc_protect.specs.declared.stages.DecryptedResponse.{DecryptedResponse}
 use Rattle.osc_protect.specs.declared.stages.ReadResponse.{ReadResponse}
-use Rattle.osc_client.specs.declared.client.Client.{Client}
 use Rattle.osc_client.specs.declared.decision.ClientDecision.TheVariants as decisions
 use Rattle.osc_client.specs.declared.pending.Found.{Found}
-use Rattle.osc_client.specs.declared.pending.Pending.{Pending}
 use Rattle.osc_client.specs.declared.pending.Wait.{Wait}
 use Rattle.osc_client.specs.declared.pending.Wait.TheVariants.{Once, Observing}
-use Rattle.osc_client.specs.Agrees.{ClientAgrees, TokensDiffer}
+use Rattle.osc_client.specs.Agrees.{ClientParts, PartsAgree, TokensDiffer}
 use Rattle.osc_client.specs.Awaited.{AwaitedShowHeads, OneAwaited}
 use Rattle.osc_client.specs.ClientAnswer.{IsAmong, IsAnswerTo, IsAwaited, SaysAwaited, SaysOwn, awaited, continues}
-use Rattle.osc_client.specs.ClientDeciding.{ClientDecidesTo, IsDecryptedFor, IsOpenedBy, OfWhatWasRead, ReadsAs, wait_after}
+use Rattle.osc_client.specs.ClientDeciding.{DecidesAmong, IsDecryptedFor, IsFoundIn, IsOpenedAmong, OfWhatWasRead, ReadsAs, wait_after}
 use Rattle.osc_client.specs.ClientHistory.{Advance, Advanced, Asked, Datagram, Deliver, History, Notified, Then, Took, after_place, alive, asked, clock, context, first_place, life_ms, observes, pending_at, without}
 use Rattle.osc_observe.specs.Observing.{is_notification, place_of}
 use Rattle.osc_observe.specs.Received.{Received}
-use Rattle.osc_client.specs.Views.{asked_of}
 use Rattle.osc_observe.proofs.Receiving.{said, receives_said, opened_said}
 use Rattle.osc_client.proofs.Asking.{contains_at, contains_filter, differ_filter, differ_heard, ended, heard, heard_alive, removed}
 
@@ -61,12 +58,10 @@ pub is_awaited : (s : SecurityContext) (r : Asked) (d : List ℕ) (own : Option 
 is_awaited s r d own m one shows protects (other, says, later) =
     subst (IsAwaited r) (same_own s r r d other own one says ((shows s (observes r.wait) r.number).protects d own m protects)) later
 
--- what was found in the table, or not, is found among the pending requests, or not
-pub there : (xs ys : List Pending) (f : Found) (t token : List ℕ) → xs ≡ ys → t ≡ token
-    → (r : Asked) × (slice_get (map asked_of xs) f.place ≡ Some r) × (r.token ≡ t) × (r.number ≡ number_of f.number) × (r.wait ≡ f.wait)
-    → (r : Asked) × Contains (map asked_of ys) r × (r.token ≡ token) × (r.number ≡ number_of f.number) × (r.wait ≡ f.wait)
-there xs ys f t token same is (r, at, token_is, number_is, wait_is) =
-    (r, subst (λ zs. Contains (map asked_of zs) r) same (contains_at (map asked_of xs) f.place r at), token_is ∙ is, number_is, wait_is)
+-- what was found at a place of the table is found among its requests
+pub there : (xs : List Asked) (f : Found) (t token : List ℕ) → t ≡ token → IsFoundIn xs t f
+    → (r : Asked) × Contains xs r × (r.token ≡ token) × (r.number ≡ number_of f.number) × (r.wait ≡ f.wait)
+there xs f t token is (r, at, token_is, number_is, wait_is) = (r, contains_at xs f.place r at, token_is ∙ is, number_is, wait_is)
 
 -- the Partial IV of a head, and whether the request that was found waits for it
 pub says_own : (s : SecurityContext) (r : Asked) (d : List ℕ) (head : ResponseHead) → HasResponseHead d (seen_response_head head) → SaysOwn s r d (option_map number_of head.number)
@@ -78,14 +73,13 @@ says_awaited s r d head f has is later =
     let own = option_map number_of head.number in
     (own, says_own s r d head has, subst (λ w. first_place w ≤ place_of own) (sym is) later)
 
-pub not_there : {N : ℕ} (c : Client N) (h : History) (now : ℕ) (xs : List Pending) (t token : List ℕ) → ClientAgrees c (Then h (Advance now) Advanced)
-    → xs ≡ c.pending.items → t ≡ token → (IsAmong t (map asked_of xs) → ⊥) → IsAmong token (pending_at h (max (clock h) now)) → ⊥
-not_there c h now xs t token a same is none (r, has, token_is) =
-    none (r, subst (λ ys. Contains ys r) (sym a.table ∙ ap (map asked_of) (sym same)) has, token_is ∙ sym is)
+pub not_there : (c : ClientParts) (h : History) (now : ℕ) (t token : List ℕ) → PartsAgree c (Then h (Advance now) Advanced) → t ≡ token → (IsAmong t c.pending → ⊥)
+    → IsAmong token (pending_at h (max (clock h) now)) → ⊥
+not_there c h now t token a is none (r, has, token_is) = none (r, subst (λ ys. Contains ys r) (sym a.table) has, token_is ∙ sym is)
 
 -- the pending request that the token names
-pub answers : {N : ℕ} (c : Client N) (h : History) (now : ℕ) (d : List ℕ) (p : Parts) (r : Asked) → ClientAgrees c (Then h (Advance now) Advanced)
-    → IsDatagram p d → is_response p.kind p.code ≡ true → r.token ≡ p.token → Contains (map asked_of c.pending.items) r → IsAnswerTo h (max (clock h) now) d r
+pub answers : (c : ClientParts) (h : History) (now : ℕ) (d : List ℕ) (p : Parts) (r : Asked) → PartsAgree c (Then h (Advance now) Advanced)
+    → IsDatagram p d → is_response p.kind p.code ≡ true → r.token ≡ p.token → Contains c.pending r → IsAnswerTo h (max (clock h) now) d r
 answers c h now d p r a datagram response token has = ((p, datagram, response, sym token), subst (λ xs. Contains xs r) a.table has)
 
 -- what is opened says what the datagram protects
@@ -118,7 +112,7 @@ is_more : (b : Bool) (v w : Wait) → Some v ≡ (if b then Some w else None) �
 is_more true v w e = (refl, cc)
 is_more false v w e = absurd (let f = e in cc)
 
-module _ {N : ℕ} (c after : Client N) (h : History) (now : ℕ) (d new : List ℕ) (x : DecryptedResponse) (f : Found) (was : IsDecryptedFor h now d x f new c) where
+module _ (c after : ClientParts) (h : History) (now : ℕ) (d new : List ℕ) (x : DecryptedResponse) (f : Found) (was : IsDecryptedFor h now d x f new c) where
   abbrev moment : ℕ
   moment = max (clock h) now
 
@@ -142,31 +136,31 @@ module _ {N : ℕ} (c after : Client N) (h : History) (now : ℕ) (d new : List 
 
     module _ (same_context : after.context ≡ c.context) (same_life : after.life_ms ≡ c.life_ms) (same_clock : after.clock ≡ c.clock) (same_next : after.next ≡ c.next) where
       -- a delivery ends the request that it answers
-      ends : DatagramIsOneMessage → after.pending.items ≡ remove c.pending.items f.place
-          → ClientAgrees after (Then h (Datagram now d) (Took (Deliver seen (number_of f.number))))
+      ends : DatagramIsOneMessage → after.pending ≡ remove c.pending f.place
+          → PartsAgree after (Then h (Datagram now d) (Took (Deliver seen (number_of f.number))))
       ends one items =
           let a = was.agrees in
           let r = was.to in
-          let table = removed c.pending.items f.place r r.token (subst TokensDiffer (sym a.table) a.differ) was.at_place refl in
+          let table = removed c.pending f.place r r.token (subst TokensDiffer (sym a.table) a.differ) was.at_place refl in
           let left = ended h moment r.token ∙ ap (λ t. alive moment (life_ms h) (without t (asked h))) (token_is one) in
           record {
-            context_is = ap (λ z. as_client (context_of z)) same_context ∙ a.context_is;
+            context_is = same_context ∙ a.context_is;
             life_is = same_life ∙ a.life_is;
             clock_is = same_clock ∙ a.clock_is;
             next_is = same_next ∙ a.next_is;
-            table = ap (map asked_of) items ∙ table ∙ ap (without r.token) a.table ∙ left;
+            table = items ∙ table ∙ ap (without r.token) a.table ∙ left;
             differ = subst TokensDiffer left (differ_filter (λ q. not (bytes_eq q.token r.token)) (pending_at h moment) a.differ);
           }
 
       -- a notification leaves the registration pending, which waits for later ones
-      goes_on : DatagramIsOneMessage → map asked_of after.pending.items ≡ heard was.to.token (place_of own) (map asked_of c.pending.items)
-          → ClientAgrees after (Then h (Datagram now d) (Took (Notified seen (number_of f.number))))
+      goes_on : DatagramIsOneMessage → after.pending ≡ heard was.to.token (place_of own) c.pending
+          → PartsAgree after (Then h (Datagram now d) (Took (Notified seen (number_of f.number))))
       goes_on one items =
           let a = was.agrees in
           let r = was.to in
           let left = ap (λ t. heard t (place_of own) (pending_at h moment)) (token_is one) ∙ sym (heard_alive moment (life_ms h) (place_of own) p.outer.token (asked h)) in
           record {
-            context_is = ap (λ z. as_client (context_of z)) same_context ∙ a.context_is;
+            context_is = same_context ∙ a.context_is;
             life_is = same_life ∙ a.life_is;
             clock_is = same_clock ∙ a.clock_is;
             next_is = same_next ∙ a.next_is;
@@ -178,8 +172,8 @@ module _ {N : ℕ} (c after : Client N) (h : History) (now : ℕ) (d new : List 
   pub delivered : (y : ReadResponse) → DatagramIsOneMessage → OneAwaited → OneResponseHead → AwaitedShowHeads → CanLendResponse new x y → AcceptsResponseAfter new x
       → OfWhatWasRead new y (λ own m. None ≡ wait_after f.wait own m)
       → after.context ≡ c.context → after.life_ms ≡ c.life_ms → after.clock ≡ c.clock → after.next ≡ c.next
-      → after.pending.items ≡ remove c.pending.items f.place
-      → ClientDecidesTo h now d (decisions.Deliver y f.number) new after
+      → after.pending ≡ remove c.pending f.place
+      → DecidesAmong h now d (decisions.Deliver y f.number) new after
   delivered y one laws head shows can accepts over same_context same_life same_clock same_next items =
       let s = context h in
       let r = was.to in
@@ -206,8 +200,8 @@ module _ {N : ℕ} (c after : Client N) (h : History) (now : ℕ) (d new : List 
   pub notified : (y : ReadResponse) (wait : Wait) → DatagramIsOneMessage → OneAwaited → OneResponseHead → AwaitedShowHeads → CanLendResponse new x y → AcceptsResponseAfter new x
       → OfWhatWasRead new y (λ own m. Some wait ≡ wait_after f.wait own m)
       → after.context ≡ c.context → after.life_ms ≡ c.life_ms → after.clock ≡ c.clock → after.next ≡ c.next
-      → ((place : ℕ) → wait ≡ after_place place was.to.wait → map asked_of after.pending.items ≡ heard was.to.token place (map asked_of c.pending.items))
-      → ClientDecidesTo h now d (decisions.Notified y f.number) new after
+      → ((place : ℕ) → wait ≡ after_place place was.to.wait → after.pending ≡ heard was.to.token place c.pending)
+      → DecidesAmong h now d (decisions.Notified y f.number) new after
   notified y wait one laws head shows can accepts over same_context same_life same_clock same_next noted =
       let s = context h in
       let r = was.to in
@@ -231,15 +225,13 @@ module _ {N : ℕ} (c after : Client N) (h : History) (now : ℕ) (d new : List 
       }
 
 -- what decryption leaves; old is the client before those were dropped whose time has passed
-pub opened_by : {N : ℕ} (old : Client N) (clock k : ℕ) (asks : Bool) (f : Found) (xs : List Asked) (d new : List ℕ) (r : Asked) (x : DecryptedResponse)
-    → xs ≡ alive clock old.life_ms (map asked_of old.pending.items) → Contains xs r → r.number ≡ number_of f.number → r.wait ≡ f.wait
-    → asks ≡ observes f.wait → k ≡ number_of f.number
-    → DecryptsResponse (responses_to (as_client (context_of old.context)) asks k) d x new → IsOpenedBy old d new
-opened_by old clock k asks f xs d new r x left has number wait registers request decrypts =
-    let s = as_client (context_of old.context) in (
-      r,
-      contains_filter _ (map asked_of old.pending.items) r (subst (λ ys. Contains ys r) left has),
-      option_map number_of x.number,
-      x.len,
-      (in_history (λ p. DecryptsResponse p d x new) s s asks (observes r.wait) k (number_of f.number) r.number refl (registers ∙ ap observes (sym wait)) request number decrypts).1,
-    )
+pub opened_by : (old : ClientParts) (clock k : ℕ) (asks : Bool) (f : Found) (xs : List Asked) (d new : List ℕ) (r : Asked) (x : DecryptedResponse)
+    → xs ≡ alive clock old.life_ms old.pending → Contains xs r → r.number ≡ number_of f.number → r.wait ≡ f.wait → asks ≡ observes f.wait → k ≡ number_of f.number
+    → DecryptsResponse (responses_to old.context asks k) d x new → IsOpenedAmong old d new
+opened_by old clock k asks f xs d new r x left has number wait registers request decrypts = (
+  r,
+  contains_filter _ old.pending r (subst (λ ys. Contains ys r) left has),
+  option_map number_of x.number,
+  x.len,
+  (in_history (λ p. DecryptsResponse p d x new) old.context old.context asks (observes r.wait) k (number_of f.number) r.number refl (registers ∙ ap observes (sym wait)) request number decrypts).1,
+)

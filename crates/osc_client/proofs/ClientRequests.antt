@@ -1,29 +1,24 @@
 -- Requests of a client: their rows, and the table with one request more.
 use Rattle.std.proofs.Common.{◌≡◌, ◌≢◌, ℕ, ◌+◌, ◌-◌, ◌∙◌, sym, ap, subst, refl, arith, Bool, true, false, List, [], ◌∷◌, ◌++◌, length, get_or, take, inl, inr}
-use Rattle.std.specs.Prelude.{◌||◌, cond, map, max, nat_le, nat_lt}
+use Rattle.std.specs.Prelude.{◌||◌, cond, max, nat_le, nat_lt}
 use Rattle.std.proofs.lemmas.Bool.Decides.{nat_tests}
-use Rattle.std.proofs.lemmas.List.{get_or_default, map-append}
+use Rattle.std.proofs.lemmas.List.{get_or_default}
 use Rattle.std.proofs.lemmas.List.Elements.{filter-append}
 use Rattle.std.proofs.lemmas.List.Quantifiers.{all_pairs_push}
 use Rattle.osc_coap.specs.Datagram.{Parts}
 use Rattle.osc_context.specs.SecurityContext.{SecurityContext}
 use Rattle.osc_context.specs.declared.features.Features.{Features}
-use Rattle.osc_context.specs.Views.{as_client, number_of}
 use Rattle.osc_protect.specs.Protection.{requests}
 use Rattle.osc_protect.specs.Sealed.{SealsRequest}
 use Rattle.osc_protect.specs.SealRefusals.{IsPlainRequest, RefusesPlainRequest, RefusesToSeal}
-use Rattle.osc_protect.specs.Views.{context_of}
 use Rattle.osc_protect.specs.declared.protect_error.ProtectError.{ProtectError}
 use Rattle.osc_protect.specs.declared.protect_error.ProtectError.TheVariants as protects
-use Rattle.osc_client.specs.declared.client.Client.{Client}
 use Rattle.osc_client.specs.declared.client_outcome.RequestError.{RequestError}
 use Rattle.osc_client.specs.declared.client_outcome.RequestError.TheVariants.{NotThatKind, Unsupported, TokenInUse, PendingFull, SequenceExhausted, TooLong, NoRoom, KeeperFailed}
-use Rattle.osc_client.specs.declared.pending.Pending.{Pending}
-use Rattle.osc_client.specs.Agrees.{ClientAgrees, TokensDiffer}
+use Rattle.osc_client.specs.Agrees.{ClientParts, PartsAgree, TokensDiffer}
 use Rattle.osc_client.specs.ClientAnswer.{CanAsk, IsAmong, RequestAnswer}
-use Rattle.osc_client.specs.ClientHistory.{Asked, History, Then, Request, Advance, Advanced, Sent, NotSent, alive, asked, clock, context, first_place, is_alive, life_ms, next, pending_at, wait_of}
+use Rattle.osc_client.specs.ClientHistory.{Asked, Entry, History, Then, Request, Advance, Advanced, Sent, NotSent, alive, asked, clock, context, first_place, is_alive, life_ms, next, pending_at, wait_of}
 use Rattle.osc_client.specs.Requesting.{IsFirstReason, lifted}
-use Rattle.osc_client.specs.Views.{asked_of}
 use Rattle.osc_observe.proofs.Fronts.{front_fits}
 
 -- ---- refusals
@@ -77,45 +72,45 @@ pub differ_more : (xs : List Asked) (a : Asked) → TokensDiffer xs → (IsAmong
 differ_more xs a h new =
     all_pairs_push (λ (r q : Asked). r.token ≢ q.token) xs a h (λ k d within same. new (get_or xs k d, (k, within, get_or_default xs k (get_or xs k d) d within), same))
 
+-- the answer by a client with as much room
+pub in_room : (n k : ℕ) (h : History) (now room : ℕ) (p : Parts) (entry : Entry) → n ≡ k → RequestAnswer n h (max (clock h) now) p room entry → RequestAnswer k h (max (clock h) now) p room entry
+in_room n k h now room p entry same row = subst (λ m. RequestAnswer m h (max (clock h) now) p room entry) same row
+
 -- ---- a request that is sealed
 
 -- what was sealed can be sealed
-pub plainly_sealed : {N : ℕ} (c : Client N) (h : History) (number : ℕ) (p : Parts) (bytes : List ℕ) → ClientAgrees c h
-    → SealsRequest (as_client (context_of c.context)) number p bytes → IsPlainRequest (context h).features p
+pub plainly_sealed : (c : ClientParts) (h : History) (number : ℕ) (p : Parts) (bytes : List ℕ) → PartsAgree c h → SealsRequest c.context number p bytes
+    → IsPlainRequest (context h).features p
 plainly_sealed c h number p bytes a sealed = subst (λ (s : SecurityContext). IsPlainRequest s.features p) a.context_is (sealed.used, sealed.supported)
 
 -- a row of the sealed request, by the clock's move before it
-pub sealed_now : {N : ℕ} (c : Client N) (h : History) (now number len : ℕ) (p : Parts) (new old : List ℕ)
-    → ClientAgrees c (Then h (Advance now) Advanced) → CanAsk N (Then h (Advance now) Advanced) (max (clock h) now) p → number ≡ next h → length new ≡ length old
-    → SealsRequest (as_client (context_of c.context)) number p (take len new) → RequestAnswer N h (max (clock h) now) p (length old) (Sent (take len new))
-sealed_now c h now number len p new old a can is room sealed =
+pub sealed_now : (n : ℕ) (c : ClientParts) (h : History) (now number len : ℕ) (p : Parts) (new old : List ℕ)
+    → PartsAgree c (Then h (Advance now) Advanced) → CanAsk n (Then h (Advance now) Advanced) (max (clock h) now) p → number ≡ next h → length new ≡ length old
+    → SealsRequest c.context number p (take len new) → RequestAnswer n h (max (clock h) now) p (length old) (Sent (take len new))
+sealed_now n c h now number len p new old a can is room sealed =
     let by_context = subst (λ s. SealsRequest s number p (take len new)) a.context_is sealed in
-    (can, subst (λ n. SealsRequest (context h) n p (take len new)) is by_context, front_fits len new old room)
+    (can, subst (λ k. SealsRequest (context h) k p (take len new)) is by_context, front_fits len new old room)
 
 -- the table holds it
-pub agrees_sent : {N : ℕ} (c new : Client N) (h : History) (now room : ℕ) (p : Parts) (bytes : List ℕ) (r : Pending)
-    → ClientAgrees c (Then h (Advance now) Advanced) → CanAsk N (Then h (Advance now) Advanced) (max (clock h) now) p
-    → new.context ≡ c.context → new.life_ms ≡ c.life_ms → new.clock ≡ c.clock → new.next ≡ c.next + 1 → new.pending.items ≡ c.pending.items ++ r ∷ []
-    → r.token.items ≡ p.token → number_of r.number ≡ next h → r.moment ≡ c.clock → r.wait ≡ wait_of (as_client (context_of c.context)).features p
-    → ClientAgrees new (Then h (Request now p room) (Sent bytes))
-agrees_sent c new h now room p bytes r a can same_context same_life same_clock counted more token number moment wait =
+pub agrees_sent : (n : ℕ) (c new : ClientParts) (h : History) (now room : ℕ) (p : Parts) (bytes : List ℕ) (r : Asked)
+    → PartsAgree c (Then h (Advance now) Advanced) → CanAsk n (Then h (Advance now) Advanced) (max (clock h) now) p
+    → new.context ≡ c.context → new.life_ms ≡ c.life_ms → new.clock ≡ c.clock → new.next ≡ c.next + 1 → new.pending ≡ c.pending ++ r ∷ []
+    → r.token ≡ p.token → r.number ≡ next h → r.moment ≡ c.clock → r.wait ≡ wait_of c.context.features p
+    → PartsAgree new (Then h (Request now p room) (Sent bytes))
+agrees_sent n c new h now room p bytes r a can same_context same_life same_clock counted more token number moment wait =
     let asked_now : Asked = record { token = p.token; number = next h; moment = max (clock h) now; wait = wait_of (context h).features p } in
-    let is : asked_of r ≡ asked_now = λ i. record { token = token i; number = number i; moment = (moment ∙ a.clock_is) i; wait = (wait ∙ ap (λ (s : SecurityContext). wait_of s.features p) a.context_is) i } in
+    let is : r ≡ asked_now = λ i. record { token = token i; number = number i; moment = (moment ∙ a.clock_is) i; wait = (wait ∙ ap (λ (s : SecurityContext). wait_of s.features p) a.context_is) i } in
     let grows = alive_more (max (clock h) now) (life_ms h) (asked h) asked_now refl in
     record {
-      context_is = ap (λ k. as_client (context_of k)) same_context ∙ a.context_is;
+      context_is = same_context ∙ a.context_is;
       life_is = same_life ∙ a.life_is;
       clock_is = same_clock ∙ a.clock_is;
-      next_is = counted ∙ ap (λ n. n + 1) a.next_is;
-      table =
-          ap (map asked_of) more ∙ map-append asked_of c.pending.items (r ∷ []) ∙ ap (λ xs. xs ++ asked_of r ∷ []) a.table
-          ∙ ap (λ q. pending_at h (max (clock h) now) ++ q ∷ []) is ∙ sym grows;
+      next_is = counted ∙ ap (λ k. k + 1) a.next_is;
+      table = more ∙ ap (λ xs. xs ++ r ∷ []) a.table ∙ ap (λ q. pending_at h (max (clock h) now) ++ q ∷ []) is ∙ sym grows;
       differ = subst TokensDiffer (sym grows) (differ_more (pending_at h (max (clock h) now)) asked_now a.differ can.0.1);
     }
 
 -- its token is none of those before
-pub differ_sent : (xs ys : List Pending) (r : Pending) (token : List ℕ) → ys ≡ xs ++ r ∷ [] → r.token.items ≡ token → (IsAmong token (map asked_of xs) → ⊥)
-    → TokensDiffer (map asked_of xs) → TokensDiffer (map asked_of ys)
+pub differ_sent : (xs ys : List Asked) (r : Asked) (token : List ℕ) → ys ≡ xs ++ r ∷ [] → r.token ≡ token → (IsAmong token xs → ⊥) → TokensDiffer xs → TokensDiffer ys
 differ_sent xs ys r token more same new d =
-    subst TokensDiffer (sym (ap (map asked_of) more ∙ map-append asked_of xs (r ∷ [])))
-    (differ_more (map asked_of xs) (asked_of r) d (subst (λ t. IsAmong t (map asked_of xs) → ⊥) (sym same) new))
+    subst TokensDiffer (sym more) (differ_more xs r d (subst (λ t. IsAmong t xs → ⊥) (sym same) new))

@@ -1,13 +1,12 @@
--- How the code is seen: what a client decides about a datagram before it lends slices of it. h is a history, c the client, d the datagram
--- as it came, new the datagram as it was left.
-use Rattle.std.specs.Prelude.{◌≡◌, ℕ, Bool, List, Contains, Option, Some, None, map, max, slice_get, if◌then◌else◌}
+-- How the code is seen: what a client decides about a datagram before it lends slices of it. h is a history, c the client or what it is made of, d the
+-- datagram as it came, new the datagram as it was left.
+use Rattle.std.specs.Prelude.{◌≡◌, ℕ, Bool, List, Contains, Option, Some, None, max, slice_get, if◌then◌else◌}
 use Rattle.osc_coap.specs.Inner.{InnerParts}
 use Rattle.osc_context.specs.SecurityContext.{SecurityContext}
-use Rattle.osc_context.specs.Views.{as_client, number_of}
+use Rattle.osc_context.specs.Views.{number_of}
 use Rattle.osc_protect.specs.Protection.{Protects, responses_to}
 use Rattle.osc_protect.specs.Stages.{Decrypts}
 use Rattle.osc_protect.specs.StageViews.{CanLendResponse, DecryptsResponse, OpensResponseAfter}
-use Rattle.osc_protect.specs.Views.{context_of}
 use Rattle.osc_protect.specs.declared.opened.Opened.{Opened}
 use Rattle.osc_protect.specs.declared.stages.DecryptedResponse.{DecryptedResponse}
 use Rattle.osc_protect.specs.declared.stages.ReadResponse.{ReadResponse}
@@ -16,14 +15,14 @@ use Rattle.osc_client.specs.declared.client_outcome.ClientOutcome.{ClientOutcome
 use Rattle.osc_client.specs.declared.decision.ClientDecision.{ClientDecision}
 use Rattle.osc_client.specs.declared.decision.ClientDecision.TheVariants as decisions
 use Rattle.osc_client.specs.declared.pending.Found.{Found}
-use Rattle.osc_client.specs.Agrees.{ClientAgrees}
-use Rattle.osc_client.specs.ClientAnswer.{ClientAnswer, IsAnswerTo, SaysAwaited, awaited, continues}
+use Rattle.osc_client.specs.Agrees.{ClientAgrees, ClientParts, PartsAgree, client_parts}
+use Rattle.osc_client.specs.ClientAnswer.{ClientAnswer, IsAnswerTo, ResponseAnswer, SaysAwaited, awaited, continues}
 use Rattle.osc_client.specs.ClientHistory as client
 use Rattle.osc_client.specs.ClientHistory.{after_place}
 use Rattle.osc_observe.specs.Observing.{place_of}
 use Rattle.osc_client.specs.declared.pending.Wait.{Wait}
 use Rattle.osc_observe.specs.Received.{Received}
-use Rattle.osc_client.specs.Views.{ClientShows, asked_of}
+use Rattle.osc_client.specs.Views.{ClientShows}
 use Rattle.osc_observe.specs.Views.{received_of}
 
 -- what was read from the datagram as it was left says this (RFC 8613, 8.4)
@@ -63,17 +62,27 @@ Decides decision new answer = ⊥
 abbrev pub ClientShowsDecided : ClientDecision → List ℕ → ClientOutcome → Type 0
 ClientShowsDecided decision new outcome = (answer : client.Answer) → Decides decision new answer → ClientShows outcome answer
 
--- for a response to a request of the table, the payload became the plaintext, followed by the old tag; all else stayed (RFC 8613, 8.4)
-abbrev pub IsOpenedBy : {N : ℕ} → Client N → List ℕ → List ℕ → Type 0
-IsOpenedBy c d new = (r : client.Asked) × Contains (map asked_of c.pending.items) r × (own : Option ℕ) × (len : ℕ)
-    × Decrypts (awaited (as_client (context_of c.context)) r) d own len new
+-- for a response to a pending request, the payload became the plaintext, followed by the old tag; all else stayed (RFC 8613, 8.4)
+abbrev pub IsOpenedAmong : ClientParts → List ℕ → List ℕ → Type 0
+IsOpenedAmong c d new = (r : client.Asked) × Contains c.pending r × (own : Option ℕ) × (len : ℕ) × Decrypts (awaited c.context r) d own len new
 
 -- what is left of the datagram: it is opened in the rows from a bad plaintext on, and as it came in the others (RFC 8613, 8.4)
+abbrev pub LeavesAmong : ClientParts → ClientDecision → List ℕ → List ℕ → Type 0
+LeavesAmong c decisions.BadInner d new = IsOpenedAmong c d new
+LeavesAmong c (decisions.Notified x number) d new = IsOpenedAmong c d new
+LeavesAmong c (decisions.Deliver x number) d new = IsOpenedAmong c d new
+LeavesAmong c decision d new = new ≡ d
+
+-- the same of a client (RFC 8613, 8.4)
 abbrev pub LeavesBy : {N : ℕ} → Client N → ClientDecision → List ℕ → List ℕ → Type 0
-LeavesBy c decisions.BadInner d new = IsOpenedBy c d new
-LeavesBy c (decisions.Notified x number) d new = IsOpenedBy c d new
-LeavesBy c (decisions.Deliver x number) d new = IsOpenedBy c d new
-LeavesBy c decision d new = new ≡ d
+LeavesBy c decision d new = LeavesAmong (client_parts c) decision d new
+
+-- the decision about a datagram is the answer after the history, and what the client is made of agrees with both (how the code is seen)
+pub record DecidesAmong (h : client.History) (now : ℕ) (d : List ℕ) (result : ClientDecision) (new : List ℕ) (c : ClientParts) : Type 0 where
+  pub answer : client.Answer
+  pub row : ResponseAnswer h (max (client.clock h) now) d answer
+  pub decides : Decides result new answer
+  pub agrees : PartsAgree c (client.Then h (client.Datagram now d) (client.Took answer))
 
 -- the decision about a datagram is the answer after the history, and the client agrees with both (how the code is seen)
 pub record ClientDecidesTo {N : ℕ} (h : client.History) (now : ℕ) (d : List ℕ) (result : ClientDecision) (new : List ℕ) (c : Client N) : Type 0 where
@@ -89,11 +98,15 @@ pub record ClientTakes {N : ℕ} (h : client.History) (now : ℕ) (d : List ℕ)
   pub shows : ClientShows outcome answer
   pub agrees : ClientAgrees c (client.Then h (client.Datagram now d) (client.Took answer))
 
+-- the request with this token that stands at a place of the table, with its number and what it waits for (RFC 7252, 5.3.2)
+abbrev pub IsFoundIn : List client.Asked → List ℕ → Found → Type 0
+IsFoundIn requests token f = (r : client.Asked) × (slice_get requests f.place ≡ Some r) × (r.token ≡ token) × (r.number ≡ number_of f.number) × (r.wait ≡ f.wait)
+
 -- the datagram answers this pending request, which is in a place of the table and waits for it, and was decrypted as a response to it (RFC 8613, 8.4)
-pub record IsDecryptedFor {N : ℕ} (h : client.History) (now : ℕ) (d : List ℕ) (x : DecryptedResponse) (f : Found) (new : List ℕ) (c : Client N) : Type 0 where
-  pub agrees : ClientAgrees c (client.Then h (client.Advance now) client.Advanced)
+pub record IsDecryptedFor (h : client.History) (now : ℕ) (d : List ℕ) (x : DecryptedResponse) (f : Found) (new : List ℕ) (c : ClientParts) : Type 0 where
+  pub agrees : PartsAgree c (client.Then h (client.Advance now) client.Advanced)
   pub to : client.Asked
-  pub at_place : slice_get (map asked_of c.pending.items) f.place ≡ Some to
+  pub at_place : slice_get c.pending f.place ≡ Some to
   pub number_is : to.number ≡ number_of f.number
   pub wait_is : to.wait ≡ f.wait
   pub answers : IsAnswerTo h (max (client.clock h) now) d to

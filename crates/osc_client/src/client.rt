@@ -4,23 +4,18 @@ ghost use Rattle.std.specs.Prelude.{◌≡◌, ◌≤◌, ◌^◌, OnErr};
 ghost use Rattle.osc_context.specs.Views.{as_client, number_of};
 
 use crate::client_outcome::TooFewLeft;
-use crate::client_parts::OWN_LIMIT;
-use crate::pending::{Pending, drop_expired, find_request};
+use crate::client_state::ClientState;
+use crate::pending::Pending;
+use crate::waiting::forget_in;
 use arrayvec::ArrayVec;
 use osc_context::{Context, Piv};
-use osc_protect::KeyedContext;
 
 /// A client of one context, with room for N pending requests. It has no socket and no clock: you pass in datagrams and timestamps in
 /// milliseconds.
 #[derive(Drop)]
 pub struct Client<const N: usize> {
-    pub(crate) context: KeyedContext,
-    pub(crate) life_ms: u64,
-    pub(crate) clock: u64,
-    // The next Sender Sequence Number, or the limit if none is left.
-    pub(crate) next: u64,
+    pub(crate) state: ClientState,
     pub(crate) pending: ArrayVec<Pending, N>,
-    pub ghost in_range: { next ≤ 2 ^ 40 },
 }
 
 impl<const N: usize> Client<N> {
@@ -36,10 +31,7 @@ impl<const N: usize> Client<N> {
         ensures { ClientAgrees result (New (as_client context) (number_of next) life_ms) }
     {
         Client {
-            context: KeyedContext::new(context),
-            life_ms,
-            clock: 0,
-            next: next.number(),
+            state: ClientState::new(context, next, life_ms),
             pending: ArrayVec::new(),
         }
     }
@@ -48,7 +40,7 @@ impl<const N: usize> Client<N> {
     pub fn restart(&mut self, next: Piv)
         ensures { (h : History) → ClientAgrees self.old h → ClientAgrees self.new (Then h (Restart (number_of next)) Restarted) }
     {
-        self.next = next.number();
+        self.state.next = next.number();
         self.pending.clear();
     }
 
@@ -59,8 +51,7 @@ impl<const N: usize> Client<N> {
         ensures value { result ≡ (client_parts self.now).next }
         ensures most { result ≤ 2 ^ 40 }
     {
-        let Client { next, .. } = self;
-        *next
+        self.state.next()
     }
 
     /// Passes over the next `count` Sender Sequence Numbers: another end of the same Sender Key has used them, as a server that shares
@@ -71,11 +62,7 @@ impl<const N: usize> Client<N> {
         ensures apart { HasTokensApart self.old → HasTokensApart self.new }
         ensures unchanged { OnErr result (self.new ≡ self.old) }
     {
-        if count > OWN_LIMIT - self.next {
-            return Err(TooFewLeft);
-        }
-        self.next += count;
-        Ok(())
+        self.state.skip(count)
     }
 
     /// Moves the clock to `now`, in milliseconds, if that is later. Drops the requests whose time has passed.
@@ -83,8 +70,7 @@ impl<const N: usize> Client<N> {
         ensures follows { (h : History) → ClientAgrees self.old h → ClientAgrees self.new (Then h (Advance now) Advanced) }
         ensures apart { HasTokensApart self.old → HasTokensApart self.new }
     {
-        self.clock = self.clock.max(now);
-        drop_expired(&mut self.pending, self.clock, self.life_ms);
+        self.state.advance(&mut self.pending, now);
     }
 
     /// Stops waiting for the response to the request with this token. Returns whether the token was pending.
@@ -93,12 +79,6 @@ impl<const N: usize> Client<N> {
         ensures follows { (h : History) → ClientAgrees self.old h → ClientAgrees self.new (Then h (Forget token.now) (Forgot result)) }
         ensures apart { HasTokensApart self.old → HasTokensApart self.new }
     {
-        match find_request(self.pending.as_slice(), token) {
-            Some(found) => {
-                let _forgotten = self.pending.remove(found.place);
-                true
-            }
-            None => false,
-        }
+        forget_in(&mut self.pending, token)
     }
 }

@@ -1,7 +1,6 @@
 //! Requests of a client.
 
 ghost use Rattle.std.specs.Prelude.{◌≡◌, ◌≢◌, ◌≤◌, ◌<◌, ◌^◌, ℕ, IfOk, IfErr, OnOk, OnErr, length, drop};
-ghost use Rattle.arrayvec.specs.ArrayVec.{array_vec_len};
 ghost use Rattle.osc_coap.specs.Views.{parts_of};
 ghost use Rattle.osc_context.specs.Views.{number_of};
 ghost use Rattle.osc_client.specs.Requesting.{IsFirstReason, lifted};
@@ -10,7 +9,9 @@ ghost use Rattle.osc_client.specs.declared.client_outcome.RequestError.TheVarian
 
 use crate::client::Client;
 use crate::client_outcome::RequestError;
-use crate::pending::{Pending, Wait, find_request};
+use crate::client_state::ClientState;
+use crate::pending::{Pending, Wait};
+use crate::waiting::Waiting;
 use osc_coap::Message;
 use osc_context::{Features, Piv};
 use osc_observe::siblings::{copy_of, registers};
@@ -41,32 +42,32 @@ fn first_reason(plain: &Message<'_>, features: Features, other: RequestError) ->
     }
 }
 
-impl<const N: usize> Client<N> {
-    ghost use Rattle.osc_client.specs.Agrees.{ClientAgrees, HasTokensApart, client_parts};
+impl ClientState {
+    ghost use Rattle.osc_client.specs.Agrees.{PartsAgree, TokensDiffer, parts_over};
     ghost use Rattle.osc_client.specs.ClientAnswer.{CanAsk, ClientAnswer, IsAmong, RequestAnswer};
     ghost use Rattle.osc_client.specs.ClientHistory.{History, Then, Request, NotSent, Advance, Advanced, clock, context, next, wait_of};
     ghost use Rattle.osc_protect.specs.Views.{context_of};
     ghost use Rattle.osc_client.specs.Requesting.{sent_entry};
-    ghost use Rattle.osc_client.specs.Views.{request_entry};
 
     /// Returns the Sender Sequence Number of a request that is sealed now, or why there is none for a request that can be sealed, whatever
     /// the room for it.
-    fn number_for(&self, plain: &Message<'_>) -> Result<Piv, RequestError>
-        ensures accepted { IfOk result (λ number. (h : History) → ClientAgrees self.now h
+    fn number_for<W: Waiting>(&self, pending: &W, plain: &Message<'_>) -> Result<Piv, RequestError>
+        requires { W.is_table pending.now }
+        ensures accepted { IfOk result (λ number. (h : History) → PartsAgree (parts_over self.now (W.requests pending.now)) h
             → IsPlainRequest (context h).features (parts_of plain.now)
-            → CanAsk N h (clock h) (parts_of plain.now) × (number_of number ≡ next h)) }
-        ensures number { IfOk result (λ number. (h : History) → ClientAgrees self.now h → number_of number ≡ next h) }
-        ensures refused { IfErr result (λ e. (h : History) (room : ℕ) → ClientAgrees self.now h
+            → CanAsk (W.room pending.now) h (clock h) (parts_of plain.now) × (number_of number ≡ next h)) }
+        ensures number { IfOk result (λ number. (h : History) → PartsAgree (parts_over self.now (W.requests pending.now)) h → number_of number ≡ next h) }
+        ensures refused { IfErr result (λ e. (h : History) (room : ℕ) → PartsAgree (parts_over self.now (W.requests pending.now)) h
             → IsPlainRequest (context h).features (parts_of plain.now)
-            → RequestAnswer N h (clock h) (parts_of plain.now) room (NotSent e)) }
-        ensures fits { OnOk result ((array_vec_len self.now.pending < N) × (self.now.next < 2 ^ 40)) }
-        ensures unused { OnOk result (IsAmong (parts_of plain.now).token (client_parts self.now).pending → ⊥) }
+            → RequestAnswer (W.room pending.now) h (clock h) (parts_of plain.now) room (NotSent e)) }
+        ensures fits { OnOk result ((length (W.requests pending.now) < W.room pending.now) × (self.now.next < 2 ^ 40)) }
+        ensures unused { OnOk result (IsAmong (parts_of plain.now).token (W.requests pending.now) → ⊥) }
         ensures no_keeper_failed { IfErr result (λ e. e ≢ KeeperFailed) }
     {
-        if find_request(self.pending.as_slice(), plain.token.as_slice()).is_some() {
+        if pending.find(plain.token.as_slice()).is_some() {
             return Err(RequestError::TokenInUse);
         }
-        if self.pending.is_full() {
+        if pending.is_full() {
             return Err(RequestError::PendingFull);
         }
         match Piv::new(self.next) {
@@ -86,6 +87,63 @@ impl<const N: usize> Client<N> {
             Wait::Once
         }
     }
+
+    /// Seals a request whose token is pending in this table from then on, as `Client::request` does, and returns its number too.
+    pub fn send<W: Waiting>(
+        &mut self,
+        pending: &mut W,
+        now: u64,
+        plain: &Message<'_>,
+        out: &mut [u8],
+    ) -> Result<(Piv, usize), RequestError>
+        requires { W.is_table pending.old }
+        ensures answered { (h : History) → PartsAgree (parts_over self.old (W.requests pending.old)) h
+            → ClientAnswer (W.room pending.old) h (Request now (parts_of plain.now) (length out.old)) (sent_entry result out.new) }
+        ensures follows { (h : History) → PartsAgree (parts_over self.old (W.requests pending.old)) h
+            → PartsAgree (parts_over self.new (W.requests pending.new)) (Then h (Request now (parts_of plain.now) (length out.old)) (sent_entry result out.new)) }
+        ensures number { IfOk result (λ r. (h : History) → PartsAgree (parts_over self.old (W.requests pending.old)) h → number_of r.0 ≡ next h) }
+        ensures within { IfOk result (λ r. r.1 ≤ length out.new) }
+        ensures behind { IfOk result (λ r. drop r.1 out.new ≡ drop r.1 out.old) }
+        ensures unchanged { OnErr result ((out.new ≡ out.old)
+            × ((h : History) → PartsAgree (parts_over self.old (W.requests pending.old)) h
+            → PartsAgree (parts_over self.new (W.requests pending.new)) (Then h (Advance now) Advanced))) }
+        ensures no_keeper_failed { IfErr result (λ e. e ≢ KeeperFailed) }
+        ensures table { W.is_table pending.new }
+        ensures room { W.room pending.new ≡ W.room pending.old }
+        ensures apart { TokensDiffer (W.requests pending.old) → TokensDiffer (W.requests pending.new) }
+    {
+        self.advance(pending, now);
+        let number = match self.number_for(pending, plain) {
+            Ok(number) => number,
+            Err(other) => {
+                let features = self.context.context().features();
+                let reason = first_reason(plain, features, other);
+                return Err(reason);
+            }
+        };
+        match self.context.seal_request(number, plain, out) {
+            Ok(len) => {
+                let wait = self.wait_for(plain);
+                self.next += 1;
+                pending.push(Pending {
+                    token: copy_of(&plain.token),
+                    number,
+                    moment: self.clock,
+                    wait,
+                });
+                Ok((number, len))
+            }
+            Err(error) => Err(lift(error)),
+        }
+    }
+}
+
+impl<const N: usize> Client<N> {
+    ghost use Rattle.osc_client.specs.Agrees.{ClientAgrees, HasTokensApart};
+    ghost use Rattle.osc_client.specs.ClientAnswer.{ClientAnswer};
+    ghost use Rattle.osc_client.specs.ClientHistory.{History, Then, Request, Advance, Advanced, next};
+    ghost use Rattle.osc_client.specs.Requesting.{sent_entry};
+    ghost use Rattle.osc_client.specs.Views.{request_entry};
 
     /// Does what `request` does, and returns the number of the request too.
     #[doc(hidden)]
@@ -107,29 +165,7 @@ impl<const N: usize> Client<N> {
         ensures no_keeper_failed { IfErr result (λ e. e ≢ KeeperFailed) }
         ensures apart { HasTokensApart self.old → HasTokensApart self.new }
     {
-        self.advance(now);
-        let number = match self.number_for(plain) {
-            Ok(number) => number,
-            Err(other) => {
-                let features = self.context.context().features();
-                let reason = first_reason(plain, features, other);
-                return Err(reason);
-            }
-        };
-        match self.context.seal_request(number, plain, out) {
-            Ok(len) => {
-                let wait = self.wait_for(plain);
-                self.next += 1;
-                self.pending.push(Pending {
-                    token: copy_of(&plain.token),
-                    number,
-                    moment: self.clock,
-                    wait,
-                });
-                Ok((number, len))
-            }
-            Err(error) => Err(lift(error)),
-        }
+        self.state.send(&mut self.pending, now, plain, out)
     }
 
     /// Seals a request with the next Sender Sequence Number into `out`, and returns how many bytes it takes at the front of `out` (RFC

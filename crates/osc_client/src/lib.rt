@@ -3,18 +3,22 @@
 
 mod client;
 mod client_outcome;
-mod client_parts;
 mod client_request;
+mod client_state;
 mod client_take;
 mod decision;
 mod pending;
+mod waiting;
 
 pub use client::Client;
 pub use client_outcome::{ClientOutcome, RequestError, TooFewLeft};
 pub use decision::ClientDecision;
 
-/// A client's requests as values, for the crates that keep a client elsewhere. If you have a client, you need none of it.
+/// A client in parts, for the crates that keep one elsewhere: all but its requests, and the table in which these lie. If you have a client,
+/// you need none of it.
 #[doc(hidden)]
 pub mod siblings {
-    pub use crate::pending::{Pending, Wait};
+    pub use crate::client_state::ClientState;
+    pub use crate::pending::{Found, Pending, Wait};
+    pub use crate::waiting::{Waiting, forget_in};
 }

@@ -1,9 +1,10 @@
 //! The requests of a client that wait for their responses, as a table.
 
-ghost use Rattle.std.specs.Prelude.{◌≡◌, ◌<◌, Some, IfSome, IfNone, length, map, slice_get};
+ghost use Rattle.std.specs.Prelude.{◌≡◌, ◌<◌, IfSome, IfNone, length, map};
 ghost use Rattle.osc_context.specs.Views.{number_of};
 ghost use Rattle.osc_client.specs.ClientAnswer.{IsAmong};
-ghost use Rattle.osc_client.specs.ClientHistory.{Asked, alive, first_place, is_alive as alive_still};
+ghost use Rattle.osc_client.specs.ClientDeciding.{IsFoundIn};
+ghost use Rattle.osc_client.specs.ClientHistory.{alive, first_place, is_alive as alive_still};
 ghost use Rattle.osc_client.specs.Views.{asked_of};
 
 use arrayvec::ArrayVec;
@@ -35,8 +36,8 @@ impl Wait {
         }
     }
 
-    /// Returns the first place at which a response isn't old.
-    pub(crate) fn first_place(self) -> u64
+    /// Returns the first place at which a response isn't old: 0 if no response is.
+    pub fn first_place(self) -> u64
         ensures { result ≡ first self }
     {
         match self {
@@ -83,10 +84,10 @@ impl Default for Pending {
 
 /// A pending request that was found: its place in the table, its number, and what it waits for.
 #[derive(Clone, Copy)]
-pub(crate) struct Found {
-    pub(crate) place: usize,
-    pub(crate) number: Piv,
-    pub(crate) wait: Wait,
+pub struct Found {
+    pub place: usize,
+    pub number: Piv,
+    pub wait: Wait,
 }
 
 impl Found {
@@ -120,8 +121,7 @@ impl Found {
 
 /// Finds the request with this token.
 pub(crate) fn find_request(pending: &[Pending], token: &[u8]) -> Option<Found>
-    ensures found { IfSome result (λ f. (r : Asked) × (slice_get (map asked_of pending.now) f.place ≡ Some r)
-        × (r.token ≡ token.now) × (r.number ≡ number_of f.number) × (r.wait ≡ f.wait)) }
+    ensures found { IfSome result (λ f. IsFoundIn (map asked_of pending.now) token.now f) }
     ensures within { IfSome result (λ f. f.place < length pending.now) }
     ensures none { IfNone result (IsAmong token.now (map asked_of pending.now) → ⊥) }
 {

@@ -9,6 +9,7 @@ use arrayvec::ArrayVec;
 use osc_context::Context;
 use osc_life::siblings::Slot;
 use osc_life::{AddError, Start};
+use osc_protect::KeyedContext;
 use osc_window::WindowSize;
 
 /// A server of up to eight contexts. It has no socket, no clock and no random source: you pass in datagrams, timestamps in milliseconds and
@@ -64,6 +65,7 @@ impl Server {
             return Err(AddError::SameLookup);
         }
         let index = self.slots.len();
+        let context = KeyedContext::new(context);
         self.slots.push(Some(Slot::begin(context, start, size)));
         Ok(index)
     }

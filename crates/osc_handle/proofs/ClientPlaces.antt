@@ -1,21 +1,23 @@
 -- The pending requests of a client, as bytes and as what they stand for.
-use Rattle.std.proofs.Common.{◌≡◌, ◌≢◌, ◌∙◌, ◌<◌, ◌≤◌, ◌+◌, sym, ap, subst, refl, arith, ℕ, zero, suc, List, [], ◌∷◌, ◌++◌, Option, Some, None, length, map, take, slice_set, slice_index_or, inl, inr}
-use Rattle.std.specs.Prelude.{slice_get, unwrap_or}
+use Rattle.std.proofs.Common.{◌≡◌, ◌≢◌, ◌∙◌, ◌<◌, ◌≤◌, ◌+◌, ◌-◌, sym, ap, subst, refl, arith, ℕ, zero, suc, List, [], ◌∷◌, ◌++◌, Option, Some, None, length, map, take, slice_set, slice_index_or, inl, inr}
+use Rattle.std.specs.List.{copy_within}
+use Rattle.std.specs.Prelude.{Bool, true, false, cond, drop, remove, slice_get, unwrap_or}
 use Rattle.std.specs.Option.{option_map}
 use Rattle.std.proofs.lemmas.Bool.{cases_eq}
-use Rattle.std.proofs.lemmas.List.{length-map, map-append}
+use Rattle.std.proofs.Math.Seq.{take-set-lt}
+use Rattle.std.proofs.lemmas.List.{drop-map, length-map, length-set, length-take, map-append, map-set, drop-take, append-nil, take-map, take-take, take_more_set}
+use Rattle.std.proofs.lemmas.List.Edits.{take-paste}
+use Rattle.std.proofs.lemmas.List.Elements.{filter-append}
 use Rattle.std.proofs.lemmas.Option.{get_or_from_slice_get, none-some, slice_get-get_or, slice_get-map, slice_get_within}
-use Rattle.osc_client.proofs.Asking.{contains_at}
 use Rattle.osc_client.proofs.ClientRequests.{differ_more}
 use Rattle.osc_endpoint.proofs.Places.{slice_get-set_other, slice_get-set_same}
 use Rattle.osc_client.specs.Agrees.{TokensDiffer}
 use Rattle.osc_client.specs.ClientAnswer.{IsAmong}
-use Rattle.osc_client.specs.ClientHistory.{Asked}
-use Rattle.osc_client.specs.Views.{asked_of}
-use Rattle.osc_client.specs.declared.pending.Pending.{Pending}
-use Rattle.osc_handle.specs.ClientBytes.{IsPending, asked_at, pending_in}
-use Rattle.osc_handle.specs.declared.client_handle.ClientHandle.{ClientHandle}
+use Rattle.osc_client.specs.ClientHistory.{Asked, alive, is_alive}
+use Rattle.osc_client.specs.declared.pending.Wait.{Wait}
+use Rattle.osc_handle.specs.ClientBytes.{IsPending, IsTable, asked_at}
 use Rattle.osc_handle.specs.declared.pending_handle.PendingHandle.{PendingHandle}
+use Rattle.osc_handle.specs.declared.waiting_handle.WaitingHandle.{WaitingHandle}
 use Rattle.osc_handle.proofs.Tables.{front_has, in_front}
 
 one_more : (i : ℕ) → i + 1 ≡ suc i
@@ -30,23 +32,9 @@ more_by (y ∷ xs) (suc i) x h = ap (λ zs. y ∷ zs) (more_by xs i x h)
 pub more : {A : Type 0} → (xs : List A) (i : ℕ) (x : A) → slice_get xs i ≡ Some x → take (i + 1) xs ≡ take i xs ++ x ∷ []
 more xs i x h = ap (λ n. take n xs) (one_more i) ∙ more_by xs i x h
 
-below_set : {A : Type 0} → (xs : List A) (i : ℕ) (y : A) → take i (slice_set xs i y) ≡ take i xs
-below_set [] i y = refl
-below_set (x ∷ xs) zero y = refl
-below_set (x ∷ xs) (suc i) y = ap (λ zs. x ∷ zs) (below_set xs i y)
-
--- all elements of a list
-pub take_all : {A : Type 0} → (xs : List A) → take (length xs) xs ≡ xs
-take_all [] = refl
-take_all (x ∷ xs) = ap (λ zs. x ∷ zs) (take_all xs)
-
 -- a request more is placed
-pub placed_more : (ps : List PendingHandle) (rs : List Pending) (i : ℕ) (r : Pending) (b : PendingHandle) → i < length ps → slice_get rs i ≡ Some r → asked_at b ≡ asked_of r
-    → map asked_at (take i ps) ≡ map asked_of (take i rs) → map asked_at (take (i + 1) (slice_set ps i b)) ≡ map asked_of (take (i + 1) rs)
-placed_more ps rs i r b within there is before =
-    ap (map asked_at) (more (slice_set ps i b) i b (slice_get-set_same ps i b within) ∙ ap (λ zs. zs ++ b ∷ []) (below_set ps i b))
-    ∙ (map-append asked_at (take i ps) (b ∷ []) ∙ (ap (λ zs. zs ++ asked_at b ∷ []) before ∙ (ap (λ a. map asked_of (take i rs) ++ a ∷ []) is
-    ∙ (sym (map-append asked_of (take i rs) (r ∷ [])) ∙ sym (ap (map asked_of) (more rs i r there))))))
+pub placed_more : (ps : List PendingHandle) (i : ℕ) (b : PendingHandle) → i < length ps → map asked_at (take (i + 1) (slice_set ps i b)) ≡ map asked_at (take i ps) ++ asked_at b ∷ []
+placed_more ps i b within = ap (map asked_at) (take_more_set ps i b within) ∙ map-append asked_at (take i ps) (b ∷ [])
 
 -- its bytes are ones that a call may have written
 pub each_placed : (ps : List PendingHandle) (i : ℕ) (b : PendingHandle) → i < length ps → IsPending b → ((j : ℕ) (c : PendingHandle) → j < i → slice_get ps j ≡ Some c → IsPending c)
@@ -62,12 +50,12 @@ each_placed ps i b within is before j c less there = elim (cases_eq j i) [
 pub asked_more : (ps : List PendingHandle) (i : ℕ) (b : PendingHandle) → slice_get ps i ≡ Some b → map asked_at (take (i + 1) ps) ≡ map asked_at (take i ps) ++ asked_at b ∷ []
 asked_more ps i b there = ap (map asked_at) (more ps i b there) ∙ map-append asked_at (take i ps) (b ∷ [])
 
--- a token that a place has is among those of all
-pub found_among : (ps : List PendingHandle) (i : ℕ) (other : PendingHandle) (token : List ℕ) → i < length ps → (asked_at (slice_index_or ps i other)).token ≡ token
-    → IsAmong token (map asked_at ps)
-found_among ps i other token within same =
+-- the request at a place that has the token
+pub found_at : (ps : List PendingHandle) (i : ℕ) (other : PendingHandle) (token : List ℕ) → i < length ps → (asked_at (slice_index_or ps i other)).token ≡ token
+    → (r : Asked) × (slice_get (map asked_at ps) i ≡ Some r) × (r.token ≡ token)
+found_at ps i other token within same =
     let b = slice_index_or ps i other in
-    (asked_at b, contains_at (map asked_at ps) i (asked_at b) (slice_get-map asked_at ps i ∙ ap (option_map asked_at) (slice_get-get_or ps i other within)), same)
+    (asked_at b, slice_get-map asked_at ps i ∙ ap (option_map asked_at) (slice_get-get_or ps i other within), same)
 
 -- no place up to one more has the token
 pub unlike_more : (ps : List PendingHandle) (i : ℕ) (other : PendingHandle) (token : List ℕ) → i < length ps → (asked_at (slice_index_or ps i other)).token ≢ token
@@ -127,6 +115,125 @@ met ps n i b token used there named (r, (k, less, at), same) differ =
     differ k i r before (slice_get_within ys i (asked_at b) second)
     (ap (λ (a : Asked). a.token) (get_or_from_slice_get ys k (asked_at c) r first ∙ is) ∙ (same ∙ (sym named ∙ ap (λ (a : Asked). a.token) (sym (get_or_from_slice_get ys i (asked_at b) r second)))))
 
--- bytes in use are read
-pub read_pending : (c : ClientHandle) (i : ℕ) (other : PendingHandle) → i < c.count → i < length c.pending → slice_get (pending_in c) i ≡ Some (slice_index_or c.pending i other)
-read_pending c i other used within = front_has c.pending c.count i used ∙ slice_get-get_or c.pending i other within
+-- ---- changes of the table
+
+-- the request that stands at a place
+at_read : (ps : List PendingHandle) (n i : ℕ) (d : PendingHandle) (r : Asked) → slice_get (map asked_at (take n ps)) i ≡ Some r → asked_at (slice_index_or ps i d) ≡ r
+at_read ps n i d r there =
+    let (b, at, is) = from_map (slice_get (take n ps) i) r (sym (slice_get-map asked_at (take n ps) i) ∙ there) in
+    ap asked_at (get_or_from_slice_get ps i b d (in_front ps n i b at).1) ∙ is
+
+-- the request at a place waits otherwise
+pub waits_at : (ps : List PendingHandle) (n i : ℕ) (b d : PendingHandle) (wait : Wait) (r : Asked) → i < n → slice_get (map asked_at (take n ps)) i ≡ Some r
+    → asked_at b ≡ record (asked_at (slice_index_or ps i d)) { wait = wait } → map asked_at (take n (slice_set ps i b)) ≡ slice_set (map asked_at (take n ps)) i (record r { wait = wait })
+waits_at ps n i b d wait r within there is =
+    ap (map asked_at) (take-set-lt n ps i b within) ∙ map-set asked_at (take n ps) i b
+    ∙ ap (slice_set (map asked_at (take n ps)) i) (is ∙ ap (λ (a : Asked). record a { wait = wait }) (at_read ps n i d r there))
+
+-- the later ones move up over a place
+moved_up : (ps : List PendingHandle) (n i : ℕ) → i < n → n ≤ length ps → take (n - 1) (copy_within ps (i + 1) n i) ≡ remove (take n ps) i
+moved_up ps n i less fits =
+    let behind = n - (i + 1) in
+    let few : n - 1 ≡ i + behind = omega (arith, less) in
+    let all : i + 1 + behind ≡ n = omega (arith, less) in
+    ap (λ k. take k (copy_within ps (i + 1) n i)) few
+    ∙ take-paste ps i (drop (i + 1) ps) behind (omega (arith, less, fits)) (many ps (i + 1) n fits)
+    ∙ ap (λ xs. xs ++ take behind (drop (i + 1) ps)) (sym (take-take i n ps (omega (arith, less))))
+    ∙ ap (λ xs. take i (take n ps) ++ xs) (sym (drop-take (i + 1) behind ps) ∙ ap (λ k. drop (i + 1) (take k ps)) all ∙ ap (λ k. drop k (take n ps)) (one_more i))
+  where
+    many : (xs : List PendingHandle) (a m : ℕ) → m ≤ length xs → m - a ≤ length (drop a xs)
+    many [] zero m h = omega (arith, h)
+    many (x ∷ xs) zero m h = omega (arith, h)
+    many [] (suc a) m h = omega (arith, h)
+    many (x ∷ xs) (suc a) m h = let h' = many xs a (m - 1) (omega (arith, h)) in omega (arith, h')
+
+-- one is taken out
+pub taken_out : (ps : List PendingHandle) (n i : ℕ) → i < n → n ≤ length ps → map asked_at (take (n - 1) (copy_within ps (i + 1) n i)) ≡ remove (map asked_at (take n ps)) i
+taken_out ps n i less fits =
+    let zs = take n ps in
+    ap (map asked_at) (moved_up ps n i less fits) ∙ map-append asked_at (take i zs) (drop (suc i) zs)
+    ∙ (λ j. sym (take-map asked_at i zs) j ++ sym (drop-map asked_at (suc i) zs) j)
+
+each_but : (zs : List PendingHandle) (i : ℕ) → ((j : ℕ) (b : PendingHandle) → slice_get zs j ≡ Some b → IsPending b) → (j : ℕ) (b : PendingHandle) → slice_get (remove zs i) j ≡ Some b → IsPending b
+each_but [] zero each j b there = absurd (none-some b there)
+each_but [] (suc i) each j b there = absurd (none-some b there)
+each_but (z ∷ zs) zero each j b there = each (suc j) b there
+each_but (z ∷ zs) (suc i) each zero b there = each zero b there
+each_but (z ∷ zs) (suc i) each (suc j) b there = each_but zs i (λ k c at. each (suc k) c at) j b there
+
+-- those that are left are ones that a call may have written
+pub each_left : (ps : List PendingHandle) (n i : ℕ) → i < n → n ≤ length ps → ((j : ℕ) (b : PendingHandle) → slice_get (take n ps) j ≡ Some b → IsPending b)
+    → (j : ℕ) (b : PendingHandle) → slice_get (take (n - 1) (copy_within ps (i + 1) n i)) j ≡ Some b → IsPending b
+each_left ps n i less fits each j b there = each_but (take n ps) i each j b (ap (λ xs. slice_get xs j) (sym (moved_up ps n i less fits)) ∙ there)
+
+-- ---- requests whose time has passed
+
+one_alive : (moment ms : ℕ) (xs : List Asked) (a : Asked) (b : Bool) → is_alive moment ms a ≡ b → alive moment ms (xs ++ a ∷ []) ≡ alive moment ms xs ++ cond b (a ∷ []) []
+one_alive moment ms xs a b is = filter-append (is_alive moment ms) xs (a ∷ []) ∙ ap (λ t. alive moment ms xs ++ cond t (a ∷ []) []) is
+
+-- one more is looked at: it is kept
+pub kept_more : (ps qs : List PendingHandle) (kept place moment ms : ℕ) (b : PendingHandle) → kept < length ps → slice_get qs place ≡ Some b → is_alive moment ms (asked_at b) ≡ true
+    → map asked_at (take kept ps) ≡ alive moment ms (map asked_at (take place qs)) → map asked_at (take (kept + 1) (slice_set ps kept b)) ≡ alive moment ms (map asked_at (take (place + 1) qs))
+kept_more ps qs kept place moment ms b within there lives so_far =
+    placed_more ps kept b within ∙ ap (λ xs. xs ++ asked_at b ∷ []) so_far ∙ sym (one_alive moment ms (map asked_at (take place qs)) (asked_at b) true lives)
+    ∙ ap (alive moment ms) (sym (asked_more qs place b there))
+
+-- or it isn't
+pub kept_less : (ps qs : List PendingHandle) (kept place moment ms : ℕ) (b : PendingHandle) → slice_get qs place ≡ Some b → is_alive moment ms (asked_at b) ≡ false
+    → map asked_at (take kept ps) ≡ alive moment ms (map asked_at (take place qs)) → map asked_at (take kept ps) ≡ alive moment ms (map asked_at (take (place + 1) qs))
+kept_less ps qs kept place moment ms b there gone so_far =
+    so_far ∙ sym (append-nil (alive moment ms (map asked_at (take place qs)))) ∙ sym (one_alive moment ms (map asked_at (take place qs)) (asked_at b) false gone)
+    ∙ ap (alive moment ms) (sym (asked_more qs place b there))
+
+-- a place of the front is below its length
+pub within_front : (ps : List PendingHandle) (n i : ℕ) → i < length (map asked_at (take n ps)) → i < n
+within_front ps n i less = let l = subst (λ k. i < k) (length-map (take n ps) asked_at) less in let m = length-take n ps in omega (arith, l, m)
+
+-- the bytes of the requests with one that was changed are ones that a call may have written
+pub each_set : (ps : List PendingHandle) (n i : ℕ) (b d : PendingHandle) → i < n → i < length ps → ((j : ℕ) (c : PendingHandle) → slice_get (take n ps) j ≡ Some c → IsPending c)
+    → (IsPending (slice_index_or ps i d) → IsPending b) → (j : ℕ) (c : PendingHandle) → slice_get (take n (slice_set ps i b)) j ≡ Some c → IsPending c
+each_set ps n i b d less within each whole j c there =
+    let front = in_front (slice_set ps i b) n j c there in
+    elim (cases_eq j i) [
+      | inl same ↦
+          let one : Some b ≡ Some c = sym (slice_get-set_same ps i b within) ∙ (ap (slice_get (slice_set ps i b)) (sym same) ∙ front.1) in
+          subst IsPending (ap (λ (o : Option PendingHandle). unwrap_or o c) one) (whole (each i (slice_index_or ps i d) (front_has ps n i less ∙ slice_get-get_or ps i d within)))
+      | inr other ↦ each j c (front_has ps n j front.0 ∙ (sym (slice_get-set_other ps i j b other) ∙ front.1))
+    ]
+
+-- of the requests before a place those are kept that are still pending, in the first places; the later ones lie where they lay
+abbrev pub Keeping : WaitingHandle → ℕ → ℕ → WaitingHandle → ℕ → ℕ → Type 0
+Keeping old moment ms t kept place =
+    (length t.pending ≡ 8) × (t.count ≡ old.count) × (kept ≤ place) × (map asked_at (take kept t.pending) ≡ alive moment ms (map asked_at (take place old.pending)))
+    × ((i : ℕ) (b : PendingHandle) → place ≤ i → slice_get t.pending i ≡ Some b → slice_get old.pending i ≡ Some b)
+    × ((i : ℕ) (b : PendingHandle) → i < kept → slice_get t.pending i ≡ Some b → IsPending b)
+
+pub same_keeping : (old t new : WaitingHandle) (moment ms kept kept_now place : ℕ) → new ≡ t → kept_now ≡ kept → Keeping old moment ms t kept place → Keeping old moment ms new kept_now place
+same_keeping old t new moment ms kept kept_now place is kept_is k =
+    subst (λ x. Keeping old moment ms x kept_now place) (sym is) (subst (λ n. Keeping old moment ms t n place) (sym kept_is) k)
+
+-- the request at that place is kept
+pub one_kept : (old t : WaitingHandle) (moment ms kept place : ℕ) (b : PendingHandle) → IsTable old → place < old.count → Keeping old moment ms t kept place
+    → slice_get t.pending place ≡ Some b → is_alive moment ms (asked_at b) ≡ true → Keeping old moment ms (record { count = t.count; pending = slice_set t.pending kept b }) (kept + 1) (place + 1)
+one_kept old t moment ms kept place b w less (long, same, most, so_far, later, each) there lives =
+    let was = later place b (omega arith) there in
+    let within : kept < length t.pending = let fits = w.fits in omega (arith, less, most, long, fits) in (
+      length-set t.pending kept b ∙ long,
+      same,
+      omega (arith, most),
+      kept_more t.pending old.pending kept place moment ms b within was lives so_far,
+      λ i c past at. later i c (omega (arith, past)) (sym (slice_get-set_other t.pending kept i b (λ is. omega (arith, is, most, past))) ∙ at),
+      each_placed t.pending kept b within (w.each place b (front_has old.pending old.count place less ∙ was)) each,
+    )
+
+-- it isn't
+pub one_dropped : (old t : WaitingHandle) (moment ms kept place : ℕ) (b : PendingHandle) → Keeping old moment ms t kept place → slice_get t.pending place ≡ Some b
+    → is_alive moment ms (asked_at b) ≡ false → Keeping old moment ms t kept (place + 1)
+one_dropped old t moment ms kept place b (long, same, most, so_far, later, each) there gone = (
+  long,
+  same,
+  omega (arith, most),
+  kept_less t.pending old.pending kept place moment ms b (later place b (omega arith) there) gone so_far,
+  λ i c past at. later i c (omega (arith, past)) at,
+  each,
+)

@@ -9,6 +9,7 @@ use Rattle.osc_client.specs.declared.pending.Wait.TheVariants.{Once, Observing}
 use Rattle.osc_context_handle.specs.ContextBytes.{IsContext, client_in}
 use Rattle.osc_handle.specs.declared.client_handle.ClientHandle.{ClientHandle}
 use Rattle.osc_handle.specs.declared.pending_handle.PendingHandle.{PendingHandle}
+use Rattle.osc_handle.specs.declared.waiting_handle.WaitingHandle.{WaitingHandle}
 
 -- what the request waits for (own rule)
 abbrev pub wait_in : PendingHandle → Wait
@@ -19,16 +20,16 @@ abbrev pub asked_at : PendingHandle → Asked
 asked_at b = record { token = take b.token_len b.token; number = b.number; moment = b.moment; wait = wait_in b }
 
 -- the places that are in use (own rule)
-abbrev pub pending_in : ClientHandle → List PendingHandle
-pending_in c = take c.count c.pending
+abbrev pub pending_in : WaitingHandle → List PendingHandle
+pending_in t = take t.count t.pending
 
 -- the pending requests, oldest first (own rule)
-abbrev pub asked_in : ClientHandle → List Asked
-asked_in c = map asked_at (pending_in c)
+abbrev pub asked_in : WaitingHandle → List Asked
+asked_in t = map asked_at (pending_in t)
 
 -- what the client is made of (own rule)
 abbrev pub parts_in : ClientHandle → ClientParts
-parts_in c = record { context = client_in c.context; life_ms = c.life_ms; clock = c.clock; next = c.next; pending = asked_in c }
+parts_in c = record { context = client_in c.context; life_ms = c.life_ms; clock = c.clock; next = c.next; pending = asked_in c.waiting }
 
 -- bytes of a wait that a call may have written: a truth value, and no place for a request that registers nothing (own rule)
 pub record IsWait (b : PendingHandle) : Type 0 where
@@ -41,17 +42,21 @@ pub record IsPending (b : PendingHandle) : Type 0 where
   pub number : b.number < 2 ^ 40
   pub wait : IsWait b
 
--- bytes of pending requests that a call may have written: at most eight, no two with the same token (RFC 7252, 5.3.1; own rule: eight)
-pub record ArePending (c : ClientHandle) : Type 0 where
-  pub fits : c.count ≤ 8
-  pub each : (i : ℕ) (b : PendingHandle) → slice_get (pending_in c) i ≡ Some b → IsPending b
-  pub differ : TokensDiffer (asked_in c)
+-- bytes of pending requests, at most eight, each of which a call may have written (own rule)
+pub record IsTable (t : WaitingHandle) : Type 0 where
+  pub fits : t.count ≤ 8
+  pub each : (i : ℕ) (b : PendingHandle) → slice_get (pending_in t) i ≡ Some b → IsPending b
+
+-- bytes of pending requests that a call may have written: no two with the same token (RFC 7252, 5.3.1)
+pub record ArePending (t : WaitingHandle) : Type 0 where
+  pub table : IsTable t
+  pub differ : TokensDiffer (asked_in t)
 
 -- bytes of a client that a call may have written (own rule)
 pub record IsClient (c : ClientHandle) : Type 0 where
   pub context : IsContext c.context
   pub next : c.next ≤ 2 ^ 40
-  pub requests : ArePending c
+  pub requests : ArePending c.waiting
 
 -- the bytes are as the history says, and each of its entries is the client's answer (RFC 8613, 3.1 and 8)
 pub record Asks (c : ClientHandle) (h : History) : Type 0 where
@@ -60,7 +65,7 @@ pub record Asks (c : ClientHandle) (h : History) : Type 0 where
   pub life_is : c.life_ms ≡ life_ms h
   pub clock_is : c.clock ≡ clock h
   pub next_is : c.next ≡ next h
-  pub table : asked_in c ≡ pending h
+  pub table : asked_in c.waiting ≡ pending h
   pub answers : AllClientAnswers 8 h
 
 -- no two requests between two restarts share a nonce (RFC 8613, 5.2)

@@ -1,31 +1,30 @@
 //! A client, as bytes.
 
-ghost use Rattle.std.specs.Prelude.{◌≡◌, ◌≢◌, ◌≤◌, ℕ, IfSome, IsSome, IsNone, OnErr, IfOk, IfErr, Bool, Option, Some, true, false, length, drop, map, take, slice_get};
+ghost use Rattle.std.specs.Prelude.{◌≡◌, ◌≢◌, ◌≤◌, ℕ, IfSome, IsSome, IsNone, OnErr, IfOk, IfErr, Bool, Option, Some, true, false, length, drop};
 ghost use Rattle.osc_coap.specs.Inner.{InnerParts};
 ghost use Rattle.osc_coap.specs.Views.{parts_of};
-ghost use Rattle.osc_context.specs.Views.{as_client, is_constant_time, number_of};
-ghost use Rattle.osc_client.specs.Agrees.{HasTokensApart, client_parts};
-ghost use Rattle.osc_client.specs.ClientAnswer.{ClientAnswer, Hears, IsAmong};
-ghost use Rattle.osc_client.specs.ClientDeciding.{CanShow, ClientShowsDecided};
+ghost use Rattle.osc_context.specs.Views.{is_constant_time, number_of};
+ghost use Rattle.osc_protect.specs.Views.{context_of};
+ghost use Rattle.osc_client.specs.Agrees.{parts_over};
+ghost use Rattle.osc_client.specs.ClientAnswer.{ClientAnswer, Hears};
+ghost use Rattle.osc_client.specs.ClientDeciding.{CanShow, ClientShowsDecided, LeavesAmong};
 ghost use Rattle.osc_client.specs.ClientHistory.{History, New, Then, Advance, Advanced, Forget, Forgot, Request, Restart, Restarted};
-ghost use Rattle.osc_client.specs.Views.{asked_of, client_hearing_of, request_entry};
+ghost use Rattle.osc_client.specs.Views.{client_hearing_of, request_entry};
 ghost use Rattle.osc_client.specs.declared.client_outcome.ClientOutcome.{ClientOutcome as OutcomeOf};
 ghost use Rattle.osc_client.specs.declared.client_outcome.RequestError.TheVariants.{KeeperFailed};
-ghost use Rattle.osc_handle.specs.ClientBytes.{ArePending, Asks, IsClient, IsPending, asked_at, asked_in, parts_in};
-ghost use Rattle.osc_handle.specs.ClientSteps.{ClientDecidesIn, ClientTakesIn, Keeps, LeavesIn, parts_with};
+ghost use Rattle.osc_handle.specs.ClientBytes.{Asks, IsClient, asked_in, parts_in};
+ghost use Rattle.osc_handle.specs.ClientSteps.{ClientDecidesIn, ClientTakesIn};
 ghost use Rattle.osc_context_handle.specs.ContextBytes.{IsContext, client_in, is_constant_time_in};
-ghost use Rattle.osc_handle.specs.declared.pending_handle.PendingHandle.{PendingHandle as PendingOf};
 
 use crate::left::Left;
-use crate::pending_handle::PendingHandle;
+use crate::waiting_handle::WaitingHandle;
+use osc_client::siblings::{ClientState, forget_in};
 use osc_coap::Message;
-use osc_context::{Context, Piv};
+use osc_context::Piv;
 use osc_context_handle::ContextHandle;
-use osc_endpoint::siblings::Pending;
-use osc_endpoint::{Client, ClientDecision, ClientOutcome, RequestError};
+use osc_endpoint::{ClientDecision, ClientOutcome, RequestError};
 
-/// A client of one context, with up to eight pending requests: the first `count` of the places, oldest first. Moments are in
-/// milliseconds.
+/// A client of one context, with up to eight pending requests. Moments are in milliseconds.
 #[repr(C)]
 #[derive(Clone, Copy)]
 pub struct ClientHandle {
@@ -33,32 +32,7 @@ pub struct ClientHandle {
     pub life_ms: u64,
     pub clock: u64,
     pub next: u64,
-    pub count: usize,
-    pub pending: [PendingHandle; 8],
-}
-
-/// Returns whether one of these requests has this token.
-fn has_token(requests: &[PendingHandle], token: &[u8]) -> bool
-    ensures yes { result ≡ true → IsAmong token.now (map asked_at requests.now) }
-    ensures no { result ≡ false → IsAmong token.now (map asked_at requests.now) → ⊥ }
-{
-    for place in 0..requests.len() {
-        if requests[place].token() == token {
-            return true;
-        }
-    }
-    false
-}
-
-/// Writes these requests to the first places. The places after them stay.
-fn keep_requests(places: &mut [PendingHandle; 8], requests: &[Pending])
-    requires { length requests.now ≤ 8 }
-    ensures made { map asked_at (take (length requests.now) places.new) ≡ map asked_of requests.now }
-    ensures each { (i : ℕ) (b : PendingOf) → slice_get (take (length requests.now) places.new) i ≡ Some b → IsPending b }
-{
-    for index in 0..requests.len() {
-        places[index] = PendingHandle::of(&requests[index]);
-    }
+    pub waiting: WaitingHandle,
 }
 
 impl ClientHandle {
@@ -78,29 +52,8 @@ impl ClientHandle {
             life_ms,
             clock: 0,
             next: next.number(),
-            count: 0,
-            pending: [PendingHandle::NONE; 8],
+            waiting: WaitingHandle::NONE,
         })
-    }
-
-    /// Returns whether calls may have written the pending requests.
-    fn are_pending(&self) -> bool
-        ensures yes { result ≡ true → ArePending self.now }
-        ensures no { result ≡ false → ArePending self.now → ⊥ }
-    {
-        if self.count > 8 {
-            return false;
-        }
-        for index in 0..self.count {
-            let request = &self.pending[index];
-            if !request.is_whole() {
-                return false;
-            }
-            if has_token(&self.pending[..index], request.token()) {
-                return false;
-            }
-        }
-        true
     }
 
     /// Returns whether a call may have written the bytes.
@@ -108,46 +61,25 @@ impl ClientHandle {
         ensures yes { result ≡ true → IsClient self.now }
         ensures no { result ≡ false → IsClient self.now → ⊥ }
     {
-        self.context.is_whole() && self.next <= 1 << 40 && self.are_pending()
+        self.context.is_whole() && self.next <= 1 << 40 && self.waiting.is_whole()
     }
 
-    /// Returns the context, or `None` if the client's bytes can't have been written by a call.
-    fn whole_context(&self) -> Option<Context>
-        ensures client { IfSome result (λ c. as_client c ≡ client_in self.now.context) }
-        ensures chosen { IfSome result (λ c. is_constant_time c ≡ is_constant_time_in self.now.context) }
+    /// Returns all of the client but its pending requests, or `None` if the client's bytes can't have been written by a call.
+    #[inline(always)]
+    fn state(&self) -> Option<ClientState>
+        ensures made { IfSome result (λ state. parts_over state (asked_in self.now.waiting) ≡ parts_in self.now) }
+        ensures chosen { IfSome result (λ state. is_constant_time (context_of state.context) ≡ is_constant_time_in self.now.context) }
         ensures accepted { IsSome result → IsClient self.now }
         ensures accepts { IsClient self.now → IsSome result }
     {
         if !self.is_whole() {
             return None;
         }
-        self.context.context()
-    }
-
-    /// Puts the pending requests into a client that has everything else from these bytes.
-    fn recall(&self, client: &mut Client<8>)
-        requires whole { IsClient self.now }
-        requires begun { client_parts client.old ≡ parts_with 0 self.now }
-        ensures { client_parts client.new ≡ parts_in self.now }
-    {
-        for index in 0..self.count {
-            let Some(request) = self.pending[index].pending() else {
-                unreachable!();
-            };
-            client.remember(request);
-        }
-    }
-
-    /// Keeps the new state of a client.
-    fn keep(&mut self, client: &Client<8>)
-        ensures kept { Keeps self.old self.new (client_parts client.now) }
-        ensures whole { IsClient self.old → HasTokensApart client.now → IsClient self.new }
-    {
-        let requests = client.pending();
-        self.clock = client.clock();
-        self.next = client.next();
-        self.count = requests.len();
-        keep_requests(&mut self.pending, requests);
+        let Some(context) = self.context.context() else {
+            unreachable!();
+        };
+        let next = Piv::new(self.next);
+        Some(ClientState::resumed(context, self.life_ms, self.clock, next))
     }
 
     /// Drops every pending request, and continues with `next` as the next Sender Sequence Number. The clock stays. Returns `None` if
@@ -163,8 +95,7 @@ impl ClientHandle {
             return None;
         }
         self.next = next.number();
-        self.count = 0;
-        self.pending = [PendingHandle::NONE; 8];
+        self.waiting = WaitingHandle::NONE;
         Some(())
     }
 
@@ -178,14 +109,10 @@ impl ClientHandle {
         ensures accepts { IsClient self.old → IsSome result }
         ensures unchanged { IsNone result → self.new ≡ self.old }
     {
-        let Some(context) = self.whole_context() else {
+        if !self.is_whole() {
             return None;
-        };
-        let mut client = Client::resumed(context, self.life_ms, self.clock, Piv::new(self.next));
-        self.recall(&mut client);
-        let was_pending = client.forget(token);
-        self.keep(&client);
-        Some(was_pending)
+        }
+        Some(forget_in(&mut self.waiting, token))
     }
 
     /// Seals a request with the next number, writes it to the front of `out`, and returns how many bytes it wrote (RFC 8613, 8.1).
@@ -211,14 +138,16 @@ impl ClientHandle {
         ensures no_keeper_failed { IfSome result (λ r. IfErr r (λ e. e ≢ KeeperFailed)) }
         ensures unchanged { IsNone result → (self.new ≡ self.old) × (out.new ≡ out.old) }
     {
-        let Some(context) = self.whole_context() else {
+        let Some(mut state) = self.state() else {
             return None;
         };
-        let mut client = Client::resumed(context, self.life_ms, self.clock, Piv::new(self.next));
-        self.recall(&mut client);
-        let asked = client.request(now, plain, out);
-        self.keep(&client);
-        Some(asked)
+        let sent = state.send(&mut self.waiting, now, plain, out);
+        self.clock = state.clock();
+        self.next = state.next();
+        match sent {
+            Ok((_, len)) => Some(Ok(len)),
+            Err(error) => Some(Err(error)),
+        }
     }
 
     /// Decides the answer to a datagram in place (RFC 8613, 8.4), and says what it leaves in the datagram. Returns `None` if the
@@ -230,7 +159,7 @@ impl ClientHandle {
         ensures accepted { IsSome result → IsClient self.old }
         ensures accepts { IsClient self.old → IsSome result }
         ensures shown { IfSome result (λ decision. CanShow decision datagram.new) }
-        ensures left { IfSome result (λ decision. LeavesIn (parts_in self.old) decision datagram.old datagram.new) }
+        ensures left { IfSome result (λ decision. LeavesAmong (parts_in self.old) decision datagram.old datagram.new) }
         // `ClientDecision::outcome` returns a notification, or a delivery, if and only if the datagram that was passed in is to be one.
         ensures heard { IfSome result (λ decision. (h : History) (c : Bool) (n : ℕ) (own : Option ℕ) (m : InnerParts) (outcome : OutcomeOf) → Asks self.old h
             → ClientShowsDecided decision datagram.new outcome → client_hearing_of outcome ≡ Some (c, n, own, m) → Hears h now datagram.old c n own m) }
@@ -238,13 +167,12 @@ impl ClientHandle {
             → ClientShowsDecided decision datagram.new outcome → Hears h now datagram.old c n own m → client_hearing_of outcome ≡ Some (c, n, own, m)) }
         ensures unchanged { IsNone result → (self.new ≡ self.old) × (datagram.new ≡ datagram.old) }
     {
-        let Some(context) = self.whole_context() else {
+        let Some(mut state) = self.state() else {
             return None;
         };
-        let mut client = Client::resumed(context, self.life_ms, self.clock, Piv::new(self.next));
-        self.recall(&mut client);
-        let decision = client.decide(now, datagram);
-        self.keep(&client);
+        let decision = state.decide(&mut self.waiting, now, datagram);
+        self.clock = state.clock();
+        self.next = state.next();
         Some(decision)
     }
 
@@ -260,7 +188,7 @@ impl ClientHandle {
         ensures accepted { IsSome result.decided → IsClient self.old }
         ensures accepts { IsClient self.old → IsSome result.decided }
         ensures shown { IfSome result.decided (λ decision. CanShow decision result.datagram.now) }
-        ensures left { IfSome result.decided (λ decision. LeavesIn (parts_in self.old) decision datagram.old result.datagram.now) }
+        ensures left { IfSome result.decided (λ decision. LeavesAmong (parts_in self.old) decision datagram.old result.datagram.now) }
         ensures heard { IfSome result.decided (λ decision. (h : History) (c : Bool) (n : ℕ) (own : Option ℕ) (m : InnerParts) (outcome : OutcomeOf) → Asks self.old h
             → ClientShowsDecided decision result.datagram.now outcome → client_hearing_of outcome ≡ Some (c, n, own, m) → Hears h now datagram.old c n own m) }
         ensures hears { IfSome result.decided (λ decision. (h : History) (c : Bool) (n : ℕ) (own : Option ℕ) (m : InnerParts) (outcome : OutcomeOf) → Asks self.old h

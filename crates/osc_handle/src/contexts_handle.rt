@@ -27,6 +27,7 @@ use osc_context::Piv;
 use osc_context_handle::ContextHandle;
 use osc_endpoint::siblings::{Asker, Contexts, Named, Slot, is_replay, refuse_replay};
 use osc_endpoint::{AddError, AddRefusal, Decided, ReplyError, RestartError, Start};
+use osc_protect::KeyedContext;
 use osc_window::WindowSize;
 
 /// The contexts of a server: the first `count` places.
@@ -111,6 +112,8 @@ impl ContextsHandle {
             unreachable!();
         };
         let index = self.count;
+        // Bytes keep no key schedule.
+        let made = KeyedContext::for_one_message(made);
         self.slots[index] = SlotHandle::of(context, &Slot::begin(made, start, size));
         self.count += 1;
         Ok(index)

@@ -15,6 +15,7 @@ mod single_table;
 mod slot_handle;
 mod ticket_handle;
 mod unanswered_handle;
+mod waiting_handle;
 
 pub use client_handle::ClientHandle;
 pub use client_laws::{client_nonces_once, client_numbers_once};
@@ -29,3 +30,4 @@ pub use single_server_handle::SingleServerHandle;
 pub use slot_handle::{SlotHandle, size_with};
 pub use ticket_handle::TicketHandle;
 pub use unanswered_handle::UnansweredHandle;
+pub use waiting_handle::WaitingHandle;

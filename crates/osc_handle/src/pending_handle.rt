@@ -1,13 +1,15 @@
 //! A request that is waiting for its response, as bytes.
 
-ghost use Rattle.std.specs.Prelude.{◌≡◌, ◌≤◌, IfSome, IsSome, take, true, false};
+ghost use Rattle.std.specs.Prelude.{◌≡◌, ◌≤◌, ◌==◌, if◌then◌else◌, true, false};
+ghost use Rattle.osc_client.specs.ClientHistory.{is_alive as alive_still};
 ghost use Rattle.osc_client.specs.Views.{asked_of};
+ghost use Rattle.osc_client.specs.declared.pending.Wait.TheVariants.{Once, Observing};
+ghost use Rattle.osc_context.specs.Views.{number_of};
 ghost use Rattle.osc_handle.specs.ClientBytes.{IsPending, IsWait, asked_at, wait_in};
 
-use osc_coap::Token;
+use osc_client::siblings::{Found, Pending, Wait};
 use osc_context::Piv;
 use osc_context_handle::siblings::padded;
-use osc_endpoint::siblings::{Pending, Wait};
 
 /// A request that is waiting for its response: its number, the clock in milliseconds when it was sealed, its token, and whether it
 /// registers an observation.
@@ -24,17 +26,16 @@ pub struct PendingHandle {
     pub observes: u8,
 }
 
-/// Returns the token in the first `len` bytes, or `None` if there aren't that many.
-fn token_of(bytes: &[u8; 8], len: u8) -> Option<Token>
-    ensures made { IfSome result (λ token. token.items ≡ take len bytes.now) }
-    ensures accepted { IsSome result → len ≤ 8 }
-    ensures accepts { len ≤ 8 → IsSome result }
+/// Returns the bytes of what a request waits for: whether it registers an observation, and the first place at which a response isn't old.
+fn bytes_of(wait: Wait) -> (u8, u64)
+    ensures made { (if result.0 == 0 then Once else Observing result.1) ≡ wait }
+    ensures flag { result.0 ≤ 1 }
+    ensures none { result.0 ≡ 0 → result.1 ≡ 0 }
 {
-    let mut token = Token::new();
-    token
-        .try_extend_from_slice(bytes.get(..usize::from(len))?)
-        .unwrap();
-    Some(token)
+    match wait {
+        Wait::Once => (0, 0),
+        Wait::Observing { from } => (1, from),
+    }
 }
 
 impl PendingHandle {
@@ -54,10 +55,7 @@ impl PendingHandle {
         ensures whole { IsPending result }
     {
         let (token, token_len) = padded(pending.token.as_slice());
-        let (observes, from) = match pending.wait {
-            Wait::Once => (0, 0),
-            Wait::Observing { from } => (1, from),
-        };
+        let (observes, from) = bytes_of(pending.wait);
         PendingHandle {
             number: pending.number.number(),
             moment: pending.moment,
@@ -106,20 +104,40 @@ impl PendingHandle {
         &self.token[..len.min(8)]
     }
 
-    /// Returns the pending request that the bytes hold, or `None` if the bytes can't have been written by a call.
-    pub fn pending(&self) -> Option<Pending>
-        ensures made { IfSome result (λ pending. asked_of pending ≡ asked_at self.now) }
-        ensures accepted { IsSome result → IsPending self.now }
-        ensures accepts { IsPending self.now → IsSome result }
+    /// Returns the request as one that was found at this place.
+    pub(crate) fn found_at(&self, place: usize) -> Found
+        requires { IsPending self.now }
+        ensures place { result.place ≡ place }
+        ensures number { (asked_at self.now).number ≡ number_of result.number }
+        ensures wait { (asked_at self.now).wait ≡ result.wait }
     {
-        if !self.has_wait() {
-            return None;
-        }
-        Some(Pending {
-            token: token_of(&self.token, self.token_len)?,
-            number: Piv::new(self.number)?,
-            moment: self.moment,
+        let Some(number) = Piv::new(self.number) else {
+            unreachable!();
+        };
+        Found {
+            place,
+            number,
             wait: self.wait(),
-        })
+        }
+    }
+
+    /// Returns whether the request is still pending at this time, as that of a `Client` is.
+    pub(crate) fn is_alive(&self, clock: u64, life_ms: u64) -> bool
+        ensures { result ≡ alive_still clock life_ms (asked_at self.now) }
+    {
+        self.wait().first_place() > 0 || clock.saturating_sub(self.moment) <= life_ms
+    }
+
+    /// Returns the bytes of the same request, which waits for this.
+    pub(crate) fn waiting_for(&self, wait: Wait) -> PendingHandle
+        ensures made { asked_at result ≡ record (asked_at self.now) { wait = wait } }
+        ensures whole { IsPending self.now → IsPending result }
+    {
+        let (observes, from) = bytes_of(wait);
+        PendingHandle {
+            observes,
+            from,
+            ..*self
+        }
     }
 }

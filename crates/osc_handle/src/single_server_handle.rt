@@ -32,6 +32,7 @@ use osc_context_handle::ContextHandle;
 use osc_endpoint::siblings::{Slot, decide_over};
 use osc_endpoint::{Decided, Decision, Fresh, ReplyError, RestartError, Start, Taken, Ticket};
 use osc_laws::answered_once;
+use osc_protect::KeyedContext;
 use osc_window::WindowSize;
 
 /// A server of one context, which has index 0: its clock, the context, and which of its requests are waiting for their answers.
@@ -65,6 +66,8 @@ impl SingleServerHandle {
         let Some(made) = context.context() else {
             unreachable!();
         };
+        // Bytes keep no key schedule.
+        let made = KeyedContext::for_one_message(made);
         Some(SingleServerHandle {
             clock: 0,
             slot: SlotHandle::of(context, &Slot::begin(made, start, size)),

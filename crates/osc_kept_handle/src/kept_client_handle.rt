@@ -4,11 +4,10 @@ ghost use Rattle.std.specs.Prelude.{◌≡◌, ◌≢◌, ◌≤◌, ℕ, Ok, Er
 ghost use Rattle.osc_coap.specs.Views.{parts_of};
 ghost use Rattle.osc_context.specs.Reserving.{next_limit};
 ghost use Rattle.osc_context.specs.Views.{number_of};
-ghost use Rattle.osc_client.specs.ClientDeciding.{CanShow};
+ghost use Rattle.osc_client.specs.ClientDeciding.{CanShow, LeavesAmong};
 ghost use Rattle.osc_client.specs.ClientHistory.{Forget, Forgot, History, New, Request};
 ghost use Rattle.osc_client.specs.declared.client_outcome.RequestError.TheVariants.{KeeperFailed};
 ghost use Rattle.osc_handle.specs.ClientBytes.{parts_in};
-ghost use Rattle.osc_handle.specs.ClientSteps.{LeavesIn};
 ghost use Rattle.osc_context_handle.specs.ContextBytes.{IsContext, client_in};
 ghost use Rattle.osc_kept_ends.specs.Numbering.{Allowed, Goes, Load, Own, Reserve, after, nothing_drawn, upcoming};
 ghost use Rattle.osc_kept_handle.specs.KeptClientBytes.{AsksWith, ClientDecidesWith, ClientTakesWith, IsKeptClient, StepsClient, entry_of_kept_request};
@@ -140,7 +139,7 @@ impl KeptClientHandle {
         ensures accepted { IsSome result → IsKeptClient self.old }
         ensures limit_stays { self.new.reserved ≡ self.old.reserved }
         ensures shown { IfSome result (λ decision. CanShow decision datagram.new) }
-        ensures left { IfSome result (λ decision. LeavesIn (parts_in self.old.client) decision datagram.old datagram.new) }
+        ensures left { IfSome result (λ decision. LeavesAmong (parts_in self.old.client) decision datagram.old datagram.new) }
         ensures unchanged { IsNone result → (self.new ≡ self.old) × (datagram.new ≡ datagram.old) }
     {
         if !self.is_whole() {
@@ -161,7 +160,7 @@ impl KeptClientHandle {
         ensures accepted { IsSome result.decided → IsKeptClient self.old }
         ensures limit_stays { self.new.reserved ≡ self.old.reserved }
         ensures shown { IfSome result.decided (λ decision. CanShow decision result.datagram.now) }
-        ensures left { IfSome result.decided (λ decision. LeavesIn (parts_in self.old.client) decision datagram.old result.datagram.now) }
+        ensures left { IfSome result.decided (λ decision. LeavesAmong (parts_in self.old.client) decision datagram.old result.datagram.now) }
         ensures unchanged { IsNone result.decided → (self.new ≡ self.old) × (result.datagram.now ≡ datagram.old) }
     {
         let decided = self.decide(now, datagram);

@@ -7,7 +7,7 @@ ghost use Rattle.osc_protect.specs.Views.{context_of};
 use crate::doubt::Doubt;
 use crate::slot::Slot;
 use crate::start::Start;
-use osc_context::{Context, Piv};
+use osc_context::Piv;
 use osc_protect::KeyedContext;
 use osc_window::{Gate, Window, WindowSize};
 
@@ -15,11 +15,11 @@ impl Slot {
     ghost use Rattle.osc_life.specs.Agrees.{SlotAgrees};
     ghost use Rattle.osc_life.specs.Life.{Life, born, renewed};
 
-    /// Begins a context.
+    /// Begins a context, which keeps its key schedules if it is one that does.
     #[must_use]
-    pub fn begin(context: Context, start: Start, size: WindowSize) -> Slot
-        ensures context { context_of result.context ≡ context }
-        ensures agrees { SlotAgrees result (born (as_server context) start size) }
+    pub fn begin(context: KeyedContext, start: Start, size: WindowSize) -> Slot
+        ensures context { result.context ≡ context }
+        ensures agrees { SlotAgrees result (born (as_server (context_of context)) start size) }
     {
         let closed = Gate::Restarted { challenge: None };
         let (gate, doubt, next) = match start {
@@ -35,7 +35,7 @@ impl Slot {
             } => (closed, Some(Doubt::up_to(highest, ahead)), next),
         };
         Slot {
-            context: KeyedContext::new(context),
+            context,
             size,
             gate,
             doubt,

@@ -50,7 +50,7 @@ client_carried {N = N} c d k next more b same there = record {
   least = elim (cases_lt more (client.next k)) [
     | inl less ↦ absurd (not_there there (λ x.
         let least = x.1.least in
-        let is : client.next x.0 ≡ client.next k = sym x.1.agrees.next_is ∙ ap (λ (z : Client N). z.next) same ∙ b.agrees.next_is in
+        let is : client.next x.0 ≡ client.next k = sym x.1.agrees.says.next_is ∙ ap (λ (z : Client N). z.state.next) same ∙ b.agrees.says.next_is in
         omega (arith, less, least, is)))
     | inr least ↦ least
   ];

@@ -1,24 +1,23 @@
 use Rattle.std.proofs.Common.{refl}
-use Rattle.osc_context.specs.Views.{as_client}
-use Rattle.osc_client.specs.Agrees.{client_parts}
-use Rattle.osc_handle.proofs.ClientHistories.{agrees_of, apart_of, asks_on, begun}
+use Rattle.osc_client.specs.ClientHistory.{Forget, Forgot}
+use Rattle.osc_handle.specs.ClientBytes.{parts_in}
+use Rattle.osc_handle.proofs.ClientHistories.{agrees_of, asks_on, whole_on}
 use Rattle.osc_handle.proofs.client_handle.ClientHandle.forget.Goals as goal
 
-pub recall-requires-clause-begun : goal.recall-requires-clause-begun
-recall-requires-clause-begun c =
-    let w = c.in-Some.ensures.accepted refl in
-    begun c.args.self.now (client_parts c.resumed-client.result) (as_client c.in-Some.context) c.new.result c.in-Some.ensures.client w.next c.new.ensures.made c.new.ensures.refused c.resumed-client.ensures
+pub forget_in-requires : goal.forget_in-requires
+forget_in-requires c = let w = c.is_whole.ensures.yes c.if-not-is_whole.false in w.requests.table
 
 pub returns-clause-whole : goal.returns-clause-whole
 returns-clause-whole c = λ _.
-    let w = c.in-Some.ensures.accepted refl in
-    c.keep.ensures.whole w (c.forget-was_pending.ensures.apart (apart_of c.args.self.now c.recall.new.client c.recall.ensures w))
+    let w = c.is_whole.ensures.yes c.if-not-is_whole.false in
+    whole_on c.args.self.now _ w refl w.next c.forget_in.ensures.table (c.forget_in.ensures.apart w.requests.differ)
 
 pub returns-clause-answered : goal.returns-clause-answered
-returns-clause-answered c = λ h a. c.forget-was_pending.ensures.answered h (agrees_of _ h _ c.recall.ensures a)
+returns-clause-answered c = λ h a. c.forget_in.ensures.answered 8 (parts_in c.args.self.now) h (agrees_of c.args.self.now _ h refl a)
 
 pub returns-clause-follows : goal.returns-clause-follows
 returns-clause-follows c = λ h a.
-    let w = c.in-Some.ensures.accepted refl in
-    let agrees = agrees_of _ h _ c.recall.ensures a in
-    asks_on _ _ _ h _ _ a c.keep.ensures.kept (c.keep.ensures.whole w (c.forget-was_pending.ensures.apart (apart_of c.args.self.now c.recall.new.client c.recall.ensures w))) (c.forget-was_pending.ensures.follows h agrees) (c.forget-was_pending.ensures.answered h agrees)
+    let w = c.is_whole.ensures.yes c.if-not-is_whole.false in
+    let agrees = agrees_of c.args.self.now _ h refl a in
+    asks_on c.args.self.now _ _ h (Forget c.args.token.now) (Forgot c.forget_in.result) a (whole_on c.args.self.now _ w refl w.next c.forget_in.ensures.table (c.forget_in.ensures.apart w.requests.differ))
+    refl refl refl refl refl (c.forget_in.ensures.follows (parts_in c.args.self.now) h agrees) (c.forget_in.ensures.answered 8 (parts_in c.args.self.now) h agrees)

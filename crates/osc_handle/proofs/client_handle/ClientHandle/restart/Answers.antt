@@ -9,8 +9,7 @@ returns-clause-whole c = λ _.
       context = w.context;
       next = omega (arith, below);
       requests = record {
-        fits = omega arith;
-        each = λ i b there. absurd (let f = there in cc);
+        table = record { fits = omega arith; each = λ i b there. absurd (let f = there in cc) };
         differ = λ i j d less within. absurd (omega (arith, within));
       };
     }

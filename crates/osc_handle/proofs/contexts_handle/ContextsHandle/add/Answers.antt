@@ -1,5 +1,6 @@
-use Rattle.std.proofs.Common.{rules, ◌<◌, arith, refl, subst, length}
+use Rattle.std.proofs.Common.{rules, ◌<◌, ◌∙◌, ap, arith, refl, subst, length}
 use Rattle.osc_context.specs.SecurityContext.{SecurityContext}
+use Rattle.osc_context.specs.Views.{as_server}
 use Rattle.osc_life.specs.Agrees.{SlotAgrees}
 use Rattle.osc_life.specs.Life.{born}
 use Rattle.osc_context_handle.specs.ContextBytes.{server_in}
@@ -32,7 +33,7 @@ pub returns-clause-grows : goal.returns-clause-grows
 returns-clause-grows c = λ slots h.
     let room : c.args.self.now.count < length c.args.self.now.slots = search rules in (
       c.begin.result,
-      subst (λ (s : SecurityContext). SlotAgrees c.begin.result (born s c.args.start c.args.size)) c.in-Some.ensures.server c.begin.ensures.agrees,
+      subst (λ (s : SecurityContext). SlotAgrees c.begin.result (born s c.args.start c.args.size)) (ap as_server c.for_one_message-made.ensures ∙ c.in-Some.ensures.server) c.begin.ensures.agrees,
       table_grown c.args.self.now slots c.of.result c.begin.result h room c.of.ensures.made,
     )
 

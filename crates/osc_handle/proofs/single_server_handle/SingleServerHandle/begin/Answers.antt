@@ -1,6 +1,7 @@
-use Rattle.std.proofs.Common.{◌∷◌, [], arith, refl, subst}
+use Rattle.std.proofs.Common.{◌∷◌, [], ◌∙◌, ap, arith, refl, subst}
 use Rattle.std.proofs.lemmas.Option.{none-some}
 use Rattle.osc_context.specs.SecurityContext.{SecurityContext}
+use Rattle.osc_context.specs.Views.{as_server}
 use Rattle.osc_life.specs.Agrees.{SlotAgrees}
 use Rattle.osc_life.specs.Life.{born}
 use Rattle.osc_life.specs.ServerHistory.{Begin}
@@ -20,7 +21,7 @@ returns-clause-added c =
     (λ has. none-some has.1 has.2)
     (λ slots h. (
       c.begin.result,
-      subst (λ (s : SecurityContext). SlotAgrees c.begin.result (born s c.args.start c.args.size)) c.in-Some.ensures.server c.begin.ensures.agrees,
+      subst (λ (s : SecurityContext). SlotAgrees c.begin.result (born s c.args.start c.args.size)) (ap as_server c.for_one_message-made.ensures ∙ c.in-Some.ensures.server) c.begin.ensures.agrees,
       table_grown empty.contexts slots c.of.result c.begin.result h (omega arith) c.of.ensures.made,
     ))
     c.none.ensures.holds c.none.ensures.highest refl refl
