@@ -126,6 +126,7 @@ int main(int count, char **words) {
     oscore_context client_context, server_context;
     oscore_size index;
     CHECK(RUNNING_ON_VALGRIND);
+    (void)reports(); /* those of a C library that is linked in, before main */
     derive(&client_context, &server_context, tables);
     oscore_server_begin(&server);
     CHECK(!oscore_server_add(&server, &server_context, false, 0, 32, &index));
