@@ -7,9 +7,11 @@ import contextlib
 import pathlib
 import random
 import socket
+import struct
 import subprocess
 import threading
 import time
+import zlib
 from typing import Callable, Iterator, List, NamedTuple, Sequence, Tuple
 
 GIVEN_UP_S = 20
@@ -168,6 +170,11 @@ class Bench:
     def first(self, record: str) -> List[str]:
         """The word that makes a record, where none of our programs has one of that name yet."""
         return [] if (self.work / record).exists() else ["first"]
+
+    def was_used(self, record: str, context: bytes, number: int) -> None:
+        """Makes a record of that name, of an end that ran before and reserved the numbers below this one (oscore_store.h)."""
+        text = b"osc-num\1" + struct.pack("<QQQ8sI", 1, number, 0, context, 0)
+        (self.work / record).write_bytes(bytes(4096) + text + struct.pack("<I", zlib.crc32(text)))
 
     def lock(self, record: str, datagrams: int):
         """Our lock, which keeps its number in a record of that name."""
