@@ -113,7 +113,8 @@ impl<'t> Corpus<'t> {
             | "kept-peer"
             | "peers-in-turn"
             | "kept-server-bytes"
-            | "kept-client-bytes" => {
+            | "kept-client-bytes"
+            | "peer-bytes" => {
                 ends::make(row.verb, row.fields, contexts, &mut answer);
             }
             verb => {

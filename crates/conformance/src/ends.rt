@@ -3,6 +3,7 @@
 use crate::answer::Answer;
 use crate::fields::NamedContext;
 use crate::keeper::Memory;
+use crate::peer_bytes::PeerBytes;
 use crate::steps::{Step, Way, steps_of};
 use crate::{client, kept, peer, server, turns};
 use osc_kept::{KeptClient, KeptServer};
@@ -72,6 +73,7 @@ pub(crate) fn make<'t>(
         "peers-in-turn" => turns::make(&steps, answer),
         "kept-server-bytes" => in_both_ways::<KeptServerHandle>(first, rest, answer),
         "kept-client-bytes" => in_both_ways::<KeptClientHandle>(first, rest, answer),
+        "peer-bytes" => in_both_ways::<PeerBytes>(first, rest, answer),
         _ => answer.is_whole = false,
     }
     for step in &steps {

@@ -12,8 +12,8 @@ use osc_context::{Context, Piv};
 use osc_protect::{
     HeadError, KeyedContext, Opened, ProtectError, RequestHead, RequestRef, ResponseHead,
     SealedResponse, UnprotectError, check_request, check_response, decrypt_request,
-    decrypt_response, head_of_request, inspect_request, inspect_response, open_request,
-    open_response, seal_request, seal_response,
+    decrypt_response, encrypt_again, head_of_request, inspect_request, inspect_response,
+    open_request, open_response, seal_request, seal_response,
 };
 
 /// What a buffer to seal into is filled with.
@@ -212,7 +212,22 @@ fn request_in_stages<'b>(
     }
 }
 
-/// Opens a request by one call over a context, by one over the context that keeps its schedules, and in stages.
+/// Decrypts a request that names the context, and encrypts it again.
+fn decrypt_and_encrypt(context: &KeyedContext, datagram: &mut [u8]) {
+    let Ok(head) = head_of_request(datagram) else {
+        return;
+    };
+    if !head.names(context.context()) {
+        return;
+    }
+    let sealed = head.sealed();
+    if decrypt_request(context, datagram, sealed).is_ok() {
+        encrypt_again(context, datagram);
+    }
+}
+
+/// Opens a request by one call over a context, by one over the context that keeps its schedules, and in stages. Encrypted again, it is as
+/// it came.
 pub(crate) fn opened_request(fields: &Fields<'_>, context: &KeyedContext, answer: &mut Answer) {
     fields.count(2);
     let came = fields.bytes(1);
@@ -228,6 +243,9 @@ pub(crate) fn opened_request(fields: &Fields<'_>, context: &KeyedContext, answer
     let mut datagram = fields.copy(1);
     opened(request_in_stages(context, datagram.as_mut_slice()), answer);
     answer.left(came, datagram.as_slice());
+    let mut datagram = fields.copy(1);
+    decrypt_and_encrypt(context, datagram.as_mut_slice());
+    answer.is_whole = answer.is_whole && datagram.as_slice() == came;
 }
 
 /// Returns what has to be decrypted of a response.

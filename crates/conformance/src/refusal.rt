@@ -5,6 +5,7 @@ use osc_endpoint::{AddRefusal, ReplyError, RequestError, RestartError, SkipError
 use osc_handle::ReplyRefusal;
 use osc_kept::KeptError;
 use osc_kept_handle::{KeptRefusal, KeptReplyRefusal, KeptRequestRefusal};
+use osc_peer_handle::PeerRefusal;
 
 /// Why an end doesn't make a step, whichever end it is.
 #[derive(Clone, Copy)]
@@ -15,6 +16,7 @@ pub(crate) enum Refusal {
     TooFewLeft(TooFewLeft),
     Kept(KeptError),
     Take(KeptRefusal),
+    Peer(PeerRefusal),
     Reply(KeptReplyRefusal),
     Request(KeptRequestRefusal),
     /// The end has no such step, or takes its own bytes for bad ones. No row expects that.
@@ -55,13 +57,19 @@ impl Refusal {
             Refusal::Reply(KeptReplyRefusal::Refused(refusal)) => answer.refused(refusal),
             Refusal::Reply(KeptReplyRefusal::TicketSpent) => answer.refused("TicketSpent"),
             Refusal::Request(KeptRequestRefusal::Refused(refusal)) => answer.refused(refusal),
+            Refusal::Peer(PeerRefusal::KeepFirst(number)) => {
+                answer.word("keep-first");
+                answer.print(number);
+            }
             Refusal::Take(KeptRefusal::SaveFirst(number))
+            | Refusal::Peer(PeerRefusal::SaveFirst(number))
             | Refusal::Reply(KeptReplyRefusal::SaveFirst(number))
             | Refusal::Request(KeptRequestRefusal::SaveFirst(number)) => {
                 answer.word("save-first");
                 answer.print(number);
             }
             Refusal::Take(KeptRefusal::BadHandle)
+            | Refusal::Peer(PeerRefusal::BadHandle)
             | Refusal::Reply(KeptReplyRefusal::BadHandle)
             | Refusal::Request(KeptRequestRefusal::BadHandle)
             | Refusal::Bad => answer.is_whole = false,

@@ -77,6 +77,11 @@ impl Step<'_> {
     /// Makes `saved NUMBER` by a call that returns whether that was the number to save.
     pub(crate) fn saved(&self, was_asked: Option<bool>) -> Made<&'static str> {
         self.fields.count(1);
+        self.was_asked(was_asked)
+    }
+
+    /// Returns the word for what came of a save, by a call that returns whether it was the one that was asked for.
+    pub(crate) fn was_asked(&self, was_asked: Option<bool>) -> Made<&'static str> {
         match was_asked {
             Some(true) => Ok("saved"),
             Some(false) => Ok("not-asked"),

@@ -3,7 +3,9 @@
 use crate::answer::Answer;
 use crate::fields::{Fields, NamedContext};
 use crate::protection::Asked;
-use crate::{blocks, ciphers, context, freshening, numbers, protection, reading, window, writing};
+use crate::{
+    blocks, ciphers, context, freshening, numbers, peer_bytes, protection, reading, window, writing,
+};
 use osc_protect::KeyedContext;
 
 /// Makes a call of osc_aes, osc_ccm or osc_hkdf, or of a layer above.
@@ -134,6 +136,8 @@ fn under_this(verb: &str, fields: &Fields<'_>, context: &KeyedContext, answer: &
     match verb {
         "answers-to" => context::answers_to(fields, context.context(), answer),
         "fingerprint" => context::fingerprint(fields, context.context(), answer),
+        "peer-name" => peer_bytes::name(fields, context.context(), answer),
+        "peer-again" => peer_bytes::again(fields, context.context(), answer),
         "names" => protection::named(fields, context, answer),
         "seal-request" => protection::sealed_request(fields, context, answer),
         "seal-response" | "seal-notification" => {

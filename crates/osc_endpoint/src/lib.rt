@@ -28,7 +28,8 @@ pub use server::Server;
 pub use server_event::{Answering, Arrival, Notifying, SealedResponse, ServerEntry, ServerEvent};
 pub use server_run::{run_server, run_server_on};
 
-/// The base of the crates that keep an end elsewhere: a server's table and its contexts as values, and the tickets of a run. If you have a server or a client, you need none of it.
+/// The base of the crates that keep an end elsewhere: a server's table and its contexts as values, and the tickets of a run. If you have a
+/// server or a client, you need none of it.
 #[doc(hidden)]
 pub mod siblings {
     pub use crate::contexts::Contexts;

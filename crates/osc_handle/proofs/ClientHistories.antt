@@ -17,7 +17,7 @@ on_err (Ok x) P Q f h = tt
 on_err (Err e) P Q f h = f h
 
 -- a number below the limit is the next one, and the limit is where there is none
-next_is : (o : Option Piv) (n : ℕ) → n ≤ 2 ^ 40 → IfSome o (λ number. number_of number ≡ n) → IfNone o (2 ^ 40 ≤ n) → next_of o ≡ n
+pub next_is : (o : Option Piv) (n : ℕ) → n ≤ 2 ^ 40 → IfSome o (λ number. number_of number ≡ n) → IfNone o (2 ^ 40 ≤ n) → next_of o ≡ n
 next_is None n most given limit = omega (arith, most, limit)
 next_is (Some number) n most given limit = given
 

@@ -27,6 +27,7 @@ use Rattle.osc_life.specs.declared.decision.Decision.TheVariants as decisions
 use Rattle.osc_life.specs.declared.judging.Named.{Named}
 use Rattle.osc_life.specs.declared.slot.Slot.{Slot}
 use Rattle.osc_context_handle.specs.ContextBytes.{server_in}
+use Rattle.osc_handle.specs.SingleServerBytes.{table_of}
 use Rattle.osc_handle.specs.SlotBytes.{HoldsIn, IsGateIn, IsHighestIn, IsSlotBytes, IsSlotIn}
 use Rattle.osc_handle.specs.TableBytes.{IsPlaceIn, IsTable, IsTableIn, bytes_at, places_in}
 use Rattle.osc_handle.specs.TableSteps.{ChangesAt}
@@ -225,6 +226,20 @@ opened_in slot slots i s d new at same (zero, x, e, n, len, decrypts) =
     let one : slot ≡ x = ap (λ (o : Option (Option Slot)). unwrap_or (unwrap_or o None) x) e in
     (i, s, at, n, len, subst (λ (c : SecurityContext). Decrypts (requests c) d n len new) (ap (λ (y : Slot). as_server (context_of y.context)) (sym one) ∙ sym same) decrypts)
 opened_in slot slots i s d new at same (suc k, x, e, n, len, decrypts) = absurd (none-some (Some x) e)
+
+-- the table of one context
+pub alone : (b : SlotHandle) (s : Slot) → IsSlotIn b s → IsTableIn (table_of b) (Some s ∷ [])
+alone b s is = record { at = λ i. place b s is i } where
+  place : (b : SlotHandle) (s : Slot) → IsSlotIn b s → (i : ℕ) → IsPlaceIn (slice_get (places_in (table_of b)) i) (slice_get (Some s ∷ []) i)
+  place b s is zero = is
+  place b s is (suc i) = tt
+
+-- what was opened in a table of one was opened under its context
+pub opened_alone : (s : Slot) (d new : List ℕ) → IsOpenedIn (Some s ∷ []) d new → (n : ℕ) × (len : ℕ) × Decrypts (requests (as_server (context_of s.context))) d n len new
+opened_alone s d new (zero, x, e, n, len, decrypts) =
+    let one : s ≡ x = ap (λ (o : Option (Option Slot)). unwrap_or (unwrap_or o None) x) e in
+    (n, len, subst (λ (y : Slot). Decrypts (requests (as_server (context_of y.context))) d n len new) (sym one) decrypts)
+opened_alone s d new (suc k, x, e, n, len, decrypts) = absurd (none-some (Some x) e)
 
 pub leaves_in : (decision : Decision) (slot : Slot) (slots : List (Option Slot)) (i : ℕ) (s : Slot) (d new : List ℕ) → slice_get slots i ≡ Some (Some s) → as_server (context_of s.context) ≡ as_server (context_of slot.context)
     → Leaves (Some slot ∷ []) decision d new → Leaves slots decision d new

@@ -180,6 +180,10 @@ pub remembers_notified : (us : List UnansweredHandle) (h : server.History) (t : 
     → Remembers us (server.Then h (server.Notify t plain room) (server.Replied bytes))
 remembers_notified us h t room plain bytes r = remembers_other us us h _ (λ i. server.reply_mark_at i t true) refl (λ i. refl) (λ i c n. refl) r
 
+-- numbers that are passed over leave what waits
+pub remembers_skipped : (us : List UnansweredHandle) (h : server.History) (i count : ℕ) → Remembers us h → Remembers us (server.Then h (server.Skip i count) server.Skipped)
+remembers_skipped us h i count r = remembers_other us us h _ (λ j. server.skip_mark_at j i count) refl (λ j. refl) (λ j c n. refl) r
+
 -- ---- what is noted
 
 -- what stands where something was written

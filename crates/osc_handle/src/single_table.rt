@@ -23,6 +23,7 @@ use osc_coap::{Message, Token};
 use osc_context::Piv;
 use osc_endpoint::siblings::{Asker, Contexts, Named, is_replay, refuse_replay};
 use osc_endpoint::{Decided, ReplyError, RestartError};
+use osc_protect::encrypt_again;
 
 impl SlotHandle {
     /// Begins a new life of the context, which has index 0.
@@ -88,6 +89,22 @@ impl SlotHandle {
         ensures no_keeper_failed { IfErr result (λ e. e ≢ KeeperFailed) }
     {
         self.notify_to(number, token, plain, out)
+    }
+}
+
+impl SlotHandle {
+    ghost use Rattle.std.specs.Prelude.{Option};
+    ghost use Rattle.osc_life.specs.Deciding.{IsOpenedIn};
+
+    /// Encrypts a request again that was decrypted under the context, so that the datagram is as it came (RFC 8613, 5.3).
+    #[doc(hidden)]
+    pub fn encrypt_again(&self, datagram: &mut [u8])
+        requires { IsSlotBytes self.now }
+        ensures { (came : List ℕ) → ((slots : List (Option SlotOf)) → IsTableIn (table_of self.now) slots → IsOpenedIn slots came datagram.old)
+            → datagram.new ≡ came }
+    {
+        let slot = self.slot();
+        encrypt_again(&slot.context, datagram);
     }
 }
 

@@ -180,7 +180,7 @@ impl SlotHandle {
     }
 
     /// Returns the context in its life.
-    fn slot(&self) -> Slot
+    pub(crate) fn slot(&self) -> Slot
         requires { IsSlotBytes self.now }
         ensures { IsSlotIn self.now result }
     {

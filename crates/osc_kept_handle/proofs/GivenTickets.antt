@@ -55,7 +55,8 @@ none_of t [] all h = h
 none_of t (u ∷ ts) all (inl e) = all.0 (ap (λ (x : server.TicketValues). x.context) e) (ap (λ (x : server.TicketValues). x.life) e) (ap (λ (x : server.TicketValues). x.number) e)
 none_of t (u ∷ ts) all (inr h) = none_of t ts all.1 h
 
-held : (h : server.History) (ts : List server.TicketValues) (t : server.TicketValues) → AreLeft h ts → Has t (delivered h) → AllByRecursion (AreApart t) (answered h) → IsHeld h t
+-- a ticket that was given, and whose request has no answer
+pub held : (h : server.History) (ts : List server.TicketValues) (t : server.TicketValues) → AreLeft h ts → Has t (delivered h) → AllByRecursion (AreApart t) (answered h) → IsHeld h t
 held h ts t left has apart = elim (left_or_answered h ts t left has) [
   | inl k ↦ let (front, back, is) = parted t ts k in (ts, front ++ back, left, (front, back, is, refl))
   | inr k ↦ absurd (none_of t (answered h) apart k)

@@ -19,3 +19,9 @@ pub use kept_client_handle::KeptClientHandle;
 pub use kept_refusal::{KeptRefusal, KeptReplyRefusal, KeptRequestRefusal};
 pub use kept_server_handle::KeptServerHandle;
 pub use plain_laws::kept_handles_are_plain;
+
+/// The base of the crates that keep another end in bytes. If you have a kept server or a kept client, you need none of it.
+#[doc(hidden)]
+pub mod siblings {
+    pub use crate::reserving::{next_limit, save_first};
+}

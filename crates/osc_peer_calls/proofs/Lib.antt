@@ -1,9 +1,9 @@
 mod CountedPeers
-mod OneMore
+pub mod OneMore
 mod ServerSteps
 mod ClientSteps
 mod PeerStarts
-mod CallLemmas
+pub mod CallLemmas
 mod HeardEchoes
 mod FreshCalls
 pub mod TakenClauses

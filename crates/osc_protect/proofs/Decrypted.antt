@@ -1,12 +1,12 @@
 -- Decrypting the payload where it lies.
-use Rattle.std.proofs.Common.{◌≡◌, ◌≢◌, ℕ, ◌+◌, ◌-◌, ◌<◌, ◌≤◌, List, [], ◌++◌, length, take, drop, refl, sym, ap, subst, ◌∙◌, arith, get_or, length-take, take-append-drop, Option, Some, None, IfSome, IfNone, Result, Ok, Err, IfOk, IsOk, IsErr, OnErr}
-use Rattle.std.proofs.lemmas.List.{get_or-append_right}
-use Rattle.std.proofs.lemmas.List.Elements.{All-from_get_or}
+use Rattle.std.proofs.Common.{◌≡◌, ◌≢◌, ℕ, ◌+◌, ◌-◌, ◌<◌, ◌≤◌, List, [], ◌++◌, length, take, drop, refl, sym, ap, subst, ◌∙◌, arith, append-nil, drop_of_length-le, get_or, length-append, length-drop, length-take, take-append-drop, Option, Some, None, IfSome, IfNone, Result, Ok, Err, IfOk, IsOk, IsErr, OnErr}
+use Rattle.std.proofs.lemmas.List.{get_or-append_right, take_at}
+use Rattle.std.proofs.lemmas.List.Elements.{All-drop, All-from_get_or}
 use borrow.Rule.Slice.PartMut.{put_mid, mid_of}
 use Rattle.osc_protect.proofs.Placing.{mid_last, put_last}
 use Rattle.osc_coap.specs.OptionSpelling.{AreBytes}
 use Rattle.osc_coap.specs.Datagram.{Parts, IsDatagram}
-use Rattle.osc_coap.specs.Laws.{PayloadIsTheEnd, PayloadCanBeReplaced}
+use Rattle.osc_coap.specs.Laws.{PartsHaveOneDatagram, PayloadIsTheEnd, PayloadCanBeReplaced}
 use Rattle.osc_protect.specs.Head.{Head}
 use Rattle.osc_protect.specs.Protection.{Protection}
 use Rattle.osc_protect.specs.Refusals.{RefusesTag}
@@ -83,6 +83,44 @@ pub refuses_payload : (last : PayloadIsTheEnd) (p : Parts) (d : List ℕ) (len :
     → (r : Option ℕ) → IfNone r ((m : List ℕ) → mid_of (length d - len) (length d - (length d - len)) d ≢ cipher m) → IfNone r ((m : List ℕ) → p.payload ≢ cipher m)
 refuses_payload last p d len cipher x (Some n) none = none
 refuses_payload last p d len cipher x None none = λ m e. none m (part_is last p d len x ∙ e)
+
+-- ---- the way back
+
+-- the payload that was sealed once more where it lies
+pub sealed_last : (d ys : List ℕ) (len : ℕ) (cipher : List ℕ → List ℕ) → len ≤ length d → 8 ≤ len
+    → ys ≡ cipher (take (len - 8) (mid_of (length d - len) (length d - (length d - len)) d)) ++ drop (len - 8 + 8) (mid_of (length d - len) (length d - (length d - len)) d)
+    → put_mid (length d - len) (length d - (length d - len)) d ys ≡ take (length d - len) d ++ cipher (take (len - 8) (drop (length d - len) d))
+sealed_last d ys len cipher within room made =
+    let last : mid_of (length d - len) (length d - (length d - len)) d ≡ drop (length d - len) d = mid_last (length d - len) d in
+    let none : drop (len - 8 + 8) (drop (length d - len) d) ≡ [] = drop_of_length-le (drop (length d - len) d) (omega (arith, length-drop (length d - len) d)) in
+    put_last (length d - len) d ys (omega arith)
+    ∙ ap (λ (z : List ℕ). take (length d - len) d ++ z)
+    (made ∙ ap (λ (z : List ℕ). cipher (take (len - 8) z) ++ drop (len - 8 + 8) z) last
+    ∙ ap (λ (z : List ℕ). cipher (take (len - 8) (drop (length d - len) d)) ++ z) none
+    ∙ append-nil (cipher (take (len - 8) (drop (length d - len) d))))
+
+-- what was decrypted, and then sealed once more, is what came
+pub came_again : {I : Type 0} (last : PayloadIsTheEnd) (other : PayloadCanBeReplaced) (one : PartsHaveOneDatagram) (f : Protection I) (came d : List ℕ) (i : I) (n len : ℕ)
+    → (it : Decrypts f came i n d) → len ≡ length (it.plaintext ++ drop (length it.plaintext) it.head.payload) → length (f.cipher i it.plaintext) ≡ length it.plaintext + 8
+    → take (length d - len) d ++ f.cipher i (take (len - 8) (drop (length d - len) d)) ≡ came
+came_again last other one f came d i n len it size long =
+    let p = it.outer in
+    let m = it.plaintext in
+    let opened : List ℕ = m ++ drop (length m) p.payload in
+    let same : f.cipher i m ≡ p.payload = sym it.seals ∙ it.shows.payload in
+    let whole : length p.payload ≡ length m + 8 = ap length (sym same) ∙ long in
+    let all : length opened ≡ length p.payload = omega (arith, length-append m (drop (length m) p.payload), length-drop (length m) p.payload, whole) in
+    let len_is : len ≡ length opened = size ∙ ap (λ (z : List ℕ). length (m ++ drop (length m) z)) it.shows.payload in
+    let some : opened ≢ [] = λ z. let none : length opened ≡ 0 = ap length z in omega (arith, none, all, whole) in
+    let ends = (last (record p { payload = opened }) d it.left some).1 in
+    let at : drop (length d - len) d ≡ opened = ap (λ (k : ℕ). drop (length d - k) d) len_is ∙ ends in
+    let front : take (len - 8) opened ≡ m = take_at m (drop (length m) p.payload) (len - 8) (omega (arith, len_is, all, whole)) in
+    let bytes : AreBytes p.payload = subst AreBytes (last p came it.datagram it.shows.filled).1 (All-drop (λ b. b < 256) (length came - length p.payload) came it.datagram.are_bytes) in
+    let put : IsDatagram p (take (length d - length opened) d ++ p.payload) = other (record p { payload = opened }) d p.payload it.left some bytes (sym all) in
+    ap (λ (z : List ℕ). take (length d - len) d ++ f.cipher i z) (ap (take (len - 8)) at ∙ front)
+    ∙ ap (λ (z : List ℕ). take (length d - len) d ++ z) same
+    ∙ ap (λ (k : ℕ). take (length d - k) d ++ p.payload) len_is
+    ∙ one p (take (length d - length opened) d ++ p.payload) came put it.datagram
 
 -- ---- the stage as its caller sees it
 

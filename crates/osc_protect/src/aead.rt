@@ -5,7 +5,7 @@
 //!     response                     server    client, the request's number     client, the request's number
 //!     response with its number     server    server, its number               client, the request's number
 
-ghost use Rattle.std.specs.Prelude.{◌≡◌, ◌≢◌, ◌≤◌, ◌+◌, ◌++◌, [], ℕ, List, length, take, drop, IfSome, IfNone};
+ghost use Rattle.std.specs.Prelude.{◌≡◌, ◌≢◌, ◌≤◌, ◌+◌, ◌-◌, ◌++◌, [], ℕ, List, length, take, drop, IfSome, IfNone};
 ghost use Rattle.std.specs.Option.{option_map};
 ghost use Rattle.osc_ccm.specs.Ccm.{tag_length};
 ghost use Rattle.osc_coap.specs.Datagram.{Parts, IsDatagram};
@@ -17,7 +17,7 @@ ghost use Rattle.osc_protect.specs.Protection.{request_cipher, response_cipher, 
 use crate::context_cipher::ContextCipher;
 use crate::ends::End;
 use arrayvec::ArrayVec;
-use osc_ccm::{Nonce, protection_length};
+use osc_ccm::{AesCcm16_64_128, Nonce, protection_length};
 use osc_coap::payload_stands_last;
 use osc_context::{Kid, Piv, aad, nonce};
 
@@ -128,5 +128,18 @@ impl<'a> Aead<'a> {
         payload_stands_last();
         let start = datagram.len() - len;
         self.open(&mut datagram[start..])
+    }
+
+    /// Seals the payload of a datagram, its last `len` bytes, in place: a plaintext, and behind it room for the tag.
+    pub(crate) fn seal_payload(&self, datagram: &mut [u8], len: usize)
+        requires payload { (p : Parts) × HasPayload p datagram.old len }
+        requires room { tag_length ≤ len }
+        ensures { datagram.new ≡ take (length datagram.old - len) datagram.old
+            ++ cipher_of self.now (take (len - tag_length) (drop (length datagram.old - len) datagram.old)) }
+    {
+        // For the proof alone.
+        payload_stands_last();
+        let start = datagram.len() - len;
+        self.seal(&mut datagram[start..], len - AesCcm16_64_128::TAG_LEN);
     }
 }

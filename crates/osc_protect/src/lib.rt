@@ -45,7 +45,7 @@ mod unprotect_error;
 mod usage;
 
 pub use checks::{check_request, check_response};
-pub use decrypting::{decrypt_request, decrypt_response};
+pub use decrypting::{decrypt_request, decrypt_response, encrypt_again};
 pub use head_error::{HeadError, NoHead};
 pub use keyed_context::KeyedContext;
 pub use laws::{

@@ -1,0 +1,4 @@
+pub mod Passing
+pub mod AnswerSteps
+pub mod AskSteps
+pub mod Beginning

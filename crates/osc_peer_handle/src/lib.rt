@@ -1,0 +1,15 @@
+//! A peer of OSCORE (RFC 8613) in plain bytes: one end that asks and answers under one context.
+#![tactic(auto)]
+
+mod answering;
+mod asking;
+mod left;
+mod name;
+mod peer_handle;
+mod peer_refusal;
+mod record_handle;
+
+pub use name::name_of;
+pub use peer_handle::PeerHandle;
+pub use peer_refusal::{BeginRefusal, PeerRefusal};
+pub use record_handle::RecordHandle;
