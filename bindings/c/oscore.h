@@ -10,7 +10,7 @@
 #define OSCORE_LIBRARY_VERSION 100
 #define OSCORE_LIBRARY_VERSION_STRING "0.1.0"
 /* Which layout: another number where a status, a struct or a call changed that was there, so that a program has to be compiled anew. */
-#define OSCORE_LAYOUT 1
+#define OSCORE_LAYOUT 2
 
 /* What a struct or an array of structs is begun with, as `oscore_context context = OSCORE_ZERO;`: zero, without a warning. */
 #ifdef __cplusplus
@@ -80,16 +80,17 @@ OSCORE_ASSERT(sizeof(bool) == 1, "a bool has 1 byte");
    What no call can see is left to the caller: a pointer leads to as many bytes as the length beside it says, or to a whole struct,
    and stays so until the call returns; until then nobody else writes there, no thread, no signal handler and no device, since a call
    checks a datagram and then reads it a second time; what a call writes (`out`, `datagram`, `options`, `opened`, `head`, `server`,
-   `index`, `ticket`, `out_len`, `detail`, `name`, `sizes`) overlaps nothing else that it is given; a struct is set to zero before it is
+   `index`, `ticket`, `out_len`, `record`, `detail`, `name`, `sizes`) overlaps nothing else that it is given; a struct is set to zero before it is
    given for the first time; a `bool` is 0 or 1. A pointer may be NULL where the length beside it is 0, and nowhere else. */
 
 /* What a call answers: 0 where it is done, else the first refusal whose condition holds, in the order of this list; those that came last
    are judged elsewhere: OSCORE_SAME_SENDER right after OSCORE_SAME_LOOKUP; OSCORE_SAVE_FIRST right before OSCORE_NO_SUCH_CONTEXT, except
-   that `oscore_kept_server_take` judges it right after OSCORE_BAD_HANDLE; OSCORE_OPTION_ORDER and OSCORE_VALUE_TOO_LONG before
-   OSCORE_NO_ROOM; OSCORE_NOT_OBSERVING right after OSCORE_STALE_TICKET, OSCORE_NOT_NOTIFICATION right after OSCORE_UNSUPPORTED, and
-   OSCORE_OLD right after OSCORE_UNDECODABLE. A call that refuses writes `detail`: the place of a datagram's fault in bytes from 0, the
-   number of an option, the index of one that was handed in, the number to save, or 0. It leaves `out`, `out_len`, `options`, `opened`,
-   `head`, `index`, `ticket`, `request`, the server and the client as they were; where a call does more, it says so. */
+   that `oscore_kept_server_take` judges it right after OSCORE_BAD_HANDLE, and of a peer what its calls say; OSCORE_OPTION_ORDER and
+   OSCORE_VALUE_TOO_LONG before OSCORE_NO_ROOM; OSCORE_NOT_OBSERVING right after OSCORE_STALE_TICKET, OSCORE_NOT_NOTIFICATION right after
+   OSCORE_UNSUPPORTED, and OSCORE_OLD right after OSCORE_UNDECODABLE; OSCORE_OLD_RECORD right after OSCORE_BAD_NUMBER. A call that refuses
+   writes `detail`: the place of a datagram's fault in bytes from 0, the number of an option, the index of one that was handed in, the
+   number to save, or 0. It leaves `out`, `out_len`, `options`, `opened`, `head`, `index`, `ticket`, `request`, `record`, the server, the
+   client and the peer as they were; where a call does more, it says so. */
 typedef enum oscore_status {
     OSCORE_DONE = 0,
     OSCORE_BAD_HANDLE = 1,         /* no call wrote such a handle: as a length that is too large, or two identifiers that are one */
@@ -111,10 +112,10 @@ typedef enum oscore_status {
     OSCORE_NUMBER_TOO_LARGE = 16,  /* an option's number is above 65,535 */
     OSCORE_EMPTY_PAYLOAD = 17,     /* a payload marker, and no payload */
     OSCORE_NO_SUCH_CONTEXT = 18,   /* no context of the server has this index */
-    OSCORE_LIVES_EXHAUSTED = 19,   /* the context was restarted 2^64 - 1 times */
+    OSCORE_LIVES_EXHAUSTED = 19,   /* the context was restarted 2^64 - 1 times, or the peer's records were saved as often */
     OSCORE_FULL = 20,              /* the server has eight contexts */
     OSCORE_SAME_LOOKUP = 21,       /* one of them is named by the same kid and kid context */
-    OSCORE_STALE_TICKET = 22,      /* the ticket's context isn't there, or was restarted since */
+    OSCORE_STALE_TICKET = 22,      /* the ticket's context isn't there, or was restarted since; it is another peer's, or of another begin */
     OSCORE_TICKET_SPENT = 23,      /* the ticket's request has its answer, lies too far back, or was never delivered */
     OSCORE_NOT_THAT_KIND = 24,     /* the message is no request, or no response, by its kind and code */
     OSCORE_UNKNOWN_TOKEN = 25,     /* no request with the token of the response is pending */
@@ -140,6 +141,7 @@ typedef enum oscore_status {
     OSCORE_NOT_OBSERVING = 45,     /* the ticket's request registers no observation, so nothing notifies it */
     OSCORE_NOT_NOTIFICATION = 46,  /* the message isn't of class 2, or has no Observe */
     OSCORE_OLD = 47,               /* a later response to the same registration came before this one */
+    OSCORE_OLD_RECORD = 48,        /* the record is another context's, or none behind which a peer can begin */
     OSCORE_STATUS_WIDTH = 0x7fffffff /* no call answers this: it gives the type its 4 bytes under -fshort-enums too */
 } oscore_status;
 
@@ -317,6 +319,31 @@ typedef struct oscore_kept_client {
     OSCORE_SLOT uint64_t reserved; /* its numbers below this one may be used */
 } oscore_kept_client;
 
+/* One end of one context whose numbers outlive it, begun by `oscore_peer_begin_first` or `oscore_peer_begin_again`. It tells which record
+   has to be saved: it uses only Sender Sequence Numbers below the one that was saved, and delivers only requests with a number below the
+   received one that was saved. So a power cut at any moment costs some numbers, no nonce is used twice, and no request is delivered
+   twice. The calls write it: read it, and change nothing. A copy that is begun or used beside it breaks all of this; a store that refuses
+   a record that isn't behind the one that it has tells which one is too old. It holds keys: `oscore_wipe(&peer, sizeof peer)` when it
+   isn't needed. */
+typedef struct oscore_peer {
+    oscore_kept_server server;
+    OSCORE_SLOT uint64_t received;   /* each request that was delivered has a lower number */
+    OSCORE_SLOT uint64_t life_ms;    /* for how long a request of its own would be pending */
+    OSCORE_SLOT uint64_t clock;      /* of such requests */
+    OSCORE_SLOT uint64_t name;       /* the context's name, which its records and tickets have: made of its keys, and telling nothing of them */
+    OSCORE_SLOT uint64_t life;       /* the generation of the first record of this life, one above that behind which it began; its tickets have it */
+    OSCORE_SLOT uint64_t generation; /* of the record that was saved last */
+} oscore_peer;
+
+/* What outlives a peer. It holds no key. Its integrity is the caller's: as an attacker who can put back an older record has won, keep it
+   where none can. */
+typedef struct oscore_peer_record {
+    OSCORE_SLOT uint64_t name;       /* of the context */
+    OSCORE_SLOT uint64_t generation; /* one more with each save */
+    OSCORE_SLOT uint64_t sender;     /* the first Sender Sequence Number that isn't reserved */
+    OSCORE_SLOT uint64_t received;   /* the first number that no delivered request has */
+} oscore_peer_record;
+
 /* The library's layout. What differs, by a compiler or by an option as -fpack-struct, fails here and not at a lock. */
 #define OSCORE_AT(type, member, place) OSCORE_ASSERT(offsetof(type, member) == (place), "the layout of " #type)
 #define OSCORE_HAS(type, size) OSCORE_ASSERT(sizeof(type) == (size), "the layout of " #type)
@@ -366,12 +393,17 @@ OSCORE_HAS(oscore_client, 456); OSCORE_AT(oscore_client, context, 0); OSCORE_AT(
     OSCORE_AT(oscore_client, pending, 136);
 OSCORE_HAS(oscore_kept_server, 176); OSCORE_AT(oscore_kept_server, server, 0); OSCORE_AT(oscore_kept_server, reserved, 168);
 OSCORE_HAS(oscore_kept_client, 464); OSCORE_AT(oscore_kept_client, client, 0); OSCORE_AT(oscore_kept_client, reserved, 456);
+OSCORE_HAS(oscore_peer, 224); OSCORE_AT(oscore_peer, server, 0); OSCORE_AT(oscore_peer, received, 176); OSCORE_AT(oscore_peer, life_ms, 184);
+    OSCORE_AT(oscore_peer, clock, 192); OSCORE_AT(oscore_peer, name, 200); OSCORE_AT(oscore_peer, life, 208);
+    OSCORE_AT(oscore_peer, generation, 216);
+OSCORE_HAS(oscore_peer_record, 32); OSCORE_AT(oscore_peer_record, name, 0); OSCORE_AT(oscore_peer_record, generation, 8);
+    OSCORE_AT(oscore_peer_record, sender, 16); OSCORE_AT(oscore_peer_record, received, 24);
 #undef OSCORE_AT
 #undef OSCORE_HAS
 
 /* The sizes of the structs above, in bytes, as the library has them. */
 typedef struct oscore_struct_sizes {
-    OSCORE_SLOT oscore_size context, option, opened, request_head, server, ticket, client, server1, kept_server, kept_client;
+    OSCORE_SLOT oscore_size context, option, opened, request_head, server, ticket, client, server1, kept_server, kept_client, peer, peer_record;
 } oscore_struct_sizes;
 
 void oscore_sizes(oscore_struct_sizes *sizes);
@@ -640,6 +672,56 @@ OSCORE_MUST_USE oscore_status oscore_kept_client_take(oscore_kept_client *client
 
 /* Waits no more for the response to the request of a token, as `oscore_client_forget` does. */
 OSCORE_MUST_USE oscore_status oscore_kept_client_forget(oscore_kept_client *client, const uint8_t *token, oscore_size token_len);
+
+/* A peer. A call that needs a number that isn't saved answers OSCORE_SAVE_FIRST, writes the record to save, and leaves all else as it was: the
+   peer, its clock, the datagram, `out`, the rest. Then
+
+       save the record durably, in the place of the one before: when that returns, a power cut can't take it back;
+       tell the peer by `oscore_peer_saved`;
+       make the same call again.
+
+   In this order. Each life saves one record before anything else, whatever comes first. After that a record is saved for each request that is
+   to be delivered, and for each 64 challenges, notifications and replies with a Partial IV of their own. `record` is written at OSCORE_SAVE_FIRST
+   alone. OSCORE_LIVES_EXHAUSTED comes in the place of OSCORE_SAVE_FIRST where the record would be the 2^64th. */
+
+/* Begins a peer of a context that was never used, neither by this end nor by another library: at its provisioning, once. A record that
+   was lost is no reason: then the context can't be used any more. The window has 1, 32 or 64 places. OSCORE_BAD_HANDLE or
+   OSCORE_BAD_NUMBER leave the peer. */
+OSCORE_MUST_USE oscore_status oscore_peer_begin_first(oscore_peer *peer, const oscore_context *context, uint8_t window_places,
+                                                      uint64_t life_ms);
+
+/* Begins a peer behind the record that was saved last. It delivers requests above the received number without a challenge; where none was
+   delivered yet, the first one is challenged. OSCORE_BAD_HANDLE, OSCORE_BAD_NUMBER (the window), OSCORE_OLD_RECORD, or
+   OSCORE_SEQUENCE_EXHAUSTED where no Sender Sequence Number is left: the peer stays. */
+OSCORE_MUST_USE oscore_status oscore_peer_begin_again(oscore_peer *peer, const oscore_context *context, const oscore_peer_record *record,
+                                                      uint8_t window_places, uint64_t life_ms);
+
+/* Says that this record is saved: one to save next, as the last OSCORE_SAVE_FIRST wrote it. It has the peer's name and the next
+   generation; `sender` is as the peer's `server.reserved`, or the next number to reserve up to; `received` isn't below the peer's. So a
+   greater `received`, up to 2^40, may stand in it: requests below that need no save of their own, and a life that begins behind the
+   record delivers none of them. Another record is OSCORE_BAD_NUMBER, and the peer stays. */
+OSCORE_MUST_USE oscore_status oscore_peer_saved(oscore_peer *peer, const oscore_peer_record *record);
+
+/* Answers a datagram, as `oscore_server_take` does, without random bytes: the Echo value of a challenge is the number with which it is
+   sealed. OSCORE_SAVE_FIRST comes right after OSCORE_BAD_HANDLE where a Sender Sequence Number may be needed, and else once it is known
+   that the request is to be delivered: then the datagram is as it came, and is handed in again. `out_len` is 0 at both. The ticket has
+   the context's name in `context`, and the peer's life. */
+OSCORE_MUST_USE oscore_status oscore_peer_take(oscore_peer *peer, uint64_t now, uint16_t mid, uint8_t *datagram, oscore_size datagram_len,
+                                               oscore_option *options, oscore_size options_room, oscore_opened *opened,
+                                               oscore_ticket *ticket, uint8_t out[64], oscore_size *out_len, oscore_peer_record *record,
+                                               oscore_size *detail);
+
+/* Seals the answer to the request of a ticket, as `oscore_server_reply` does. A ticket of another peer, or of another life of this one,
+   is OSCORE_STALE_TICKET, right before OSCORE_SAVE_FIRST. */
+OSCORE_MUST_USE oscore_status oscore_peer_reply(oscore_peer *peer, const oscore_ticket *ticket, bool own, uint16_t mid, const uint8_t *plain,
+                                                oscore_size plain_len, uint8_t *out, oscore_size out_room, oscore_size *out_len,
+                                                oscore_peer_record *record, oscore_size *detail);
+
+/* Seals a notification to the registration of a ticket, as `oscore_server_notify` does. It needs a number always. Of another ticket it
+   says what `oscore_peer_reply` says. */
+OSCORE_MUST_USE oscore_status oscore_peer_notify(oscore_peer *peer, const oscore_ticket *ticket, const uint8_t *plain, oscore_size plain_len,
+                                                 uint8_t *out, oscore_size out_room, oscore_size *out_len, oscore_peer_record *record,
+                                                 oscore_size *detail);
 
 /* Milliseconds of a tick that counts them in 32 bits and begins anew at 0 after 49 days: zero begins it. */
 typedef struct oscore_clock {

@@ -24,7 +24,7 @@ extern "C" {
 /* What is kept of one context. `numbers[0]` is the first Sender Sequence Number that isn't reserved: what OSCORE_SAVE_FIRST says in `detail`.
    `numbers[1]` is the same of received numbers, 0 where an end keeps none. `context` is a name that you give to the context, as of the
    device's identifiers, so that the record of another one is refused. It is stored as it is, so make it of no key, nor of a checksum of
-   one. */
+   one; the `name` of a peer may be stored, a code by HMAC-SHA-256 under its Sender Key. */
 typedef struct oscore_record {
     uint64_t numbers[2];
     uint8_t context[8];

@@ -257,3 +257,40 @@ WRAP(kept_client_forget, oscore_status, (oscore_kept_client *client, const uint8
     STRUCT(client), BYTES(token);
     return __real_oscore_kept_client_forget(client, token, token_len);
 }
+
+WRAP(peer_begin_first, oscore_status, (oscore_peer *peer, const oscore_context *context, uint8_t window_places, uint64_t life_ms)) {
+    STRUCT(peer), STRUCT(context);
+    return __real_oscore_peer_begin_first(peer, context, window_places, life_ms);
+}
+
+WRAP(peer_begin_again, oscore_status, (oscore_peer *peer, const oscore_context *context, const oscore_peer_record *record, uint8_t window_places,
+                                       uint64_t life_ms)) {
+    STRUCT(peer), STRUCT(context), STRUCT(record);
+    return __real_oscore_peer_begin_again(peer, context, record, window_places, life_ms);
+}
+
+WRAP(peer_saved, oscore_status, (oscore_peer *peer, const oscore_peer_record *record)) {
+    STRUCT(peer), STRUCT(record);
+    return __real_oscore_peer_saved(peer, record);
+}
+
+WRAP(peer_take, oscore_status, (oscore_peer *peer, uint64_t now, uint16_t mid, uint8_t *datagram, oscore_size datagram_len, oscore_option *options,
+                                oscore_size options_room, oscore_opened *opened, oscore_ticket *ticket, uint8_t out[64], oscore_size *out_len,
+                                oscore_peer_record *record, oscore_size *detail)) {
+    STRUCT(peer), BYTES(datagram), SOME(options, options_room * sizeof *options), STRUCT(opened), STRUCT(ticket), SOME(out, 64),
+        STRUCT(out_len), STRUCT(record), STRUCT(detail);
+    return __real_oscore_peer_take(peer, now, mid, datagram, datagram_len, options, options_room, opened, ticket, out, out_len, record,
+                                   detail);
+}
+
+WRAP(peer_reply, oscore_status, (oscore_peer *peer, const oscore_ticket *ticket, bool own, uint16_t mid, const uint8_t *plain, oscore_size plain_len,
+                                 uint8_t *out, oscore_size out_room, oscore_size *out_len, oscore_peer_record *record, oscore_size *detail)) {
+    STRUCT(peer), STRUCT(ticket), BYTES(plain), SOME(out, out_room), STRUCT(out_len), STRUCT(record), STRUCT(detail);
+    return __real_oscore_peer_reply(peer, ticket, own, mid, plain, plain_len, out, out_room, out_len, record, detail);
+}
+
+WRAP(peer_notify, oscore_status, (oscore_peer *peer, const oscore_ticket *ticket, const uint8_t *plain, oscore_size plain_len, uint8_t *out,
+                                  oscore_size out_room, oscore_size *out_len, oscore_peer_record *record, oscore_size *detail)) {
+    STRUCT(peer), STRUCT(ticket), BYTES(plain), SOME(out, out_room), STRUCT(out_len), STRUCT(record), STRUCT(detail);
+    return __real_oscore_peer_notify(peer, ticket, plain, plain_len, out, out_room, out_len, record, detail);
+}

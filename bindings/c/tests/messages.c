@@ -349,9 +349,10 @@ static void names_statuses(void) {
         "NumberTooLarge", "EmptyPayload", "NoSuchContext", "LivesExhausted", "Full", "SameLookup", "StaleTicket",
         "TicketSpent", "NotThatKind", "UnknownToken", "NoOscore", "Undecodable", "NoContext", "WrongContext", "Replay",
         "Tag", "Inner", "Challenge", "Unsupported", "TokenInUse", "PendingFull", "SequenceExhausted", "TooLong", "NoRoom",
-        "NotPending", "SameSender", "SaveFirst", "OptionOrder", "ValueTooLong", "NotObserving", "NotNotification", "Old", "Unknown"};
+        "NotPending", "SameSender", "SaveFirst", "OptionOrder", "ValueTooLong", "NotObserving", "NotNotification", "Old", "OldRecord",
+        "Unknown"};
     char *name = guarded_room(NAME, 24);
-    for (uint32_t status = 0; status <= OSCORE_OLD + 1; status++) {
+    for (uint32_t status = 0; status <= OSCORE_OLD_RECORD + 1; status++) {
         oscore_status_name(status, name);
         CHECK(!strcmp(name, NAMES[status]));
     }

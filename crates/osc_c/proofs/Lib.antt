@@ -11,3 +11,4 @@ mod Growth
 mod Room
 pub mod KeptServing
 pub mod KeptRead
+mod PeerServing

@@ -8,3 +8,4 @@ pub mod Writing
 pub mod WritingSteps
 pub mod KeptServerCalls
 pub mod KeptClientCalls
+pub mod PeerCalls

@@ -11,7 +11,7 @@ use Rattle.osc_protect.specs.declared.protect_error.ProtectError.TheVariants as 
 use Rattle.osc_protect.specs.declared.unprotect_error.UnprotectError.{UnprotectError}
 use Rattle.osc_protect.specs.declared.unprotect_error.UnprotectError.TheVariants as opens
 use Rattle.osc_c.specs.declared.status.Status.{Status}
-use Rattle.osc_c.specs.declared.status.Status.TheVariants.{BadHandle, BadNumber, SecretLength, SaltLength, IdTooLong, SameIds, IdContextLength, DatagramTooLong, Short, Version, TokenLength, EmptyWithRest, TokenCut, Nibble15, OptionCut, NumberTooLarge, EmptyPayload, NoSuchContext, LivesExhausted, Full, SameLookup, StaleTicket, TicketSpent, NotThatKind, UnknownToken, NoOscore, Undecodable, NoContext, WrongContext, Replay, Tag, Inner, Challenge, Unsupported, TokenInUse, PendingFull, SequenceExhausted, TooLong, NoRoom, NotPending, SameSender, SaveFirst, OptionOrder, ValueTooLong, NotObserving, NotNotification, Old}
+use Rattle.osc_c.specs.declared.status.Status.TheVariants.{BadHandle, BadNumber, SecretLength, SaltLength, IdTooLong, SameIds, IdContextLength, DatagramTooLong, Short, Version, TokenLength, EmptyWithRest, TokenCut, Nibble15, OptionCut, NumberTooLarge, EmptyPayload, NoSuchContext, LivesExhausted, Full, SameLookup, StaleTicket, TicketSpent, NotThatKind, UnknownToken, NoOscore, Undecodable, NoContext, WrongContext, Replay, Tag, Inner, Challenge, Unsupported, TokenInUse, PendingFull, SequenceExhausted, TooLong, NoRoom, NotPending, SameSender, SaveFirst, OptionOrder, ValueTooLong, NotObserving, NotNotification, Old, OldRecord}
 
 -- the number of a status, as C reads it; a call that is done has 0 (own rule)
 abbrev pub code : Status → ℕ
@@ -62,10 +62,11 @@ code ValueTooLong = 44
 code NotObserving = 45
 code NotNotification = 46
 code Old = 47
+code OldRecord = 48
 
 -- the names of the statuses in the order of their numbers, from 0 (own rule)
 abbrev pub status_names : List (List ℕ)
-status_names = codes "Done" ∷ codes "BadHandle" ∷ codes "BadNumber" ∷ codes "SecretLength" ∷ codes "SaltLength" ∷ codes "IdTooLong" ∷ codes "SameIds" ∷ codes "IdContextLength" ∷ codes "DatagramTooLong" ∷ codes "Short" ∷ codes "Version" ∷ codes "TokenLength" ∷ codes "EmptyWithRest" ∷ codes "TokenCut" ∷ codes "Nibble15" ∷ codes "OptionCut" ∷ codes "NumberTooLarge" ∷ codes "EmptyPayload" ∷ codes "NoSuchContext" ∷ codes "LivesExhausted" ∷ codes "Full" ∷ codes "SameLookup" ∷ codes "StaleTicket" ∷ codes "TicketSpent" ∷ codes "NotThatKind" ∷ codes "UnknownToken" ∷ codes "NoOscore" ∷ codes "Undecodable" ∷ codes "NoContext" ∷ codes "WrongContext" ∷ codes "Replay" ∷ codes "Tag" ∷ codes "Inner" ∷ codes "Challenge" ∷ codes "Unsupported" ∷ codes "TokenInUse" ∷ codes "PendingFull" ∷ codes "SequenceExhausted" ∷ codes "TooLong" ∷ codes "NoRoom" ∷ codes "NotPending" ∷ codes "SameSender" ∷ codes "SaveFirst" ∷ codes "OptionOrder" ∷ codes "ValueTooLong" ∷ codes "NotObserving" ∷ codes "NotNotification" ∷ codes "Old" ∷ []
+status_names = codes "Done" ∷ codes "BadHandle" ∷ codes "BadNumber" ∷ codes "SecretLength" ∷ codes "SaltLength" ∷ codes "IdTooLong" ∷ codes "SameIds" ∷ codes "IdContextLength" ∷ codes "DatagramTooLong" ∷ codes "Short" ∷ codes "Version" ∷ codes "TokenLength" ∷ codes "EmptyWithRest" ∷ codes "TokenCut" ∷ codes "Nibble15" ∷ codes "OptionCut" ∷ codes "NumberTooLarge" ∷ codes "EmptyPayload" ∷ codes "NoSuchContext" ∷ codes "LivesExhausted" ∷ codes "Full" ∷ codes "SameLookup" ∷ codes "StaleTicket" ∷ codes "TicketSpent" ∷ codes "NotThatKind" ∷ codes "UnknownToken" ∷ codes "NoOscore" ∷ codes "Undecodable" ∷ codes "NoContext" ∷ codes "WrongContext" ∷ codes "Replay" ∷ codes "Tag" ∷ codes "Inner" ∷ codes "Challenge" ∷ codes "Unsupported" ∷ codes "TokenInUse" ∷ codes "PendingFull" ∷ codes "SequenceExhausted" ∷ codes "TooLong" ∷ codes "NoRoom" ∷ codes "NotPending" ∷ codes "SameSender" ∷ codes "SaveFirst" ∷ codes "OptionOrder" ∷ codes "ValueTooLong" ∷ codes "NotObserving" ∷ codes "NotNotification" ∷ codes "Old" ∷ codes "OldRecord" ∷ []
 
 -- the name if there is one, or else Unknown (own rule)
 abbrev pub name_or_unknown : Option (List ℕ) → List ℕ

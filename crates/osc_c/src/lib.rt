@@ -11,6 +11,8 @@ mod kept_server;
 mod notifying;
 mod opened_view;
 mod opening;
+mod peer;
+mod peer_answering;
 mod rooms;
 mod sealing;
 mod server;

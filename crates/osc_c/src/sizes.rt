@@ -6,6 +6,7 @@ use crate::head_view::HeadView;
 use crate::opened_view::{OpenedView, OptionView};
 use osc_handle::{ClientHandle, ContextHandle, ServerHandle, SingleServerHandle, TicketHandle};
 use osc_kept_handle::{KeptClientHandle, KeptServerHandle};
+use osc_peer_handle::{PeerHandle, RecordHandle};
 
 /// The sizes of the structs of `oscore.h` in bytes, as the library has them.
 #[repr(C)]
@@ -21,12 +22,14 @@ pub struct Sizes {
     pub server1: usize,
     pub kept_server: usize,
     pub kept_client: usize,
+    pub peer: usize,
+    pub peer_record: usize,
 }
 
 /// Writes the sizes, so that a caller can compare them with the sizes that its compiler has.
 #[unsafe(no_mangle)]
 pub extern "C" fn oscore_sizes(sizes: &mut Sizes)
-    ensures { sizes.new ≡ record { context = 97; option = 24; opened = 104; request_head = 64; server = 1296; ticket = 40; client = 456; server1 = 168; kept_server = 176; kept_client = 464 } }
+    ensures { sizes.new ≡ record { context = 97; option = 24; opened = 104; request_head = 64; server = 1296; ticket = 40; client = 456; server1 = 168; kept_server = 176; kept_client = 464; peer = 224; peer_record = 32 } }
 {
     *sizes = Sizes {
         context: size_of::<ContextHandle>(),
@@ -39,5 +42,7 @@ pub extern "C" fn oscore_sizes(sizes: &mut Sizes)
         server1: size_of::<SingleServerHandle>(),
         kept_server: size_of::<KeptServerHandle>(),
         kept_client: size_of::<KeptClientHandle>(),
+        peer: size_of::<PeerHandle>(),
+        peer_record: size_of::<RecordHandle>(),
     };
 }

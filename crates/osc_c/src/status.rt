@@ -11,7 +11,7 @@ use osc_protect::{HeadError, ProtectError, UnprotectError};
 pub(crate) const DONE: u32 = 0;
 
 /// The names of the statuses, in the order of their numbers from 0.
-const NAMES: [&[u8]; 48] = [
+const NAMES: [&[u8]; 49] = [
     b"Done",
     b"BadHandle",
     b"BadNumber",
@@ -60,11 +60,13 @@ const NAMES: [&[u8]; 48] = [
     b"NotObserving",
     b"NotNotification",
     b"Old",
+    b"OldRecord",
 ];
 
 /// Why a call does nothing: the first refusal whose condition holds, in this order, except for the statuses that were added last.
 /// SameSender is checked right after SameLookup. SaveFirst is checked right before NoSuchContext, and for a datagram right after
-/// BadHandle. OptionOrder and ValueTooLong are checked before NoRoom. NotObserving is checked right after StaleTicket,
+/// BadHandle; a peer's is checked right after StaleTicket, and once more where a request is to be delivered. OldRecord is checked right
+/// after BadNumber. OptionOrder and ValueTooLong are checked before NoRoom. NotObserving is checked right after StaleTicket,
 /// NotNotification right after Unsupported, and Old right after Undecodable. A call that is done returns 0.
 #[derive(Clone, Copy, PartialEq, Eq)]
 pub(crate) enum Status {
@@ -121,6 +123,8 @@ pub(crate) enum Status {
     NotNotification = 46,
     /// A later response to the same registration was delivered.
     Old = 47,
+    /// A record is of another context, or no save can have written it.
+    OldRecord = 48,
 }
 
 impl Status {

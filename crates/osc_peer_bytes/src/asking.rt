@@ -1,6 +1,6 @@
 //! What a peer in bytes asks, within the list of what happens at two devices (RFC 8613, 8.1 and 8.4).
 
-ghost use Rattle.std.specs.Prelude.{IfSome, length};
+ghost use Rattle.std.specs.Prelude.{IfSome, length, ◌≡◌, ◌≢◌, ◌≤◌, ℕ, Err, IfOk, IsNone, IsSome, None, OnErr, true, drop};
 ghost use Rattle.osc_coap.specs.Views.{parts_of};
 ghost use Rattle.osc_context.specs.SecurityContext.{SecurityContext};
 ghost use Rattle.osc_client.specs.ClientHistory as asked;
@@ -11,6 +11,12 @@ ghost use Rattle.osc_peers.specs.Peers.{Peers, forth};
 ghost use Rattle.osc_peer_bytes.specs.BytesInList.{AsksAfter, DecidesBack, HearsInList, RunsIn};
 ghost use Rattle.osc_peer_calls.specs.Counting.{AreCounted};
 ghost use Rattle.osc_peer_calls.specs.PeerCalls.{NobodyForgesBack};
+ghost use Rattle.osc_context.specs.Reserving.{next_limit};
+ghost use Rattle.osc_client.specs.Agrees.{TokensDiffer};
+ghost use Rattle.osc_client.specs.ClientDeciding.{CanShow};
+ghost use Rattle.osc_client.specs.declared.client_outcome.RequestError.TheVariants.{KeeperFailed};
+ghost use Rattle.osc_peer_handle.specs.PeerBytes.{HasToSave, IsPeer, IsSamePeer, next_in};
+ghost use Rattle.osc_kept_handle.specs.declared.kept_refusal.KeptRequestRefusal.TheVariants as refusals;
 
 use osc_client::siblings::Waiting;
 use osc_coap::Message;
@@ -32,6 +38,19 @@ pub fn request_bytes_in_list<W: Waiting>(
         → IfSome (entry_of_kept_request result out.new) (λ entry. EchoesHeard (forth w) (AtClient (asked.Request now (parts_of plain.now) (length out.old)) entry)
         → AsksAfter s w (asked.Request now (parts_of plain.now) (length out.old)) entry peer.new (W.requests pending.new) (W.room pending.old)) }
     ensures table { W.is_table pending.new }
+    ensures refused { (number : ℕ) → result ≡ Err (refusals.SaveFirst number)
+        → (number ≡ next_limit peer.old.server.reserved) × HasToSave true (next_in peer.old) peer.old }
+    ensures refuses { IsPeer peer.old → HasToSave true (next_in peer.old) peer.old → result ≡ Err (refusals.SaveFirst (next_limit peer.old.server.reserved)) }
+    ensures bad { result ≡ Err refusals.BadHandle → IsPeer peer.old → ⊥ }
+    ensures accepted { result ≢ Err refusals.BadHandle → IsPeer peer.old }
+    ensures stays { IsSamePeer peer.old peer.new }
+    ensures same { entry_of_kept_request result out.new ≡ None → (peer.new ≡ peer.old) × (pending.new ≡ pending.old) }
+    ensures within { IfOk result (λ n. n ≤ length out.new) }
+    ensures behind { IfOk result (λ n. drop n out.new ≡ drop n out.old) }
+    ensures unchanged { OnErr result (out.new ≡ out.old) }
+    ensures no_keeper_failed { result ≢ Err (refusals.Refused KeeperFailed) }
+    ensures room { W.room pending.new ≡ W.room pending.old }
+    ensures apart { TokensDiffer (W.requests pending.old) → TokensDiffer (W.requests pending.new) }
 {
     // For the proof alone.
     peer_calls_in_list();
@@ -50,6 +69,13 @@ pub fn decide_response_bytes_in_list<W: Waiting>(
         → RunsIn s w peer.old (W.requests pending.old) (W.room pending.old) → NobodyForgesBack s w now datagram.old
         → DecidesBack s w now datagram.old decision datagram.new peer.new (W.requests pending.new) (W.room pending.old)) }
     ensures table { W.is_table pending.new }
+    ensures accepts { IsPeer peer.old → IsSome result }
+    ensures accepted { IsSome result → IsPeer peer.old }
+    ensures stays { IsSamePeer peer.old peer.new }
+    ensures shown { IfSome result (λ decision. CanShow decision datagram.new) }
+    ensures unchanged { IsNone result → (peer.new ≡ peer.old) × (pending.new ≡ pending.old) × (datagram.new ≡ datagram.old) }
+    ensures room { W.room pending.new ≡ W.room pending.old }
+    ensures apart { TokensDiffer (W.requests pending.old) → TokensDiffer (W.requests pending.new) }
 {
     // For the proof alone.
     peer_calls_in_list();
@@ -68,6 +94,12 @@ pub fn hear_bytes_in_list<'b, W: Waiting>(
         → RunsIn s w peer.old (W.requests pending.old) (W.room pending.old) → NobodyForgesBack s w now datagram.old
         → HearsInList s w now datagram.old outcome peer.new (W.requests pending.new) (W.room pending.old)) }
     ensures table { W.is_table pending.new }
+    ensures accepts { IsPeer peer.old → IsSome result }
+    ensures accepted { IsSome result → IsPeer peer.old }
+    ensures stays { IsSamePeer peer.old peer.new }
+    ensures unchanged { IsNone result → (peer.new ≡ peer.old) × (pending.new ≡ pending.old) }
+    ensures room { W.room pending.new ≡ W.room pending.old }
+    ensures apart { TokensDiffer (W.requests pending.old) → TokensDiffer (W.requests pending.new) }
 {
     // For the proof alone.
     peer_calls_in_list();
@@ -85,6 +117,12 @@ pub fn forget_bytes_in_list<W: Waiting>(
         → RunsIn s w peer.old (W.requests pending.old) (W.room pending.old)
         → AsksAfter s w (asked.Forget token.now) (asked.Forgot was) peer.new (W.requests pending.new) (W.room pending.old)) }
     ensures table { W.is_table pending.new }
+    ensures accepts { IsPeer peer.old → IsSome result }
+    ensures accepted { IsSome result → IsPeer peer.old }
+    ensures stays { peer.new ≡ peer.old }
+    ensures unchanged { IsNone result → pending.new ≡ pending.old }
+    ensures room { W.room pending.new ≡ W.room pending.old }
+    ensures apart { TokensDiffer (W.requests pending.old) → TokensDiffer (W.requests pending.new) }
 {
     // For the proof alone.
     peer_calls_in_list();

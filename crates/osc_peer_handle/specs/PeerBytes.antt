@@ -43,6 +43,10 @@ pub record IsPeer (p : PeerHandle) : Type 0 where
   pub server : IsKeptServer p.server
   pub received : p.received ≤ 2 ^ 40
 
+-- they are bytes of one peer, in one life, behind one record (own rule)
+abbrev pub IsSamePeer : PeerHandle → PeerHandle → Type 0
+IsSamePeer p q = (q.name ≡ p.name) × (q.life ≡ p.life) × (q.generation ≡ p.generation) × (q.received ≡ p.received)
+
 -- the bytes have these numbers (RFC 8613, 7.2.1 and B.1.1)
 pub record HasNumbers (p : PeerHandle) (o : Own) : Type 0 where
   pub whole : IsPeer p

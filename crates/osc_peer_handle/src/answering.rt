@@ -8,7 +8,7 @@ ghost use Rattle.osc_life.specs.Life.{is_open_life};
 ghost use Rattle.osc_life.specs.LifeAnswer.{asks_own};
 ghost use Rattle.osc_life.specs.ServerHistory as served;
 ghost use Rattle.osc_life.specs.declared.outcome.Outcome.TheVariants.{KeeperFailed};
-ghost use Rattle.osc_life.specs.declared.server_error.ReplyError.TheVariants.{StaleTicket};
+ghost use Rattle.osc_life.specs.declared.server_error.ReplyError.TheVariants.{KeeperFailed as NoKeeper, StaleTicket};
 ghost use Rattle.osc_handle.specs.ServerBytes.{IsSpent};
 ghost use Rattle.osc_handle.specs.TicketBytes.{IsTicket, ticket_in};
 ghost use Rattle.osc_kept_ends.specs.EchoNumber.{echo_of};
@@ -16,7 +16,7 @@ ghost use Rattle.osc_kept_ends.specs.Numbering.{Own, upcoming};
 ghost use Rattle.osc_kept_ends.specs.Peering.{DeliversBelow, TakesBelow};
 ghost use Rattle.osc_kept_handle.specs.KeptServerBytes.{entry_of_kept_reply};
 ghost use Rattle.osc_kept_handle.specs.declared.kept_refusal.KeptReplyRefusal.TheVariants as replies;
-ghost use Rattle.osc_peer_handle.specs.PeerBytes.{DecidesAnswering, DeliversFrom, HasToSave, IsPeer, IsTicketOf, KeepsFirst, ServesBehind, StepsAnswering, TakesAnswering, inside_of, next_in};
+ghost use Rattle.osc_peer_handle.specs.PeerBytes.{DecidesAnswering, DeliversFrom, HasToSave, IsPeer, IsSamePeer, IsTicketOf, KeepsFirst, ServesBehind, StepsAnswering, TakesAnswering, inside_of, next_in};
 ghost use Rattle.osc_peer_handle.specs.declared.peer_refusal.PeerRefusal.TheVariants as refusals;
 
 use crate::left::Left;
@@ -57,7 +57,7 @@ impl PeerHandle {
         ensures answered { IfOk result (λ decided. (h : served.History) (old : Own) → ServesBehind self.old old h
             → DecidesAnswering self.old h now (record { echo = echo_of (next_in self.old); mid = mid }) datagram.old decided.decision datagram.new (take decided.reply out.new) old self.new) }
         ensures kept { IfOk result (λ decided. DeliversBelow decided.decision self.new.received) }
-        ensures stays { self.new.received ≡ self.old.received }
+        ensures stays { IsSamePeer self.old self.new }
         ensures save_first { (number : ℕ) → result ≡ Err (refusals.SaveFirst number) → (number ≡ next_limit self.old.server.reserved)
             × ((h : served.History) (o : Own) → ServesBehind self.old o h → HasToSave (not (is_open_life (served.life h 0))) (upcoming o) self.old) }
         ensures saves_first { (h : served.History) (o : Own) → ServesBehind self.old o h → HasToSave (not (is_open_life (served.life h 0))) (upcoming o) self.old
@@ -105,7 +105,7 @@ impl PeerHandle {
         ensures answered { IfOk result.decided (λ decided. (h : served.History) (old : Own) → ServesBehind self.old old h
             → DecidesAnswering self.old h now (record { echo = echo_of (next_in self.old); mid = mid }) datagram.old decided.decision result.datagram.now (take decided.reply out.new) old self.new) }
         ensures kept { IfOk result.decided (λ decided. DeliversBelow decided.decision self.new.received) }
-        ensures stays { self.new.received ≡ self.old.received }
+        ensures stays { IsSamePeer self.old self.new }
         ensures save_first { (number : ℕ) → result.decided ≡ Err (refusals.SaveFirst number) → (number ≡ next_limit self.old.server.reserved)
             × ((h : served.History) (o : Own) → ServesBehind self.old o h → HasToSave (not (is_open_life (served.life h 0))) (upcoming o) self.old) }
         ensures saves_first { (h : served.History) (o : Own) → ServesBehind self.old o h → HasToSave (not (is_open_life (served.life h 0))) (upcoming o) self.old
@@ -135,7 +135,7 @@ impl PeerHandle {
         ensures answered { IfOk result (λ taken. (h : served.History) (old : Own) → ServesBehind self.old old h
             → TakesAnswering self.old h now (record { echo = echo_of (next_in self.old); mid = mid }) datagram.old taken.outcome (take taken.reply out.new) old self.new) }
         ensures kept { IfOk result (λ taken. (h : served.History) (old : Own) → ServesBehind self.old old h → TakesBelow taken.outcome self.new.received) }
-        ensures stays { self.new.received ≡ self.old.received }
+        ensures stays { IsSamePeer self.old self.new }
         ensures save_first { (number : ℕ) → result ≡ Err (refusals.SaveFirst number) → (number ≡ next_limit self.old.server.reserved)
             × ((h : served.History) (o : Own) → ServesBehind self.old o h → HasToSave (not (is_open_life (served.life h 0))) (upcoming o) self.old) }
         ensures saves_first { (h : served.History) (o : Own) → ServesBehind self.old o h → HasToSave (not (is_open_life (served.life h 0))) (upcoming o) self.old
@@ -173,7 +173,7 @@ impl PeerHandle {
     ) -> Result<usize, KeptReplyRefusal>
         ensures answered { IsTicketOf self.old ticket.now → (h : served.History) (old : Own) → ServesBehind self.old old h → IfSome (entry_of_kept_reply result out.new) (λ entry.
             StepsAnswering self.old h (served.Reply (ticket_in (inside_of self.old ticket.now)) (asks_own (ticket_in (inside_of self.old ticket.now)) own) mid (parts_of plain.now) (length out.old)) entry old self.new) }
-        ensures stays { self.new.received ≡ self.old.received }
+        ensures stays { IsSamePeer self.old self.new }
         ensures refused { (number : ℕ) → result ≡ Err (replies.SaveFirst number) → (number ≡ next_limit self.old.server.reserved)
             × ((h : served.History) (o : Own) → ServesBehind self.old o h → HasToSave (asks_own (ticket_in (inside_of self.old ticket.now)) own) (upcoming o) self.old) }
         ensures refuses { (h : served.History) (o : Own) → ServesBehind self.old o h → IsTicket ticket.now → IsTicketOf self.old ticket.now → HasToSave (asks_own (ticket_in (inside_of self.old ticket.now)) own) (upcoming o) self.old
@@ -187,6 +187,7 @@ impl PeerHandle {
         ensures within { IfOk result (λ n. n ≤ length out.new) }
         ensures behind { IfOk result (λ n. drop n out.new ≡ drop n out.old) }
         ensures unchanged { OnErr result ((out.new ≡ out.old) × (self.new ≡ self.old)) }
+        ensures no_keeper_failed { result ≢ Err (replies.Refused NoKeeper) }
     {
         if !self.is_whole() || !ticket.is_whole() {
             return Err(KeptReplyRefusal::BadHandle);
@@ -211,7 +212,7 @@ impl PeerHandle {
     ) -> Result<usize, KeptReplyRefusal>
         ensures answered { IsTicketOf self.old ticket.now → (h : served.History) (old : Own) → ServesBehind self.old old h → IfSome (entry_of_kept_reply result out.new) (λ entry.
             StepsAnswering self.old h (served.Notify (ticket_in (inside_of self.old ticket.now)) (parts_of plain.now) (length out.old)) entry old self.new) }
-        ensures stays { self.new.received ≡ self.old.received }
+        ensures stays { IsSamePeer self.old self.new }
         ensures refused { (number : ℕ) → result ≡ Err (replies.SaveFirst number) → (number ≡ next_limit self.old.server.reserved)
             × ((h : served.History) (o : Own) → ServesBehind self.old o h → HasToSave true (upcoming o) self.old) }
         ensures refuses { (h : served.History) (o : Own) → ServesBehind self.old o h → IsTicket ticket.now → IsTicketOf self.old ticket.now → HasToSave true (upcoming o) self.old
@@ -223,6 +224,7 @@ impl PeerHandle {
         ensures behind { IfOk result (λ n. drop n out.new ≡ drop n out.old) }
         ensures unchanged { OnErr result ((out.new ≡ out.old) × (self.new ≡ self.old)) }
         ensures never_spent { result ≢ Err replies.TicketSpent }
+        ensures no_keeper_failed { result ≢ Err (replies.Refused NoKeeper) }
     {
         if !self.is_whole() || !ticket.is_whole() {
             return Err(KeptReplyRefusal::BadHandle);

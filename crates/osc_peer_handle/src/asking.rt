@@ -10,7 +10,7 @@ ghost use Rattle.osc_kept_ends.specs.Numbering.{Own};
 ghost use Rattle.osc_kept_handle.specs.KeptClientBytes.{entry_of_kept_request};
 ghost use Rattle.osc_kept_handle.specs.declared.kept_refusal.KeptRequestRefusal.TheVariants as refusals;
 ghost use Rattle.osc_client.specs.declared.client_outcome.RequestError.TheVariants.{KeeperFailed};
-ghost use Rattle.osc_peer_handle.specs.PeerBytes.{AsksBehind, DecidesAsking, HasToSave, IsPeer, StepsAsking, TakesAsking, next_in};
+ghost use Rattle.osc_peer_handle.specs.PeerBytes.{AsksBehind, DecidesAsking, HasToSave, IsPeer, IsSamePeer, StepsAsking, TakesAsking, next_in};
 
 use crate::left::Left;
 use crate::peer_handle::PeerHandle;
@@ -39,7 +39,7 @@ impl PeerHandle {
         ensures refuses { IsPeer self.old → HasToSave true (next_in self.old) self.old → result ≡ Err (refusals.SaveFirst (next_limit self.old.server.reserved)) }
         ensures bad { result ≡ Err refusals.BadHandle → IsPeer self.old → ⊥ }
         ensures accepted { result ≢ Err refusals.BadHandle → IsPeer self.old }
-        ensures stays { self.new.received ≡ self.old.received }
+        ensures stays { IsSamePeer self.old self.new }
         ensures same { entry_of_kept_request result out.new ≡ None → (self.new ≡ self.old) × (pending.new ≡ pending.old) }
         ensures within { IfOk result (λ n. n ≤ length out.new) }
         ensures behind { IfOk result (λ n. drop n out.new ≡ drop n out.old) }
@@ -78,7 +78,7 @@ impl PeerHandle {
             → DecidesAsking self.old (W.room pending.old) a now datagram.old decision datagram.new old self.new (W.requests pending.new)) }
         ensures accepts { IsPeer self.old → IsSome result }
         ensures accepted { IsSome result → IsPeer self.old }
-        ensures stays { self.new.received ≡ self.old.received }
+        ensures stays { IsSamePeer self.old self.new }
         ensures shown { IfSome result (λ decision. CanShow decision datagram.new) }
         ensures unchanged { IsNone result → (self.new ≡ self.old) × (pending.new ≡ pending.old) × (datagram.new ≡ datagram.old) }
         ensures table { W.is_table pending.new }
@@ -106,7 +106,7 @@ impl PeerHandle {
             → DecidesAsking self.old (W.room pending.old) a now datagram.old decision result.datagram.now old self.new (W.requests pending.new)) }
         ensures accepts { IsPeer self.old → IsSome result.decided }
         ensures accepted { IsSome result.decided → IsPeer self.old }
-        ensures stays { self.new.received ≡ self.old.received }
+        ensures stays { IsSamePeer self.old self.new }
         ensures shown { IfSome result.decided (λ decision. CanShow decision result.datagram.now) }
         ensures unchanged { IsNone result.decided → (self.new ≡ self.old) × (pending.new ≡ pending.old) }
         ensures table { W.is_table pending.new }
@@ -130,7 +130,7 @@ impl PeerHandle {
             → TakesAsking self.old (W.room pending.old) a now datagram.old outcome old self.new (W.requests pending.new)) }
         ensures accepts { IsPeer self.old → IsSome result }
         ensures accepted { IsSome result → IsPeer self.old }
-        ensures stays { self.new.received ≡ self.old.received }
+        ensures stays { IsSamePeer self.old self.new }
         ensures unchanged { IsNone result → (self.new ≡ self.old) × (pending.new ≡ pending.old) }
         ensures table { W.is_table pending.new }
         ensures room { W.room pending.new ≡ W.room pending.old }

@@ -3,7 +3,7 @@
 #include <stdio.h>
 
 /* How many differences are told, and how many bytes of each. */
-enum { MOST_TOLD = 20, MOST_BYTES = 200, STATUSES = OSCORE_OLD + 1 };
+enum { MOST_TOLD = 20, MOST_BYTES = 200, STATUSES = OSCORE_OLD_RECORD + 1 };
 
 static const char *const CALL_NAMES[CALLS] = {"oscore_server_take", "oscore_server_reply", "oscore_server_notify", "oscore_server_restart",
                                               "oscore_client_take", "oscore_client_request", "oscore_client_forget", "oscore_client_restart"};

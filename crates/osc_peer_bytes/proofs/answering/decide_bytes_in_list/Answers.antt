@@ -6,8 +6,8 @@ use Rattle.osc_peer_calls.proofs.CallLemmas.{both_ok, decided_under}
 use Rattle.osc_peer_handle.specs.PeerBytes.{next_in}
 use Rattle.osc_peer_bytes.proofs.answering.decide_bytes_in_list.Goals as goal
 
-pub returns : goal.returns
-returns c = both_ok c.decide.result (λ d answered below s w requests room counted runs forges.
+pub returns-clause-answered : goal.returns-clause-answered
+returns-clause-answered c = both_ok c.decide.result (λ d answered below s w requests room counted runs forges.
     let x = answered runs.h runs.own runs.serves in
     let reply = take d.reply c.decide.new.out in (
       x.answer,

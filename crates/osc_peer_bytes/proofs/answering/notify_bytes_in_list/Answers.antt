@@ -11,8 +11,8 @@ use Rattle.osc_peer_calls.proofs.CallLemmas.{notify_trusts}
 use Rattle.osc_peer_handle.specs.PeerBytes.{inside_of}
 use Rattle.osc_peer_bytes.proofs.answering.notify_bytes_in_list.Goals as goal
 
-pub returns : goal.returns
-returns c = λ s w requests room counted runs of holds none.
+pub returns-clause-answered : goal.returns-clause-answered
+returns-clause-answered c = λ s w requests room counted runs of holds none.
     let t = ticket_in (inside_of c.args.peer.now c.args.ticket.now) in
     let plain = parts_of c.args.plain.now in
     let size = length c.args.out.now in

@@ -3,8 +3,8 @@ use Rattle.osc_context_handle.specs.ContextBytes.{client_in}
 use Rattle.osc_peer_bytes.proofs.Calls.{begins_loaded, three_ok}
 use Rattle.osc_peer_bytes.proofs.beginning.begin_again_in_list.Goals as goal
 
-pub returns : goal.returns
-returns c = three_ok c.begin_again.result (λ p server client accepted. (
+pub returns-clause-begins : goal.returns-clause-begins
+returns-clause-begins c = three_ok c.begin_again.result (λ p server client accepted. (
   server.0,
   server.1,
   λ some w room counted least above.
