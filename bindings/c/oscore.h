@@ -10,7 +10,7 @@
 #define OSCORE_LIBRARY_VERSION 100
 #define OSCORE_LIBRARY_VERSION_STRING "0.1.0"
 /* Which layout: another number where a status, a struct or a call changed that was there, so that a program has to be compiled anew. */
-#define OSCORE_LAYOUT 2
+#define OSCORE_LAYOUT 3
 
 /* What a struct or an array of structs is begun with, as `oscore_context context = OSCORE_ZERO;`: zero, without a warning. */
 #ifdef __cplusplus
@@ -37,9 +37,9 @@ extern "C" {
 #define OSCORE_STACK 12288
 #endif
 
-/* One layout for pointers of 8 and of 4 bytes. A length, an index and what `detail` says have 8 bytes, since a number to save has up to 40
-   bits; a pointer stands in a slot of 8, of which it fills the lower half where it has 4. So a call writes to an `oscore_size len, detail;`,
-   and a `size_t` may be given wherever an `oscore_size` is taken by value. Where pointers have 8 bytes both are one type. */
+/* One layout for pointers of 8 and of 4 bytes. A length, an index and what `detail` says have 8 bytes; a pointer stands in a slot of 8, of
+   which it fills the lower half where it has 4. So a call writes to an `oscore_size len, detail;`, and a `size_t` may be given wherever an
+   `oscore_size` is taken by value. Where pointers have 8 bytes both are one type. */
 #if UINTPTR_MAX == UINT64_MAX
 typedef size_t oscore_size;
 #else
@@ -77,20 +77,20 @@ OSCORE_ASSERT(sizeof(bool) == 1, "a bool has 1 byte");
 /* All memory is the caller's. Nothing is allocated, nothing is global, nothing is called back; no call waits. Whatever the bytes of a
    handle or of a datagram are, a call is safe, ends, and refuses by name what it can't use.
 
-   What no call can see is left to the caller: a pointer leads to as many bytes as the length beside it says, or to a whole struct,
-   and stays so until the call returns; until then nobody else writes there, no thread, no signal handler and no device, since a call
-   checks a datagram and then reads it a second time; what a call writes (`out`, `datagram`, `options`, `opened`, `head`, `server`,
-   `index`, `ticket`, `out_len`, `record`, `detail`, `name`, `sizes`) overlaps nothing else that it is given; a struct is set to zero before it is
-   given for the first time; a `bool` is 0 or 1. A pointer may be NULL where the length beside it is 0, and nowhere else. */
+   What no call can see is left to the caller: a pointer leads to as many bytes as the length beside it says, or to a whole struct, and
+   stays so until the call returns; until then nobody else writes there, no thread, no signal handler and no device, since a call checks a
+   datagram and then reads it a second time; what a call writes (`out`, `datagram`, `options`, `opened`, `head`, `server`, `index`,
+   `ticket`, `out_len`, `record`, `detail`, `name`, `sizes`, `peer`, `pending`) overlaps nothing else that it is given; a struct is set to
+   zero before it is given for the first time; a `bool` is 0 or 1. A pointer may be NULL where the length beside it is 0, and nowhere
+   else. */
 
 /* What a call answers: 0 where it is done, else the first refusal whose condition holds, in the order of this list; those that came last
-   are judged elsewhere: OSCORE_SAME_SENDER right after OSCORE_SAME_LOOKUP; OSCORE_SAVE_FIRST right before OSCORE_NO_SUCH_CONTEXT, except
-   that `oscore_kept_server_take` judges it right after OSCORE_BAD_HANDLE, and of a peer what its calls say; OSCORE_OPTION_ORDER and
-   OSCORE_VALUE_TOO_LONG before OSCORE_NO_ROOM; OSCORE_NOT_OBSERVING right after OSCORE_STALE_TICKET, OSCORE_NOT_NOTIFICATION right after
-   OSCORE_UNSUPPORTED, and OSCORE_OLD right after OSCORE_UNDECODABLE; OSCORE_OLD_RECORD right after OSCORE_BAD_NUMBER. A call that refuses
-   writes `detail`: the place of a datagram's fault in bytes from 0, the number of an option, the index of one that was handed in, the
-   number to save, or 0. It leaves `out`, `out_len`, `options`, `opened`, `head`, `index`, `ticket`, `request`, `record`, the server, the
-   client and the peer as they were; where a call does more, it says so. */
+   are judged elsewhere: OSCORE_SAME_SENDER right after OSCORE_SAME_LOOKUP; OSCORE_SAVE_FIRST where the calls of a peer say it;
+   OSCORE_OPTION_ORDER and OSCORE_VALUE_TOO_LONG before OSCORE_NO_ROOM; OSCORE_NOT_OBSERVING right after OSCORE_STALE_TICKET,
+   OSCORE_NOT_NOTIFICATION right after OSCORE_UNSUPPORTED, and OSCORE_OLD right after OSCORE_UNDECODABLE; OSCORE_OLD_RECORD right after
+   OSCORE_BAD_NUMBER. A call that refuses writes `detail`: the place of a datagram's fault in bytes from 0, the number of an option, the
+   index of one that was handed in, or 0. It leaves `out`, `out_len`, `options`, `opened`, `head`, `index`, `ticket`, `request`, `record`,
+   the server, the client and the peer as they were; where a call does more, it says so. */
 typedef enum oscore_status {
     OSCORE_DONE = 0,
     OSCORE_BAD_HANDLE = 1,         /* no call wrote such a handle: as a length that is too large, or two identifiers that are one */
@@ -129,13 +129,13 @@ typedef enum oscore_status {
     OSCORE_CHALLENGE = 33,         /* the context was restarted, and the request lacks the Echo value that the reply asks for */
     OSCORE_UNSUPPORTED = 34,       /* an option that isn't sealed, as Proxy-Uri; `detail` is its number */
     OSCORE_TOKEN_IN_USE = 35,      /* a request with this token is pending */
-    OSCORE_PENDING_FULL = 36,      /* eight requests are pending */
+    OSCORE_PENDING_FULL = 36,      /* eight requests of a client are pending, or as many of a peer's as there are places */
     OSCORE_SEQUENCE_EXHAUSTED = 37, /* no Sender Sequence Number below 2^40 is left */
     OSCORE_TOO_LONG = 38,          /* the sealed message would have more than 65,535 bytes */
     OSCORE_NO_ROOM = 39,           /* the buffer is shorter than the message */
     OSCORE_NOT_PENDING = 40,       /* no request with this token is pending */
     OSCORE_SAME_SENDER = 41,       /* a context of the server has this Sender Key */
-    OSCORE_SAVE_FIRST = 42,        /* a number has to be saved first: `detail` is that number */
+    OSCORE_SAVE_FIRST = 42,        /* a record has to be saved first: the call wrote it to `record` */
     OSCORE_OPTION_ORDER = 43,      /* an option's number is below that of the one before it; `detail` is its index */
     OSCORE_VALUE_TOO_LONG = 44,    /* an option's value has more than 65,804 bytes; `detail` is its index */
     OSCORE_NOT_OBSERVING = 45,     /* the ticket's request registers no observation, so nothing notifies it */
@@ -150,7 +150,7 @@ OSCORE_ASSERT(sizeof(oscore_status) == 4, "a status has 4 bytes");
 
 /* So many bytes of `out` are enough to seal a plain datagram of so many bytes, whatever its options are, and the context, and the number:
    by a context, a server or a client that calls wrote, no call then answers OSCORE_NO_ROOM. That is proved (docs/PROVED.md), but of the
-   calls of kept ends, which seal by the same code.
+   calls of a peer, which seal by the same code.
    63 are: 48 of the OSCORE option (RFC 8613, 6.1: its option byte, one more byte for its length, the flags, 5 of a Partial IV, a length
    and 32 of a kid context, 7 of a kid); 10 of the marker, the code inside and the tag; 1, since an inner option may come after Uri-Port in
    the plain datagram, and after nothing inside, so that its delta is up to 7 more, and that can take an extended byte more (RFC 7252,
@@ -305,20 +305,6 @@ typedef struct oscore_client {
     oscore_pending pending[8];
 } oscore_client;
 
-/* A server of one context whose Sender Sequence Numbers outlive it, begun by `oscore_kept_server_begin`. It tells when a number has to be
-   saved, and uses only Sender Sequence Numbers below the one that was saved last; so a power cut at any moment costs some numbers, and no
-   nonce is used twice. What is said of copies of a server, and of its keys, holds of it too. */
-typedef struct oscore_kept_server {
-    oscore_server1 server;
-    OSCORE_SLOT uint64_t reserved; /* its Sender Sequence Numbers below this one may be used */
-} oscore_kept_server;
-
-/* The same of a client. */
-typedef struct oscore_kept_client {
-    oscore_client client;
-    OSCORE_SLOT uint64_t reserved; /* its numbers below this one may be used */
-} oscore_kept_client;
-
 /* One end of one context whose numbers outlive it, begun by `oscore_peer_begin_first` or `oscore_peer_begin_again`. It tells which record
    has to be saved: it uses only Sender Sequence Numbers below the one that was saved, and delivers only requests with a number below the
    received one that was saved. So a power cut at any moment costs some numbers, no nonce is used twice, and no request is delivered
@@ -326,10 +312,11 @@ typedef struct oscore_kept_client {
    a record that isn't behind the one that it has tells which one is too old. It holds keys: `oscore_wipe(&peer, sizeof peer)` when it
    isn't needed. */
 typedef struct oscore_peer {
-    oscore_kept_server server;
+    oscore_server1 server;           /* `server.context.next` is the next Sender Sequence Number of both roles */
+    OSCORE_SLOT uint64_t reserved;   /* Sender Sequence Numbers below this one may be used */
     OSCORE_SLOT uint64_t received;   /* each request that was delivered has a lower number */
-    OSCORE_SLOT uint64_t life_ms;    /* for how long a request of its own would be pending */
-    OSCORE_SLOT uint64_t clock;      /* of such requests */
+    OSCORE_SLOT uint64_t life_ms;    /* for how long a request of its own is pending that wasn't notified */
+    OSCORE_SLOT uint64_t clock;      /* the latest moment that a call for its own requests was given */
     OSCORE_SLOT uint64_t name;       /* the context's name, which its records and tickets have: made of its keys, and telling nothing of them */
     OSCORE_SLOT uint64_t life;       /* the generation of the first record of this life, one above that behind which it began; its tickets have it */
     OSCORE_SLOT uint64_t generation; /* of the record that was saved last */
@@ -391,10 +378,8 @@ OSCORE_HAS(oscore_pending, 40); OSCORE_AT(oscore_pending, number, 0); OSCORE_AT(
 OSCORE_HAS(oscore_client, 456); OSCORE_AT(oscore_client, context, 0); OSCORE_AT(oscore_client, life_ms, 104);
     OSCORE_AT(oscore_client, clock, 112); OSCORE_AT(oscore_client, next, 120); OSCORE_AT(oscore_client, count, 128);
     OSCORE_AT(oscore_client, pending, 136);
-OSCORE_HAS(oscore_kept_server, 176); OSCORE_AT(oscore_kept_server, server, 0); OSCORE_AT(oscore_kept_server, reserved, 168);
-OSCORE_HAS(oscore_kept_client, 464); OSCORE_AT(oscore_kept_client, client, 0); OSCORE_AT(oscore_kept_client, reserved, 456);
-OSCORE_HAS(oscore_peer, 224); OSCORE_AT(oscore_peer, server, 0); OSCORE_AT(oscore_peer, received, 176); OSCORE_AT(oscore_peer, life_ms, 184);
-    OSCORE_AT(oscore_peer, clock, 192); OSCORE_AT(oscore_peer, name, 200); OSCORE_AT(oscore_peer, life, 208);
+OSCORE_HAS(oscore_peer, 224); OSCORE_AT(oscore_peer, server, 0); OSCORE_AT(oscore_peer, reserved, 168); OSCORE_AT(oscore_peer, received, 176);
+    OSCORE_AT(oscore_peer, life_ms, 184); OSCORE_AT(oscore_peer, clock, 192); OSCORE_AT(oscore_peer, name, 200); OSCORE_AT(oscore_peer, life, 208);
     OSCORE_AT(oscore_peer, generation, 216);
 OSCORE_HAS(oscore_peer_record, 32); OSCORE_AT(oscore_peer_record, name, 0); OSCORE_AT(oscore_peer_record, generation, 8);
     OSCORE_AT(oscore_peer_record, sender, 16); OSCORE_AT(oscore_peer_record, received, 24);
@@ -403,7 +388,7 @@ OSCORE_HAS(oscore_peer_record, 32); OSCORE_AT(oscore_peer_record, name, 0); OSCO
 
 /* The sizes of the structs above, in bytes, as the library has them. */
 typedef struct oscore_struct_sizes {
-    OSCORE_SLOT oscore_size context, option, opened, request_head, server, ticket, client, server1, kept_server, kept_client, peer, peer_record;
+    OSCORE_SLOT oscore_size context, option, opened, request_head, server, ticket, client, server1, peer, peer_record, pending;
 } oscore_struct_sizes;
 
 void oscore_sizes(oscore_struct_sizes *sizes);
@@ -606,73 +591,6 @@ OSCORE_MUST_USE oscore_status oscore_client_take(oscore_client *client, uint64_t
                                                  oscore_option *options, oscore_size options_room, oscore_opened *opened,
                                                  uint64_t *request, oscore_size *detail);
 
-/* Ends whose numbers outlive them. A number is kept where it survives a power cut, as in a file or in flash, one for each end; where none
-   was ever saved, it is 0. An end begins with the number that was saved last. A call that needs a number which isn't reserved answers
-   OSCORE_SAVE_FIRST, with the number to save in `detail`, and leaves all else as it was: the end, its clock, the datagram, `out`. Then
-
-       save the number durably: when that returns, a power cut can't take it back;
-       tell the end by `.._saved`;
-       make the same call again.
-
-   In this order: a number that was told before it was saved can be used twice. Each save reserves 64 numbers. A client needs a save with
-   the first request of each life, and again after every 64 requests; a server with the first datagram of each life, and again after
-   every 64 challenges, notifications and replies with a Partial IV of their own. Never begin from an older save, nor an end beside another
-   with the same context. Begin with 0 only if the context was never used; if it was used elsewhere, begin with a number above all that
-   were used, and at least 1. What can't be saved isn't told: then each call that needs a number answers the same once more. There is no
-   restart: a new life is a new begin. */
-
-/* Begins a server of a context, with the number that was saved last. With 0 it never received a request, and it takes nothing before its
-   first save; else it begins a new life, as a context that is added as `restarted`: no request is delivered until one brings back an
-   Echo value. Its window has 1, 32 or 64 places. A refusal is OSCORE_BAD_HANDLE or OSCORE_BAD_NUMBER, and leaves the server. */
-OSCORE_MUST_USE oscore_status oscore_kept_server_begin(oscore_kept_server *server, const oscore_context *context, uint64_t loaded,
-                                                       uint8_t window_places);
-
-/* Says that a number is saved: that of the last OSCORE_SAVE_FIRST. Of any other it is OSCORE_BAD_NUMBER, and the server stays. */
-OSCORE_MUST_USE oscore_status oscore_kept_server_saved(oscore_kept_server *server, uint64_t number);
-
-/* Answers a datagram, as `oscore_server_take` does. A server that began with 0 needs a number with its first datagram; another one needs
-   one as long as no request was delivered in this life, since a challenge may be the answer. `out_len` is 0 at OSCORE_SAVE_FIRST: the
-   same datagram is handed in again. */
-OSCORE_MUST_USE oscore_status oscore_kept_server_take(oscore_kept_server *server, uint64_t now, const uint8_t echo[8],
-                                                      uint16_t mid, uint8_t *datagram, oscore_size datagram_len,
-                                                      oscore_option *options, oscore_size options_room, oscore_opened *opened,
-                                                      oscore_ticket *ticket, uint8_t out[64], oscore_size *out_len,
-                                                      oscore_size *detail);
-
-/* Seals the answer to the request of a ticket, as `oscore_server_reply` does. It needs a number where `own` says so, and where the ticket
-   observes. */
-OSCORE_MUST_USE oscore_status oscore_kept_server_reply(oscore_kept_server *server, const oscore_ticket *ticket, bool own,
-                                                       uint16_t mid, const uint8_t *plain, oscore_size plain_len, uint8_t *out,
-                                                       oscore_size out_room, oscore_size *out_len, oscore_size *detail);
-
-/* Seals a notification to the registration of a ticket, as `oscore_server_notify` does. It needs a number always. Behind a new
-   begin drop the tickets of the life before: the server can't tell them from its own. */
-OSCORE_MUST_USE oscore_status oscore_kept_server_notify(oscore_kept_server *server, const oscore_ticket *ticket,
-                                                        const uint8_t *plain, oscore_size plain_len, uint8_t *out,
-                                                        oscore_size out_room, oscore_size *out_len, oscore_size *detail);
-
-/* Begins a client with nothing pending, with the number that was saved last. A request is pending for `life_ms` milliseconds and no
-   longer; a registration that was notified, until its last response or `oscore_kept_client_forget`. A refusal is OSCORE_BAD_HANDLE or
-   OSCORE_BAD_NUMBER, and leaves the client. */
-OSCORE_MUST_USE oscore_status oscore_kept_client_begin(oscore_kept_client *client, const oscore_context *context, uint64_t loaded,
-                                                       uint64_t life_ms);
-
-/* Says that a number is saved, as `oscore_kept_server_saved` does. */
-OSCORE_MUST_USE oscore_status oscore_kept_client_saved(oscore_kept_client *client, uint64_t number);
-
-/* Seals a request, as `oscore_client_request` does. It needs a number always. */
-OSCORE_MUST_USE oscore_status oscore_kept_client_request(oscore_kept_client *client, uint64_t now, const uint8_t *plain,
-                                                         oscore_size plain_len, uint8_t *out, oscore_size out_room,
-                                                         oscore_size *out_len, oscore_size *detail);
-
-/* Answers a datagram, as `oscore_client_take` does. It needs no number. */
-OSCORE_MUST_USE oscore_status oscore_kept_client_take(oscore_kept_client *client, uint64_t now, uint8_t *datagram,
-                                                      oscore_size datagram_len, oscore_option *options, oscore_size options_room,
-                                                      oscore_opened *opened, uint64_t *request, oscore_size *detail);
-
-/* Waits no more for the response to the request of a token, as `oscore_client_forget` does. */
-OSCORE_MUST_USE oscore_status oscore_kept_client_forget(oscore_kept_client *client, const uint8_t *token, oscore_size token_len);
-
 /* A peer. A call that needs a number that isn't saved answers OSCORE_SAVE_FIRST, writes the record to save, and leaves all else as it was: the
    peer, its clock, the datagram, `out`, the rest. Then
 
@@ -680,13 +598,18 @@ OSCORE_MUST_USE oscore_status oscore_kept_client_forget(oscore_kept_client *clie
        tell the peer by `oscore_peer_saved`;
        make the same call again.
 
-   In this order. Each life saves one record before anything else, whatever comes first. After that a record is saved for each request that is
-   to be delivered, and for each 64 challenges, notifications and replies with a Partial IV of their own. `record` is written at OSCORE_SAVE_FIRST
-   alone. OSCORE_LIVES_EXHAUSTED comes in the place of OSCORE_SAVE_FIRST where the record would be the 2^64th. */
+   In this order. Each life saves one record before anything else, whatever comes first. After that a record is saved for each request that
+   is to be delivered, and for each 64 requests of its own, challenges, notifications and replies with a Partial IV of their own. `record`
+   is written at OSCORE_SAVE_FIRST alone. OSCORE_LIVES_EXHAUSTED comes in the place of OSCORE_SAVE_FIRST where the record would be the
+   2^64th. */
+
+/* Writes the name of a context, which its peers, their records and their tickets have. A store is opened by it (oscore_store.h), before a
+   peer is begun. OSCORE_BAD_HANDLE leaves the name. */
+OSCORE_MUST_USE oscore_status oscore_peer_name(const oscore_context *context, uint64_t *name);
 
 /* Begins a peer of a context that was never used, neither by this end nor by another library: at its provisioning, once. A record that
-   was lost is no reason: then the context can't be used any more. The window has 1, 32 or 64 places. OSCORE_BAD_HANDLE or
-   OSCORE_BAD_NUMBER leave the peer. */
+   was lost is no reason: then the context can't be used any more. The window has 1, 32 or 64 places, any of them where the peer only asks.
+   OSCORE_BAD_HANDLE or OSCORE_BAD_NUMBER leave the peer. */
 OSCORE_MUST_USE oscore_status oscore_peer_begin_first(oscore_peer *peer, const oscore_context *context, uint8_t window_places,
                                                       uint64_t life_ms);
 
@@ -711,6 +634,13 @@ OSCORE_MUST_USE oscore_status oscore_peer_take(oscore_peer *peer, uint64_t now, 
                                                oscore_ticket *ticket, uint8_t out[64], oscore_size *out_len, oscore_peer_record *record,
                                                oscore_size *detail);
 
+/* Writes the index of the first of several peers whose context a request names, by its kid and its kid context: a device with many
+   contexts has an array of peers. It reads only, and passes over peers that were never begun. One of the datagram's faults,
+   OSCORE_NOT_THAT_KIND, OSCORE_NO_OSCORE, OSCORE_UNDECODABLE, or OSCORE_NO_CONTEXT where it names none of theirs, leave the index. Which
+   of them a response is for no byte of it says but its token: give it to `oscore_peer_hear` of each that asks. */
+OSCORE_MUST_USE oscore_status oscore_peer_find(const oscore_peer *peers, oscore_size peer_count, const uint8_t *datagram,
+                                               oscore_size datagram_len, oscore_size *index, oscore_size *detail);
+
 /* Seals the answer to the request of a ticket, as `oscore_server_reply` does. A ticket of another peer, or of another life of this one,
    is OSCORE_STALE_TICKET, right before OSCORE_SAVE_FIRST. */
 OSCORE_MUST_USE oscore_status oscore_peer_reply(oscore_peer *peer, const oscore_ticket *ticket, bool own, uint16_t mid, const uint8_t *plain,
@@ -722,6 +652,31 @@ OSCORE_MUST_USE oscore_status oscore_peer_reply(oscore_peer *peer, const oscore_
 OSCORE_MUST_USE oscore_status oscore_peer_notify(oscore_peer *peer, const oscore_ticket *ticket, const uint8_t *plain, oscore_size plain_len,
                                                  uint8_t *out, oscore_size out_room, oscore_size *out_len, oscore_peer_record *record,
                                                  oscore_size *detail);
+
+/* What a peer asks. Its requests that wait for their responses lie in an array of yours, of as many places as you give it: the first
+   `*pending_count` of its `pending_room` places hold one each, oldest first. Begin with a count of 0 and zeroed places when you begin the
+   peer, hand in both with each of these calls, and change nothing of them. They are one peer's: those of another have other numbers. A
+   count above `pending_room`, or places that no call can have written, is OSCORE_BAD_HANDLE, as the peer's bytes are, and changes nothing.
+   A peer that asks nothing needs none. */
+
+/* Seals a request with the peer's next number, as `oscore_client_request` does, and puts it into the next place. It needs a number always.
+   OSCORE_SAVE_FIRST comes right before OSCORE_NOT_THAT_KIND. */
+OSCORE_MUST_USE oscore_status oscore_peer_request(oscore_peer *peer, oscore_pending *pending, oscore_size pending_room,
+                                                  oscore_size *pending_count, uint64_t now, const uint8_t *plain, oscore_size plain_len,
+                                                  uint8_t *out, oscore_size out_room, oscore_size *out_len, oscore_peer_record *record,
+                                                  oscore_size *detail);
+
+/* Answers a datagram that may be a response to one of these requests, where it lies, as `oscore_client_take` does. It needs no number, so a
+   peer that asks and answers gives it each datagram first: a request is OSCORE_NOT_THAT_KIND here, as it came, and goes to
+   `oscore_peer_take`. */
+OSCORE_MUST_USE oscore_status oscore_peer_hear(oscore_peer *peer, oscore_pending *pending, oscore_size pending_room,
+                                               oscore_size *pending_count, uint64_t now, uint8_t *datagram, oscore_size datagram_len,
+                                               oscore_option *options, oscore_size options_room, oscore_opened *opened, uint64_t *request,
+                                               oscore_size *detail);
+
+/* Waits no more for the response to the request of a token, as `oscore_client_forget` does. */
+OSCORE_MUST_USE oscore_status oscore_peer_forget(oscore_peer *peer, oscore_pending *pending, oscore_size pending_room,
+                                                 oscore_size *pending_count, const uint8_t *token, oscore_size token_len);
 
 /* Milliseconds of a tick that counts them in 32 bits and begins anew at 0 after 49 days: zero begins it. */
 typedef struct oscore_clock {

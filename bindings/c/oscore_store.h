@@ -1,44 +1,29 @@
-/* Where an end keeps the numbers that have to outlive it, in a file or in two sectors of flash, so that none is used twice: neither after a
-   power cut nor because somebody else goes on from the same numbers. README.md beside this file says what is promised, and what isn't.
-   All of it is in this header, and it needs no library. The form for flash needs no operating system either; the form for a file needs
-   POSIX, and is left out where there is none or where OSCORE_STORE_WITHOUT_FILES is defined. */
+/* Where a peer keeps its record, in a file or in two sectors of flash, so that no number is used twice: neither after a power cut nor because
+   somebody else goes on behind the same record. README.md beside this file says what is promised, and what isn't. Of oscore.h it takes the
+   record, and of the library nothing. The form for flash needs no operating system either; the form for a file needs POSIX, and is left
+   out where there is none or where OSCORE_STORE_WITHOUT_FILES is defined. */
 #ifndef OSCORE_STORE_H
 #define OSCORE_STORE_H
 
-#include <stdbool.h>
-#include <stdint.h>
+#include "oscore.h"
 
 #ifdef __cplusplus
 extern "C" {
 #endif
 
-/* Who drops an answer doesn't know whether anything is kept. A definition of your own may stand before this header. */
-#ifndef OSCORE_MUST_USE
-#if defined(__GNUC__) || defined(__clang__)
-#define OSCORE_MUST_USE __attribute__((warn_unused_result))
-#else
-#define OSCORE_MUST_USE
-#endif
-#endif
-
-/* What is kept of one context. `numbers[0]` is the first Sender Sequence Number that isn't reserved: what OSCORE_SAVE_FIRST says in `detail`.
-   `numbers[1]` is the same of received numbers, 0 where an end keeps none. `context` is a name that you give to the context, as of the
-   device's identifiers, so that the record of another one is refused. It is stored as it is, so make it of no key, nor of a checksum of
-   one; the `name` of a peer may be stored, a code by HMAC-SHA-256 under its Sender Key. */
-typedef struct oscore_record {
-    uint64_t numbers[2];
-    uint8_t context[8];
-} oscore_record;
+/* What is kept is an `oscore_peer_record`, as a call of a peer wrote it at OSCORE_SAVE_FIRST. A store is opened for the peer's `name`, so that
+   the record of another context is refused. The name is a code by HMAC-SHA-256 under the context's Sender Key, so it may be stored. */
 
 /* What a call answers, in the order in which it is judged. OSCORE_STORE_FAILED comes wherever a step is refused by the system or the flash. */
 typedef enum oscore_stored {
     OSCORE_STORED = 0,     /* opened, with the record that was saved last; or saved, and no power cut takes it back */
-    OSCORE_STORE_EMPTY,    /* opened: the store was provisioned, and nothing was saved since, so the numbers are 0 */
+    OSCORE_STORE_EMPTY,    /* opened: the store was provisioned, and nothing was saved since, so generation and numbers are 0 */
     OSCORE_STORE_LOCKED,   /* somebody else has the file open, another thread or process */
     OSCORE_STORE_BROKEN,   /* there is no good record: the store isn't there, is empty, or all of it is damaged. Never take it for a new one */
     OSCORE_STORE_OTHER,    /* the record is another context's */
     OSCORE_STORE_THERE,    /* to be provisioned, and there is a saved record */
-    OSCORE_STORE_BEHIND,   /* what is kept isn't what this store loaded or saved last: somebody else saved, or put back a backup */
+    OSCORE_STORE_BEHIND,   /* what is kept isn't what this store loaded or saved last: somebody else saved, or put back a backup. Or the
+                              record isn't the next one, of a generation one above: another peer, which began behind the same, saved first */
     OSCORE_STORE_LOWER,    /* a number would go down */
     OSCORE_STORE_FAILED    /* a step was refused, by now or before; or the store isn't open */
 } oscore_stored;
@@ -52,9 +37,9 @@ static inline const char *oscore_stored_name(oscore_stored stored) {
 /* ---- a record as it is stored, in both forms alike, with the low byte of a number first:
 
         0  "osc-num" and the version of this layout, 1
-        8  the generation: 0 of a store that was provisioned, and more with each save, mostly by one
-       16  numbers[0], numbers[1]
-       32  context
+        8  generation: 0 of a store that was provisioned, and one more with each save, in flash at times more
+       16  sender, received
+       32  name
        40  zero
        44  CRC-32 (of IEEE 802.3) of the 44 bytes before it */
 enum { OSCORE_RECORD_LEN = 48, OSCORE_RECORD_SUMMED = 44 };
@@ -84,42 +69,37 @@ static inline bool oscore_record_same_bytes(const uint8_t *left, const uint8_t *
     return true;
 }
 
-static inline bool oscore_record_same(const oscore_record *left, const oscore_record *right) {
-    return left->numbers[0] == right->numbers[0] && left->numbers[1] == right->numbers[1]
-        && oscore_record_same_bytes(left->context, right->context, 8);
+static inline bool oscore_record_same(const oscore_peer_record *left, const oscore_peer_record *right) {
+    return left->name == right->name && left->generation == right->generation && left->sender == right->sender && left->received == right->received;
 }
 
-static inline void oscore_record_write(const oscore_record *record, uint64_t generation, uint8_t bytes[OSCORE_RECORD_LEN]) {
+/* The bytes of a record with this generation. */
+static inline void oscore_record_write(const oscore_peer_record *record, uint64_t generation, uint8_t bytes[OSCORE_RECORD_LEN]) {
     static const uint8_t begin[8] = {'o', 's', 'c', '-', 'n', 'u', 'm', 1};
-    for (uint32_t i = 0; i < 8; i++) bytes[i] = begin[i], bytes[32 + i] = record->context[i];
+    for (uint32_t i = 0; i < 8; i++) bytes[i] = begin[i];
     oscore_record_put(bytes + 8, generation, 8);
-    oscore_record_put(bytes + 16, record->numbers[0], 8);
-    oscore_record_put(bytes + 24, record->numbers[1], 8);
+    oscore_record_put(bytes + 16, record->sender, 8);
+    oscore_record_put(bytes + 24, record->received, 8);
+    oscore_record_put(bytes + 32, record->name, 8);
     oscore_record_put(bytes + 40, 0, 4);
     oscore_record_put(bytes + OSCORE_RECORD_SUMMED, oscore_record_checksum(bytes, OSCORE_RECORD_SUMMED), 4);
 }
 
 /* Whether the bytes are a whole record, which they then are the only spelling of. */
-static inline bool oscore_record_read(const uint8_t bytes[OSCORE_RECORD_LEN], uint64_t *generation, oscore_record *record) {
+static inline bool oscore_record_read(const uint8_t bytes[OSCORE_RECORD_LEN], oscore_peer_record *record) {
     uint8_t again[OSCORE_RECORD_LEN];
-    *generation = oscore_record_get(bytes + 8, 8);
-    record->numbers[0] = oscore_record_get(bytes + 16, 8);
-    record->numbers[1] = oscore_record_get(bytes + 24, 8);
-    for (uint32_t i = 0; i < 8; i++) record->context[i] = bytes[32 + i];
-    oscore_record_write(record, *generation, again);
+    record->generation = oscore_record_get(bytes + 8, 8);
+    record->sender = oscore_record_get(bytes + 16, 8);
+    record->received = oscore_record_get(bytes + 24, 8);
+    record->name = oscore_record_get(bytes + 32, 8);
+    oscore_record_write(record, record->generation, again);
     return oscore_record_same_bytes(bytes, again, OSCORE_RECORD_LEN);
 }
 
-static inline bool oscore_record_is_lower(const oscore_record *record, const oscore_record *than) {
-    return record->numbers[0] < than->numbers[0] || record->numbers[1] < than->numbers[1];
-}
-
-/* A store without a record yet. */
-static inline oscore_record oscore_record_of(const uint8_t context[8]) {
-    oscore_record record;
-    record.numbers[0] = record.numbers[1] = 0;
-    for (uint32_t i = 0; i < 8; i++) record.context[i] = context[i];
-    return record;
+/* Whether a record may be saved behind the last one: OSCORE_STORED, BEHIND where it isn't the next one, or LOWER. */
+static inline oscore_stored oscore_record_follows(const oscore_peer_record *record, const oscore_peer_record *last) {
+    if (record->generation != last->generation + 1) return OSCORE_STORE_BEHIND;
+    return record->sender < last->sender || record->received < last->received ? OSCORE_STORE_LOWER : OSCORE_STORED;
 }
 
 /* ---- two sectors of flash
@@ -128,8 +108,9 @@ static inline oscore_record oscore_record_of(const uint8_t context[8]) {
    other one is erased and written from its beginning. The units of a slot are programmed in ascending order, so its checksum comes last:
    a slot where that holds is whole, and of these the greatest generation counts. The full sector is erased only after a whole record stands
    in the other one. A slot that a cut left half written is passed over, and never programmed again unless all of it reads as erased; its
-   generation is passed over too, so that no two slots have one, even if it reads as whole later. A sector is erased right before its first
-   slot is programmed, so an erase that a cut left half done is done again. */
+   generation is passed over too, so that no two slots have one, even if it reads as whole later. So a slot's generation may be above that
+   with which its record was saved. What is loaded later has the slot's, which is above all before. A sector is erased right before its
+   first slot is programmed, so an erase that a cut left half done is done again. */
 typedef struct oscore_flash {
     uint32_t sector; /* how many bytes each of both sectors has: at least a slot */
     uint32_t unit;   /* how many bytes are programmed at once: 1 to OSCORE_FLASH_MOST_UNIT. Each is programmed once after an erase */
@@ -146,10 +127,10 @@ typedef struct oscore_flash {
 /* The places are this header's; `flash` is the caller's, and stays until the store isn't used any more. */
 typedef struct oscore_flash_store {
     const oscore_flash *flash;
-    oscore_record record; /* what was loaded or saved last */
-    uint64_t generation;
-    uint32_t which, slot; /* where that stands */
-    uint32_t next;        /* the slot behind all that were written in its sector */
+    oscore_peer_record record; /* what was loaded or saved last, with the generation that the peer knows */
+    uint64_t generation;       /* of its slot */
+    uint32_t which, slot;      /* where that stands */
+    uint32_t next;             /* the slot behind all that were written in its sector */
     bool is_open;
 } oscore_flash_store;
 
@@ -178,21 +159,21 @@ static inline bool oscore_flash_is_erased(const oscore_flash *flash, const uint8
 static inline bool oscore_flash_scan(oscore_flash_store *store, uint32_t which, bool *found, uint32_t *next) {
     const oscore_flash *flash = store->flash;
     uint8_t bytes[OSCORE_FLASH_MOST_SLOT];
-    uint64_t generation;
-    oscore_record record;
+    oscore_peer_record record;
     *next = 0;
     for (uint32_t slot = 0; slot < oscore_flash_slots(flash); slot++) {
         if (!oscore_flash_read_slot(flash, which, slot, bytes)) return false;
         if (!oscore_flash_is_erased(flash, bytes)) *next = slot + 1;
-        if (!oscore_record_read(bytes, &generation, &record) || (*found && generation <= store->generation)) continue;
-        store->record = record, store->generation = generation, store->which = which, store->slot = slot;
+        if (!oscore_record_read(bytes, &record) || (*found && record.generation <= store->generation)) continue;
+        store->record = record, store->generation = record.generation, store->which = which, store->slot = slot;
         *found = true;
     }
     return true;
 }
 
-/* Programs a record into a slot, the checksum last, and looks that it stands there. */
-static inline bool oscore_flash_append(oscore_flash_store *store, uint32_t which, uint32_t slot, const oscore_record *record, uint64_t generation) {
+/* Programs a record into a slot of this generation, the checksum last, and looks that it stands there. */
+static inline bool oscore_flash_append(oscore_flash_store *store, uint32_t which, uint32_t slot, const oscore_peer_record *record,
+                                       uint64_t generation) {
     const oscore_flash *flash = store->flash;
     uint8_t bytes[OSCORE_FLASH_MOST_SLOT], there[OSCORE_FLASH_MOST_SLOT];
     uint32_t len = oscore_flash_slot_len(flash);
@@ -205,17 +186,18 @@ static inline bool oscore_flash_append(oscore_flash_store *store, uint32_t which
     return true;
 }
 
-/* Opens the store of a context. With `provision` it makes one, in sectors that were erased. `record` is written with OSCORE_STORED and
-   OSCORE_STORE_EMPTY alone. Answers these, or
+/* Opens the store of a context, by its name, as oscore_peer_name writes it. With `provision` it makes one, in sectors that were erased.
+   `record` is written with OSCORE_STORED and OSCORE_STORE_EMPTY alone, and has the stored generation. Answers these, or
      BROKEN  there is no whole record; with `provision`, there is none and the second sector isn't erased, or the first one is full
      OTHER   the record is another context's
      THERE   with `provision`: a record was saved here
      FAILED  a read or a program was refused, or what was programmed doesn't stand there; or there are no such sectors or units */
 OSCORE_MUST_USE static inline oscore_stored oscore_flash_open(oscore_flash_store *store, const oscore_flash *flash, bool provision,
-                                                              const uint8_t context[8], oscore_record *record) {
+                                                              uint64_t name, oscore_peer_record *record) {
+    const oscore_peer_record none = {name, 0, 0, 0};
     uint32_t next[2] = {0, 0};
     bool found = false;
-    store->flash = flash, store->record = oscore_record_of(context), store->generation = 0;
+    store->flash = flash, store->record = none, store->generation = 0;
     store->which = store->slot = store->next = 0, store->is_open = false;
     if (flash->unit == 0 || flash->unit > OSCORE_FLASH_MOST_UNIT || flash->sector < oscore_flash_slot_len(flash)) return OSCORE_STORE_FAILED;
     for (uint32_t which = 0; which < 2; which++)
@@ -223,10 +205,9 @@ OSCORE_MUST_USE static inline oscore_stored oscore_flash_open(oscore_flash_store
     store->next = next[store->which];
     if (!found) {
         if (!provision || next[1] > 0 || next[0] == oscore_flash_slots(flash)) return OSCORE_STORE_BROKEN;
-        oscore_record none = oscore_record_of(context);
         if (!oscore_flash_append(store, 0, next[0], &none, 0)) return OSCORE_STORE_FAILED;
     }
-    if (!oscore_record_same_bytes(store->record.context, context, 8)) return OSCORE_STORE_OTHER;
+    if (store->record.name != name) return OSCORE_STORE_OTHER;
     if (provision && store->generation > 0) return OSCORE_STORE_THERE;
     store->is_open = true;
     *record = store->record;
@@ -252,17 +233,18 @@ static inline oscore_stored oscore_flash_look(oscore_flash_store *store, bool tu
 
 /* Saves a record. Answers OSCORE_STORED, or
      OTHER   the record names another context than the store
-     BEHIND  the flash holds another record than the store's last one: nothing is written
+     BEHIND  the flash holds another record than the store's last one, or the record's generation isn't one above that of the store's last
+             one, so that of two peers that began behind one record the second to save is refused: nothing is written
      LOWER   a number would go down: nothing is written
      FAILED  a step was refused, or what was programmed doesn't stand there: the flash holds the old record or the new one, and each
              further save is refused, until the store is opened again; or the store isn't open */
-OSCORE_MUST_USE static inline oscore_stored oscore_flash_save(oscore_flash_store *store, const oscore_record *record) {
+OSCORE_MUST_USE static inline oscore_stored oscore_flash_save(oscore_flash_store *store, const oscore_peer_record *record) {
     if (!store->is_open || store->generation > UINT64_MAX - store->next) return OSCORE_STORE_FAILED;
-    if (!oscore_record_same_bytes(record->context, store->record.context, 8)) return OSCORE_STORE_OTHER;
+    if (record->name != store->record.name) return OSCORE_STORE_OTHER;
     bool turns = store->next == oscore_flash_slots(store->flash);
     oscore_stored stands = oscore_flash_look(store, turns);
-    if (stands == OSCORE_STORE_BEHIND) return OSCORE_STORE_BEHIND;
-    if (stands == OSCORE_STORED && oscore_record_is_lower(record, &store->record)) return OSCORE_STORE_LOWER;
+    if (stands == OSCORE_STORED) stands = oscore_record_follows(record, &store->record);
+    if (stands == OSCORE_STORE_BEHIND || stands == OSCORE_STORE_LOWER) return stands;
     uint32_t which = turns ? 1 - store->which : store->which;
     store->is_open = stands == OSCORE_STORED && (!turns || store->flash->erase(store->flash->user, which))
         && oscore_flash_append(store, which, turns ? 0 : store->next, record, store->generation + (store->next - store->slot));
@@ -292,22 +274,21 @@ extern "C" {
 
 /* A file has two places, so far from each other that no sector and no page has bytes of both. A record stands in the one that its generation
    names, by its lowest bit. So a save writes only the place of the older record, and one that is torn there loses to the other. */
-enum { OSCORE_STORE_PLACE = 4096, OSCORE_STORE_MOST_NAME = 4096 };
+enum { OSCORE_STORE_PLACE = 4096, OSCORE_STORE_MOST_PATH = 4096 };
 
 /* One thread at a time uses a store. It stays locked until it is closed or its process ends. */
 typedef struct oscore_store {
-    const char *name;     /* the caller's, who leaves it as it is until the store is closed */
-    oscore_record record; /* what was loaded or saved last */
-    uint64_t generation;
-    pid_t owner;          /* which process opened it: a child has the same lock, and is refused */
+    const char *path;          /* the caller's, who leaves it as it is until the store is closed */
+    oscore_peer_record record; /* what was loaded or saved last */
+    pid_t owner;               /* which process opened it: a child has the same lock, and is refused */
     int file;
     bool is_open, has_failed;
 } oscore_store;
 
-/* Whether the name still leads to the file that is open. */
-static inline bool oscore_store_is_at(int file, const char *name) {
+/* Whether the path still leads to the file that is open. */
+static inline bool oscore_store_is_at(int file, const char *path) {
     struct stat opened, named;
-    return !fstat(file, &opened) && !stat(name, &named) && S_ISREG(opened.st_mode) && opened.st_dev == named.st_dev && opened.st_ino == named.st_ino;
+    return !fstat(file, &opened) && !stat(path, &named) && S_ISREG(opened.st_mode) && opened.st_dev == named.st_dev && opened.st_ino == named.st_ino;
 }
 
 static inline ssize_t oscore_store_read(int file, uint8_t *bytes, size_t len, off_t at) {
@@ -317,17 +298,16 @@ static inline ssize_t oscore_store_read(int file, uint8_t *bytes, size_t len, of
 }
 
 /* Looks for the newest record. Answers OSCORE_STORED, or BROKEN where no place is good, or FAILED. */
-static inline oscore_stored oscore_store_newest(int file, uint64_t *newest, oscore_record *record) {
+static inline oscore_stored oscore_store_newest(int file, oscore_peer_record *newest) {
     uint8_t bytes[OSCORE_RECORD_LEN];
     bool found = false;
     for (unsigned place = 0; place < 2; place++) {
-        uint64_t generation;
-        oscore_record read;
+        oscore_peer_record read;
         ssize_t len = oscore_store_read(file, bytes, sizeof bytes, (off_t)place * OSCORE_STORE_PLACE);
         if (len < 0) return OSCORE_STORE_FAILED;
-        if (len < OSCORE_RECORD_LEN || !oscore_record_read(bytes, &generation, &read)) continue;
-        if (generation % 2 != place || (found && generation < *newest)) continue;
-        *newest = generation, *record = read;
+        if (len < OSCORE_RECORD_LEN || !oscore_record_read(bytes, &read)) continue;
+        if (read.generation % 2 != place || (found && read.generation < newest->generation)) continue;
+        *newest = read;
         found = true;
     }
     return found ? OSCORE_STORED : OSCORE_STORE_BROKEN;
@@ -340,24 +320,24 @@ static inline bool oscore_store_sync(int file) {
 }
 
 /* Writes a record into the place of its generation, and waits until no power cut takes it back. */
-static inline bool oscore_store_write(int file, const oscore_record *record, uint64_t generation) {
+static inline bool oscore_store_write(int file, const oscore_peer_record *record) {
     uint8_t bytes[OSCORE_RECORD_LEN];
-    oscore_record_write(record, generation, bytes);
+    oscore_record_write(record, record->generation, bytes);
     for (size_t at = 0; at < sizeof bytes;) {
-        ssize_t len = pwrite(file, bytes + at, sizeof bytes - at, (off_t)(generation % 2) * OSCORE_STORE_PLACE + (off_t)at);
+        ssize_t len = pwrite(file, bytes + at, sizeof bytes - at, (off_t)(record->generation % 2) * OSCORE_STORE_PLACE + (off_t)at);
         if (len == 0 || (len < 0 && errno != EINTR)) return false;
         if (len > 0) at += (size_t)len;
     }
     return oscore_store_sync(file);
 }
 
-/* Syncs the folder in which a name stands. */
-static inline bool oscore_store_sync_folder(const char *name) {
-    char folder[OSCORE_STORE_MOST_NAME] = ".";
-    const char *slash = strrchr(name, '/');
-    size_t len = slash ? (size_t)(slash - name) + 1 : 0;
+/* Syncs the folder of a path. */
+static inline bool oscore_store_sync_folder(const char *path) {
+    char folder[OSCORE_STORE_MOST_PATH] = ".";
+    const char *slash = strrchr(path, '/');
+    size_t len = slash ? (size_t)(slash - path) + 1 : 0;
     if (len >= sizeof folder) return false;
-    if (len > 0) memcpy(folder, name, len), folder[len] = '\0';
+    if (len > 0) memcpy(folder, path, len), folder[len] = '\0';
     int at = open(folder, O_RDONLY | O_DIRECTORY | O_CLOEXEC);
     bool synced = at >= 0 && oscore_store_sync(at);
     if (at >= 0) close(at);
@@ -374,22 +354,22 @@ static inline oscore_stored oscore_store_provision(oscore_store *store) {
     oscore_record_write(&store->record, 0, bytes);
     for (ssize_t i = 0; i < len; i++)
         if (there[i] != 0 && there[i] != bytes[i]) return OSCORE_STORE_BROKEN;
-    return oscore_store_write(store->file, &store->record, 0) ? OSCORE_STORED : OSCORE_STORE_FAILED;
+    return oscore_store_write(store->file, &store->record) ? OSCORE_STORED : OSCORE_STORE_FAILED;
 }
 
 /* What oscore_store_open answers of a file that is open. */
 static inline oscore_stored oscore_store_load(oscore_store *store, bool provision) {
-    oscore_record own = store->record;
+    const uint64_t name = store->record.name;
     if (flock(store->file, LOCK_EX | LOCK_NB)) return errno == EWOULDBLOCK ? OSCORE_STORE_LOCKED : OSCORE_STORE_FAILED;
     /* What was written and not synced, as by a process that was killed, can be read: so it is synced first. */
-    if (!oscore_store_is_at(store->file, store->name) || !oscore_store_sync(store->file)) return OSCORE_STORE_FAILED;
-    oscore_stored stands = oscore_store_newest(store->file, &store->generation, &store->record);
+    if (!oscore_store_is_at(store->file, store->path) || !oscore_store_sync(store->file)) return OSCORE_STORE_FAILED;
+    oscore_stored stands = oscore_store_newest(store->file, &store->record);
     if (stands == OSCORE_STORE_BROKEN && provision) stands = oscore_store_provision(store);
     if (stands != OSCORE_STORED) return stands;
-    if (!oscore_record_same_bytes(store->record.context, own.context, 8)) return OSCORE_STORE_OTHER;
-    if (provision && store->generation > 0) return OSCORE_STORE_THERE;
-    if (provision && !oscore_store_sync_folder(store->name)) return OSCORE_STORE_FAILED;
-    return store->generation > 0 ? OSCORE_STORED : OSCORE_STORE_EMPTY;
+    if (store->record.name != name) return OSCORE_STORE_OTHER;
+    if (provision && store->record.generation > 0) return OSCORE_STORE_THERE;
+    if (provision && !oscore_store_sync_folder(store->path)) return OSCORE_STORE_FAILED;
+    return store->record.generation > 0 ? OSCORE_STORED : OSCORE_STORE_EMPTY;
 }
 
 /* Closes a store, and so lets go of its lock. One that isn't open stays as it is. */
@@ -398,16 +378,18 @@ static inline void oscore_store_close(oscore_store *store) {
     store->is_open = false;
 }
 
-/* Opens the store of a context in a file, and locks it. With `provision` it makes the file. `record` is written with OSCORE_STORED and
-   OSCORE_STORE_EMPTY alone, and with any other answer the store isn't open. Answers these, or
+/* Opens the store of a context in a file, by its name, as oscore_peer_name writes it, and locks it. With `provision` it makes the file.
+   `record` is written with OSCORE_STORED and OSCORE_STORE_EMPTY alone, and has the stored generation; with any other answer the store
+   isn't open. Answers these, or
      LOCKED  somebody else has it open
      BROKEN  there is no such file, or no good record in it; with `provision`, there is a file without one that may have had one
      OTHER   the record is another context's
      THERE   with `provision`: a record was saved here
-     FAILED  the system refused a step, or the name led to another file meanwhile */
-OSCORE_MUST_USE static inline oscore_stored oscore_store_open(oscore_store *store, const char *file, bool provision, const uint8_t context[8],
-                                                              oscore_record *record) {
-    store->name = file, store->record = oscore_record_of(context), store->generation = 0, store->owner = getpid();
+     FAILED  the system refused a step, or the path led to another file meanwhile */
+OSCORE_MUST_USE static inline oscore_stored oscore_store_open(oscore_store *store, const char *file, bool provision, uint64_t name,
+                                                              oscore_peer_record *record) {
+    const oscore_peer_record none = {name, 0, 0, 0};
+    store->path = file, store->record = none, store->owner = getpid();
     store->is_open = store->has_failed = false;
     store->file = open(file, O_RDWR | O_CLOEXEC | (provision ? O_CREAT : 0), 0600);
     if (store->file < 0) return errno == ENOENT && !provision ? OSCORE_STORE_BROKEN : OSCORE_STORE_FAILED;
@@ -422,25 +404,26 @@ OSCORE_MUST_USE static inline oscore_stored oscore_store_open(oscore_store *stor
      LOCKED  another process opened the store, of which this one is a child
      BROKEN  the file has no good record any more
      OTHER   the record names another context than the store
-     BEHIND  the file holds another record than the store's last one, or its name leads to another file: nothing is written
+     BEHIND  the file holds another record than the store's last one, or its path leads to another file, or the record's generation isn't
+             one above that of the store's last one, so that of two peers that began behind one record the second to save is refused:
+             nothing is written
      LOWER   a number would go down: nothing is written
      FAILED  the system refused a step: the file holds the old record or the new one, and each further save is refused, until the store is
              closed and opened again; or it isn't open */
-OSCORE_MUST_USE static inline oscore_stored oscore_store_save(oscore_store *store, const oscore_record *record) {
-    oscore_record found;
-    uint64_t newest = 0;
-    if (!store->is_open || store->has_failed || store->generation == UINT64_MAX) return OSCORE_STORE_FAILED;
+OSCORE_MUST_USE static inline oscore_stored oscore_store_save(oscore_store *store, const oscore_peer_record *record) {
+    oscore_peer_record found = {0, 0, 0, 0};
+    if (!store->is_open || store->has_failed || store->record.generation == UINT64_MAX) return OSCORE_STORE_FAILED;
     if (store->owner != getpid()) return OSCORE_STORE_LOCKED;
-    oscore_stored stands = oscore_store_newest(store->file, &newest, &found);
+    oscore_stored stands = oscore_store_newest(store->file, &found);
     store->has_failed = stands == OSCORE_STORE_FAILED;
     if (stands != OSCORE_STORED) return stands;
-    if (!oscore_record_same_bytes(record->context, store->record.context, 8)) return OSCORE_STORE_OTHER;
-    if (newest != store->generation || !oscore_record_same(&found, &store->record) || !oscore_store_is_at(store->file, store->name))
-        return OSCORE_STORE_BEHIND;
-    if (oscore_record_is_lower(record, &store->record)) return OSCORE_STORE_LOWER;
-    store->has_failed = !oscore_store_write(store->file, record, store->generation + 1);
+    if (record->name != store->record.name) return OSCORE_STORE_OTHER;
+    if (!oscore_record_same(&found, &store->record) || !oscore_store_is_at(store->file, store->path)) return OSCORE_STORE_BEHIND;
+    oscore_stored follows = oscore_record_follows(record, &store->record);
+    if (follows != OSCORE_STORED) return follows;
+    store->has_failed = !oscore_store_write(store->file, record);
     if (store->has_failed) return OSCORE_STORE_FAILED;
-    store->record = *record, store->generation++;
+    store->record = *record;
     return OSCORE_STORED;
 }
 

@@ -4,6 +4,7 @@ observer shows. Each program that waits is given up after some seconds, so that 
 from __future__ import annotations
 
 import contextlib
+import hmac
 import pathlib
 import random
 import socket
@@ -13,6 +14,8 @@ import threading
 import time
 import zlib
 from typing import Callable, Iterator, List, NamedTuple, Sequence, Tuple
+
+import oscore_reading
 
 GIVEN_UP_S = 20
 METHODS = ("get", "post", "put", "delete", "fetch", "patch", "ipatch")
@@ -34,6 +37,16 @@ class Words(NamedTuple):
     id_context: str
     client: str
     server: str
+
+
+def name_of_server(words: Words) -> int:
+    """The name that a peer which serves under these has in its record: the first eight bytes of a code of its Recipient Key and its Common IV
+    under its Sender Key, high byte first (crates/osc_peer_handle/specs/RecordBytes.antt)."""
+    secret, salt, server, client = (bytes.fromhex(word.strip("-")) for word in (words.secret, words.salt, words.server, words.client))
+    id_context = None if words.id_context == "none" else bytes.fromhex(words.id_context)
+    context = oscore_reading.derive(secret, salt, id_context, server, client)
+    code = hmac.digest(context.sender_key, context.recipient_key + context.common_iv, "sha256")
+    return int.from_bytes(code[:8], "big")
 
 
 THE_LOCK = Words((b"a secret for a try" + b"\0").hex(), "-", "none", "02", "01")
@@ -171,17 +184,19 @@ class Bench:
         """The word that makes a record, where none of our programs has one of that name yet."""
         return [] if (self.work / record).exists() else ["first"]
 
-    def was_used(self, record: str, context: bytes, number: int) -> None:
-        """Makes a record of that name, of an end that ran before and reserved the numbers below this one (oscore_store.h)."""
-        text = b"osc-num\1" + struct.pack("<QQQ8sI", 1, number, 0, context, 0)
+    def began(self, record: str, words: Words) -> None:
+        """Makes a record of that name, of a server that saved its first one, and to which no request was delivered (oscore_store.h): the next
+        life asks for an Echo value."""
+        generation, sender, received = 1, 64, 0
+        text = b"osc-num\1" + struct.pack("<QQQQI", generation, sender, received, name_of_server(words), 0)
         (self.work / record).write_bytes(bytes(4096) + text + struct.pack("<I", zlib.crc32(text)))
 
     def lock(self, record: str, datagrams: int):
-        """Our lock, which keeps its number in a record of that name."""
+        """Our lock, which has its record in a file of that name."""
         return self.server("lock", "0", str(datagrams), str(self.work / record), *self.first(record))
 
     def key(self, port: int, wish: str) -> Tuple[int, List[str]]:
-        """The status of our key, which keeps its number in one record, and the codes and payloads that came."""
+        """The status of our key, which has one record, and the codes and payloads that came."""
         words = [str(self.ours / "key"), str(port), str(self.work / "key.record"), wish, *self.first("key.record")]
         done = subprocess.run(words, capture_output=True, text=True, timeout=6 * GIVEN_UP_S)
         return done.returncode, [line for line in done.stdout.splitlines() if line[:1].isdigit()]

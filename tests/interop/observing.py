@@ -34,7 +34,7 @@ def heard(*ats: int) -> List[str]:
 
 
 def without_numbers(lines: Sequence[str]) -> List[str]:
-    """What an end of ours said, but for Sender Sequence Numbers, and for those that it saved."""
+    """What an end of ours said, but for Sender Sequence Numbers, and for what it saved."""
     kept = [line for line in lines if not re.match(r"saved |next Sender Sequence Number ", line)]
     return [re.sub(r"^(\d+|no Partial IV of its own): | under number \d+$", "", line) for line in kept]
 

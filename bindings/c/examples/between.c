@@ -6,7 +6,7 @@
    request is lost, or the first reply; or a reply comes as of a lock that is slow: an empty acknowledgment, and then the response in a
    confirmable message of its own (RFC 7252, 5.2.2), for OSCORE protects neither kind nor message ID. By the last five words it says what a
    stranger sees of what comes from PORT, and there the first notification is lost; or of the confirmable messages the first is lost, or
-   comes late, behind the second, or twice; or the second reply that is no notification is lost. It ends where nothing came for ten
+   comes late, behind the second, or twice; or the first reply that is no notification is lost. It ends where nothing came for ten
    seconds. */
 #define _DEFAULT_SOURCE
 #include <arpa/inet.h>
@@ -23,7 +23,6 @@ static struct sockaddr_in key;
 static uint8_t datagram[1500], held[1500];
 static size_t held_len;
 static bool lose_request, lose_reply, separate, is_observed, lose_first, lose_next, hold_next, double_next, lose_answer;
-static int answer_count;
 /* Of the response that comes by itself, and the key's acknowledgment of it. */
 static const uint8_t OWN_ID[2] = {0xab, 0xcd}, ACKNOWLEDGED[4] = {0x60, 0, 0xab, 0xcd};
 
@@ -88,7 +87,10 @@ static void from_lock(void) {
         lose_first = false;
         return;
     }
-    if (lose_answer && len >= 4 && datagram[1] == 68 && ++answer_count == 2) return;
+    if (lose_answer && len >= 4 && datagram[1] == 68) {
+        lose_answer = false;
+        return;
+    }
     if (len >= 4 && separate) {
         const uint8_t ack[] = {0x60, 0, datagram[2], datagram[3]};
         to_key(ack, sizeof ack);

@@ -2,12 +2,13 @@
 
        key PORT FILE open|shut [SENT] [first]
 
-   FILE is where it keeps a number over its runs, ahead of each number that it uses, so that a crash doesn't lose it (oscore_store.h). The
-   word `first` makes FILE, and stands in the first run alone.
+   FILE is where it keeps a number over its runs, `sender`, ahead of each number that it uses, so that a crash doesn't lose it
+   (oscore_store.h). `received` stays 0 there, since nobody asks the key. The word `first` makes FILE, and stands in the first run alone.
 
    It seals PUT /lock, says under which number, sends the datagram to 127.0.0.1, and says what came back. Where the lock asks for an Echo
-   value (RFC 9175), it asks once more with the value, under the number behind. The lock may have obeyed the first request too, before it
-   was restarted, so only what may be done twice is asked for in this way. Each datagram that it sends is kept in SENT.NUMBER.
+   value (RFC 9175), it asks once more with the value, under the number behind. lock.c asks for one at most until a request was delivered
+   to it. Another lock may have obeyed the first request too, before it was restarted, so only what may be done twice is asked for in this
+   way. Each datagram that it sends is kept in SENT.NUMBER.
 
    While neither a reply nor an acknowledgment comes it sends the same bytes again (RFC 7252, 4.2), which the lock knows by the message
    ID: a request that is sealed anew would be another one, and be obeyed once more. */
@@ -33,12 +34,13 @@ enum { CON = 0, ACK = 2, RST = 3, PUT = 3, UNAUTHORIZED = 129, URI_PATH = 11, EC
 /* As lock.c has them. */
 static const uint8_t SECRET[] = "a secret for a try";
 static const uint8_t LOCK[] = {1}, KEY[] = {2};
-/* What the record of this context is told by. */
-static const uint8_t NAME[8] = {'k', 'e', 'y', 0, 2, 1};
 
-static oscore_kept_client client;
+static oscore_peer peer;
+/* One place is enough: the key seals its second request only once the response to the first has made the place free. */
+static oscore_pending pending[1];
+static oscore_size pending_count;
 static oscore_store store;
-static oscore_record record;
+static oscore_peer_record record;
 static uint8_t received[1500];
 static size_t received_len;
 
@@ -104,7 +106,8 @@ static bool take(oscore_opened *response, oscore_option options[8]) {
     char name[24];
     uint64_t request;
     size_t detail;
-    oscore_status status = oscore_kept_client_take(&client, milliseconds(), received, received_len, options, 8, response, &request, &detail);
+    oscore_status status = oscore_peer_hear(&peer, pending, OSCORE_COUNT(pending), &pending_count, milliseconds(), received, received_len,
+                                            options, 8, response, &request, &detail);
     if (status == OSCORE_DONE) return true;
     oscore_status_name(status, name);
     printf("passed over: %s\n", name);
@@ -156,25 +159,29 @@ static size_t asked_echo(const oscore_opened *response, const oscore_option *opt
     return 0;
 }
 
-/* Opens FILE, or makes it where `first` says that this end was never used: a file that is gone doesn't say that. */
-static void open_store(const char *file, bool first) {
-    oscore_stored stored = oscore_store_open(&store, file, first, NAME, &record);
-    if (stored == OSCORE_STORED || stored == OSCORE_STORE_EMPTY) return;
+/* Opens FILE by the context's name, or makes it where `first` says that this end was never used: a file that is gone doesn't say that.
+   Answers whether there is a record behind which to begin. */
+static bool open_store(const char *file, bool first, uint64_t name) {
+    oscore_stored stored = oscore_store_open(&store, file, first, name, &record);
+    if (stored == OSCORE_STORED || stored == OSCORE_STORE_EMPTY) return stored == OSCORE_STORED;
     printf("FILE: %s\n", oscore_stored_name(stored));
     exit(1);
 }
 
-/* Seals a request. A number that has to be saved first is saved, and then the client is told, in this order: told before, it could be used
-   again after a crash. */
+/* Saves the record that a call wrote, and then tells the peer, in this order: told before, a number could be used again after a crash. */
+static void save_first(void) {
+    if (oscore_store_save(&store, &record)) stop("no record saved");
+    if (oscore_peer_saved(&peer, &record)) stop("not the record that was asked for");
+    printf("saved sender %llu, received %llu\n", (unsigned long long)record.sender, (unsigned long long)record.received);
+}
+
+/* Seals a request. */
 static size_t seal(const uint8_t *plain, size_t plain_len, uint8_t *out, size_t room) {
     size_t len, detail;
     oscore_status status;
-    while ((status = oscore_kept_client_request(&client, milliseconds(), plain, plain_len, out, room, &len, &detail)) == OSCORE_SAVE_FIRST) {
-        record.numbers[0] = detail;
-        if (oscore_store_save(&store, &record)) stop("no number saved");
-        if (oscore_kept_client_saved(&client, detail)) stop("not the number that was asked for");
-        printf("saved %llu\n", (unsigned long long)detail);
-    }
+    while ((status = oscore_peer_request(&peer, pending, OSCORE_COUNT(pending), &pending_count, milliseconds(), plain, plain_len, out, room,
+                                         &len, &record, &detail)) == OSCORE_SAVE_FIRST)
+        save_first();
     if (status) stop("not sealed");
     return len;
 }
@@ -185,7 +192,7 @@ static bool ask(int udp, const char *wish, const char *sent) {
     oscore_option options[8] = OSCORE_ZERO;
     size_t echo_len = 0;
     for (int attempt = 0; attempt < 2; attempt++) {
-        uint64_t number = client.client.next;
+        uint64_t number = peer.server.context.next;
         size_t len = seal(plain, plain_put(wish, echo, echo_len, plain, sizeof plain), datagram, sizeof datagram);
         printf("number %llu\n", (unsigned long long)number);
         if (sent) keep(sent, number, datagram, len);
@@ -199,16 +206,21 @@ static bool ask(int udp, const char *wish, const char *sent) {
     return false;
 }
 
-static void begin(void) {
+/* Begins behind the record, or first where none was saved yet. */
+static void begin(const char *file, bool first) {
     oscore_context context = OSCORE_ZERO;
     oscore_parameters parameters = OSCORE_ZERO;
+    uint64_t name;
     parameters.secret = SECRET, parameters.secret_len = sizeof SECRET;
     parameters.sender_id = KEY, parameters.sender_id_len = sizeof KEY;
     parameters.recipient_id = LOCK, parameters.recipient_id_len = sizeof LOCK;
     oscore_status status = oscore_derive_from(&context, &parameters);
-    if (!status) status = oscore_kept_client_begin(&client, &context, record.numbers[0], EXCHANGE_LIFETIME_MS);
-    oscore_wipe(&context, sizeof context); /* the client has a copy */
-    if (status) stop("no client");
+    if (!status) status = oscore_peer_name(&context, &name);
+    if (!status)
+        status = open_store(file, first, name) ? oscore_peer_begin_again(&peer, &context, &record, 32, EXCHANGE_LIFETIME_MS)
+            : oscore_peer_begin_first(&peer, &context, 32, EXCHANGE_LIFETIME_MS);
+    oscore_wipe(&context, sizeof context); /* the peer has a copy */
+    if (status) stop("no peer");
 }
 
 int main(int count, char **words) {
@@ -219,11 +231,10 @@ int main(int count, char **words) {
     lock.sin_port = htons((uint16_t)atoi(words[1]));
     int udp = socket(AF_INET, SOCK_DGRAM, 0);
     if (udp < 0 || connect(udp, (struct sockaddr *)&lock, sizeof lock)) stop("no such port");
-    open_store(words[2], first);
-    begin();
+    begin(words[2], first);
     bool answered = ask(udp, words[3], count == 5 ? words[4] : NULL);
     oscore_store_close(&store);
-    oscore_wipe(&client, sizeof client);
+    oscore_wipe(&peer, sizeof peer);
     oscore_wipe_stack();
     return answered ? 0 : 1;
 }

@@ -3,12 +3,17 @@
        lock PORT DATAGRAMS FILE [first]
 
    It takes so many datagrams at 127.0.0.1 and ends. PORT 0 is one that the system picks; the first line says which. FILE is where it
-   keeps a number over its runs, ahead of each Sender Sequence Number that it uses, so that a crash doesn't lose it (oscore_store.h). The
-   word `first` makes FILE, and stands in the first run alone. One that ran before has lost which requests it saw; by the number in FILE it
-   knows that, and asks for an Echo value before it obeys.
+   keeps two numbers over its runs (oscore_store.h): `sender` is above each Sender Sequence Number that it uses, `received` above the number
+   of each request that is delivered. Both are saved ahead, so that a crash doesn't lose them. The word `first` makes FILE, and stands in
+   the first run alone.
+
+   One that ran before obeys at once what is new. A request with a number below the `received` behind which it begins is a replay to it,
+   also one that never came. So no run obeys what one before it obeyed, and a request that was saved and not obeyed, since the power went
+   in between, is obeyed by none. A run behind one that saved a record and to which no request was delivered yet doesn't know what is new:
+   it asks for an Echo value before it obeys.
 
    A key whose reply was lost sends its request once more (RFC 7252, 4.2), which is a replay to the library. So the lock looks first
-   whether it knows the sender and the message ID, and then sends what it sent before. */
+   whether it knows the sender and the message ID, and then sends what it sent before. It knows those of its own run alone. */
 #define _DEFAULT_SOURCE
 #include "oscore.h"
 #include "oscore_store.h"
@@ -27,8 +32,6 @@ enum { CON = 0, NON = 1, ACK = 2, EXCHANGE_LIFETIME_MS = 247000, REPLIES = 32, M
 /* For a try only: a real secret is drawn at random for each pair, and kept safe. */
 static const uint8_t SECRET[] = "a secret for a try";
 static const uint8_t LOCK[] = {1}, KEY[] = {2};
-/* What the record of this context is told by. */
-static const uint8_t NAME[8] = {'l', 'o', 'c', 'k', 1, 2};
 
 typedef struct received {
     struct sockaddr_in from;
@@ -47,7 +50,7 @@ typedef struct sent {
 
 static const char *state = "shut";
 static oscore_store store;
-static oscore_record record;
+static oscore_peer_record record;
 /* The last replies. Where more are sent in their lifetime, the oldest is forgotten: its request, come again, is refused as a replay. */
 static sent replies[REPLIES];
 static size_t reply_count;
@@ -140,40 +143,42 @@ static void keep_reply(const received *request, const uint8_t *out, size_t len) 
     memcpy(reply->bytes, out, len);
 }
 
-/* Opens FILE, or makes it where `first` says that this end was never used: a file that is gone doesn't say that. */
-static void open_store(const char *file, bool first) {
-    oscore_stored stored = oscore_store_open(&store, file, first, NAME, &record);
-    if (stored == OSCORE_STORED || stored == OSCORE_STORE_EMPTY) return;
+/* Opens FILE by the context's name, or makes it where `first` says that this end was never used: a file that is gone doesn't say that.
+   Answers whether there is a record behind which to begin. */
+static bool open_store(const char *file, bool first, uint64_t name) {
+    oscore_stored stored = oscore_store_open(&store, file, first, name, &record);
+    if (stored == OSCORE_STORED || stored == OSCORE_STORE_EMPTY) return stored == OSCORE_STORED;
     printf("FILE: %s\n", oscore_stored_name(stored));
     exit(1);
 }
 
-/* Saves a number, and then tells the server, in this order: told before, it could be used again after a crash. */
-static void save_first(oscore_kept_server *server, uint64_t number) {
-    record.numbers[0] = number;
-    if (oscore_store_save(&store, &record)) stop("no number saved");
-    if (oscore_kept_server_saved(server, number)) stop("not the number that was asked for");
-    printf("saved %llu\n", (unsigned long long)number);
+/* Saves the record that a call wrote, and then tells the peer, in this order: told before, a number could be used again after a crash, and a
+   request be obeyed again. */
+static void save_first(oscore_peer *peer) {
+    if (oscore_store_save(&store, &record)) stop("no record saved");
+    if (oscore_peer_saved(peer, &record)) stop("not the record that was asked for");
+    printf("saved sender %llu, received %llu\n", (unsigned long long)record.sender, (unsigned long long)record.received);
 }
 
-static void serve(oscore_kept_server *server, int udp, received *datagram) {
-    uint8_t out[MOST_REPLY], echo[8], plain[16];
+static void serve(oscore_peer *peer, int udp, received *datagram) {
+    uint8_t out[MOST_REPLY], plain[16];
     oscore_option options[8] = OSCORE_ZERO;
     oscore_opened request = OSCORE_ZERO;
     oscore_ticket ticket = OSCORE_ZERO;
     size_t out_len, detail;
     uint16_t mid = 0;
-    if (getrandom(echo, sizeof echo, 0) != sizeof echo || getrandom(&mid, sizeof mid, 0) != sizeof mid) stop("no random bytes");
+    if (getrandom(&mid, sizeof mid, 0) != sizeof mid) stop("no random bytes");
 
     oscore_status status;
-    while ((status = oscore_kept_server_take(server, milliseconds(), echo, mid, datagram->bytes, datagram->len, options, 8, &request, &ticket,
-                                             out, &out_len, &detail)) == OSCORE_SAVE_FIRST)
-        save_first(server, detail);
+    while ((status = oscore_peer_take(peer, milliseconds(), mid, datagram->bytes, datagram->len, options, 8, &request, &ticket, out, &out_len,
+                                      &record, &detail)) == OSCORE_SAVE_FIRST)
+        save_first(peer);
     if (status == OSCORE_DONE) {
         uint8_t code = obey(&request, options);
         size_t len = plain_reply(code, plain);
-        while ((status = oscore_kept_server_reply(server, &ticket, false, mid, plain, len, out, sizeof out, &out_len, &detail)) == OSCORE_SAVE_FIRST)
-            save_first(server, detail);
+        while ((status = oscore_peer_reply(peer, &ticket, false, mid, plain, len, out, sizeof out, &out_len, &record,
+                                           &detail)) == OSCORE_SAVE_FIRST)
+            save_first(peer);
         print(status, code == CHANGED ? state : "not obeyed");
         if (status == OSCORE_DONE) keep_reply(datagram, out, out_len);
     } else {
@@ -182,12 +187,12 @@ static void serve(oscore_kept_server *server, int udp, received *datagram) {
     send_back(udp, &datagram->from, out, out_len);
 }
 
-static void serve_one(oscore_kept_server *server, int udp) {
+static void serve_one(oscore_peer *peer, int udp) {
     static received datagram;
     receive(udp, &datagram);
     const sent *reply = find_reply(&datagram);
     if (!reply) {
-        serve(server, udp, &datagram);
+        serve(peer, udp, &datagram);
         return;
     }
     bool again = kind_of(&datagram) == CON;
@@ -196,21 +201,28 @@ static void serve_one(oscore_kept_server *server, int udp) {
     if (again) send_back(udp, &reply->to, reply->bytes, reply->len);
 }
 
-int main(int count, char **words) {
-    bool first = count == 5 && !strcmp(words[4], "first");
-    if (count != 4 && !first) stop("lock PORT DATAGRAMS FILE [first]");
-    static oscore_context context;
-    static oscore_kept_server server;
-    open_store(words[3], first);
+/* Begins behind the record, or first where none was saved yet. */
+static void begin(oscore_peer *peer, const char *file, bool first) {
+    oscore_context context = OSCORE_ZERO;
     oscore_parameters parameters = OSCORE_ZERO;
+    uint64_t name;
     parameters.secret = SECRET, parameters.secret_len = sizeof SECRET;
     parameters.sender_id = LOCK, parameters.sender_id_len = sizeof LOCK;
     parameters.recipient_id = KEY, parameters.recipient_id_len = sizeof KEY;
     oscore_status status = oscore_derive_from(&context, &parameters);
-    if (!status) status = oscore_kept_server_begin(&server, &context, record.numbers[0], 32);
-    oscore_wipe(&context, sizeof context); /* the server has a copy */
-    if (status) stop("no server");
+    if (!status) status = oscore_peer_name(&context, &name);
+    if (!status)
+        status = open_store(file, first, name) ? oscore_peer_begin_again(peer, &context, &record, 32, EXCHANGE_LIFETIME_MS)
+            : oscore_peer_begin_first(peer, &context, 32, EXCHANGE_LIFETIME_MS);
+    oscore_wipe(&context, sizeof context); /* the peer has a copy */
+    if (status) stop("no peer");
+}
 
+int main(int count, char **words) {
+    bool first = count == 5 && !strcmp(words[4], "first");
+    if (count != 4 && !first) stop("lock PORT DATAGRAMS FILE [first]");
+    static oscore_peer peer;
+    begin(&peer, words[3], first);
     struct sockaddr_in own = {.sin_family = AF_INET, .sin_addr.s_addr = htonl(INADDR_LOOPBACK)};
     own.sin_port = htons((uint16_t)atoi(words[1]));
     socklen_t own_len = sizeof own;
@@ -218,10 +230,10 @@ int main(int count, char **words) {
     if (udp < 0 || bind(udp, (struct sockaddr *)&own, own_len) || getsockname(udp, (struct sockaddr *)&own, &own_len)) stop("no such port");
     printf("port %u\n", ntohs(own.sin_port));
     fflush(stdout);
-    for (int left = atoi(words[2]); left > 0; left--) serve_one(&server, udp);
-    printf("next Sender Sequence Number %llu\n", (unsigned long long)server.server.context.next);
+    for (int left = atoi(words[2]); left > 0; left--) serve_one(&peer, udp);
+    printf("next Sender Sequence Number %llu\n", (unsigned long long)peer.server.context.next);
     oscore_store_close(&store);
-    oscore_wipe(&server, sizeof server);
+    oscore_wipe(&peer, sizeof peer);
     oscore_wipe_stack();
     return 0;
 }

@@ -4,7 +4,8 @@
 
    FILE is where it keeps a number over its runs, which the word `first` makes, as key.c does. It registers for GET /temperature at
    127.0.0.1 and says what it hears. After COUNT notifications it cancels the observation, and says what the answer is. Where the sensor
-   asks for an Echo value (RFC 9175), it registers once more with the value: a GET may be done twice.
+   asks for an Echo value (RFC 9175), it registers once more with the value: a GET may be done twice. sensor.c asks for one at most until
+   a request was delivered to it.
 
    A notification that comes behind a newer one, or twice, is old: the library tells by its number. */
 #define _DEFAULT_SOURCE
@@ -29,13 +30,14 @@ enum { CON = 0, ACK = 2, RST = 3, GET = 1, UNAUTHORIZED = 129, OBSERVE = 6, URI_
 /* As sensor.c has them. */
 static const uint8_t SECRET[] = "a secret for a try";
 static const uint8_t SENSOR[] = {3}, READER[] = {4};
-/* What the record of this context is told by. */
-static const uint8_t NAME[8] = {'r', 'e', 'a', 'd', 4, 3};
 
-static oscore_kept_client client;
+static oscore_peer peer;
+/* One place is enough: a registration has it until its last response, and is forgotten before what cancels it is sealed. */
+static oscore_pending pending[1];
+static oscore_size pending_count;
 static int udp;
 static oscore_store store;
-static oscore_record record;
+static oscore_peer_record record;
 static uint8_t token[4], received[1500];
 static size_t received_len;
 static oscore_option options[8];
@@ -95,7 +97,8 @@ static bool take(oscore_opened *response) {
     uint64_t request;
     size_t detail;
     memcpy(head, received, received_len < 4 ? received_len : 4);
-    oscore_status status = oscore_kept_client_take(&client, milliseconds(), received, received_len, options, 8, response, &request, &detail);
+    oscore_status status = oscore_peer_hear(&peer, pending, OSCORE_COUNT(pending), &pending_count, milliseconds(), received, received_len,
+                                            options, 8, response, &request, &detail);
     oscore_status_name(status, name);
     if (status == OSCORE_OLD) puts("old");
     else if (status) printf("passed over: %s\n", name);
@@ -153,25 +156,29 @@ static size_t asked_echo(const oscore_opened *response, uint8_t echo[12]) {
     return 0;
 }
 
-/* Opens FILE, or makes it where `first` says that this end was never used: a file that is gone doesn't say that. */
-static void open_store(const char *file, bool first) {
-    oscore_stored stored = oscore_store_open(&store, file, first, NAME, &record);
-    if (stored == OSCORE_STORED || stored == OSCORE_STORE_EMPTY) return;
+/* Opens FILE by the context's name, or makes it where `first` says that this end was never used: a file that is gone doesn't say that.
+   Answers whether there is a record behind which to begin. */
+static bool open_store(const char *file, bool first, uint64_t name) {
+    oscore_stored stored = oscore_store_open(&store, file, first, name, &record);
+    if (stored == OSCORE_STORED || stored == OSCORE_STORE_EMPTY) return stored == OSCORE_STORED;
     printf("FILE: %s\n", oscore_stored_name(stored));
     exit(1);
 }
 
-/* Seals a request. A number that has to be saved first is saved, and then the client is told, in this order: told before, it could be used
-   again after a crash. */
+/* Saves the record that a call wrote, and then tells the peer, in this order: told before, a number could be used again after a crash. */
+static void save_first(void) {
+    if (oscore_store_save(&store, &record)) stop("no record saved");
+    if (oscore_peer_saved(&peer, &record)) stop("not the record that was asked for");
+    printf("saved sender %llu, received %llu\n", (unsigned long long)record.sender, (unsigned long long)record.received);
+}
+
+/* Seals a request. */
 static size_t seal(const uint8_t *plain, size_t plain_len, uint8_t *out, size_t room) {
     size_t len, detail;
     oscore_status status;
-    while ((status = oscore_kept_client_request(&client, milliseconds(), plain, plain_len, out, room, &len, &detail)) == OSCORE_SAVE_FIRST) {
-        record.numbers[0] = detail;
-        if (oscore_store_save(&store, &record)) stop("no number saved");
-        if (oscore_kept_client_saved(&client, detail)) stop("not the number that was asked for");
-        printf("saved %llu\n", (unsigned long long)detail);
-    }
+    while ((status = oscore_peer_request(&peer, pending, OSCORE_COUNT(pending), &pending_count, milliseconds(), plain, plain_len, out, room,
+                                         &len, &record, &detail)) == OSCORE_SAVE_FIRST)
+        save_first();
     if (status) stop("not sealed");
     return len;
 }
@@ -182,7 +189,7 @@ static oscore_opened ask(bool cancels) {
     size_t echo_len = 0;
     for (int attempt = 0; attempt < 2; attempt++) {
         if (!cancels) draw(token, sizeof token);
-        printf("%s under number %llu\n", cancels ? "cancels" : "registers", (unsigned long long)client.client.next);
+        printf("%s under number %llu\n", cancels ? "cancels" : "registers", (unsigned long long)peer.server.context.next);
         size_t len = seal(plain, plain_get(cancels, echo, echo_len, plain, sizeof plain), datagram, sizeof datagram);
         oscore_opened response = exchange(datagram, len);
         echo_len = asked_echo(&response, echo);
@@ -192,17 +199,22 @@ static oscore_opened ask(bool cancels) {
     stop("no use of the Echo value");
 }
 
-static void begin(void) {
+/* Begins behind the record, or first where none was saved yet. */
+static void begin(const char *file, bool first) {
     oscore_context context = OSCORE_ZERO;
     oscore_parameters parameters = OSCORE_ZERO;
+    uint64_t name;
     parameters.secret = SECRET, parameters.secret_len = sizeof SECRET;
     parameters.sender_id = READER, parameters.sender_id_len = sizeof READER;
     parameters.recipient_id = SENSOR, parameters.recipient_id_len = sizeof SENSOR;
     parameters.observe = 1;
     oscore_status status = oscore_derive_from(&context, &parameters);
-    if (!status) status = oscore_kept_client_begin(&client, &context, record.numbers[0], EXCHANGE_LIFETIME_MS);
-    oscore_wipe(&context, sizeof context); /* the client has a copy */
-    if (status) stop("no client");
+    if (!status) status = oscore_peer_name(&context, &name);
+    if (!status)
+        status = open_store(file, first, name) ? oscore_peer_begin_again(&peer, &context, &record, 32, EXCHANGE_LIFETIME_MS)
+            : oscore_peer_begin_first(&peer, &context, 32, EXCHANGE_LIFETIME_MS);
+    oscore_wipe(&context, sizeof context); /* the peer has a copy */
+    if (status) stop("no peer");
 }
 
 int main(int count, char **words) {
@@ -212,20 +224,20 @@ int main(int count, char **words) {
     sensor.sin_port = htons((uint16_t)atoi(words[1]));
     udp = socket(AF_INET, SOCK_DGRAM, 0);
     if (udp < 0 || connect(udp, (struct sockaddr *)&sensor, sizeof sensor)) stop("no such port");
-    open_store(words[2], first);
-    begin();
+    begin(words[2], first);
     oscore_opened response = ask(false);
     for (int left = atoi(words[3]); response.is_notification; response = left > 0 ? hear() : ask(true)) {
         if (response.has_number) printf("%llu: ", (unsigned long long)response.number);
         else fputs("no Partial IV of its own: ", stdout);
         printf("%.*s\n", (int)response.payload_len, (const char *)response.payload);
-        /* The same token cancels, so the client may wait for nothing under it. */
-        if (--left == 0 && oscore_kept_client_forget(&client, token, sizeof token)) stop("nothing to forget");
+        /* The same token cancels, so the peer may wait for nothing under it. */
+        if (--left == 0 && oscore_peer_forget(&peer, pending, OSCORE_COUNT(pending), &pending_count, token, sizeof token))
+            stop("nothing to forget");
     }
     printf("last: %u.%02u%s%.*s\n", response.code >> 5, response.code & 31u, response.payload_len > 0 ? " " : "", (int)response.payload_len,
            (const char *)response.payload);
     oscore_store_close(&store);
-    oscore_wipe(&client, sizeof client);
+    oscore_wipe(&peer, sizeof peer);
     oscore_wipe_stack();
     return 0;
 }

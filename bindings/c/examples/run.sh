@@ -9,9 +9,13 @@ library=${OSCORE_LIBRARY:-../../../crates/osc_c/out/libosc_c.a}
 server='' between=''
 # What was said is shown also where it ends too early.
 trap '[ ! -e "$work/said" ] || cat "$work/said" >&2; [ -z "$server$between" ] || kill $server $between 2> /dev/null || true; rm -rf "$work"' EXIT
+# Another lock and its key, with a context of their own.
+for name in lock key; do
+    sed 's/"a secret for a try"/"another secret for a try"/' "$name.c" > "$work/other_$name.c"
+done
 # What is lost is sent again after three to four and a half seconds, so that on a slow machine nothing is that is only late.
-for name in lock key sensor reader between; do
-    cc -std=c11 -Wall -Wextra -Werror -O1 -D ACK_TIMEOUT_MS=3000 -I .. "$@" "$name.c" "$library" -o "$work/$name"
+for source in {lock,key,sensor,reader,between}.c "$work"/other_{lock,key}.c; do
+    cc -std=c11 -Wall -Wextra -Werror -O1 -D ACK_TIMEOUT_MS=3000 -I .. "$@" "$source" "$library" -o "$work/$(basename "$source" .c)"
 done
 mkfifo "$work/says"
 
@@ -72,10 +76,11 @@ behind() {
     exec 5<&-
 }
 
-# The number in a record: that of the place with the greater generation (oscore_store.h).
+# The numbers in a record: those of the place with the greater generation (oscore_store.h).
 kept() {
     local place
-    for place in 0 4096; do od -An -v -tu8 -j $((place + 8)) -N 16 "$work/$1"; done | sort -n | awk 'END { print $2 }'
+    for place in 0 4096; do od -An -v -w24 -tu8 -j $((place + 8)) -N 24 "$work/$1"; done | sort -n \
+        | awk -v name="$1" 'END { print name " keeps sender " $2 ", received " $3 }'
 }
 
 of_lock_and_key() {
@@ -90,20 +95,33 @@ of_lock_and_key() {
     finish
     # What was made isn't made again.
     refused lock 0 1 lock.record first
-    # A lock that ran before knows it by its number.
-    begin lock 4 lock.record
+    # A lock that ran before obeys at once what is new, and nothing that came before.
+    begin lock 2 lock.record
     replay sent.64
     ask key key.record shut sent
-    replay sent.64
     finish
     # A datagram that is lost: the door opens once, and the key learns it. The second one's request comes twice.
-    begin lock 6 lock.record
-    ask key key.record shut
+    begin lock 4 lock.record
     behind request key key.record open
     behind reply key key.record shut
     behind separate key key.record open
     finish
-    echo "numbers kept: $(kept lock.record) of the lock, $(kept key.record) of the key"
+    kept lock.record
+    kept key.record
+}
+
+# A lock that obeyed nothing in its first run, to which a datagram comes that is another lock's.
+of_another_lock() {
+    # The record of another context is told by its name.
+    refused other_lock 0 1 lock.record
+    begin other_lock 1 other_lock.record first
+    replay sent.64
+    finish
+    # So it doesn't know yet what is new, and asks for an Echo value.
+    begin other_lock 2 other_lock.record
+    ask other_key other_key.record shut first
+    finish
+    kept other_lock.record
 }
 
 of_sensor_and_reader() {
@@ -112,32 +130,34 @@ of_sensor_and_reader() {
     ask reader reader.record 9 first
     finish
     # The reader ends it. A fourth notification is on its way then.
-    begin sensor 5 sensor.record
+    begin sensor 4 sensor.record
     ask reader reader.record 3
     finish
     # A notification is lost, comes behind a newer one, or twice.
-    begin sensor 4 sensor.record
+    begin sensor 3 sensor.record
     behind lost reader reader.record 9
     finish
-    begin sensor 5 sensor.record
+    begin sensor 4 sensor.record
     behind late reader reader.record 9
     finish
-    begin sensor 5 sensor.record
+    begin sensor 4 sensor.record
     behind twice reader reader.record 9
     finish
     # The ACK of the registration is lost: what comes next is heard all the same.
-    begin sensor 4 sensor.record
+    begin sensor 3 sensor.record
     behind first reader reader.record 9
     finish
     # The answer to a cancellation is lost, so that comes again.
-    begin sensor 4 sensor.record
+    begin sensor 3 sensor.record
     behind answer reader reader.record 1
     finish
-    echo "numbers kept: $(kept sensor.record) of the sensor, $(kept reader.record) of the reader"
+    kept sensor.record
+    kept reader.record
 }
 
 says() {
     of_lock_and_key
+    of_another_lock
     of_sensor_and_reader
 }
 
@@ -161,7 +181,6 @@ opened() {
 opened > "$work/opened" || true
 cat "$work/opened"
 diff - "$work/opened" <<'LINES' || { echo "bindings/c/examples: tshark doesn't show what was sent"; exit 1; }
-tshark: Code: PUT (3) Uri-Path: lock
 tshark: Code: PUT (3) Uri-Path: lock
 tshark: Code: PUT (3) Uri-Path: lock
 LINES

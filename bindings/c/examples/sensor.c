@@ -30,13 +30,11 @@ enum { GET = 1, CONTENT = 69, BAD_OPTION = 130, NOT_FOUND = 132, NOT_ALLOWED = 1
 /* For a try only: a real secret is drawn at random for each pair, and kept safe. */
 static const uint8_t SECRET[] = "a secret for a try";
 static const uint8_t SENSOR[] = {3}, READER[] = {4};
-/* What the record of this context is told by. */
-static const uint8_t NAME[8] = {'s', 'e', 'n', 's', 3, 4};
 
-static oscore_kept_server server;
+static oscore_peer peer;
 static int udp;
 static oscore_store store;
-static oscore_record record;
+static oscore_peer_record record;
 static uint16_t next_id;
 static uint32_t measured; /* how often: the temperature grows with it, and so does Observe (RFC 7641, 4.4) */
 
@@ -89,20 +87,21 @@ static void send_to(const struct sockaddr_in *to, const uint8_t *bytes, size_t l
     if (len > 0) sendto(udp, bytes, len, 0, (const struct sockaddr *)to, sizeof *to);
 }
 
-/* Opens FILE, or makes it where `first` says that this end was never used: a file that is gone doesn't say that. */
-static void open_store(const char *file, bool first) {
-    oscore_stored stored = oscore_store_open(&store, file, first, NAME, &record);
-    if (stored == OSCORE_STORED || stored == OSCORE_STORE_EMPTY) return;
+/* Opens FILE by the context's name, or makes it where `first` says that this end was never used: a file that is gone doesn't say that.
+   Answers whether there is a record behind which to begin. */
+static bool open_store(const char *file, bool first, uint64_t name) {
+    oscore_stored stored = oscore_store_open(&store, file, first, name, &record);
+    if (stored == OSCORE_STORED || stored == OSCORE_STORE_EMPTY) return stored == OSCORE_STORED;
     printf("FILE: %s\n", oscore_stored_name(stored));
     exit(1);
 }
 
-/* Saves a number, and then tells the server, in this order: told before, it could be used again after a crash. */
-static void save_first(uint64_t number) {
-    record.numbers[0] = number;
-    if (oscore_store_save(&store, &record)) stop("no number saved");
-    if (oscore_kept_server_saved(&server, number)) stop("not the number that was asked for");
-    printf("saved %llu\n", (unsigned long long)number);
+/* Saves the record that a call wrote, and then tells the peer, in this order: told before, a number could be used again after a crash, and a
+   request be answered again. */
+static void save_first(void) {
+    if (oscore_store_save(&store, &record)) stop("no record saved");
+    if (oscore_peer_saved(&peer, &record)) stop("not the record that was asked for");
+    printf("saved sender %llu, received %llu\n", (unsigned long long)record.sender, (unsigned long long)record.received);
 }
 
 /* A plain message: 2.05 has a new temperature, and Observe where it is to notify. Observe has as few bytes as hold it, and 3 at most. */
@@ -128,9 +127,9 @@ static size_t seal_notification(uint8_t kind, uint16_t message_id, uint8_t out[O
     char temperature[16];
     size_t out_len, detail, len = plain_message(kind, CONTENT, message_id, true, plain, temperature);
     oscore_status status;
-    while ((status = oscore_kept_server_notify(&server, &observation.ticket, plain, len, out, OSCORE_ROOM(MOST_PLAIN), &out_len,
-                                               &detail)) == OSCORE_SAVE_FIRST)
-        save_first(detail);
+    while ((status = oscore_peer_notify(&peer, &observation.ticket, plain, len, out, OSCORE_ROOM(MOST_PLAIN), &out_len, &record,
+                                        &detail)) == OSCORE_SAVE_FIRST)
+        save_first();
     if (status) stop("not sealed");
     say(status, "notified ", temperature);
     return out_len;
@@ -143,9 +142,9 @@ static size_t seal_reply(const oscore_ticket *ticket, uint8_t code, const char *
     char temperature[16];
     size_t out_len, detail, len = plain_message(ACK, code, 0, false, plain, temperature);
     oscore_status status;
-    while ((status = oscore_kept_server_reply(&server, ticket, false, next_id, plain, len, out, OSCORE_ROOM(MOST_PLAIN), &out_len,
-                                              &detail)) == OSCORE_SAVE_FIRST)
-        save_first(detail);
+    while ((status = oscore_peer_reply(&peer, ticket, false, next_id, plain, len, out, OSCORE_ROOM(MOST_PLAIN), &out_len, &record,
+                                       &detail)) == OSCORE_SAVE_FIRST)
+        save_first();
     if (status && status != OSCORE_TICKET_SPENT) stop("not sealed");
     next_id++;
     say(status, what, temperature);
@@ -252,16 +251,15 @@ static void answer(const oscore_opened *request, const oscore_option *options, c
 }
 
 static void serve(void) {
-    uint8_t out[64], echo[8];
+    uint8_t out[64];
     oscore_option options[8] = OSCORE_ZERO;
     oscore_opened request = OSCORE_ZERO;
     oscore_ticket ticket = OSCORE_ZERO;
     size_t out_len, detail;
-    draw(echo, sizeof echo);
     oscore_status status;
-    while ((status = oscore_kept_server_take(&server, milliseconds(), echo, next_id, received.bytes, received.len, options, 8, &request,
-                                             &ticket, out, &out_len, &detail)) == OSCORE_SAVE_FIRST)
-        save_first(detail);
+    while ((status = oscore_peer_take(&peer, milliseconds(), next_id, received.bytes, received.len, options, 8, &request, &ticket, out,
+                                      &out_len, &record, &detail)) == OSCORE_SAVE_FIRST)
+        save_first();
     next_id++;
     if (status == OSCORE_DONE) {
         answer(&request, options, &ticket);
@@ -285,24 +283,28 @@ static void serve_one(void) {
     }
 }
 
-static void begin(void) {
+/* Begins behind the record, or first where none was saved yet. */
+static void begin(const char *file, bool first) {
     oscore_context context = OSCORE_ZERO;
     oscore_parameters parameters = OSCORE_ZERO;
+    uint64_t name;
     parameters.secret = SECRET, parameters.secret_len = sizeof SECRET;
     parameters.sender_id = SENSOR, parameters.sender_id_len = sizeof SENSOR;
     parameters.recipient_id = READER, parameters.recipient_id_len = sizeof READER;
     parameters.observe = 1;
     oscore_status status = oscore_derive_from(&context, &parameters);
-    if (!status) status = oscore_kept_server_begin(&server, &context, record.numbers[0], 32);
-    oscore_wipe(&context, sizeof context); /* the server has a copy */
-    if (status) stop("no server");
+    if (!status) status = oscore_peer_name(&context, &name);
+    if (!status)
+        status = open_store(file, first, name) ? oscore_peer_begin_again(&peer, &context, &record, 32, EXCHANGE_LIFETIME_MS)
+            : oscore_peer_begin_first(&peer, &context, 32, EXCHANGE_LIFETIME_MS);
+    oscore_wipe(&context, sizeof context); /* the peer has a copy */
+    if (status) stop("no peer");
 }
 
 int main(int count, char **words) {
     bool first = count == 5 && !strcmp(words[4], "first");
     if (count != 4 && !first) stop("sensor PORT DATAGRAMS FILE [first]");
-    open_store(words[3], first);
-    begin();
+    begin(words[3], first);
     draw(&next_id, sizeof next_id);
     struct sockaddr_in own = {.sin_family = AF_INET, .sin_addr.s_addr = htonl(INADDR_LOOPBACK)};
     own.sin_port = htons((uint16_t)atoi(words[1]));
@@ -316,9 +318,9 @@ int main(int count, char **words) {
         if (observation.on && !observation.waits && left > 1) notify_next();
     }
     if (observation.on) end_observation();
-    printf("next Sender Sequence Number %llu\n", (unsigned long long)server.server.context.next);
+    printf("next Sender Sequence Number %llu\n", (unsigned long long)peer.server.context.next);
     oscore_store_close(&store);
-    oscore_wipe(&server, sizeof server);
+    oscore_wipe(&peer, sizeof peer);
     oscore_wipe_stack();
     return 0;
 }

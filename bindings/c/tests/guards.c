@@ -198,64 +198,15 @@ WRAP(client_take, oscore_status, (oscore_client *client, uint64_t now, uint8_t *
     return __real_oscore_client_take(client, now, datagram, datagram_len, options, options_room, opened, request, detail);
 }
 
-WRAP(kept_server_begin, oscore_status, (oscore_kept_server *server, const oscore_context *context, uint64_t loaded, uint8_t window_places)) {
-    STRUCT(server), STRUCT(context);
-    return __real_oscore_kept_server_begin(server, context, loaded, window_places);
+WRAP(peer_name, oscore_status, (const oscore_context *context, uint64_t *name)) {
+    STRUCT(context), STRUCT(name);
+    return __real_oscore_peer_name(context, name);
 }
 
-WRAP(kept_server_saved, oscore_status, (oscore_kept_server *server, uint64_t number)) {
-    STRUCT(server);
-    return __real_oscore_kept_server_saved(server, number);
-}
-
-WRAP(kept_server_take, oscore_status, (oscore_kept_server *server, uint64_t now, const uint8_t echo[8], uint16_t mid, uint8_t *datagram,
-                                       oscore_size datagram_len, oscore_option *options, oscore_size options_room, oscore_opened *opened,
-                                       oscore_ticket *ticket, uint8_t out[64], oscore_size *out_len, oscore_size *detail)) {
-    STRUCT(server), SOME(echo, 8), BYTES(datagram), SOME(options, options_room * sizeof *options), STRUCT(opened), STRUCT(ticket),
-        SOME(out, 64), STRUCT(out_len), STRUCT(detail);
-    return __real_oscore_kept_server_take(server, now, echo, mid, datagram, datagram_len, options, options_room, opened, ticket, out,
-                                          out_len, detail);
-}
-
-WRAP(kept_server_reply, oscore_status, (oscore_kept_server *server, const oscore_ticket *ticket, bool own, uint16_t mid,
-                                        const uint8_t *plain, oscore_size plain_len, uint8_t *out, oscore_size out_room, oscore_size *out_len,
-                                        oscore_size *detail)) {
-    STRUCT(server), STRUCT(ticket), BYTES(plain), SOME(out, out_room), STRUCT(out_len), STRUCT(detail);
-    return __real_oscore_kept_server_reply(server, ticket, own, mid, plain, plain_len, out, out_room, out_len, detail);
-}
-
-WRAP(kept_server_notify, oscore_status, (oscore_kept_server *server, const oscore_ticket *ticket, const uint8_t *plain, oscore_size plain_len,
-                                         uint8_t *out, oscore_size out_room, oscore_size *out_len, oscore_size *detail)) {
-    STRUCT(server), STRUCT(ticket), BYTES(plain), SOME(out, out_room), STRUCT(out_len), STRUCT(detail);
-    return __real_oscore_kept_server_notify(server, ticket, plain, plain_len, out, out_room, out_len, detail);
-}
-
-WRAP(kept_client_begin, oscore_status, (oscore_kept_client *client, const oscore_context *context, uint64_t loaded, uint64_t life_ms)) {
-    STRUCT(client), STRUCT(context);
-    return __real_oscore_kept_client_begin(client, context, loaded, life_ms);
-}
-
-WRAP(kept_client_saved, oscore_status, (oscore_kept_client *client, uint64_t number)) {
-    STRUCT(client);
-    return __real_oscore_kept_client_saved(client, number);
-}
-
-WRAP(kept_client_request, oscore_status, (oscore_kept_client *client, uint64_t now, const uint8_t *plain, oscore_size plain_len, uint8_t *out,
-                                          oscore_size out_room, oscore_size *out_len, oscore_size *detail)) {
-    STRUCT(client), BYTES(plain), SOME(out, out_room), STRUCT(out_len), STRUCT(detail);
-    return __real_oscore_kept_client_request(client, now, plain, plain_len, out, out_room, out_len, detail);
-}
-
-WRAP(kept_client_take, oscore_status, (oscore_kept_client *client, uint64_t now, uint8_t *datagram, oscore_size datagram_len,
-                                       oscore_option *options, oscore_size options_room, oscore_opened *opened, uint64_t *request,
-                                       oscore_size *detail)) {
-    STRUCT(client), BYTES(datagram), SOME(options, options_room * sizeof *options), STRUCT(opened), STRUCT(request), STRUCT(detail);
-    return __real_oscore_kept_client_take(client, now, datagram, datagram_len, options, options_room, opened, request, detail);
-}
-
-WRAP(kept_client_forget, oscore_status, (oscore_kept_client *client, const uint8_t *token, oscore_size token_len)) {
-    STRUCT(client), BYTES(token);
-    return __real_oscore_kept_client_forget(client, token, token_len);
+WRAP(peer_find, oscore_status, (const oscore_peer *peers, oscore_size peer_count, const uint8_t *datagram, oscore_size datagram_len, oscore_size *index,
+                                oscore_size *detail)) {
+    SOME(peers, peer_count * sizeof *peers), BYTES(datagram), STRUCT(index), STRUCT(detail);
+    return __real_oscore_peer_find(peers, peer_count, datagram, datagram_len, index, detail);
 }
 
 WRAP(peer_begin_first, oscore_status, (oscore_peer *peer, const oscore_context *context, uint8_t window_places, uint64_t life_ms)) {
@@ -293,4 +244,27 @@ WRAP(peer_notify, oscore_status, (oscore_peer *peer, const oscore_ticket *ticket
                                   oscore_size out_room, oscore_size *out_len, oscore_peer_record *record, oscore_size *detail)) {
     STRUCT(peer), STRUCT(ticket), BYTES(plain), SOME(out, out_room), STRUCT(out_len), STRUCT(record), STRUCT(detail);
     return __real_oscore_peer_notify(peer, ticket, plain, plain_len, out, out_room, out_len, record, detail);
+}
+
+WRAP(peer_request, oscore_status, (oscore_peer *peer, oscore_pending *pending, oscore_size pending_room, oscore_size *pending_count, uint64_t now,
+                                   const uint8_t *plain, oscore_size plain_len, uint8_t *out, oscore_size out_room, oscore_size *out_len,
+                                   oscore_peer_record *record, oscore_size *detail)) {
+    STRUCT(peer), SOME(pending, pending_room * sizeof *pending), STRUCT(pending_count), BYTES(plain), SOME(out, out_room), STRUCT(out_len),
+        STRUCT(record), STRUCT(detail);
+    return __real_oscore_peer_request(peer, pending, pending_room, pending_count, now, plain, plain_len, out, out_room, out_len, record, detail);
+}
+
+WRAP(peer_hear, oscore_status, (oscore_peer *peer, oscore_pending *pending, oscore_size pending_room, oscore_size *pending_count, uint64_t now,
+                                uint8_t *datagram, oscore_size datagram_len, oscore_option *options, oscore_size options_room,
+                                oscore_opened *opened, uint64_t *request, oscore_size *detail)) {
+    STRUCT(peer), SOME(pending, pending_room * sizeof *pending), STRUCT(pending_count), BYTES(datagram),
+        SOME(options, options_room * sizeof *options), STRUCT(opened), STRUCT(request), STRUCT(detail);
+    return __real_oscore_peer_hear(peer, pending, pending_room, pending_count, now, datagram, datagram_len, options, options_room, opened, request,
+                                   detail);
+}
+
+WRAP(peer_forget, oscore_status, (oscore_peer *peer, oscore_pending *pending, oscore_size pending_room, oscore_size *pending_count,
+                                  const uint8_t *token, oscore_size token_len)) {
+    STRUCT(peer), SOME(pending, pending_room * sizeof *pending), STRUCT(pending_count), BYTES(token);
+    return __real_oscore_peer_forget(peer, pending, pending_room, pending_count, token, token_len);
 }

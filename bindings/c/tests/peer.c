@@ -1,8 +1,8 @@
 /* A peer that serves: RFC 8613, C.4, C.7 and C.8, and an observation, by tables and in constant time; the statuses of its calls, in order, and
    what they leave; which record is to be saved, and that nothing goes on before; a life behind another, which delivers nothing twice;
-   tickets of other peers and other lives; records of other contexts, and old ones; the last numbers; spoilt bytes. All that is handed in
-   lies against a guard page. Built with the sanitizers by .ci/run, and run under valgrind's memcheck with fewer rounds, which its only
-   word says. */
+   tickets of other peers and other lives; records of other contexts, and old ones; names, and which of several peers a request is for; the
+   last numbers; spoilt bytes. All that is handed in lies against a guard page. Built with the sanitizers by .ci/run, and run under valgrind's
+   memcheck with fewer rounds, which its only word says. */
 #include "guarded.h"
 #include "../oscore.h"
 
@@ -26,7 +26,7 @@ static const char *GONE = "50840005";
 enum { NOW = 1000, LIFE = 5000, MID = 0x1234, BATCH = 64 };
 /* What is handed in, each at a place of its own. */
 enum { CONTEXT, OWN, PEER, OPTIONS, OPENED, TICKET, OUT, SEALED_LEN, REPLY, REPLY_LEN, RECORD, DETAIL, PLAIN, DATAGRAM, SECRET, SALT, ONE,
-    SIZES, GIVEN };
+    SIZES, GIVEN, NAME, PEERS, INDEX, ID };
 static const uint64_t NUMBERS = 1ull << 40;
 static bool tables, observe;
 static oscore_context *context, *own;
@@ -81,9 +81,9 @@ static void derive(void) {
 
 /* Padding isn't compared. */
 static bool same(const oscore_peer *p, const oscore_peer *q) {
-    const oscore_server1 *a = &p->server.server, *b = &q->server.server;
+    const oscore_server1 *a = &p->server, *b = &q->server;
     const oscore_server_context *x = &a->context, *y = &b->context;
-    return p->server.reserved == q->server.reserved && a->clock == b->clock && !memcmp(&a->unanswered, &b->unanswered, sizeof a->unanswered)
+    return p->reserved == q->reserved && a->clock == b->clock && !memcmp(&a->unanswered, &b->unanswered, sizeof a->unanswered)
         && !memcmp(x, y, offsetof(oscore_server_context, echo) + 8) && x->at == y->at && x->spent_mask == y->spent_mask
         && x->next == y->next && x->life == y->life
         && !memcmp(&p->received, &q->received, sizeof *p - offsetof(oscore_peer, received));
@@ -113,7 +113,7 @@ static uint32_t take(const uint8_t *bytes, oscore_size len) {
     reply = guarded(REPLY, 64);
     *reply_len = 99;
     uint32_t status = oscore_peer_take(peer, NOW, MID, datagram, len, options, 4, opened, ticket, reply, reply_len, record, detail);
-    CHECK(*reply_len <= 64 && peer->server.reserved == before.server.reserved && peer->received == before.received);
+    CHECK(*reply_len <= 64 && peer->reserved == before.reserved && peer->received == before.received);
     CHECK(!status || (!memcmp(opened, &none_opened, sizeof none_opened) && !memcmp(options, none_options, sizeof none_options)
         && !memcmp(ticket, &none_ticket, sizeof none_ticket)));
     CHECK((status == OSCORE_SAVE_FIRST) == !!memcmp(record, &none_record, sizeof none_record));
@@ -144,7 +144,7 @@ static uint32_t is_left(uint32_t status, const oscore_peer *before, oscore_size 
     for (oscore_size i = status ? 0 : *out_len; i < room; i++) CHECK(!out[i]);
     CHECK(!status || (same(peer, before) && *out_len == 99));
     CHECK((status == OSCORE_SAVE_FIRST) == (record->generation != 0));
-    CHECK(peer->server.reserved == before->server.reserved && peer->received == before->received);
+    CHECK(peer->reserved == before->reserved && peer->received == before->received);
     return status;
 }
 
@@ -184,7 +184,7 @@ static void saves(uint64_t generation, uint64_t sender, uint64_t received) {
         CHECK(oscore_peer_saved(peer, guarded_copy(GIVEN, &others[i], sizeof others[i])) == OSCORE_BAD_NUMBER && same(peer, &before));
     }
     CHECK(!oscore_peer_saved(peer, guarded_copy(GIVEN, &asked, sizeof asked)));
-    before.server.reserved = sender, before.received = received, before.generation = generation;
+    before.reserved = sender, before.received = received, before.generation = generation;
     CHECK(same(peer, &before));
     CHECK(oscore_peer_saved(peer, guarded_copy(GIVEN, &asked, sizeof asked)) == OSCORE_BAD_NUMBER && same(peer, &before));
 }
@@ -192,7 +192,7 @@ static void saves(uint64_t generation, uint64_t sender, uint64_t received) {
 static void begin_first(void) {
     derive();
     CHECK(!oscore_peer_begin_first(peer, own, 32, LIFE));
-    CHECK(peer->received == 0 && peer->server.reserved == 0 && peer->life == 1 && peer->generation == 0 && peer->life_ms == LIFE);
+    CHECK(peer->received == 0 && peer->reserved == 0 && peer->life == 1 && peer->generation == 0 && peer->life_ms == LIFE);
 }
 
 static void begin_saved(void) {
@@ -205,7 +205,7 @@ static void begin_again(uint64_t generation, uint64_t sender, uint64_t received)
     derive();
     CHECK(!oscore_peer_begin_first(peer, own, 32, LIFE));
     CHECK(!oscore_peer_begin_again(peer, own, given(peer->name, generation, sender, received), 32, LIFE));
-    CHECK(peer->received == received && peer->server.reserved == sender && peer->life == generation + 1 && peer->generation == generation);
+    CHECK(peer->received == received && peer->reserved == sender && peer->life == generation + 1 && peer->generation == generation);
 }
 
 /* ---- what it answers */
@@ -221,7 +221,7 @@ static void begins(void) {
     for (oscore_size i = 0; i < sizeof old / sizeof old[0]; i++)
         CHECK(oscore_peer_begin_again(peer, own, guarded_copy(GIVEN, &old[i], sizeof old[i]), 32, LIFE) == OSCORE_OLD_RECORD && same(peer, &before));
     CHECK(oscore_peer_begin_again(peer, own, given(name, 1, NUMBERS, 0), 32, LIFE) == OSCORE_SEQUENCE_EXHAUSTED && same(peer, &before));
-    CHECK(!oscore_peer_begin_again(peer, own, given(name, UINT64_MAX - 1, NUMBERS - 1, NUMBERS), 64, LIFE) && peer->server.server.context.places == 64);
+    CHECK(!oscore_peer_begin_again(peer, own, given(name, UINT64_MAX - 1, NUMBERS - 1, NUMBERS), 64, LIFE) && peer->server.context.places == 64);
     /* The other end, and another salt, have other names. */
     CHECK(!oscore_peer_begin_first(peer, context, 1, LIFE) && peer->name != name);
     derive_with("9e7ca92223786341");
@@ -230,6 +230,59 @@ static void begins(void) {
     own->sender_len = 8;
     CHECK(oscore_peer_begin_first(peer, own, 33, LIFE) == OSCORE_BAD_HANDLE && same(peer, &before));
     CHECK(oscore_peer_begin_again(peer, own, given(name + 1, 0, NUMBERS, 0), 33, LIFE) == OSCORE_BAD_HANDLE && same(peer, &before));
+}
+
+/* The name is the peer's, and another context has another one. */
+static void names(void) {
+    uint64_t *name = guarded(NAME, sizeof *name);
+    begin_first();
+    CHECK(!oscore_peer_name(own, name) && *name == peer->name && !oscore_peer_name(context, name) && *name != peer->name);
+    *name = 7;
+    own->sender_len = 8;
+    CHECK(oscore_peer_name(own, name) == OSCORE_BAD_HANDLE && *name == 7);
+}
+
+/* A context of a server with this Recipient ID, and with this ID Context, or without one where that is 0. */
+static void begin_at(oscore_peer *at, uint8_t recipient, uint8_t id_context) {
+    uint8_t secret[16] = {1}, server = 0xaa;
+    const uint8_t *named = guarded_copy(ID, &id_context, 1), *other = guarded_copy(SALT, &recipient, 1);
+    CHECK(!oscore_derive(own, guarded_copy(SECRET, secret, 16), 16, NULL, 0, id_context > 0, named, id_context > 0, guarded_copy(ONE, &server, 1), 1,
+                         other, 1, tables, false, false));
+    CHECK(!oscore_peer_begin_first(at, own, 32, LIFE));
+}
+
+static oscore_size *index_of;
+
+static uint32_t find(const oscore_peer *peers, oscore_size count, const char *text) {
+    uint8_t bytes[64];
+    oscore_size len = hex(text, bytes);
+    *index_of = 99;
+    uint32_t status = oscore_peer_find(peers, count, guarded_copy(DATAGRAM, bytes, len), len, index_of, detail);
+    CHECK((status == OSCORE_DONE) == (*index_of != 99));
+    return status;
+}
+
+/* Of peers, the first whose context a request names: by its kid, and by its kid context where it has one. Those that were never begun are
+   passed over. The requests here have a Partial IV 0, and a ciphertext that is none: nothing is opened. */
+static void finds(void) {
+    oscore_peer *peers = guarded(PEERS, 6 * sizeof *peers);
+    index_of = guarded_room(INDEX, sizeof *index_of);
+    begin_at(&peers[1], 2, 0), begin_at(&peers[2], 1, 0), begin_at(&peers[3], 1, 9), begin_at(&peers[4], 1, 9), begin_at(&peers[5], 3, 0);
+    CHECK(!find(peers, 6, "4002000193090002ffee") && *index_of == 1 && !find(peers, 6, "4002000193090001ffee") && *index_of == 2);
+    CHECK(!find(peers, 6, "4002000193090003ffee") && *index_of == 5 && find(peers, 5, "4002000193090003ffee") == OSCORE_NO_CONTEXT && *detail == 0);
+    CHECK(!find(peers, 6, "40020001951900010901ffee") && *index_of == 3 && find(peers, 3, "40020001951900010901ffee") == OSCORE_NO_CONTEXT);
+    CHECK(find(peers, 6, "40020001951900010801ffee") == OSCORE_NO_CONTEXT && find(peers, 6, "40020001951900010902ffee") == OSCORE_NO_CONTEXT);
+    /* A kid of no byte: no context here has it, nor do the zeros. */
+    CHECK(find(peers, 6, "40020001920900ffee") == OSCORE_NO_CONTEXT && find(NULL, 0, "4002000193090002ffee") == OSCORE_NO_CONTEXT);
+    CHECK(find(peers, 6, "4002") == OSCORE_SHORT && *detail == 0 && find(peers, 6, "40020001ff") == OSCORE_EMPTY_PAYLOAD && *detail == 4);
+    CHECK(find(peers, 6, "60440001ffee") == OSCORE_NOT_THAT_KIND && find(peers, 6, "40020001ffee") == OSCORE_NO_OSCORE && *detail == 0);
+    CHECK(find(peers, 6, "4002000193890002ffee") == OSCORE_UNDECODABLE && *detail == 0);
+    /* Spoilt contexts are passed over, and the one behind is found. */
+    peers[3].server.context.context.recipient_len = 8;
+    CHECK(!find(peers, 6, "40020001951900010901ffee") && *index_of == 4);
+    /* The other bytes of a peer aren't looked at. */
+    peers[4].received = NUMBERS + 1;
+    CHECK(!find(peers, 6, "40020001951900010901ffee") && *index_of == 4);
 }
 
 static void serves_first(void) {
@@ -245,8 +298,8 @@ static void serves_first(void) {
         saves(2, BATCH, 21);
         CHECK(!take_text(SEALED) && opened->number == 20 && !*reply_len && ticket->number == 20);
         CHECK(!answer(ANSWER, by_own, 64) && is(out, *out_len, SEALED_ANSWERS[by_own]));
-        CHECK(peer->server.server.context.next == (uint64_t)by_own && answer(ANSWER, by_own, 64) == OSCORE_TICKET_SPENT);
-        CHECK(take_text(SEALED) == OSCORE_REPLAY && *reply_len && peer->server.server.context.context.tables == tables);
+        CHECK(peer->server.context.next == (uint64_t)by_own && answer(ANSWER, by_own, 64) == OSCORE_TICKET_SPENT);
+        CHECK(take_text(SEALED) == OSCORE_REPLAY && *reply_len && peer->server.context.context.tables == tables);
         /* Below the saved number nothing has to be saved; above it each has. */
         CHECK(!take_sealed(REQUEST, 19) && take_sealed(REQUEST, 21) == OSCORE_SAVE_FIRST);
         saves(3, BATCH, 22);
@@ -275,13 +328,13 @@ static void serves_again(void) {
     saves(3, 2 * BATCH, 21);
     CHECK(peer->life == 3 && take_text(SEALED) == OSCORE_REPLAY && take_sealed(REQUEST, 21) == OSCORE_SAVE_FIRST);
     saves(4, 2 * BATCH, 22);
-    CHECK(!take_sealed(REQUEST, 21) && !answer(ANSWER, true, 64) && peer->server.server.context.next == BATCH + 1);
+    CHECK(!take_sealed(REQUEST, 21) && !answer(ANSWER, true, 64) && peer->server.context.next == BATCH + 1);
     CHECK(take_sealed(REQUEST, 21) == OSCORE_REPLAY);
     /* Where none was saved, it asks for the number with which the challenge is sealed. */
     begin_again(1, BATCH, 0);
     CHECK(take_text(SEALED) == OSCORE_SAVE_FIRST);
     saves(2, 2 * BATCH, 0);
-    CHECK(take_text(SEALED) == OSCORE_CHALLENGE && *reply_len && peer->server.server.context.next == BATCH + 1);
+    CHECK(take_text(SEALED) == OSCORE_CHALLENGE && *reply_len && peer->server.context.next == BATCH + 1);
     char echoed[96];
     snprintf(echoed, sizeof echoed, "%sd8e4%016x", REQUEST, (unsigned)BATCH);
     CHECK(take_sealed(echoed, 21) == OSCORE_SAVE_FIRST);
@@ -294,7 +347,7 @@ static void replies(void) {
     begin_saved();
     CHECK(!oscore_peer_saved(peer, given(peer->name, 2, BATCH, 100)));
     for (uint64_t under = 0; under < BATCH; under++) CHECK(!take_sealed(REQUEST, under) && !answer(ANSWER, true, 64));
-    CHECK(peer->server.server.context.next == BATCH && !take_sealed(REQUEST, BATCH));
+    CHECK(peer->server.context.next == BATCH && !take_sealed(REQUEST, BATCH));
     CHECK(answer("604500", true, 64) == OSCORE_SHORT && *detail == 0 && answer("60450001d10e06", true, 64) == OSCORE_SAVE_FIRST);
     CHECK(answer(ANSWER, true, 64) == OSCORE_SAVE_FIRST && is_record(3, 2 * BATCH, 100));
     oscore_ticket kept = *ticket;
@@ -311,8 +364,8 @@ static void replies(void) {
     CHECK(answer(ANSWER, true, 64) == OSCORE_SAVE_FIRST);
     saves(3, 2 * BATCH, 100);
     CHECK(answer(REQUEST, true, 64) == OSCORE_NOT_THAT_KIND && answer("60450001d10e06", true, 64) == OSCORE_UNSUPPORTED && *detail == 27);
-    CHECK(answer(ANSWER, true, 33) == OSCORE_NO_ROOM && !answer(ANSWER, true, 64) && peer->server.server.context.next == BATCH + 1);
-    CHECK(!take_sealed(REQUEST, BATCH + 1) && !answer(ANSWER, false, 64) && peer->server.server.context.next == BATCH + 1);
+    CHECK(answer(ANSWER, true, 33) == OSCORE_NO_ROOM && !answer(ANSWER, true, 64) && peer->server.context.next == BATCH + 1);
+    CHECK(!take_sealed(REQUEST, BATCH + 1) && !answer(ANSWER, false, 64) && peer->server.context.next == BATCH + 1);
 }
 
 /* A ticket of this context answers in no other life, though a request in it has the same number. */
@@ -349,7 +402,7 @@ static void notifies(void) {
     CHECK(!oscore_peer_saved(peer, given(peer->name, 2, BATCH, 21)) && !take_text(SEALED_REGISTRATION) && ticket->observes == 1);
     oscore_ticket observing = *ticket;
     for (unsigned i = 0; i < 2; i++) CHECK(!notify(STATES[i], 64) && is(out, *out_len, NOTIFICATIONS[i]));
-    while (peer->server.server.context.next < BATCH) CHECK(!notify(STATES[1], 64));
+    while (peer->server.context.next < BATCH) CHECK(!notify(STATES[1], 64));
     CHECK(notify("60450101", 64) == OSCORE_SAVE_FIRST && is_record(3, 2 * BATCH, 21) && notify(STATES[0], 0) == OSCORE_SAVE_FIRST);
     CHECK(answer(GONE, false, 64) == OSCORE_SAVE_FIRST && answer(GONE, true, 64) == OSCORE_SAVE_FIRST && is_record(3, 2 * BATCH, 21));
     CHECK(notify("604501", 64) == OSCORE_SHORT && *detail == 0 && notify("604501016101ff", 64) == OSCORE_EMPTY_PAYLOAD && *detail == 6);
@@ -369,7 +422,7 @@ static void notifies(void) {
     *ticket = observing;
     CHECK(notify(REQUEST, 64) == OSCORE_NOT_THAT_KIND && notify("50840000d11600", 64) == OSCORE_UNSUPPORTED && *detail == 35);
     CHECK(notify(GONE, 64) == OSCORE_NOT_NOTIFICATION && *detail == 0 && notify(STATES[0], 26) == OSCORE_NO_ROOM);
-    CHECK(!answer(GONE, false, 64) && peer->server.server.context.next == BATCH + 1 && answer(GONE, false, 64) == OSCORE_TICKET_SPENT);
+    CHECK(!answer(GONE, false, 64) && peer->server.context.next == BATCH + 1 && answer(GONE, false, 64) == OSCORE_TICKET_SPENT);
     observe = false;
 }
 
@@ -377,7 +430,7 @@ static void comes_to_its_last_numbers(void) {
     begin_again(1, NUMBERS - 2, 0);
     CHECK(take_text(SEALED) == OSCORE_SAVE_FIRST);
     saves(2, NUMBERS, 0);
-    CHECK(take_text(SEALED) == OSCORE_CHALLENGE && take_text(SEALED) == OSCORE_CHALLENGE && peer->server.server.context.next == NUMBERS);
+    CHECK(take_text(SEALED) == OSCORE_CHALLENGE && take_text(SEALED) == OSCORE_CHALLENGE && peer->server.context.next == NUMBERS);
     CHECK(take_text(SEALED) == OSCORE_SEQUENCE_EXHAUSTED && !*reply_len);
     /* The last request that there can be. */
     begin_again(1, BATCH, NUMBERS - 1);
@@ -393,7 +446,7 @@ static void comes_to_its_last_numbers(void) {
     CHECK(take_text("4001") == OSCORE_SHORT && take_sealed(REQUEST, 21) == OSCORE_LIVES_EXHAUSTED && take_text(SEALED) == OSCORE_REPLAY);
     memset(ticket, 0, sizeof *ticket);
     ticket->context = (oscore_size)peer->name, ticket->life = peer->life;
-    peer->server.server.context.next = peer->server.reserved;
+    peer->server.context.next = peer->reserved;
     CHECK(answer(ANSWER, true, 64) == OSCORE_LIVES_EXHAUSTED && *detail == 0 && answer(ANSWER, false, 64) == OSCORE_TICKET_SPENT);
     ticket->observes = 1;
     CHECK(notify(STATES[0], 64) == OSCORE_LIVES_EXHAUSTED && *detail == 0);
@@ -412,7 +465,7 @@ static void lives(void) {
         snprintf(echoed, sizeof echoed, "%s", REQUEST);
         /* It is killed at a moment: before a save, between a save and its word, or behind a delivery. */
         for (int steps = rand() % 200; steps > 0; steps--) {
-            uint64_t before = peer->server.server.context.next;
+            uint64_t before = peer->server.context.next;
             uint32_t status = take_sealed(echoed, sealed);
             CHECK(status == OSCORE_SAVE_FIRST || status == OSCORE_REPLAY || status == OSCORE_CHALLENGE || status == OSCORE_DONE);
             if (status == OSCORE_SAVE_FIRST) {
@@ -430,9 +483,9 @@ static void lives(void) {
                     CHECK(!oscore_peer_saved(peer, guarded_copy(GIVEN, &store, sizeof store)) && !answer(ANSWER, true, 64));
                 }
             }
-            if (peer->server.server.context.next > before) {
+            if (peer->server.context.next > before) {
                 CHECK((!any_used || before > used) && before < store.sender);
-                any_used = true, used = peer->server.server.context.next - 1;
+                any_used = true, used = peer->server.context.next - 1;
             }
             sealed += status != OSCORE_CHALLENGE;
         }
@@ -447,9 +500,9 @@ static void refuses_bytes(void) {
     for (int spoil = 0; spoil < 4; spoil++) {
         *peer = kept;
         if (spoil == 0) peer->received = NUMBERS + 1;
-        if (spoil == 1) peer->server.reserved = NUMBERS + 1;
-        if (spoil == 2) peer->server.server.context.gate = 4;
-        if (spoil == 3) peer->server.server.context.next = BATCH + 1;
+        if (spoil == 1) peer->reserved = NUMBERS + 1;
+        if (spoil == 2) peer->server.context.gate = 4;
+        if (spoil == 3) peer->server.context.next = BATCH + 1;
         CHECK(take_text(SEALED) == OSCORE_BAD_HANDLE && answer(ANSWER, false, 64) == OSCORE_BAD_HANDLE && notify(STATES[0], 64) == OSCORE_BAD_HANDLE);
         CHECK(answer("604500", true, 64) == OSCORE_BAD_HANDLE && notify("604501", 64) == OSCORE_BAD_HANDLE);
         CHECK(oscore_peer_saved(peer, given(kept.name, 2, BATCH, 0)) == OSCORE_BAD_HANDLE);
@@ -463,14 +516,14 @@ static void spoils_peers(void) {
         CHECK(take_text(SEALED) == OSCORE_SAVE_FIRST && !oscore_peer_saved(peer, given(peer->name, 3, 2 * BATCH, i % 2 ? 21 : 20)));
         ((uint8_t *)peer)[(oscore_size)rand() % sizeof *peer] = (uint8_t)rand();
         uint32_t status = take_text(SEALED);
-        CHECK(status == OSCORE_BAD_HANDLE || (peer->server.server.context.next <= peer->server.reserved && (status || peer->received > 20)));
+        CHECK(status == OSCORE_BAD_HANDLE || (peer->server.context.next <= peer->reserved && (status || peer->received > 20)));
     }
 }
 
 static void has_sizes(void) {
     oscore_struct_sizes *sizes = guarded(SIZES, sizeof *sizes);
     oscore_sizes(sizes);
-    CHECK(sizes->peer == sizeof *peer && sizes->peer_record == sizeof *record && sizes->kept_server == sizeof peer->server);
+    CHECK(sizes->peer == sizeof *peer && sizes->peer_record == sizeof *record);
 }
 
 int main(int count, char **words) {
@@ -484,6 +537,8 @@ int main(int count, char **words) {
             notifies();
         }
         begins();
+        names();
+        finds();
         refuses_datagrams();
         serves_again();
         replies();

@@ -49,22 +49,18 @@ static void request(uint64_t number, uint64_t echo) {
 static oscore_store store;
 
 static void save(oscore_peer *peer, const oscore_peer_record *record) {
-    oscore_record kept = store.record;
-    kept.numbers[0] = record->sender, kept.numbers[1] = record->received;
-    CHECK(!oscore_store_save(&store, &kept) && !oscore_peer_saved(peer, record));
+    CHECK(!oscore_store_save(&store, record) && !oscore_peer_saved(peer, record));
 }
 
-/* The store has the numbers and the context's name; its own generation rises with each save, as that of the records does. */
+/* Begins behind the record, or first where none was saved yet. */
 static void begin(oscore_peer *peer, bool first) {
-    uint8_t name[8];
-    oscore_record kept;
-    CHECK(!oscore_peer_begin_first(peer, &own, 32, 0));
-    memcpy(name, &peer->name, 8);
-    oscore_stored stored = oscore_store_open(&store, file, first, name, &kept);
-    if (stored == OSCORE_STORE_EMPTY) return;
-    CHECK(stored == OSCORE_STORED);
-    oscore_peer_record record = {peer->name, store.generation, kept.numbers[0], kept.numbers[1]};
-    CHECK(!oscore_peer_begin_again(peer, &own, &record, 32, 0));
+    oscore_peer_record record;
+    uint64_t name;
+    CHECK(!oscore_peer_name(&own, &name));
+    oscore_stored stored = oscore_store_open(&store, file, first, name, &record);
+    CHECK(stored == OSCORE_STORED || stored == OSCORE_STORE_EMPTY);
+    if (stored == OSCORE_STORED) CHECK(!oscore_peer_begin_again(peer, &own, &record, 32, 0));
+    else CHECK(!oscore_peer_begin_first(peer, &own, 32, 0));
 }
 
 static void tell(int to, uint64_t what, uint64_t number) {
@@ -85,7 +81,7 @@ static _Noreturn void live(int from, int to, bool first) {
         oscore_size out_len, detail;
         uint8_t out[64];
         uint32_t status;
-        uint64_t next = peer.server.server.context.next;
+        uint64_t next = peer.server.context.next;
         while ((status = oscore_peer_take(&peer, 0, 7, datagram.bytes, datagram.len, options, 2, &opened, &ticket, out, &out_len, &record,
                                           &detail)) == OSCORE_SAVE_FIRST)
             save(&peer, &record);
@@ -93,7 +89,7 @@ static _Noreturn void live(int from, int to, bool first) {
         if (status == OSCORE_DONE) {
             static const uint8_t plain[] = {0x60, 0x44, 0, 0};
             tell(to, OBEYED, opened.number);
-            next = peer.server.server.context.next;
+            next = peer.server.context.next;
             while ((status = oscore_peer_reply(&peer, &ticket, true, 7, plain, sizeof plain, out, sizeof out, &out_len, &record, &detail)) == OSCORE_SAVE_FIRST)
                 save(&peer, &record);
             CHECK(!status);

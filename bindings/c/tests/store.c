@@ -1,10 +1,11 @@
-/* Records of oscore_store.h: their bytes; each status of each call; two threads and two processes at one file, and one that is killed; a file
-   of which each byte of a place is torn or spoilt, which is put back from a backup, or to which the system writes nothing; power cuts between
-   a write and its sync, with any part of it done. store/flash.c has those in flash.
+/* Records of oscore_store.h: their bytes; each status of each call; records that aren't the next one, and two peers behind one record; two
+   threads and two processes at one file, and one that is killed; a file of which each byte of a place is torn or spoilt, which is put back from
+   a backup, or to which the system writes nothing; power cuts between a write and its sync, with any part of it done. store/flash.c has those
+   in flash.
 
-   What is expected follows from the rule that the header states: a cut leaves the record that was saved last or the one that is being saved.
-   The checksums are CRC-32's own check value and one by zlib. Built with the sanitizers by .ci/run, and run under valgrind's memcheck with
-   fewer saves, which its only word says. */
+   What is expected follows from the rules that the header states: a cut leaves the record that was saved last or the one that is being saved,
+   and only a record of the next generation is saved. The checksums are CRC-32's own check value and two by zlib. Built with the sanitizers
+   by .ci/run, and run under valgrind's memcheck with fewer saves, which its only word says. */
 #define _DEFAULT_SOURCE
 #include <errno.h>
 #include <fcntl.h>
@@ -42,29 +43,35 @@ static void bytes_of_a_record(void) {
     static const char *const NAMES[] = {"Stored", "Empty", "Locked", "Broken", "Other", "There", "Behind", "Lower", "Failed"};
     for (int stored = OSCORE_STORED; stored <= OSCORE_STORE_FAILED; stored++) CHECK(!strcmp(oscore_stored_name((oscore_stored)stored), NAMES[stored]));
     CHECK(OSCORE_STORED == 0 && OSCORE_STORE_FAILED == 8 && !strcmp(oscore_stored_name((oscore_stored)9), "Failed"));
-    static const uint8_t WANTED[LEN] = {
-        'o', 's', 'c', '-', 'n', 'u', 'm', 1, 0x02, 0x01, 0, 0, 0, 0, 0, 0, 0x32, 0x31, 0x30, 0x29, 0x28, 0, 0, 0, 7, 0, 0, 0, 0, 0, 0, 0,
-        'l', 'o', 'c', 'k', 1, 2, 0, 0, 0, 0, 0, 0, 0xc7, 0x35, 0x6d, 0xb6};
-    const oscore_record record = record_of(0x2829303132, 7);
-    oscore_record read;
-    uint64_t generation;
+    static const oscore_peer_record RECORDS[2] = {
+        {0x02016b636f6c, 0x0102, 0x2829303132, 7}, {0x4142434445464748, 0x1112131415161718, 0x2122232425262728, 0x3132333435363738}};
+    static const uint8_t WANTED[2][LEN] = {
+        {'o', 's', 'c', '-', 'n', 'u', 'm', 1, 0x02, 0x01, 0, 0, 0, 0, 0, 0, 0x32, 0x31, 0x30, 0x29, 0x28, 0, 0, 0, 7, 0, 0, 0, 0, 0, 0, 0,
+         'l', 'o', 'c', 'k', 1, 2, 0, 0, 0, 0, 0, 0, 0xc7, 0x35, 0x6d, 0xb6},
+        {'o', 's', 'c', '-', 'n', 'u', 'm', 1, 0x18, 0x17, 0x16, 0x15, 0x14, 0x13, 0x12, 0x11, 0x28, 0x27, 0x26, 0x25, 0x24, 0x23, 0x22, 0x21,
+         0x38, 0x37, 0x36, 0x35, 0x34, 0x33, 0x32, 0x31, 0x48, 0x47, 0x46, 0x45, 0x44, 0x43, 0x42, 0x41, 0, 0, 0, 0, 0x52, 0x65, 0x55, 0x76}};
+    oscore_peer_record read;
     uint8_t bytes[LEN];
     CHECK(oscore_record_checksum((const uint8_t *)"123456789", 9) == 0xcbf43926);
-    oscore_record_write(&record, 0x0102, bytes);
-    CHECK(!memcmp(bytes, WANTED, LEN));
-    CHECK(oscore_record_read(bytes, &generation, &read) && generation == 0x0102 && is(&read, 0x2829303132, 7));
+    for (int i = 0; i < 2; i++) {
+        oscore_record_write(&RECORDS[i], RECORDS[i].generation, bytes);
+        CHECK(!memcmp(bytes, WANTED[i], LEN) && oscore_record_read(bytes, &read) && oscore_record_same(&read, &RECORDS[i]));
+    }
     for (int bit = 0; bit < 8 * LEN; bit++) {
         bytes[bit / 8] ^= (uint8_t)(1 << bit % 8);
-        CHECK(!oscore_record_read(bytes, &generation, &read));
+        CHECK(!oscore_record_read(bytes, &read));
         bytes[bit / 8] ^= (uint8_t)(1 << bit % 8);
     }
     /* Another version, or bytes that aren't 0 where they have to be, with a checksum that holds. */
     for (int at = 0; at < 44; at = at == 7 ? 40 : at + 1) {
-        memcpy(bytes, WANTED, LEN);
+        memcpy(bytes, WANTED[0], LEN);
         bytes[at]++;
         oscore_record_put(bytes + 44, oscore_record_checksum(bytes, 44), 4);
-        CHECK(!oscore_record_read(bytes, &generation, &read));
+        CHECK(!oscore_record_read(bytes, &read));
     }
+    /* Records that differ in one member aren't the same. */
+    const oscore_peer_record none = {0, 0, 0, 0}, others[4] = {{1, 0, 0, 0}, {0, 1, 0, 0}, {0, 0, 1, 0}, {0, 0, 0, 1}};
+    for (int member = 0; member < 4; member++) CHECK(!oscore_record_same(&none, &others[member]));
 }
 
 /* ---- what the system does */
@@ -111,7 +118,7 @@ static size_t get(const char *file, uint8_t *bytes) {
 }
 
 /* What a store over these bytes holds. */
-static oscore_stored opened(const uint8_t *bytes, size_t len, oscore_record *record) {
+static oscore_stored opened(const uint8_t *bytes, size_t len, oscore_peer_record *record) {
     oscore_store store;
     put(other, bytes, len);
     oscore_stored stored = oscore_store_open(&store, other, false, LOCK, record);
@@ -121,7 +128,7 @@ static oscore_stored opened(const uint8_t *bytes, size_t len, oscore_record *rec
 
 /* The power is cut before a sync: of the write any first bytes are there, or any others. */
 static void cut_before_sync(void) {
-    oscore_record old, new;
+    oscore_peer_record old, new;
     uint8_t torn[IMAGE] = {0};
     size_t len = durable_len > (size_t)written_at + LEN ? durable_len : (size_t)written_at + LEN;
     memcpy(torn, durable, durable_len);
@@ -132,7 +139,7 @@ static void cut_before_sync(void) {
             torn[written_at + i] = there ? written[i] : (size_t)written_at + (size_t)i < durable_len ? durable[written_at + i] : 0;
         }
         CHECK(opened(torn, len, &new) <= OSCORE_STORE_EMPTY);
-        CHECK(is(&new, old.numbers[0], old.numbers[1]) || !memcmp(torn + written_at, written, LEN));
+        CHECK(is(&new, old.generation, old.sender, old.received) || !memcmp(torn + written_at, written, LEN));
     }
 }
 
@@ -157,40 +164,45 @@ static int tried_sync(int file) {
 
 static oscore_store store;
 
-static oscore_stored open_as(const uint8_t *context, bool provision, oscore_record *record) {
+static oscore_stored open_as(uint64_t context, bool provision, oscore_peer_record *record) {
     return oscore_store_open(&store, name, provision, context, record);
 }
 
-static oscore_stored save(uint64_t own, uint64_t received) {
-    const oscore_record record = record_of(own, received);
+static oscore_stored save_record(uint64_t generation, uint64_t own, uint64_t received) {
+    const oscore_peer_record record = record_of(generation, own, received);
     return oscore_store_save(&store, &record);
+}
+
+/* The next record, by its generation. */
+static oscore_stored save(uint64_t own, uint64_t received) {
+    return save_record(store.record.generation + 1, own, received);
 }
 
 /* A file with a store that saved 64 and 3, then 128 and 5, and is closed. */
 static void begin(void) {
-    oscore_record record;
+    oscore_peer_record record;
     unlink(name);
-    CHECK(open_as(LOCK, true, &record) == OSCORE_STORE_EMPTY && is(&record, 0, 0));
-    CHECK(!save(64, 3) && !save(128, 5));
+    CHECK(open_as(LOCK, true, &record) == OSCORE_STORE_EMPTY && is(&record, 0, 0, 0));
+    CHECK(!save_record(1, 64, 3) && !save_record(2, 128, 5));
     oscore_store_close(&store);
 }
 
-static void reopen(uint64_t own, uint64_t received) {
-    oscore_record record;
+static void reopen(uint64_t generation, uint64_t own, uint64_t received) {
+    oscore_peer_record record;
     oscore_store_close(&store);
-    CHECK(!open_as(LOCK, false, &record) && is(&record, own, received));
+    CHECK(!open_as(LOCK, false, &record) && is(&record, generation, own, received));
 }
 
 /* Answers, and leaves the record as it was. */
-static void is_refused(const uint8_t *context, bool provision, oscore_stored wanted) {
-    oscore_record record = record_of(77, 78);
-    CHECK(open_as(context, provision, &record) == wanted && is(&record, 77, 78));
+static void is_refused(uint64_t context, bool provision, oscore_stored wanted) {
+    oscore_peer_record record = record_of(76, 77, 78);
+    CHECK(open_as(context, provision, &record) == wanted && is(&record, 76, 77, 78));
     CHECK(save(1000, 1000) == OSCORE_STORE_FAILED);
     oscore_store_close(&store);
 }
 
 static void opens(void) {
-    oscore_record record;
+    oscore_peer_record record;
     uint8_t bytes[IMAGE], first[IMAGE];
     memset(&store, 0, sizeof store);
     CHECK(save(1, 1) == OSCORE_STORE_FAILED);
@@ -204,22 +216,21 @@ static void opens(void) {
     /* A provisioned store is empty until its first save; until then it may be provisioned again. */
     for (int again = 0; again < 2; again++) {
         folder_syncs = 0;
-        CHECK(open_as(LOCK, true, &record) == OSCORE_STORE_EMPTY && is(&record, 0, 0) && folder_syncs == 1);
+        CHECK(open_as(LOCK, true, &record) == OSCORE_STORE_EMPTY && is(&record, 0, 0, 0) && folder_syncs == 1);
         oscore_store_close(&store);
     }
     CHECK(get(name, first) == LEN);
     is_refused(METER, true, OSCORE_STORE_OTHER);
-    CHECK(open_as(LOCK, false, &record) == OSCORE_STORE_EMPTY && is(&record, 0, 0) && !save(0, 0));
-    reopen(0, 0);
+    CHECK(open_as(LOCK, false, &record) == OSCORE_STORE_EMPTY && is(&record, 0, 0, 0) && !save(0, 0));
+    reopen(1, 0, 0);
     CHECK(!save(64, 0) && !save(64, 0) && !save(64, 3) && !save(128, 3) && !save((uint64_t)1 << 40, 3));
-    reopen((uint64_t)1 << 40, 3);
-    CHECK(store.generation == 6);
+    reopen(6, (uint64_t)1 << 40, 3);
     oscore_store_close(&store), oscore_store_close(&store);
     /* Judged in this order. */
     is_refused(METER, true, OSCORE_STORE_OTHER);
     is_refused(METER, false, OSCORE_STORE_OTHER);
     is_refused(LOCK, true, OSCORE_STORE_THERE);
-    reopen((uint64_t)1 << 40, 3);
+    reopen(6, (uint64_t)1 << 40, 3);
     oscore_store_close(&store);
     /* What a provision that was stopped leaves may be provisioned; nothing else that is there. */
     for (int len = 0; len <= LEN; len++) {
@@ -253,9 +264,9 @@ static void opens(void) {
 /* A place that is torn or spoilt loses to the other one; where both are, the file is broken. */
 static void torn(void) {
     uint8_t whole[IMAGE], old[IMAGE], bytes[IMAGE], both[IMAGE];
-    oscore_record record;
+    oscore_peer_record record;
     begin();
-    reopen(128, 5);
+    reopen(2, 128, 5);
     CHECK(get(name, old) == IMAGE && !save(192, 6) && get(name, whole) == IMAGE);
     oscore_store_close(&store);
     /* The third save is of generation 3, so it wrote the second place, over that of generation 1. */
@@ -263,21 +274,21 @@ static void torn(void) {
     for (int len = 0; len < LEN; len++) {
         memcpy(bytes, old, IMAGE), memcpy(bytes + PLACE, whole + PLACE, (size_t)len);
         bool is_whole = !memcmp(bytes, whole, IMAGE); /* where the bytes that lack are those that were there */
-        CHECK(!opened(bytes, IMAGE, &record) && (is_whole ? is(&record, 192, 6) : is(&record, 128, 5)));
-        CHECK(!opened(bytes, PLACE + (size_t)len, &record) && is(&record, 128, 5));
+        CHECK(!opened(bytes, IMAGE, &record) && (is_whole ? is(&record, 3, 192, 6) : is(&record, 2, 128, 5)));
+        CHECK(!opened(bytes, PLACE + (size_t)len, &record) && is(&record, 2, 128, 5));
     }
     for (int bit = 0; bit < 8 * LEN; bit++) {
         memcpy(bytes, whole, IMAGE);
         bytes[PLACE + bit / 8] ^= (uint8_t)(1 << bit % 8);
-        CHECK(!opened(bytes, IMAGE, &record) && is(&record, 128, 5));
+        CHECK(!opened(bytes, IMAGE, &record) && is(&record, 2, 128, 5));
         memcpy(both, bytes, IMAGE), memcpy(bytes, whole, IMAGE);
         bytes[bit / 8] ^= (uint8_t)(1 << bit % 8), both[bit / 8] ^= (uint8_t)(1 << bit % 8);
-        CHECK(!opened(bytes, IMAGE, &record) && is(&record, 192, 6));
+        CHECK(!opened(bytes, IMAGE, &record) && is(&record, 3, 192, 6));
         CHECK(opened(both, IMAGE, &record) == OSCORE_STORE_BROKEN);
     }
     /* A record that stands in the place of the other one isn't good. */
     memcpy(bytes, whole, IMAGE), memcpy(bytes + PLACE, whole, LEN);
-    CHECK(!opened(bytes, IMAGE, &record) && is(&record, 128, 5));
+    CHECK(!opened(bytes, IMAGE, &record) && is(&record, 2, 128, 5));
     memcpy(bytes, whole + PLACE, LEN);
     CHECK(opened(bytes, IMAGE, &record) == OSCORE_STORE_BROKEN);
 }
@@ -287,12 +298,12 @@ static void behind(void) {
     uint8_t old[IMAGE], there[IMAGE], bytes[IMAGE];
     begin();
     CHECK(get(name, old) == IMAGE);
-    reopen(128, 5);
+    reopen(2, 128, 5);
     CHECK(!save(192, 6) && get(name, there) == IMAGE);
     put(name, old, IMAGE);
     CHECK(save(256, 7) == OSCORE_STORE_BEHIND && save(1, 1) == OSCORE_STORE_BEHIND && get(name, bytes) == IMAGE && !memcmp(bytes, old, IMAGE));
     /* A record of the same generation with other numbers. */
-    const oscore_record same = record_of(191, 6);
+    const oscore_peer_record same = record_of(3, 191, 6);
     memcpy(bytes, there, IMAGE), oscore_record_write(&same, 3, bytes + PLACE);
     put(name, bytes, IMAGE);
     CHECK(save(256, 7) == OSCORE_STORE_BEHIND);
@@ -303,7 +314,7 @@ static void behind(void) {
     CHECK(!save(192, 6));
     put(name, there, IMAGE);
     CHECK(save(256, 7) == OSCORE_STORE_BEHIND);
-    reopen(192, 6);
+    reopen(3, 192, 6);
     CHECK(!save(256, 7) && get(name, there) == IMAGE);
     put(other, there, IMAGE);
     CHECK(!rename(other, name) && save(320, 8) == OSCORE_STORE_BEHIND && get(name, bytes) == IMAGE && !memcmp(bytes, there, IMAGE));
@@ -311,16 +322,53 @@ static void behind(void) {
     oscore_store_close(&store);
 }
 
-static void refuses(void) {
-    oscore_record record = record_of(192, 6);
+/* A record that isn't the next one, by its generation, is behind, whatever its numbers are; so is that of the second of two peers that began
+   behind one record, over the same store and over one that is opened later. Nothing is written, and the first peer goes on. */
+static void not_the_next(void) {
+    static const uint64_t WRONG[] = {0, 1, 2, 4, 5, UINT64_MAX};
+    uint8_t there[IMAGE], bytes[IMAGE];
     begin();
-    reopen(128, 5);
+    reopen(2, 128, 5);
+    CHECK(get(name, there) == IMAGE);
+    for (size_t i = 0; i < sizeof WRONG / sizeof WRONG[0]; i++)
+        CHECK(save_record(WRONG[i], 192, 6) == OSCORE_STORE_BEHIND && save_record(WRONG[i], 127, 6) == OSCORE_STORE_BEHIND);
+    CHECK(get(name, bytes) == IMAGE && !memcmp(bytes, there, IMAGE));
+    CHECK(!save_record(3, 192, 6) && get(name, there) == IMAGE);
+    CHECK(save_record(3, 192, 6) == OSCORE_STORE_BEHIND && save_record(3, 192, 6) == OSCORE_STORE_BEHIND);
+    reopen(3, 192, 6);
+    CHECK(save_record(3, 192, 6) == OSCORE_STORE_BEHIND && get(name, bytes) == IMAGE && !memcmp(bytes, there, IMAGE));
+    CHECK(!save_record(4, 192, 7) && save_record(4, 256, 8) == OSCORE_STORE_BEHIND && !save_record(5, 256, 8));
+    reopen(5, 256, 8);
+    oscore_store_close(&store);
+}
+
+/* Behind the last generation nothing is saved, neither of that nor of 0. */
+static void ends(void) {
+    uint8_t bytes[LEN], there[IMAGE];
+    const oscore_peer_record last = record_of(UINT64_MAX - 1, 64, 3);
+    oscore_record_write(&last, last.generation, bytes);
+    put(name, bytes, LEN);
+    reopen(UINT64_MAX - 1, 64, 3);
+    CHECK(!save_record(UINT64_MAX, 64, 4) && save_record(0, 64, 5) == OSCORE_STORE_FAILED);
+    reopen(UINT64_MAX, 64, 4);
+    CHECK(save_record(0, 64, 5) == OSCORE_STORE_FAILED && save_record(UINT64_MAX, 64, 5) == OSCORE_STORE_FAILED);
+    CHECK(get(name, there) == IMAGE && !memcmp(there, bytes, LEN));
+    reopen(UINT64_MAX, 64, 4);
+    oscore_store_close(&store);
+}
+
+static void refuses(void) {
+    oscore_peer_record record = record_of(4, 192, 6);
+    begin();
+    reopen(2, 128, 5);
     CHECK(save(127, 6) == OSCORE_STORE_LOWER && save(192, 4) == OSCORE_STORE_LOWER && !save(128, 5));
-    memcpy(record.context, METER, sizeof METER);
+    record.name = METER;
     CHECK(oscore_store_save(&store, &record) == OSCORE_STORE_OTHER);
-    record.numbers[0] = 1;
+    record.sender = 1;
     CHECK(oscore_store_save(&store, &record) == OSCORE_STORE_OTHER);
-    reopen(128, 5);
+    record.generation = 9;
+    CHECK(oscore_store_save(&store, &record) == OSCORE_STORE_OTHER);
+    reopen(3, 128, 5);
     oscore_store_close(&store);
 }
 
@@ -328,50 +376,50 @@ static void refuses(void) {
 static void fails(void) {
     struct rlimit before, none;
     begin();
-    reopen(128, 5);
+    reopen(2, 128, 5);
     refused = SHORT_WRITES;
     CHECK(!save(192, 6));
     refused = NOTHING;
     for (int step = WRITES; step <= READS; step++) {
-        reopen(192, 6);
+        reopen(step == READS ? 4 : 3, 192, 6);
         refused = step;
         CHECK(save(step == SYNCS ? 192 : 256, 6) == OSCORE_STORE_FAILED);
         refused = NOTHING;
         CHECK(save(256, 7) == OSCORE_STORE_FAILED);
     }
-    reopen(192, 6);
+    reopen(4, 192, 6);
     CHECK(!getrlimit(RLIMIT_FSIZE, &before) && signal(SIGXFSZ, SIG_IGN) != SIG_ERR);
     none = before, none.rlim_cur = 0;
     CHECK(!setrlimit(RLIMIT_FSIZE, &none));
     oscore_stored stored = save(256, 7);
     CHECK(!setrlimit(RLIMIT_FSIZE, &before) && stored == OSCORE_STORE_FAILED);
-    reopen(192, 6);
+    reopen(4, 192, 6);
     int from = open(name, O_RDONLY);
     CHECK(from >= 0 && dup2(from, store.file) == store.file && !close(from) && save(256, 7) == OSCORE_STORE_FAILED);
-    reopen(192, 6);
+    reopen(4, 192, 6);
     CHECK(!save(256, 7));
     oscore_store_close(&store);
 }
 
 /* A power cut at any moment of some saves, also of the first one: what was saved is there, and nothing lower, and what is loaded stays. */
 static void cut_in_a_file(void) {
-    oscore_record record;
+    oscore_peer_record record;
     unlink(name);
     durable_len = written_len = 0, cuts = true;
     CHECK(open_as(LOCK, true, &record) == OSCORE_STORE_EMPTY);
     for (uint64_t number = 1; number <= 20; number++) {
         CHECK(!save(number, 2 * number) && written_len == 0);
         cuts = false;
-        CHECK(!opened(durable, durable_len, &record) && is(&record, number, 2 * number));
+        CHECK(!opened(durable, durable_len, &record) && is(&record, number, number, 2 * number));
         cuts = true;
     }
     refused = SYNCS;
     CHECK(save(21, 42) == OSCORE_STORE_FAILED && written_len == LEN);
     refused = NOTHING;
-    reopen(21, 42);
+    reopen(21, 21, 42);
     CHECK(written_len == 0);
     cuts = false;
-    CHECK(!opened(durable, durable_len, &record) && is(&record, 21, 42));
+    CHECK(!opened(durable, durable_len, &record) && is(&record, 21, 21, 42));
     oscore_store_close(&store);
 }
 
@@ -387,18 +435,18 @@ static void *take_numbers(void *unused) {
     uint64_t seed = (uint64_t)getpid();
     while (__atomic_load_n(&shared->done, __ATOMIC_SEQ_CST) < saves) {
         oscore_store own;
-        oscore_record record;
+        oscore_peer_record record;
         oscore_stored stored = oscore_store_open(&own, name, false, LOCK, &record);
         if (stored == OSCORE_STORE_LOCKED) {
             __atomic_fetch_add(&shared->locked, 1, __ATOMIC_SEQ_CST);
             sched_yield();
             continue;
         }
-        CHECK(stored <= OSCORE_STORE_EMPTY && own.generation == record.numbers[0]);
+        CHECK(stored <= OSCORE_STORE_EMPTY && record.generation == record.sender);
         for (uint64_t count = seed++ % 3; count < 4; count++) {
-            record.numbers[0]++;
-            CHECK(!oscore_store_save(&own, &record) && own.generation == record.numbers[0] && record.numbers[0] < 4096);
-            CHECK(__atomic_fetch_add(&shared->taken[record.numbers[0]], 1, __ATOMIC_SEQ_CST) == 0);
+            record.generation++, record.sender++;
+            CHECK(!oscore_store_save(&own, &record) && record.sender < 4096);
+            CHECK(__atomic_fetch_add(&shared->taken[record.sender], 1, __ATOMIC_SEQ_CST) == 0);
             __atomic_fetch_add(&shared->done, 1, __ATOMIC_SEQ_CST);
         }
         oscore_store_close(&own);
@@ -407,14 +455,14 @@ static void *take_numbers(void *unused) {
 }
 
 static void race_is_fair(void) {
-    oscore_record record;
-    CHECK(!open_as(LOCK, false, &record) && record.numbers[0] == shared->done && shared->done >= saves);
+    oscore_peer_record record;
+    CHECK(!open_as(LOCK, false, &record) && is(&record, shared->done, shared->done, 0) && shared->done >= saves);
     for (uint32_t number = 1; number < 4096; number++) CHECK(shared->taken[number] == (number <= shared->done));
     oscore_store_close(&store);
 }
 
 static void begin_race(void) {
-    oscore_record record;
+    oscore_peer_record record;
     memset(shared, 0, sizeof *shared);
     unlink(name);
     CHECK(open_as(LOCK, true, &record) == OSCORE_STORE_EMPTY);
@@ -422,7 +470,7 @@ static void begin_race(void) {
 
 /* Whoever is second is locked out, until the first one closes. */
 static void locks(void) {
-    oscore_record record;
+    oscore_peer_record record;
     oscore_store second;
     int status;
     begin_race();
@@ -437,7 +485,7 @@ static void locks(void) {
     }
     CHECK(child > 0 && waitpid(child, &status, 0) == child && status == 0);
     oscore_store_close(&store);
-    CHECK(!oscore_store_open(&second, name, false, LOCK, &record) && is(&record, 1, 0));
+    CHECK(!oscore_store_open(&second, name, false, LOCK, &record) && is(&record, 1, 1, 0));
     oscore_store_close(&second);
 }
 
@@ -446,20 +494,20 @@ static void kills(void) {
     uint64_t answered = 0;
     begin_race();
     for (uint32_t kill_count = 0; kill_count < saves / 20; kill_count++) {
-        oscore_record record;
+        oscore_peer_record record;
         oscore_store_close(&store);
         pid_t child = fork();
         if (child == 0) {
             CHECK(open_as(LOCK, false, &record) <= OSCORE_STORE_EMPTY);
-            for (uint32_t number = (uint32_t)record.numbers[0]; !save(number + 1, 2 * number + 2); number++)
+            for (uint32_t number = (uint32_t)record.sender; !save(number + 1, 2 * number + 2); number++)
                 __atomic_store_n(&shared->done, number + 1, __ATOMIC_SEQ_CST);
             exit(1);
         }
         int status;
         CHECK(child > 0 && !usleep((useconds_t)(draw() % 3000)) && !kill(child, SIGKILL) && waitpid(child, &status, 0) == child && WIFSIGNALED(status));
         CHECK(open_as(LOCK, false, &record) <= OSCORE_STORE_EMPTY);
-        uint64_t number = record.numbers[0], done_now = __atomic_load_n(&shared->done, __ATOMIC_SEQ_CST);
-        CHECK(number >= answered && (number == done_now || number == done_now + 1) && is(&record, number, 2 * number));
+        uint64_t number = record.sender, done_now = __atomic_load_n(&shared->done, __ATOMIC_SEQ_CST);
+        CHECK(number >= answered && (number == done_now || number == done_now + 1) && is(&record, number, number, 2 * number));
         answered = number, shared->done = (uint32_t)number;
     }
     CHECK(answered > 0);
@@ -497,7 +545,7 @@ int main(int count, char **words) {
     CHECK(mkdtemp(folder));
     snprintf(name, sizeof name, "%s/lock", folder), snprintf(other, sizeof other, "%s/other", folder);
     bytes_of_a_record();
-    opens(), behind(), refuses(), fails();
+    opens(), behind(), not_the_next(), refuses(), fails(), ends();
     hastes = true;
     torn(), cut_in_a_file(), races();
     tries_flash(saves);

@@ -9,6 +9,7 @@ mod OptionLists
 mod Unwritten
 mod Growth
 mod Room
-pub mod KeptServing
-pub mod KeptRead
 mod PeerServing
+mod PeerAsking
+mod PeerRead
+mod PeerFinding

@@ -1,5 +1,5 @@
 -- What a peer answers, as C reads it. p are its bytes before the call, q those after it, h is the history of its server before it, old are the numbers then.
-use Rattle.std.proofs.Common.{◌≡◌, ◌<◌, ◌∙◌, ap, sym, subst, refl, ℕ, Bool, List, Option, Some, None}
+use Rattle.std.proofs.Common.{◌≡◌, ◌<◌, ◌∙◌, ap, sym, subst, refl, ℕ, Bool, List, Option, Some, None, Result, Err}
 use Rattle.std.specs.Prelude.{unwrap_or}
 use Rattle.std.specs.Option.{option_map}
 use Rattle.osc_coap.specs.Fault.{HasFault}
@@ -29,6 +29,7 @@ use Rattle.osc_kept_ends.specs.Peering.{TakesBelow}
 use Rattle.osc_peer_handle.specs.PeerBytes.{IsPeer, ServesBehind, StepsAnswering, TakesAnswering, next_in}
 use Rattle.osc_peer_handle.specs.declared.peer_handle.PeerHandle.{PeerHandle}
 use Rattle.osc_peer_handle.specs.declared.record_handle.RecordHandle.{RecordHandle}
+use Rattle.osc_c.proofs.Moved.{same_error}
 use Rattle.osc_c.proofs.Serving.{says_too}
 use Rattle.osc_c.specs.PeerCalls.{PeerTakesBy, RefusesPeerNotifying, RefusesPeerReplying}
 use Rattle.osc_c.specs.PeerCalls.RefusesPeerNotifying.{bad_handle as notify_handle, malformed as notify_malformed, save_first as notify_first, refused as notify_refused}
@@ -112,3 +113,9 @@ peer_notify_faulty first never p kept t plain room q status result detail (notif
     let same = first plain other fault at place from has in (says ∙ ap code (is ∙ ap format_status same.0), put ∙ same.1)
 peer_notify_faulty first never p kept t plain room q status result detail (notify_first a b m from asks zero wants) says whole ticket fault place has = absurd (never m plain fault place from has)
 peer_notify_faulty first never p kept t plain room q status result detail (notify_refused a b m from e is holds) says whole ticket fault place has = absurd (never m plain fault place from has)
+
+-- ---- refusals
+
+-- a refusal is no other one
+pub apart : {T E : Type 0} (r e other : E) → r ≡ e → (e ≡ other → ⊥) → ◌≡◌ {A = Result T E} (Err r) (Err other) → ⊥
+apart r e other is differ same = differ (sym is ∙ same_error same)

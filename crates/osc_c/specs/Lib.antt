@@ -6,6 +6,6 @@ pub mod ClientCalls
 pub mod ServerCalls
 pub mod Writing
 pub mod WritingSteps
-pub mod KeptServerCalls
-pub mod KeptClientCalls
 pub mod PeerCalls
+pub mod PeerAskingCalls
+pub mod PeerFinding

@@ -6,13 +6,13 @@
 mod client;
 mod derivation;
 mod head_view;
-mod kept_client;
-mod kept_server;
 mod notifying;
 mod opened_view;
 mod opening;
 mod peer;
 mod peer_answering;
+mod peer_asking;
+mod peer_finding;
 mod rooms;
 mod sealing;
 mod server;

@@ -10,22 +10,24 @@ ghost use Rattle.osc_protect.specs.Views.{message_of};
 ghost use Rattle.osc_protect.specs.declared.opened.Opened.{Opened as OpenedOf};
 ghost use Rattle.osc_client.specs.ClientHistory as asked;
 ghost use Rattle.osc_life.specs.Life.{is_open_life};
-ghost use Rattle.osc_life.specs.ServerHistory.{Add, Added, Begin, Datagram, Deliver, History, Then, Took, life};
+ghost use Rattle.osc_life.specs.ServerHistory.{Add, Added, Begin, Datagram, Deliver, Entry, History, Then, Took, life};
 ghost use Rattle.osc_observe.specs.Views.{received_of};
 ghost use Rattle.osc_life.specs.declared.start.Start.{Start as StartOf};
+ghost use Rattle.osc_endpoint.specs.ServerAnswer.{ServerAnswer};
 ghost use Rattle.osc_context_handle.specs.ContextBytes.{IsContext, client_in, server_in};
 ghost use Rattle.osc_handle.specs.TicketBytes.{IsTicket, ticket_in};
 ghost use Rattle.osc_kept_ends.specs.EchoNumber.{echo_of};
 ghost use Rattle.osc_kept_ends.specs.Numbering.{Load, Own, after, nothing_drawn, upcoming};
 ghost use Rattle.osc_kept_ends.specs.Peering.{IsPeerStart};
-ghost use Rattle.osc_peer_handle.specs.PeerBytes.{AsksBehind, HasNumbers, HasToSave, IsPeer, IsSamePeer, IsSavedAs, IsTicketOf, ServesBehind, StepsAnswering, inside_of, next_in};
+ghost use Rattle.osc_peer_handle.specs.PeerBytes.{AsksBehind, CatchesUp, HasNumbers, HasToSave, IsPeer, IsSamePeer, IsSavedAs, IsTicketOf, ServesBehind, StepsAnswering, inside_of, next_in};
 ghost use Rattle.osc_peer_handle.specs.RecordBytes.{IsRecordOf, name_in};
 ghost use Rattle.osc_c.specs.ClientCalls.{RefusesNumber};
 ghost use Rattle.osc_c.specs.Opened.{option_in, Shows};
 ghost use Rattle.osc_c.specs.PeerCalls.{AsksToSave, IsNotNext, RefusesAgain, RefusesPeerSaved, RefusesPeerServing, next_record};
+ghost use Rattle.osc_c.specs.ServerCalls.{ReadsServing};
 ghost use Rattle.osc_c.specs.Statuses.{code};
 ghost use Rattle.osc_c.specs.declared.status.Status.{Status as StatusOf};
-ghost use Rattle.osc_c.specs.declared.status.Status.TheVariants.{BadHandle, SaveFirst};
+ghost use Rattle.osc_c.specs.declared.status.Status.TheVariants.{BadHandle, LivesExhausted, SaveFirst};
 
 use crate::opened_view::{OpenedView, OptionView, show};
 use crate::server::delivery;
@@ -33,7 +35,8 @@ use crate::status::{DONE, Refusal, Status};
 use osc_context_handle::ContextHandle;
 use osc_endpoint::Taken;
 use osc_handle::{TicketHandle, size_with};
-use osc_peer_handle::{BeginRefusal, PeerHandle, PeerRefusal, RecordHandle};
+use osc_laws::one_server_answer;
+use osc_peer_handle::{BeginRefusal, PeerHandle, PeerRefusal, RecordHandle, name_of};
 use osc_protect::Opened;
 
 /// Writes the record that has to be saved first, and makes the refusal of the call that needs it.
@@ -53,6 +56,21 @@ pub(crate) fn save_next(
     };
     *kept = next;
     Status::SaveFirst.into()
+}
+
+/// Writes the name of a context, which its peers, their records and their tickets have. A refusal is BadHandle, and changes nothing.
+#[unsafe(no_mangle)]
+pub extern "C" fn oscore_peer_name(context: &ContextHandle, name: &mut u64) -> u32
+    ensures named { result ≡ 0 → name.new ≡ name_in context.now }
+    ensures accepts { IsContext context.now → result ≡ 0 }
+    ensures refuses { (IsContext context.now → ⊥) → result ≡ code BadHandle }
+    ensures unchanged { result ≢ 0 → name.new ≡ name.old }
+{
+    if !context.is_whole() {
+        return Status::BadHandle.code();
+    }
+    *name = name_of(context);
+    DONE
 }
 
 /// Begins a peer of a context that was never used, with nothing pending: at its provisioning, once. Its window has 1, 32 or 64 places, and each
@@ -224,12 +242,17 @@ pub extern "C" fn oscore_peer_take<'b>(
     ensures refuses { (IsPeer peer.old → ⊥) → result ≡ code BadHandle }
     ensures save_first { (h : History) (o : Own) → ServesBehind peer.old o h → HasToSave (not (is_open_life (life h 0))) (upcoming o) peer.old → peer.old.generation + 1 < 2 ^ 64
         → (result ≡ code SaveFirst) × (kept.new ≡ next_record peer.old (next_limit peer.old.server.reserved) peer.old.received) }
+    ensures answers { (h g : History) (o : Own) (entry : Entry) → ServesBehind peer.old o h → CatchesUp h g o → result ≢ code SaveFirst → result ≢ code LivesExhausted
+        → ServerAnswer g (Datagram now (echo_of (next_in peer.old)) mid datagram.old) entry
+        → ReadsServing entry result detail.new (ticket_in (inside_of peer.new ticket.new)) (take out_len.new out.new) }
     ensures spared { result ≢ code SaveFirst → kept.new ≡ kept.old }
     ensures stays { IsSamePeer peer.old peer.new }
     ensures within { out_len.new ≤ 64 }
     ensures behind { drop out_len.new out.new ≡ drop out_len.new out.old }
     ensures unchanged { result ≢ 0 → (opened.new ≡ opened.old) × (options.new ≡ options.old) × (ticket.new ≡ ticket.old) }
 {
+    // For the proof alone.
+    one_server_answer();
     match take_in(peer, now, mid, datagram, out, out_len, kept) {
         Ok((message, right)) => {
             show(&message, options, opened);

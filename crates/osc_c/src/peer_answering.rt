@@ -6,15 +6,17 @@ ghost use Rattle.osc_coap.specs.Fault.{HasFault};
 ghost use Rattle.osc_coap.specs.declared.format_error.Fault.{Fault as FaultOf};
 ghost use Rattle.osc_context.specs.Reserving.{next_limit};
 ghost use Rattle.osc_life.specs.LifeAnswer.{asks_own};
-ghost use Rattle.osc_life.specs.ServerHistory.{History, Notify, Replied, Reply};
+ghost use Rattle.osc_life.specs.ServerHistory.{Entry, History, Notify, Replied, Reply};
+ghost use Rattle.osc_endpoint.specs.ServerAnswer.{ServerAnswer};
 ghost use Rattle.osc_handle.specs.ServerBytes.{IsSpent};
 ghost use Rattle.osc_handle.specs.TicketBytes.{IsTicket, ticket_in};
 ghost use Rattle.osc_kept_ends.specs.Numbering.{Own, upcoming};
-ghost use Rattle.osc_peer_handle.specs.PeerBytes.{HasToSave, IsPeer, IsSamePeer, IsTicketOf, ServesBehind, StepsAnswering, inside_of};
+ghost use Rattle.osc_peer_handle.specs.PeerBytes.{CatchesUp, HasToSave, IsPeer, IsSamePeer, IsTicketOf, ServesBehind, StepsAnswering, inside_of};
 ghost use Rattle.osc_c.specs.PeerCalls.{RefusesPeerNotifying, RefusesPeerReplying, next_record};
+ghost use Rattle.osc_c.specs.ServerCalls.{ReadsReplying};
 ghost use Rattle.osc_c.specs.Statuses.{code, format_status};
 ghost use Rattle.osc_c.specs.declared.status.Status.{Status as StatusOf};
-ghost use Rattle.osc_c.specs.declared.status.Status.TheVariants.{BadHandle, SaveFirst, StaleTicket, TicketSpent};
+ghost use Rattle.osc_c.specs.declared.status.Status.TheVariants.{BadHandle, LivesExhausted, SaveFirst, StaleTicket, TicketSpent};
 
 use crate::peer::save_next;
 use crate::server::replying_refusal;
@@ -22,6 +24,7 @@ use crate::status::{DONE, Refusal, Status};
 use osc_coap::{one_datagram, parse};
 use osc_handle::TicketHandle;
 use osc_kept_handle::KeptReplyRefusal;
+use osc_laws::one_server_answer;
 use osc_peer_handle::{PeerHandle, RecordHandle};
 
 /// Seals a plain reply, which is passed in as a datagram.
@@ -100,6 +103,10 @@ pub extern "C" fn oscore_peer_reply(
         → (result ≡ code SaveFirst) × (kept.new ≡ next_record peer.old (next_limit peer.old.server.reserved) peer.old.received) }
     ensures once { (q : Parts) → IsDatagram q plain.now → IsTicket ticket.now → IsTicketOf peer.old ticket.now → (h : History) (o : Own) → ServesBehind peer.old o h
         → IsSpent h (ticket_in (inside_of peer.old ticket.now)) → (HasToSave (asks_own (ticket_in (inside_of peer.old ticket.now)) own) (upcoming o) peer.old → ⊥) → result ≡ code TicketSpent }
+    ensures answers { (q : Parts) → IsDatagram q plain.now → IsTicket ticket.now → IsTicketOf peer.old ticket.now → (h g : History) (o : Own) (entry : Entry)
+        → ServesBehind peer.old o h → CatchesUp h g o → (IsSpent h (ticket_in (inside_of peer.old ticket.now)) → ⊥) → result ≢ code SaveFirst → result ≢ code LivesExhausted
+        → ServerAnswer g (Reply (ticket_in (inside_of peer.old ticket.now)) (asks_own (ticket_in (inside_of peer.old ticket.now)) own) mid q (length out.old)) entry
+        → ReadsReplying entry result detail.new (take out_len.new out.new) }
     ensures spared { result ≢ code SaveFirst → kept.new ≡ kept.old }
     ensures stays { IsSamePeer peer.old peer.new }
     ensures within { result ≡ 0 → out_len.new ≤ length out.new }
@@ -107,6 +114,7 @@ pub extern "C" fn oscore_peer_reply(
     ensures unchanged { result ≢ 0 → (peer.new ≡ peer.old) × (out.new ≡ out.old) × (out_len.new ≡ out_len.old) }
 {
     // For the proof alone.
+    one_server_answer();
     one_datagram();
     match reply_in(peer, ticket, own, mid, plain, out, kept) {
         Ok(len) => {
@@ -188,6 +196,9 @@ pub extern "C" fn oscore_peer_notify(
     ensures save_first { (q : Parts) → IsDatagram q plain.now → IsTicket ticket.now → IsTicketOf peer.old ticket.now → (h : History) (o : Own) → ServesBehind peer.old o h
         → HasToSave true (upcoming o) peer.old → peer.old.generation + 1 < 2 ^ 64
         → (result ≡ code SaveFirst) × (kept.new ≡ next_record peer.old (next_limit peer.old.server.reserved) peer.old.received) }
+    ensures answers { (q : Parts) → IsDatagram q plain.now → IsTicket ticket.now → IsTicketOf peer.old ticket.now → (h g : History) (o : Own) (entry : Entry)
+        → ServesBehind peer.old o h → CatchesUp h g o → result ≢ code SaveFirst → result ≢ code LivesExhausted
+        → ServerAnswer g (Notify (ticket_in (inside_of peer.old ticket.now)) q (length out.old)) entry → ReadsReplying entry result detail.new (take out_len.new out.new) }
     ensures spared { result ≢ code SaveFirst → kept.new ≡ kept.old }
     ensures stays { IsSamePeer peer.old peer.new }
     ensures within { result ≡ 0 → out_len.new ≤ length out.new }
@@ -195,6 +206,7 @@ pub extern "C" fn oscore_peer_notify(
     ensures unchanged { result ≢ 0 → (peer.new ≡ peer.old) × (out.new ≡ out.old) × (out_len.new ≡ out_len.old) }
 {
     // For the proof alone.
+    one_server_answer();
     one_datagram();
     match notify_in(peer, ticket, plain, out, kept) {
         Ok(len) => {

@@ -4,8 +4,9 @@ ghost use Rattle.std.specs.Prelude.{◌≡◌};
 
 use crate::head_view::HeadView;
 use crate::opened_view::{OpenedView, OptionView};
-use osc_handle::{ClientHandle, ContextHandle, ServerHandle, SingleServerHandle, TicketHandle};
-use osc_kept_handle::{KeptClientHandle, KeptServerHandle};
+use osc_handle::{
+    ClientHandle, ContextHandle, PendingHandle, ServerHandle, SingleServerHandle, TicketHandle,
+};
 use osc_peer_handle::{PeerHandle, RecordHandle};
 
 /// The sizes of the structs of `oscore.h` in bytes, as the library has them.
@@ -20,16 +21,15 @@ pub struct Sizes {
     pub ticket: usize,
     pub client: usize,
     pub server1: usize,
-    pub kept_server: usize,
-    pub kept_client: usize,
     pub peer: usize,
     pub peer_record: usize,
+    pub pending: usize,
 }
 
 /// Writes the sizes, so that a caller can compare them with the sizes that its compiler has.
 #[unsafe(no_mangle)]
 pub extern "C" fn oscore_sizes(sizes: &mut Sizes)
-    ensures { sizes.new ≡ record { context = 97; option = 24; opened = 104; request_head = 64; server = 1296; ticket = 40; client = 456; server1 = 168; kept_server = 176; kept_client = 464; peer = 224; peer_record = 32 } }
+    ensures { sizes.new ≡ record { context = 97; option = 24; opened = 104; request_head = 64; server = 1296; ticket = 40; client = 456; server1 = 168; peer = 224; peer_record = 32; pending = 40 } }
 {
     *sizes = Sizes {
         context: size_of::<ContextHandle>(),
@@ -40,9 +40,8 @@ pub extern "C" fn oscore_sizes(sizes: &mut Sizes)
         ticket: size_of::<TicketHandle>(),
         client: size_of::<ClientHandle>(),
         server1: size_of::<SingleServerHandle>(),
-        kept_server: size_of::<KeptServerHandle>(),
-        kept_client: size_of::<KeptClientHandle>(),
         peer: size_of::<PeerHandle>(),
         peer_record: size_of::<RecordHandle>(),
+        pending: size_of::<PendingHandle>(),
     };
 }

@@ -110,6 +110,7 @@ impl ClientState {
         ensures no_keeper_failed { IfErr result (λ e. e ≢ KeeperFailed) }
         ensures table { W.is_table pending.new }
         ensures room { W.room pending.new ≡ W.room pending.old }
+        ensures lies { W.lies pending.new ≡ W.lies pending.old }
         ensures apart { TokensDiffer (W.requests pending.old) → TokensDiffer (W.requests pending.new) }
     {
         self.advance(pending, now);

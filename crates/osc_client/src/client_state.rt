@@ -100,6 +100,7 @@ impl ClientState {
             → PartsAgree (parts_over self.new (W.requests pending.new)) (Then h (Advance now) Advanced) }
         ensures table { W.is_table pending.new }
         ensures room { W.room pending.new ≡ W.room pending.old }
+        ensures lies { W.lies pending.new ≡ W.lies pending.old }
         ensures apart { TokensDiffer (W.requests pending.old) → TokensDiffer (W.requests pending.new) }
     {
         self.clock = self.clock.max(now);

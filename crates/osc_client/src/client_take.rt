@@ -97,6 +97,7 @@ impl ClientState {
         ensures within { IfOk result (λ p. p.1.place < length (W.requests pending.new)) }
         ensures table { W.is_table pending.new }
         ensures room { W.room pending.new ≡ W.room pending.old }
+        ensures lies { W.lies pending.new ≡ W.lies pending.old }
         ensures apart { TokensDiffer (W.requests pending.old) → TokensDiffer (W.requests pending.new) }
     {
         // For the proof alone.
@@ -144,6 +145,7 @@ impl ClientState {
         ensures left { LeavesAmong (parts_over self.old (W.requests pending.old)) result datagram.old datagram.new }
         ensures table { W.is_table pending.new }
         ensures room { W.room pending.new ≡ W.room pending.old }
+        ensures lies { W.lies pending.new ≡ W.lies pending.old }
         ensures apart { TokensDiffer (W.requests pending.old) → TokensDiffer (W.requests pending.new) }
     {
         // For the proof alone.
@@ -192,6 +194,7 @@ impl ClientState {
             → ClientShowsDecided result datagram.new outcome → Hears h now datagram.old c n own m → client_hearing_of outcome ≡ Some (c, n, own, m) }
         ensures table { W.is_table pending.new }
         ensures room { W.room pending.new ≡ W.room pending.old }
+        ensures lies { W.lies pending.new ≡ W.lies pending.old }
         ensures apart { TokensDiffer (W.requests pending.old) → TokensDiffer (W.requests pending.new) }
     {
         // For the proof alone.

@@ -10,14 +10,16 @@ ghost use Rattle.osc_client.specs.Views.{asked_of};
 use crate::pending::{Found, Pending, Wait, drop_expired, find_request};
 use arrayvec::ArrayVec;
 
-/// A table of pending requests, oldest first, wherever it lies. Only clauses read its requests, how many there is room for, and whether its
-/// bytes are such a table at all.
+/// A table of pending requests, oldest first, wherever it lies. Only clauses read whether its bytes are such a table at all, its requests, how
+/// many there is room for, and the names of the borrows that it lies behind, which no call changes.
 pub trait Waiting {
     ghost is_table: { Self → Type 0 };
 
     ghost requests: { Self → List Asked };
 
     ghost room: { Self → ℕ };
+
+    ghost lies: { Self → List ℕ };
 
     /// Finds the request with this token.
     fn find(&self, token: &[u8]) -> Option<Found>
@@ -37,6 +39,7 @@ pub trait Waiting {
         requires fits { length (requests self.old) < room self.old }
         ensures table { is_table self.new }
         ensures room { room self.new ≡ room self.old }
+        ensures lies { lies self.new ≡ lies self.old }
         ensures requests { requests self.new ≡ requests self.old ++ asked_of request ∷ [] };
 
     /// Takes the request at a place out. The later ones move up.
@@ -45,6 +48,7 @@ pub trait Waiting {
         requires within { place < length (requests self.old) }
         ensures table { is_table self.new }
         ensures room { room self.new ≡ room self.old }
+        ensures lies { lies self.new ≡ lies self.old }
         ensures requests { requests self.new ≡ but_place (requests self.old) place };
 
     /// Has the request at a place wait for this.
@@ -53,6 +57,7 @@ pub trait Waiting {
         requires within { place < length (requests self.old) }
         ensures table { is_table self.new }
         ensures room { room self.new ≡ room self.old }
+        ensures lies { lies self.new ≡ lies self.old }
         ensures requests { (r : Asked) → slice_get (requests self.old) place ≡ Some r
             → requests self.new ≡ slice_set (requests self.old) place (record r { wait = wait }) };
 
@@ -61,6 +66,7 @@ pub trait Waiting {
         requires { is_table self.old }
         ensures table { is_table self.new }
         ensures room { room self.new ≡ room self.old }
+        ensures lies { lies self.new ≡ lies self.old }
         ensures requests { requests self.new ≡ alive clock life_ms (requests self.old) };
 }
 
@@ -70,6 +76,8 @@ impl<const N: usize> Waiting for ArrayVec<Pending, N> {
     ghost requests = { λ table. map asked_of table.items };
 
     ghost room = { λ _. N };
+
+    ghost lies = { λ _. [] };
 
     fn find(&self, token: &[u8]) -> Option<Found> {
         find_request(self.as_slice(), token)
@@ -105,6 +113,7 @@ pub fn forget_in<W: Waiting>(pending: &mut W, token: &[u8]) -> bool
         → PartsAgree (record c { pending = W.requests pending.new }) (Then h (Forget token.now) (Forgot result)) }
     ensures table { W.is_table pending.new }
     ensures room { W.room pending.new ≡ W.room pending.old }
+    ensures lies { W.lies pending.new ≡ W.lies pending.old }
     ensures apart { TokensDiffer (W.requests pending.old) → TokensDiffer (W.requests pending.new) }
 {
     match pending.find(token) {

@@ -7,7 +7,7 @@ use Rattle.osc_context.specs.declared.partial_iv.Piv.{Piv}
 use Rattle.osc_client.specs.Agrees.{ClientParts, PartsAgree, TokensDiffer, next_of}
 use Rattle.osc_client.specs.ClientAnswer.{ClientAnswer}
 use Rattle.osc_client.specs.ClientHistory.{Entry, Event, History, Then}
-use Rattle.osc_handle.specs.ClientBytes.{Asks, IsClient, IsTable, asked_in, parts_in}
+use Rattle.osc_handle.specs.ClientBytes.{Asks, ArePlaced, IsClient, asked_in, parts_in}
 use Rattle.osc_context_handle.specs.ContextBytes.{IsContext, client_in}
 use Rattle.osc_handle.specs.declared.client_handle.ClientHandle.{ClientHandle}
 
@@ -42,7 +42,7 @@ agrees_of c p h is a =
     })
 
 -- bytes that calls left are ones that a call may have written
-pub whole_on : (before after : ClientHandle) → IsClient before → after.context ≡ before.context → after.next ≤ 2 ^ 40 → IsTable after.waiting
+pub whole_on : (before after : ClientHandle) → IsClient before → after.context ≡ before.context → after.next ≤ 2 ^ 40 → ArePlaced after.waiting.count after.waiting.pending
     → TokensDiffer (asked_in after.waiting) → IsClient after
 whole_on before after w same most table differ =
     record { context = subst IsContext (sym same) w.context; next = most; requests = record { table = table; differ = differ } }

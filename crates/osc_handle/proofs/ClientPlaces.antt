@@ -15,9 +15,8 @@ use Rattle.osc_client.specs.Agrees.{TokensDiffer}
 use Rattle.osc_client.specs.ClientAnswer.{IsAmong}
 use Rattle.osc_client.specs.ClientHistory.{Asked, alive, is_alive}
 use Rattle.osc_client.specs.declared.pending.Wait.{Wait}
-use Rattle.osc_handle.specs.ClientBytes.{IsPending, IsTable, asked_at}
+use Rattle.osc_handle.specs.ClientBytes.{ArePlaced, IsPending, asked_at}
 use Rattle.osc_handle.specs.declared.pending_handle.PendingHandle.{PendingHandle}
-use Rattle.osc_handle.specs.declared.waiting_handle.WaitingHandle.{WaitingHandle}
 use Rattle.osc_handle.proofs.Tables.{front_has, in_front}
 
 one_more : (i : ℕ) → i + 1 ≡ suc i
@@ -185,6 +184,10 @@ kept_less ps qs kept place moment ms b there gone so_far =
     so_far ∙ sym (append-nil (alive moment ms (map asked_at (take place qs)))) ∙ sym (one_alive moment ms (map asked_at (take place qs)) (asked_at b) false gone)
     ∙ ap (alive moment ms) (sym (asked_more qs place b there))
 
+-- there is a place more
+pub one_fits : (ps : List PendingHandle) (n : ℕ) → n ≤ length ps → length (map asked_at (take n ps)) < length ps → n < length ps
+one_fits ps n fits less = let l = subst (λ k. k < length ps) (length-map (take n ps) asked_at) less in let m = length-take n ps in omega (arith, l, m, fits)
+
 -- a place of the front is below its length
 pub within_front : (ps : List PendingHandle) (n i : ℕ) → i < length (map asked_at (take n ps)) → i < n
 within_front ps n i less = let l = subst (λ k. i < k) (length-map (take n ps) asked_at) less in let m = length-take n ps in omega (arith, l, m)
@@ -202,38 +205,36 @@ each_set ps n i b d less within each whole j c there =
     ]
 
 -- of the requests before a place those are kept that are still pending, in the first places; the later ones lie where they lay
-abbrev pub Keeping : WaitingHandle → ℕ → ℕ → WaitingHandle → ℕ → ℕ → Type 0
-Keeping old moment ms t kept place =
-    (length t.pending ≡ 8) × (t.count ≡ old.count) × (kept ≤ place) × (map asked_at (take kept t.pending) ≡ alive moment ms (map asked_at (take place old.pending)))
-    × ((i : ℕ) (b : PendingHandle) → place ≤ i → slice_get t.pending i ≡ Some b → slice_get old.pending i ≡ Some b)
-    × ((i : ℕ) (b : PendingHandle) → i < kept → slice_get t.pending i ≡ Some b → IsPending b)
+abbrev pub Keeping : List PendingHandle → ℕ → ℕ → List PendingHandle → ℕ → ℕ → Type 0
+Keeping qs moment ms ps kept place =
+    (length ps ≡ length qs) × (kept ≤ place) × (map asked_at (take kept ps) ≡ alive moment ms (map asked_at (take place qs)))
+    × ((i : ℕ) (b : PendingHandle) → place ≤ i → slice_get ps i ≡ Some b → slice_get qs i ≡ Some b)
+    × ((i : ℕ) (b : PendingHandle) → i < kept → slice_get ps i ≡ Some b → IsPending b)
 
-pub same_keeping : (old t new : WaitingHandle) (moment ms kept kept_now place : ℕ) → new ≡ t → kept_now ≡ kept → Keeping old moment ms t kept place → Keeping old moment ms new kept_now place
-same_keeping old t new moment ms kept kept_now place is kept_is k =
-    subst (λ x. Keeping old moment ms x kept_now place) (sym is) (subst (λ n. Keeping old moment ms t n place) (sym kept_is) k)
+pub same_keeping : (qs ps new : List PendingHandle) (moment ms kept kept_now place : ℕ) → new ≡ ps → kept_now ≡ kept → Keeping qs moment ms ps kept place → Keeping qs moment ms new kept_now place
+same_keeping qs ps new moment ms kept kept_now place is kept_is k =
+    subst (λ x. Keeping qs moment ms x kept_now place) (sym is) (subst (λ n. Keeping qs moment ms ps n place) (sym kept_is) k)
 
 -- the request at that place is kept
-pub one_kept : (old t : WaitingHandle) (moment ms kept place : ℕ) (b : PendingHandle) → IsTable old → place < old.count → Keeping old moment ms t kept place
-    → slice_get t.pending place ≡ Some b → is_alive moment ms (asked_at b) ≡ true → Keeping old moment ms (record { count = t.count; pending = slice_set t.pending kept b }) (kept + 1) (place + 1)
-one_kept old t moment ms kept place b w less (long, same, most, so_far, later, each) there lives =
+pub one_kept : (qs ps : List PendingHandle) (n moment ms kept place : ℕ) (b : PendingHandle) → ArePlaced n qs → place < n → Keeping qs moment ms ps kept place
+    → slice_get ps place ≡ Some b → is_alive moment ms (asked_at b) ≡ true → Keeping qs moment ms (slice_set ps kept b) (kept + 1) (place + 1)
+one_kept qs ps n moment ms kept place b w less (long, most, so_far, later, each) there lives =
     let was = later place b (omega arith) there in
-    let within : kept < length t.pending = let fits = w.fits in omega (arith, less, most, long, fits) in (
-      length-set t.pending kept b ∙ long,
-      same,
+    let within : kept < length ps = let fits = w.fits in omega (arith, less, most, long, fits) in (
+      length-set ps kept b ∙ long,
       omega (arith, most),
-      kept_more t.pending old.pending kept place moment ms b within was lives so_far,
-      λ i c past at. later i c (omega (arith, past)) (sym (slice_get-set_other t.pending kept i b (λ is. omega (arith, is, most, past))) ∙ at),
-      each_placed t.pending kept b within (w.each place b (front_has old.pending old.count place less ∙ was)) each,
+      kept_more ps qs kept place moment ms b within was lives so_far,
+      λ i c past at. later i c (omega (arith, past)) (sym (slice_get-set_other ps kept i b (λ is. omega (arith, is, most, past))) ∙ at),
+      each_placed ps kept b within (w.each place b (front_has qs n place less ∙ was)) each,
     )
 
 -- it isn't
-pub one_dropped : (old t : WaitingHandle) (moment ms kept place : ℕ) (b : PendingHandle) → Keeping old moment ms t kept place → slice_get t.pending place ≡ Some b
-    → is_alive moment ms (asked_at b) ≡ false → Keeping old moment ms t kept (place + 1)
-one_dropped old t moment ms kept place b (long, same, most, so_far, later, each) there gone = (
+pub one_dropped : (qs ps : List PendingHandle) (moment ms kept place : ℕ) (b : PendingHandle) → Keeping qs moment ms ps kept place → slice_get ps place ≡ Some b
+    → is_alive moment ms (asked_at b) ≡ false → Keeping qs moment ms ps kept (place + 1)
+one_dropped qs ps moment ms kept place b (long, most, so_far, later, each) there gone = (
   long,
-  same,
   omega (arith, most),
-  kept_less t.pending old.pending kept place moment ms b (later place b (omega arith) there) gone so_far,
+  kept_less ps qs kept place moment ms b (later place b (omega arith) there) gone so_far,
   λ i c past at. later i c (omega (arith, past)) at,
   each,
 )

@@ -1,5 +1,5 @@
 -- To be believed: what the bytes of a client say. c are the bytes, b the bytes of one pending request, h is a history.
-use Rattle.std.specs.Prelude.{◌≡◌, ℕ, ◌≤◌, ◌<◌, ◌==◌, ◌^◌, List, Some, map, slice_get, take, if◌then◌else◌}
+use Rattle.std.specs.Prelude.{◌≡◌, ℕ, ◌≤◌, ◌<◌, ◌==◌, ◌^◌, List, Some, length, map, slice_get, take, if◌then◌else◌}
 use Rattle.osc_client.specs.Agrees.{ClientParts, TokensDiffer}
 use Rattle.osc_client.specs.ClientHistory.{Asked, History, clock, context, life_ms, next, pending}
 use Rattle.osc_laws.specs.ClientLaws.{AllClientAnswers, RequestNumbersAre, RequestsHaveTwoNonces, sealed}
@@ -19,13 +19,13 @@ wait_in b = if b.observes == 0 then Once else Observing b.from
 abbrev pub asked_at : PendingHandle → Asked
 asked_at b = record { token = take b.token_len b.token; number = b.number; moment = b.moment; wait = wait_in b }
 
--- the places that are in use (own rule)
-abbrev pub pending_in : WaitingHandle → List PendingHandle
-pending_in t = take t.count t.pending
+-- the requests in the first n of these places, oldest first (own rule)
+abbrev pub asked_among : ℕ → List PendingHandle → List Asked
+asked_among n ps = map asked_at (take n ps)
 
 -- the pending requests, oldest first (own rule)
 abbrev pub asked_in : WaitingHandle → List Asked
-asked_in t = map asked_at (pending_in t)
+asked_in t = asked_among t.count t.pending
 
 -- what the client is made of (own rule)
 abbrev pub parts_in : ClientHandle → ClientParts
@@ -42,21 +42,21 @@ pub record IsPending (b : PendingHandle) : Type 0 where
   pub number : b.number < 2 ^ 40
   pub wait : IsWait b
 
--- bytes of pending requests, at most eight, each of which a call may have written (own rule)
-pub record IsTable (t : WaitingHandle) : Type 0 where
-  pub fits : t.count ≤ 8
-  pub each : (i : ℕ) (b : PendingHandle) → slice_get (pending_in t) i ≡ Some b → IsPending b
+-- there are n places, and a call may have written the bytes of each of the first n (own rule)
+pub record ArePlaced (n : ℕ) (ps : List PendingHandle) : Type 0 where
+  pub fits : n ≤ length ps
+  pub each : (i : ℕ) (b : PendingHandle) → slice_get (take n ps) i ≡ Some b → IsPending b
 
--- bytes of pending requests that a call may have written: no two with the same token (RFC 7252, 5.3.1)
-pub record ArePending (t : WaitingHandle) : Type 0 where
-  pub table : IsTable t
-  pub differ : TokensDiffer (asked_in t)
+-- bytes of n pending requests that a call may have written: no two with the same token (RFC 7252, 5.3.1)
+pub record ArePending (n : ℕ) (ps : List PendingHandle) : Type 0 where
+  pub table : ArePlaced n ps
+  pub differ : TokensDiffer (asked_among n ps)
 
 -- bytes of a client that a call may have written (own rule)
 pub record IsClient (c : ClientHandle) : Type 0 where
   pub context : IsContext c.context
   pub next : c.next ≤ 2 ^ 40
-  pub requests : ArePending c.waiting
+  pub requests : ArePending c.waiting.count c.waiting.pending
 
 -- the bytes are as the history says, and each of its entries is the client's answer (RFC 8613, 3.1 and 8)
 pub record Asks (c : ClientHandle) (h : History) : Type 0 where

@@ -17,6 +17,7 @@ ghost use Rattle.osc_handle.specs.ClientSteps.{ClientDecidesIn, ClientTakesIn};
 ghost use Rattle.osc_context_handle.specs.ContextBytes.{IsContext, client_in, is_constant_time_in};
 
 use crate::left::Left;
+use crate::places::Places;
 use crate::waiting_handle::WaitingHandle;
 use osc_client::siblings::{ClientState, forget_in};
 use osc_coap::Message;
@@ -112,7 +113,11 @@ impl ClientHandle {
         if !self.is_whole() {
             return None;
         }
-        Some(forget_in(&mut self.waiting, token))
+        let mut places = Places {
+            places: &mut self.waiting.pending,
+            count: &mut self.waiting.count,
+        };
+        Some(forget_in(&mut places, token))
     }
 
     /// Seals a request with the next number, writes it to the front of `out`, and returns how many bytes it wrote (RFC 8613, 8.1).
@@ -141,7 +146,11 @@ impl ClientHandle {
         let Some(mut state) = self.state() else {
             return None;
         };
-        let sent = state.send(&mut self.waiting, now, plain, out);
+        let mut places = Places {
+            places: &mut self.waiting.pending,
+            count: &mut self.waiting.count,
+        };
+        let sent = state.send(&mut places, now, plain, out);
         self.clock = state.clock();
         self.next = state.next();
         match sent {
@@ -170,7 +179,11 @@ impl ClientHandle {
         let Some(mut state) = self.state() else {
             return None;
         };
-        let decision = state.decide(&mut self.waiting, now, datagram);
+        let mut places = Places {
+            places: &mut self.waiting.pending,
+            count: &mut self.waiting.count,
+        };
+        let decision = state.decide(&mut places, now, datagram);
         self.clock = state.clock();
         self.next = state.next();
         Some(decision)

@@ -50,6 +50,7 @@ pub fn request_bytes_in_list<W: Waiting>(
     ensures unchanged { OnErr result (out.new ≡ out.old) }
     ensures no_keeper_failed { result ≢ Err (refusals.Refused KeeperFailed) }
     ensures room { W.room pending.new ≡ W.room pending.old }
+    ensures lies { W.lies pending.new ≡ W.lies pending.old }
     ensures apart { TokensDiffer (W.requests pending.old) → TokensDiffer (W.requests pending.new) }
 {
     // For the proof alone.
@@ -75,6 +76,7 @@ pub fn decide_response_bytes_in_list<W: Waiting>(
     ensures shown { IfSome result (λ decision. CanShow decision datagram.new) }
     ensures unchanged { IsNone result → (peer.new ≡ peer.old) × (pending.new ≡ pending.old) × (datagram.new ≡ datagram.old) }
     ensures room { W.room pending.new ≡ W.room pending.old }
+    ensures lies { W.lies pending.new ≡ W.lies pending.old }
     ensures apart { TokensDiffer (W.requests pending.old) → TokensDiffer (W.requests pending.new) }
 {
     // For the proof alone.
@@ -99,6 +101,7 @@ pub fn hear_bytes_in_list<'b, W: Waiting>(
     ensures stays { IsSamePeer peer.old peer.new }
     ensures unchanged { IsNone result → (peer.new ≡ peer.old) × (pending.new ≡ pending.old) }
     ensures room { W.room pending.new ≡ W.room pending.old }
+    ensures lies { W.lies pending.new ≡ W.lies pending.old }
     ensures apart { TokensDiffer (W.requests pending.old) → TokensDiffer (W.requests pending.new) }
 {
     // For the proof alone.
@@ -122,6 +125,7 @@ pub fn forget_bytes_in_list<W: Waiting>(
     ensures stays { peer.new ≡ peer.old }
     ensures unchanged { IsNone result → pending.new ≡ pending.old }
     ensures room { W.room pending.new ≡ W.room pending.old }
+    ensures lies { W.lies pending.new ≡ W.lies pending.old }
     ensures apart { TokensDiffer (W.requests pending.old) → TokensDiffer (W.requests pending.new) }
 {
     // For the proof alone.

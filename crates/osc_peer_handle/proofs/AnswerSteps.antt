@@ -184,6 +184,7 @@ steps_answering p q h g event entry old life_is clock received has passes serves
     record {
       g = g;
       passes = passes;
+      reaches = serves.next_is;
       row = step.row;
       new = step.new;
       numbers = step.numbers;

@@ -103,14 +103,15 @@ asks_moved p room old new a b event entry requests later parts w passes row agre
 
 -- what the client came to, and its numbers
 steps_asking : (p : PeerHandle) (room : ℕ) (old new : Own) (a b : History) (event : Event) (entry : Entry) (requests later : List Asked) (parts : ClientParts) → AsksBehind p requests room old a
-    → ClientPasses room a b → ClientAnswer room b event entry → PartsAgree parts (Then b event entry) → parts.pending ≡ later → TokensDiffer later
+    → ClientPasses room a b → next b ≡ upcoming old → ClientAnswer room b event entry → PartsAgree parts (Then b event entry) → parts.pending ≡ later → TokensDiffer later
     → parts.next ≡ upcoming new → AreReserved new p.server.reserved → Steps (draws event) (uses b event entry) old new
     → StepsAsking p room a event entry old (moved p parts.next parts.clock) later
-steps_asking p room old new a b event entry requests later parts w passes row agrees table differ is numbers steps =
+steps_asking p room old new a b event entry requests later parts w passes reaches row agrees table differ is numbers steps =
     let has = has_moved p new parts.next parts.clock w.has.whole is numbers in
     record {
       b = b;
       passes = passes;
+      reaches = reaches;
       row = row;
       new = new;
       numbers = steps;
@@ -133,7 +134,7 @@ sent p room old a b now plain size bytes requests later parts w passes before wa
     let next_is : next b ≡ upcoming old = next_of_passed p requests room old a b w before in
     let below : upcoming old < 2 ^ 40 = subst (λ n. n < 2 ^ 40) next_is row.0.2 in
     let hand : mid.hand ≡ Some (next b) = in_hand old mid drawn below ∙ ap (λ n. Some n) (sym next_is) in
-    steps_asking p room old (after (Use (next b)) mid) a b (Request now plain size) (Sent bytes) requests later parts w passes row agrees table differ
+    steps_asking p room old (after (Use (next b)) mid) a b (Request now plain size) (Sent bytes) requests later parts w passes next_is row agrees table differ
     (agrees.next_is ∙ numbers.last (next b) hand) (used mid (next b) p.server.reserved numbers) (mid, drawn, (hand, refl))
 
 -- a request that wasn't
@@ -145,7 +146,7 @@ not_sent p room old a b now plain size e requests later parts w passes before wa
     let top = w.has.whole.server.reserved in
     let (mid, drawn, numbers) = drawn_by true old p.server.reserved w.has.numbers top (λ x. wants (subst (λ n. WantsSave true n p.server.reserved) (sym w.has.next_is) x)) in
     let next_is : next b ≡ upcoming old = next_of_passed p requests room old a b w before in
-    steps_asking p room old mid a b (Request now plain size) (NotSent e) requests later parts w passes row agrees table differ
+    steps_asking p room old mid a b (Request now plain size) (NotSent e) requests later parts w passes next_is row agrees table differ
     (agrees.next_is ∙ next_is ∙ sym (upcoming_stays true old mid drawn)) numbers (mid, drawn, (tt, refl))
 
 -- a datagram
@@ -154,8 +155,9 @@ took : (p : PeerHandle) (room : ℕ) (old : Own) (a b : History) (now : ℕ) (d 
     → PartsAgree parts (Then b (Datagram now d) (Took answer)) → parts.pending ≡ later → TokensDiffer later
     → StepsAsking p room a (Datagram now d) (Took answer) old (moved p parts.next parts.clock) later
 took p room old a b now d answer requests later parts w passes before row agrees table differ =
-    steps_asking p room old old a b (Datagram now d) (Took answer) requests later parts w passes row agrees table differ
-    (agrees.next_is ∙ next_of_passed p requests room old a b w before) w.has.numbers (old, refl, (tt, refl))
+    let next_is = next_of_passed p requests room old a b w before in
+    steps_asking p room old old a b (Datagram now d) (Took answer) requests later parts w passes next_is row agrees table differ
+    (agrees.next_is ∙ next_is) w.has.numbers (old, refl, (tt, refl))
 
 -- the same, where the values are those that the bytes get
 pub sent_as : (p : PeerHandle) (room : ℕ) (old : Own) (a b : History) (now : ℕ) (plain : Parts) (size : ℕ) (bytes : List ℕ) (requests later : List Asked) (parts : ClientParts) (following clock : ℕ)
@@ -191,7 +193,7 @@ pub forgot : (p : PeerHandle) (room : ℕ) (old : Own) (a b : History) (token : 
     → AsksBehind p requests room old a → ClientPasses room a b → PartsAgree (parts_of_peer p requests) b → ClientAnswer room b (Forget token) (Forgot was)
     → PartsAgree (parts_of_peer p later) (Then b (Forget token) (Forgot was)) → TokensDiffer later → StepsAsking p room a (Forget token) (Forgot was) old p later
 forgot p room old a b token was requests later w passes before row agrees differ =
-    steps_asking p room old old a b (Forget token) (Forgot was) requests later (parts_of_peer p later) w passes row agrees refl differ w.has.next_is w.has.numbers (old, refl, (tt, refl))
+    steps_asking p room old old a b (Forget token) (Forgot was) requests later (parts_of_peer p later) w passes (next_of_passed p requests room old a b w before) row agrees refl differ w.has.next_is w.has.numbers (old, refl, (tt, refl))
 
 -- the bytes go on with the values that they say
 pub goes_on : (p : PeerHandle) (parts : ClientParts) (s : SecurityContext) (number : Option Piv) → s ≡ client_in p.server.server.slot.context → next_in p ≤ 2 ^ 40

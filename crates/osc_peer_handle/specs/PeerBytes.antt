@@ -98,6 +98,14 @@ inside_of p t = record t { context = 0; life = p.server.server.slot.life }
 abbrev pub IsSavedAs : ℕ → Own → Own → Type 0
 IsSavedAs sender o new = ((sender ≡ o.limit) × (new ≡ o)) ⊎ ((sender ≡ next_limit o.limit) × Goes Reserve o new)
 
+-- the server passed over just the numbers that the client used since, so it seals next with the number in hand (RFC 8613, 7.2.1)
+abbrev pub CatchesUp : served.History → served.History → Own → Type 0
+CatchesUp h g o = ServerPasses h g × (option_map next_own (served.life g 0) ≡ Some (upcoming o))
+
+-- the client did that with the numbers that the server used (RFC 8613, 7.2.1)
+abbrev pub CatchesUpAsking : ℕ → asked.History → asked.History → Own → Type 0
+CatchesUpAsking room a b o = ClientPasses room a b × (asked.next b ≡ upcoming o)
+
 -- ---- what a call of the server's role does
 
 -- the server passes over the numbers that the client used, and then the entry is its answer to the event; if it seals with a number of its own, it uses the one in
@@ -105,6 +113,7 @@ IsSavedAs sender o new = ((sender ≡ o.limit) × (new ≡ o)) ⊎ ((sender ≡ 
 pub record StepsAnswering (p : PeerHandle) (h : served.History) (event : served.Event) (entry : served.Entry) (old : Own) (q : PeerHandle) : Type 0 where
   pub g : served.History
   pub passes : ServerPasses h g
+  pub reaches : option_map next_own (served.life g 0) ≡ Some (upcoming old)
   pub row : ServerAnswer g event entry
   pub new : Own
   pub numbers : Steps (serving.draws g event) (serving.uses g event entry) old new
@@ -146,6 +155,7 @@ DeliversFrom decision received number = ⊥
 pub record StepsAsking (p : PeerHandle) (room : ℕ) (a : asked.History) (event : asked.Event) (entry : asked.Entry) (old : Own) (q : PeerHandle) (requests : List asked.Asked) : Type 0 where
   pub b : asked.History
   pub passes : ClientPasses room a b
+  pub reaches : asked.next b ≡ upcoming old
   pub row : ClientAnswer room b event entry
   pub new : Own
   pub numbers : Steps (asking.draws event) (asking.uses b event entry) old new

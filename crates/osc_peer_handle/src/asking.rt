@@ -47,6 +47,7 @@ impl PeerHandle {
         ensures no_keeper_failed { result ≢ Err (refusals.Refused KeeperFailed) }
         ensures table { W.is_table pending.new }
         ensures room { W.room pending.new ≡ W.room pending.old }
+        ensures lies { W.lies pending.new ≡ W.lies pending.old }
         ensures apart { TokensDiffer (W.requests pending.old) → TokensDiffer (W.requests pending.new) }
     {
         if !self.is_whole() {
@@ -83,6 +84,7 @@ impl PeerHandle {
         ensures unchanged { IsNone result → (self.new ≡ self.old) × (pending.new ≡ pending.old) × (datagram.new ≡ datagram.old) }
         ensures table { W.is_table pending.new }
         ensures room { W.room pending.new ≡ W.room pending.old }
+        ensures lies { W.lies pending.new ≡ W.lies pending.old }
         ensures apart { TokensDiffer (W.requests pending.old) → TokensDiffer (W.requests pending.new) }
     {
         if !self.is_whole() {
@@ -111,6 +113,7 @@ impl PeerHandle {
         ensures unchanged { IsNone result.decided → (self.new ≡ self.old) × (pending.new ≡ pending.old) }
         ensures table { W.is_table pending.new }
         ensures room { W.room pending.new ≡ W.room pending.old }
+        ensures lies { W.lies pending.new ≡ W.lies pending.old }
         ensures apart { TokensDiffer (W.requests pending.old) → TokensDiffer (W.requests pending.new) }
     {
         let decided = self.decide_response(pending, now, datagram);
@@ -134,6 +137,7 @@ impl PeerHandle {
         ensures unchanged { IsNone result → (self.new ≡ self.old) × (pending.new ≡ pending.old) }
         ensures table { W.is_table pending.new }
         ensures room { W.room pending.new ≡ W.room pending.old }
+        ensures lies { W.lies pending.new ≡ W.lies pending.old }
         ensures apart { TokensDiffer (W.requests pending.old) → TokensDiffer (W.requests pending.new) }
     {
         let Left { decided, datagram } = self.decide_response_and_lend(pending, now, datagram);
@@ -155,6 +159,7 @@ impl PeerHandle {
         ensures unchanged { IsNone result → pending.new ≡ pending.old }
         ensures table { W.is_table pending.new }
         ensures room { W.room pending.new ≡ W.room pending.old }
+        ensures lies { W.lies pending.new ≡ W.lies pending.old }
         ensures apart { TokensDiffer (W.requests pending.old) → TokensDiffer (W.requests pending.new) }
     {
         if !self.is_whole() {

@@ -1,5 +1,6 @@
 /* Records of oscore_store.h in flash, which is simulated: an erase sets bits, a program clears them and is of erased bytes alone, and a cut
-   leaves any part of either done. Each status of each call; a cut at each program and each erase, and at any, over turns of both sectors. */
+   leaves any part of either done. Each status of each call; records that aren't the next one, and two peers behind one record; slots that are
+   passed over; a cut at each program and each erase, and at any, over turns of both sectors. */
 #define OSCORE_STORE_WITHOUT_FILES
 #include "tried.h"
 
@@ -13,6 +14,7 @@ typedef struct chip {
     int how;         /* and how much of that step is done */
     bool off, lies, unread;
     uint32_t reads;  /* how many reads more are answered, where one is refused */
+    uint64_t known;  /* the greatest generation of a record that was loaded or saved */
 } chip;
 
 static const uint32_t NEVER = UINT32_MAX;
@@ -78,30 +80,55 @@ static chip chip_of(uint32_t unit, uint32_t slots) {
 
 static oscore_flash_store flashed;
 
-static oscore_stored open_flash(chip *it, bool provision, oscore_record *record) {
+/* What is loaded isn't of a lower generation than any record before. */
+static oscore_stored open_store(chip *it, oscore_flash_store *into, bool provision, oscore_peer_record *record) {
     it->flash.user = it, it->save++;
-    return oscore_flash_open(&flashed, &it->flash, provision, LOCK, record);
+    oscore_stored stored = oscore_flash_open(into, &it->flash, provision, LOCK, record);
+    if (stored > OSCORE_STORE_EMPTY) return stored;
+    CHECK(record->generation >= it->known && (record->generation == 0) == (stored == OSCORE_STORE_EMPTY));
+    it->known = record->generation;
+    return stored;
 }
 
-static oscore_stored save_flash(chip *it, oscore_flash_store *into, uint64_t own, uint64_t received) {
-    const oscore_record record = record_of(own, received);
+static oscore_stored open_flash(chip *it, bool provision, oscore_peer_record *record) {
+    return open_store(it, &flashed, provision, record);
+}
+
+/* What is saved is of a greater generation than all before. */
+static oscore_stored save_record(chip *it, oscore_flash_store *into, const oscore_peer_record *record) {
     it->save++, it->flash.user = it, into->flash = &it->flash; /* a chip may be a copy */
-    return oscore_flash_save(into, &record);
+    oscore_stored stored = oscore_flash_save(into, record);
+    if (stored != OSCORE_STORED) return stored;
+    CHECK(record->generation > it->known);
+    it->known = record->generation;
+    return stored;
+}
+
+/* The next record, by its generation. */
+static oscore_stored save_flash(chip *it, oscore_flash_store *into, uint64_t own, uint64_t received) {
+    const oscore_peer_record record = record_of(into->record.generation + 1, own, received);
+    return save_record(it, into, &record);
 }
 
 /* A chip whose store made so many saves, of 1 and 2, 2 and 4, and so on. */
 static chip chip_after(uint32_t unit, uint32_t slots, uint64_t count) {
     chip it = chip_of(unit, slots);
-    oscore_record record;
-    CHECK(open_flash(&it, true, &record) == OSCORE_STORE_EMPTY && is(&record, 0, 0));
+    oscore_peer_record record;
+    CHECK(open_flash(&it, true, &record) == OSCORE_STORE_EMPTY && is(&record, 0, 0, 0));
     for (uint64_t number = 1; number <= count; number++) CHECK(!save_flash(&it, &flashed, number, 2 * number));
+    CHECK(it.known == count);
     return it;
 }
 
+/* Whether a record has these numbers, of whichever generation. */
+static bool has(const oscore_peer_record *record, uint64_t own, uint64_t received) {
+    return is(record, record->generation, own, received);
+}
+
 static void reopen_flash(chip *it, uint64_t own, uint64_t received) {
-    oscore_record record;
+    oscore_peer_record record;
     it->off = false, it->left = NEVER;
-    CHECK(open_flash(it, false, &record) == (own > 0 ? OSCORE_STORED : OSCORE_STORE_EMPTY) && is(&record, own, received));
+    CHECK(open_flash(it, false, &record) == (own > 0 ? OSCORE_STORED : OSCORE_STORE_EMPTY) && has(&record, own, received));
 }
 
 /* The save of this number is cut at each of its steps: then the one before it is there, or it is, and the next one goes on from there. */
@@ -113,17 +140,17 @@ static void cut_a_save(const chip *before, uint64_t number) {
     for (uint32_t step = 0; step < whole.steps - begun; step++)
         for (int how = 0; how < HOWS; how++) {
             chip it = *before;
-            oscore_record record;
+            oscore_peer_record record;
             reopen_flash(&it, number - 1, 2 * (number - 1));
             it.left = step, it.how = how;
             CHECK(save_flash(&it, &flashed, number, 2 * number) == OSCORE_STORE_FAILED && it.off);
             CHECK(save_flash(&it, &flashed, number, 2 * number) == OSCORE_STORE_FAILED);
             it.off = false, it.left = NEVER;
             CHECK(open_flash(&it, false, &record) <= OSCORE_STORE_EMPTY);
-            CHECK(is(&record, number - 1, 2 * (number - 1)) || is(&record, number, 2 * number));
+            CHECK(has(&record, number - 1, 2 * (number - 1)) || has(&record, number, 2 * number));
             /* It is new only where the last unit has its bits. */
-            if (step + 1 < whole.steps - begun && it.flash.unit > 1) CHECK(record.numbers[0] == number - 1);
-            if (step + 1 == whole.steps - begun && how == 1) CHECK(record.numbers[0] == number);
+            if (step + 1 < whole.steps - begun && it.flash.unit > 1) CHECK(record.sender == number - 1);
+            if (step + 1 == whole.steps - begun && how == 1) CHECK(record.sender == number);
             CHECK(!save_flash(&it, &flashed, number + 1, 2 * number + 2));
             reopen_flash(&it, number + 1, 2 * number + 2);
         }
@@ -144,7 +171,7 @@ static void cut_in_flash(uint32_t unit, uint32_t slots, uint32_t saves) {
 /* Saves, of which one in three is cut anywhere, with any bits; and so are provisions. */
 static void cut_at_random(uint32_t unit, uint32_t slots, uint32_t saves) {
     chip it = chip_of(unit, slots);
-    oscore_record record;
+    oscore_peer_record record;
     uint64_t number = 0;
     it.how = 5, it.left = slots > 1 ? 0 : NEVER; /* there is no slot behind the only one */
     CHECK(open_flash(&it, true, &record) == (slots > 1 ? OSCORE_STORE_FAILED : OSCORE_STORE_EMPTY));
@@ -158,8 +185,8 @@ static void cut_at_random(uint32_t unit, uint32_t slots, uint32_t saves) {
         it.off = false, it.left = NEVER;
         if (stored || draw() % 2) {
             CHECK(open_flash(&it, false, &record) <= OSCORE_STORE_EMPTY);
-            CHECK(is(&record, next, 2 * next) || (stored && is(&record, number, 2 * number)));
-            number = record.numbers[0];
+            CHECK(has(&record, next, 2 * next) || (stored && has(&record, number, 2 * number)));
+            number = record.sender;
         } else {
             number = next;
         }
@@ -168,9 +195,9 @@ static void cut_at_random(uint32_t unit, uint32_t slots, uint32_t saves) {
 }
 
 static void opens_flash(void) {
-    oscore_record record = record_of(77, 78);
+    oscore_peer_record record = record_of(76, 77, 78);
     chip it = chip_of(8, 4), begun;
-    CHECK(open_flash(&it, false, &record) == OSCORE_STORE_BROKEN && is(&record, 77, 78) && it.steps == 0);
+    CHECK(open_flash(&it, false, &record) == OSCORE_STORE_BROKEN && is(&record, 76, 77, 78) && it.steps == 0);
     CHECK(save_flash(&it, &flashed, 1, 1) == OSCORE_STORE_FAILED);
     /* A provision that is cut is made again; nothing is erased by it. */
     for (uint32_t step = 0; step < 6; step++)
@@ -179,15 +206,15 @@ static void opens_flash(void) {
             begun.left = step, begun.how = how;
             CHECK(open_flash(&begun, true, &record) == OSCORE_STORE_FAILED);
             begun.off = false, begun.left = NEVER;
-            CHECK(open_flash(&begun, true, &record) == OSCORE_STORE_EMPTY && is(&record, 0, 0) && begun.erases == 0);
+            CHECK(open_flash(&begun, true, &record) == OSCORE_STORE_EMPTY && is(&record, 0, 0, 0) && begun.erases == 0);
         }
     CHECK(open_flash(&it, true, &record) == OSCORE_STORE_EMPTY && open_flash(&it, true, &record) == OSCORE_STORE_EMPTY);
     CHECK(oscore_flash_open(&flashed, &it.flash, false, METER, &record) == OSCORE_STORE_OTHER);
     reopen_flash(&it, 0, 0);
     CHECK(!save_flash(&it, &flashed, 1, 2));
-    record = record_of(77, 78);
+    record = record_of(76, 77, 78);
     CHECK(oscore_flash_open(&flashed, &it.flash, true, METER, &record) == OSCORE_STORE_OTHER);
-    CHECK(open_flash(&it, true, &record) == OSCORE_STORE_THERE && is(&record, 77, 78));
+    CHECK(open_flash(&it, true, &record) == OSCORE_STORE_THERE && is(&record, 76, 77, 78));
     CHECK(save_flash(&it, &flashed, 5, 5) == OSCORE_STORE_FAILED);
     /* Sectors that hold something else aren't provisioned. */
     it = chip_of(8, 4);
@@ -212,11 +239,13 @@ static void opens_flash(void) {
 }
 
 static void refuses_in_flash(void) {
-    oscore_record record = record_of(9, 18);
+    oscore_peer_record record = record_of(7, 9, 18);
     chip it = chip_after(8, 4, 6);
     CHECK(save_flash(&it, &flashed, 5, 18) == OSCORE_STORE_LOWER && save_flash(&it, &flashed, 9, 11) == OSCORE_STORE_LOWER);
-    memcpy(record.context, METER, sizeof METER);
-    CHECK(oscore_flash_save(&flashed, &record) == OSCORE_STORE_OTHER && !save_flash(&it, &flashed, 6, 12));
+    record.name = METER;
+    CHECK(save_record(&it, &flashed, &record) == OSCORE_STORE_OTHER);
+    record.generation = 9;
+    CHECK(save_record(&it, &flashed, &record) == OSCORE_STORE_OTHER && !save_flash(&it, &flashed, 6, 12));
     /* What doesn't stand there isn't saved, nor what can't be read. */
     it.lies = true;
     CHECK(save_flash(&it, &flashed, 9, 18) == OSCORE_STORE_FAILED && save_flash(&it, &flashed, 9, 18) == OSCORE_STORE_FAILED);
@@ -241,12 +270,83 @@ static void refuses_in_flash(void) {
         }
 }
 
+/* Saves this record, which is behind: nothing is programmed or erased. */
+static void is_behind(chip *it, oscore_flash_store *into, uint64_t generation, uint64_t number) {
+    const oscore_peer_record record = record_of(generation, number, 2 * number);
+    uint32_t steps = it->steps;
+    CHECK(save_record(it, into, &record) == OSCORE_STORE_BEHIND && it->steps == steps);
+}
+
+/* A record that isn't the next one, by its generation, is behind, whatever its numbers are; so is that of the second of two peers that began
+   behind one record, over the same store, over one that was open before, and over one that is opened later. The first peer goes on. */
+static void not_the_next_in_flash(void) {
+    for (uint64_t at = 0; at < 9; at++) {
+        const uint64_t wrong[] = {0, at - 1, at, at + 2, at + 3, UINT64_MAX};
+        chip it = chip_after(8, 4, at);
+        oscore_flash_store second;
+        oscore_peer_record record;
+        for (size_t i = 0; i < sizeof wrong / sizeof wrong[0]; i++) is_behind(&it, &flashed, wrong[i], at + 1), is_behind(&it, &flashed, wrong[i], 0);
+        CHECK(open_store(&it, &second, false, &record) <= OSCORE_STORE_EMPTY && is(&record, at, at, 2 * at));
+        record = record_of(at + 1, at + 1, 2 * at + 2);
+        CHECK(!save_record(&it, &flashed, &record));
+        is_behind(&it, &flashed, at + 1, at + 1), is_behind(&it, &second, at + 1, at + 1);
+        CHECK(open_store(&it, &second, false, &record) == OSCORE_STORED && is(&record, at + 1, at + 1, 2 * at + 2));
+        is_behind(&it, &second, at + 1, at + 1);
+        CHECK(!save_flash(&it, &flashed, at + 2, 2 * at + 4));
+        reopen_flash(&it, at + 2, 2 * at + 4);
+    }
+}
+
+/* Slots that a cut spoilt are passed over, with their generations. The peer doesn't see that, and saves its own next record, and the one behind
+   it. Who opens the store later has the generation of the slot, above all before; whoever knows the old one alone is behind. */
+static void passes_over(void) {
+    for (uint64_t at = 0; at < 9; at++)
+        for (uint64_t cuts = 0; cuts < 6; cuts++) {
+            /* Each cut spoils a slot behind the last record, until the sector is full: then the other one is erased each time. */
+            uint64_t left = 3 - at % 4, passed = cuts < left ? cuts : left;
+            chip it = chip_after(8, 4, at);
+            oscore_peer_record record;
+            for (uint64_t i = 0; i < cuts; i++) {
+                it.left = 3, it.how = 1;
+                CHECK(save_flash(&it, &flashed, at + 1, 2 * at + 2) == OSCORE_STORE_FAILED && it.off);
+                reopen_flash(&it, at, 2 * at);
+            }
+            CHECK(it.known == at);
+            for (uint64_t number = at + 1; number < at + 3; number++) {
+                is_behind(&it, &flashed, number + 1, number), is_behind(&it, &flashed, number - 1, number);
+                record = record_of(number, number, 2 * number);
+                CHECK(!save_record(&it, &flashed, &record));
+            }
+            CHECK(open_flash(&it, false, &record) == OSCORE_STORED && is(&record, at + 2 + passed, at + 2, 2 * at + 4));
+            if (passed > 0) is_behind(&it, &flashed, at + 3, at + 3);
+            record = record_of(at + 3 + passed, at + 3, 2 * at + 6);
+            CHECK(!save_record(&it, &flashed, &record));
+            reopen_flash(&it, at + 3, 2 * at + 6);
+        }
+}
+
+/* Behind the last generation nothing is saved, nor where a slot would have one behind it. */
+static void ends_in_flash(void) {
+    for (uint64_t below = 0; below < 3; below++)
+        for (uint64_t spoilt = 0; spoilt < 2; spoilt++) {
+            chip it = chip_of(8, 4);
+            const oscore_peer_record last = record_of(UINT64_MAX - below, 5, 10);
+            oscore_record_write(&last, last.generation, it.bytes[0]);
+            if (spoilt) it.bytes[0][LEN] = 0;
+            reopen_flash(&it, 5, 10);
+            CHECK(save_flash(&it, &flashed, 5, 10) == (below > spoilt ? OSCORE_STORED : OSCORE_STORE_FAILED));
+            CHECK(below > spoilt || it.steps == 0);
+            reopen_flash(&it, 5, 10);
+        }
+}
+
 static void spoilt_in_flash(void) {
-    oscore_record record;
+    oscore_peer_record record;
     for (uint64_t at = 1; at < 9; at++)
         for (uint32_t bit = 0; bit < 8 * LEN; bit++) {
             chip it = chip_after(16, 4, at);
             it.bytes[flashed.which][flashed.slot * it.slot + bit / 8] ^= (uint8_t)(1 << bit % 8);
+            it.known = 0; /* what goes bad later isn't told from what a cut spoilt */
             reopen_flash(&it, at - 1, 2 * (at - 1));
             for (uint32_t i = 0; i < 2 * it.slots; i++) it.bytes[i % 2][i / 2 * it.slot] = 0;
             CHECK(open_flash(&it, false, &record) == OSCORE_STORE_BROKEN);
@@ -269,7 +369,7 @@ static void spoilt_in_flash(void) {
 
 void tries_flash(uint32_t saves) {
     static const uint32_t UNITS[] = {1, 4, 5, 8, 16, 32};
-    opens_flash(), refuses_in_flash(), spoilt_in_flash();
+    opens_flash(), refuses_in_flash(), not_the_next_in_flash(), passes_over(), ends_in_flash(), spoilt_in_flash();
     for (size_t i = 0; i < sizeof UNITS / sizeof UNITS[0]; i++) {
         cut_in_flash(UNITS[i], 3, saves);
         for (uint32_t slots = 1; slots <= 7; slots += 3) cut_at_random(UNITS[i], slots, saves);

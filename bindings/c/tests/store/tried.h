@@ -10,16 +10,16 @@
 #define CHECK(holds) do { if (!(holds)) { printf("%s:%d: %s\n", __FILE__, __LINE__, #holds); exit(1); } } while (0)
 
 enum { LEN = 48 };
-static const uint8_t LOCK[8] = {'l', 'o', 'c', 'k', 1, 2, 0, 0}, METER[8] = {'m', 'e', 't', 'e', 'r'};
+/* The names of two contexts: "lock", 1 and 2, and "meter", the low byte first. */
+static const uint64_t LOCK = 0x02016b636f6c, METER = 0x726574656d;
 
-static inline oscore_record record_of(uint64_t own, uint64_t received) {
-    oscore_record record = {{own, received}, {0}};
-    memcpy(record.context, LOCK, sizeof LOCK);
+static inline oscore_peer_record record_of(uint64_t generation, uint64_t own, uint64_t received) {
+    oscore_peer_record record = {LOCK, generation, own, received};
     return record;
 }
 
-static inline bool is(const oscore_record *record, uint64_t own, uint64_t received) {
-    return record->numbers[0] == own && record->numbers[1] == received && !memcmp(record->context, LOCK, sizeof LOCK);
+static inline bool is(const oscore_peer_record *record, uint64_t generation, uint64_t own, uint64_t received) {
+    return record->name == LOCK && record->generation == generation && record->sender == own && record->received == received;
 }
 
 /* xorshift64, with a seed that is the same each time. */

@@ -11,8 +11,7 @@ use Rattle.osc_peer_handle.specs.declared.peer_refusal.PeerRefusal.{PeerRefusal}
 use Rattle.osc_peer_handle.specs.declared.peer_refusal.PeerRefusal.TheVariants.{BadHandle, KeepFirst, SaveFirst}
 use Rattle.osc_c.specs.PeerCalls.{AsksToSave}
 use Rattle.osc_c.specs.PeerCalls.RefusesPeerServing.{keep_first, refused}
-use Rattle.osc_c.proofs.KeptServing.{apart}
-use Rattle.osc_c.proofs.PeerServing.{delivered_below, names_life, peer_delivered_to, peer_takes_by}
+use Rattle.osc_c.proofs.PeerServing.{apart, delivered_below, names_life, peer_delivered_to, peer_takes_by}
 use Rattle.osc_c.proofs.peer.take_in.Goals as goal
 
 pub returns-in-Ok-delivery-clause-opened : goal.returns-in-Ok-delivery-clause-opened
