@@ -34,7 +34,11 @@ extern "C" {
 /* More bytes of stack than any call takes (README.md), with 4,000 to spare, which `oscore_wipe_stack` sets to 0 and so needs. A definition
    of your own may stand before this header. */
 #ifndef OSCORE_STACK
+#if UINTPTR_MAX == UINT64_MAX
 #define OSCORE_STACK 12288
+#else
+#define OSCORE_STACK 14848
+#endif
 #endif
 
 /* One layout for pointers of 8 and of 4 bytes. A length, an index and what `detail` says have 8 bytes; a pointer stands in a slot of 8, of

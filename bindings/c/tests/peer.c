@@ -242,13 +242,14 @@ static void names(void) {
     CHECK(oscore_peer_name(own, name) == OSCORE_BAD_HANDLE && *name == 7);
 }
 
-/* A context of a server with this Recipient ID, and with this ID Context, or without one where that is 0. */
-static void begin_at(oscore_peer *at, uint8_t recipient, uint8_t id_context) {
+/* A peer of a context with this Recipient ID, and with this ID Context, or without one where that is 0. */
+static oscore_peer begun(uint8_t recipient, uint8_t id_context) {
     uint8_t secret[16] = {1}, server = 0xaa;
-    const uint8_t *named = guarded_copy(ID, &id_context, 1), *other = guarded_copy(SALT, &recipient, 1);
+    const uint8_t *named = guarded_copy(ID, &id_context, id_context > 0), *other = guarded_copy(SALT, &recipient, 1);
     CHECK(!oscore_derive(own, guarded_copy(SECRET, secret, 16), 16, NULL, 0, id_context > 0, named, id_context > 0, guarded_copy(ONE, &server, 1), 1,
                          other, 1, tables, false, false));
-    CHECK(!oscore_peer_begin_first(at, own, 32, LIFE));
+    CHECK(!oscore_peer_begin_first(peer, own, 32, LIFE));
+    return *peer;
 }
 
 static oscore_size *index_of;
@@ -257,6 +258,7 @@ static uint32_t find(const oscore_peer *peers, oscore_size count, const char *te
     uint8_t bytes[64];
     oscore_size len = hex(text, bytes);
     *index_of = 99;
+    peers = count > 0 ? guarded_copy(PEERS, peers, count * sizeof *peers) : NULL;
     uint32_t status = oscore_peer_find(peers, count, guarded_copy(DATAGRAM, bytes, len), len, index_of, detail);
     CHECK((status == OSCORE_DONE) == (*index_of != 99));
     return status;
@@ -265,9 +267,9 @@ static uint32_t find(const oscore_peer *peers, oscore_size count, const char *te
 /* Of peers, the first whose context a request names: by its kid, and by its kid context where it has one. Those that were never begun are
    passed over. The requests here have a Partial IV 0, and a ciphertext that is none: nothing is opened. */
 static void finds(void) {
-    oscore_peer *peers = guarded(PEERS, 6 * sizeof *peers);
+    static oscore_peer peers[6];
     index_of = guarded_room(INDEX, sizeof *index_of);
-    begin_at(&peers[1], 2, 0), begin_at(&peers[2], 1, 0), begin_at(&peers[3], 1, 9), begin_at(&peers[4], 1, 9), begin_at(&peers[5], 3, 0);
+    peers[1] = begun(2, 0), peers[2] = begun(1, 0), peers[3] = begun(1, 9), peers[4] = begun(1, 9), peers[5] = begun(3, 0);
     CHECK(!find(peers, 6, "4002000193090002ffee") && *index_of == 1 && !find(peers, 6, "4002000193090001ffee") && *index_of == 2);
     CHECK(!find(peers, 6, "4002000193090003ffee") && *index_of == 5 && find(peers, 5, "4002000193090003ffee") == OSCORE_NO_CONTEXT && *detail == 0);
     CHECK(!find(peers, 6, "40020001951900010901ffee") && *index_of == 3 && find(peers, 3, "40020001951900010901ffee") == OSCORE_NO_CONTEXT);

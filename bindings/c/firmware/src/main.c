@@ -86,6 +86,16 @@ int main(void) {
     datagram[20] = 0x15; /* another number: the tag is wrong */
     TAKE("take, forged", 1002, 3);
     must("a forgery is refused", status == OSCORE_TAG);
+    /* A life behind a record without a received number. It saves its first record, and asks for an Echo value. */
+    CALL("derive", oscore_derive(&context, SECRET, sizeof SECRET, SALT, sizeof SALT, false, NULL, 0, OURS, 1, NULL, 0, TABLES, false, false));
+    record = (oscore_peer_record){peer.name, 2, 64, 0};
+    CALL("begin_again", oscore_peer_begin_again(&peer, &context, &record, 32, 60000));
+    oscore_wipe(&context, sizeof context);
+    copy(datagram, REQUEST, sizeof REQUEST);
+    TAKE("take, save first", 1003, 4);
+    CALL("saved", oscore_peer_saved(&peer, &record));
+    TAKE("take, challenge", 1003, 4);
+    must("an Echo value is asked for", status == OSCORE_CHALLENGE && out_len > 0);
 #ifdef WITH_CLIENT
     static oscore_peer asking;
     static oscore_pending pending[1];
