@@ -1,6 +1,6 @@
 /* Whether a branch or an address depends on a key. To valgrind's memcheck the Master Secret is unknown, and so is all that comes of it; it
    reports each branch and each address that depends on something unknown. Derived, sealed and opened are messages of 0 to 100 bytes of
-   payload, alone and by a server and a client. In constant time there is one report for each bad tag, the verdict on it, and none before;
+   payload, alone, by a server and a client, and by two peers. In constant time there is one report for each bad tag, the verdict on it, and none before;
    behind a good tag there are those of what reads the message: bindings/c/check looks that they stand there. So it is of contexts that
    ask for nothing. With the word `tables` they ask for the cipher with tables: then there are many, so that it is seen that memcheck
    sees. */
@@ -119,10 +119,84 @@ static void ends(oscore_client *client, oscore_server *server, oscore_size len) 
     (void)reports();
 }
 
+/* All of a peer but its keys. The name of its context is made of them, and is no secret. */
+static void shown_peer(oscore_peer *peer) {
+    shown(peer, offsetof(oscore_peer, server.context));
+    shown((uint8_t *)&peer->server.context + sizeof(oscore_context), sizeof peer->server.context - sizeof(oscore_context));
+    shown(&peer->server.unanswered, sizeof *peer - offsetof(oscore_peer, server.unanswered));
+}
+
+/* The record that a call wrote is saved. */
+static void save(oscore_peer *peer, oscore_peer_record *record) {
+    shown(record, sizeof *record);
+    CHECK(!oscore_peer_saved(peer, record));
+    with_keys += reports();
+}
+
+static void begin_peer(oscore_peer *peer, const oscore_context *context) {
+    CHECK(!oscore_peer_begin_first(peer, context, 32, 60000));
+    with_keys += reports();
+    shown_peer(peer);
+}
+
+/* The same by two peers. A request is encrypted again where its number has to be saved: to memcheck what comes of that is unknown, though it
+   is what was sent. */
+static void peers(oscore_peer *asking, oscore_peer *answering, oscore_size len) {
+    uint8_t plain[ROOM], datagram[ROOM], turned[ROOM], out[64];
+    oscore_size sealed = 0, out_len = 0, detail = 0;
+    static oscore_pending pending[1];
+    static oscore_size pending_count;
+    uint64_t number = 0;
+    oscore_option options[4];
+    oscore_opened opened;
+    oscore_ticket ticket = {0};
+    oscore_peer_record record = {0};
+    oscore_size plain_len = message(plain, 0x01, (uint8_t)len, len);
+    oscore_status status;
+    while ((status = oscore_peer_request(asking, pending, 1, &pending_count, len, plain, plain_len, datagram, ROOM, &sealed, &record, &detail)) == OSCORE_SAVE_FIRST)
+        save(asking, &record);
+    CHECK(!status);
+    with_keys += reports();
+    shown(datagram, sealed);
+    memcpy(turned, datagram, sealed);
+    turned[sealed - 1] ^= 1;
+    while ((status = oscore_peer_take(answering, len, 1, turned, sealed, options, 4, &opened, &ticket, out, &out_len, &record, &detail)) == OSCORE_SAVE_FIRST)
+        save(answering, &record);
+    CHECK(status == OSCORE_TAG);
+    with_bad_tags += reports();
+    bad_tags++;
+    shown_peer(answering);
+    CHECK(oscore_peer_take(answering, len, 1, datagram, sealed, options, 4, &opened, &ticket, out, &out_len, &record, &detail) == OSCORE_SAVE_FIRST);
+    (void)reports();
+    shown_peer(answering);
+    shown(datagram, sealed);
+    save(answering, &record);
+    CHECK(!oscore_peer_take(answering, len, 1, datagram, sealed, options, 4, &opened, &ticket, out, &out_len, &record, &detail));
+    (void)reports();
+    shown(&ticket, sizeof ticket);
+    shown_peer(answering);
+    plain_len = message(plain, 0x45, (uint8_t)len, len);
+    while ((status = oscore_peer_reply(answering, &ticket, len % 2, 1, plain, plain_len, datagram, ROOM, &sealed, &record, &detail)) == OSCORE_SAVE_FIRST)
+        save(answering, &record);
+    CHECK(!status);
+    with_keys += reports();
+    shown(datagram, sealed);
+    memcpy(turned, datagram, sealed);
+    turned[sealed - 1] ^= 1;
+    CHECK(oscore_peer_hear(asking, pending, 1, &pending_count, len, turned, sealed, options, 4, &opened, &number, &detail) == OSCORE_TAG);
+    with_bad_tags += reports();
+    bad_tags++;
+    CHECK(!oscore_peer_hear(asking, pending, 1, &pending_count, len, datagram, sealed, options, 4, &opened, &number, &detail));
+    (void)reports();
+    shown_peer(asking);
+    shown(pending, sizeof pending), shown(&pending_count, sizeof pending_count);
+}
+
 int main(int count, char **words) {
     bool tables = count > 1 && !strcmp(words[1], "tables");
     static oscore_server server;
     static oscore_client client;
+    static oscore_peer asking, answering;
     oscore_context client_context, server_context;
     oscore_size index;
     CHECK(RUNNING_ON_VALGRIND);
@@ -132,9 +206,11 @@ int main(int count, char **words) {
     CHECK(!oscore_server_add(&server, &server_context, false, 0, 32, &index));
     CHECK(!oscore_client_begin(&client, &client_context, 0, 60000));
     with_keys += reports();
+    begin_peer(&asking, &client_context), begin_peer(&answering, &server_context);
     for (oscore_size len = 0; len <= LONGEST; len += tables ? LONGEST / 2 : 1) {
         messages(&client_context, &server_context, len);
         ends(&client, &server, len);
+        peers(&asking, &answering, len);
     }
     printf("%lu reports with keys, and %lu of %lu bad tags\n", with_keys, with_bad_tags, bad_tags);
     if (tables)

@@ -46,12 +46,15 @@ static bool tables;
 static oscore_context client_end, server_end;
 static oscore_client client;
 static oscore_server server;
-static oscore_ticket ticket;
+static oscore_ticket ticket, peer_ticket;
+static oscore_peer answering, asking;
+static oscore_peer_record record;
+static oscore_pending pending[2];
 static oscore_opened opened;
 static oscore_option options[4];
 static uint8_t request[ROOM], response[ROOM], out[ROOM];
-static oscore_size request_len, response_len, out_len, at, detail;
-static uint64_t number;
+static oscore_size request_len, response_len, out_len, at, detail, pending_count;
+static uint64_t number, name;
 
 static void fails(int line, const char *condition) {
     printf("residue.c:%d: %s\n", line, condition);
@@ -80,10 +83,21 @@ CALL(client_request, &client, 0, ASKS[1], sizeof ASKS[1] - 1, out, ROOM, &out_le
 CALL(client_take, &client, 0, response, response_len, options, 4, &opened, &number, &detail)
 CALL(client_forget, &client, ASKS[0] + 4, 1)
 CALL(client_restart, &client, NUMBER + 1)
+CALL(peer_name, &server_end, &name)
+CALL(peer_begin_first, &answering, &server_end, 32, LIFE)
+CALL(peer_begin_again, &answering, &server_end, &record, 32, LIFE)
+CALL(peer_saved, &answering, &record)
+CALL(peer_find, &answering, 1, request, request_len, &at, &detail)
+CALL(peer_take, &answering, 0, 1, request, request_len, options, 4, &opened, &peer_ticket, out, &out_len, &record, &detail)
+CALL(peer_reply, &answering, &peer_ticket, true, 1, ANSWER, sizeof ANSWER - 1, out, ROOM, &out_len, &record, &detail)
+CALL(peer_notify, &answering, &peer_ticket, NOTE, sizeof NOTE - 1, out, ROOM, &out_len, &record, &detail)
+CALL(peer_request, &asking, pending, 2, &pending_count, 0, ASKS[1], sizeof ASKS[1] - 1, out, ROOM, &out_len, &record, &detail)
+CALL(peer_hear, &asking, pending, 2, &pending_count, 0, response, response_len, options, 4, &opened, &number, &detail)
+CALL(peer_forget, &asking, pending, 2, &pending_count, ASKS[0] + 4, 1)
 
 /* What went before a call: a server has no context yet; a request was sent, turned on its way, or taken and comes again; or the server was
-   restarted. */
-typedef enum { EMPTY, SENT, TURNED, TAKEN, RESTARTED } before;
+   restarted. Of a peer, SENT is before the request's number was saved, and SAVED behind that; UNSAVED is before its first record is saved. */
+typedef enum { EMPTY, SENT, TURNED, TAKEN, RESTARTED, SAVED, UNSAVED } before;
 typedef struct row {
     const char *name;
     oscore_status (*call)(void);
@@ -110,7 +124,50 @@ static const row ROWS[] = {
     {"client_take", client_take, SENT, OSCORE_DONE},
     {"client_forget", client_forget, SENT, OSCORE_DONE},
     {"client_restart", client_restart, SENT, OSCORE_DONE},
+    {"peer_name", peer_name, SENT, OSCORE_DONE},
+    {"peer_begin_first", peer_begin_first, SENT, OSCORE_DONE},
+    {"peer_begin_again", peer_begin_again, RESTARTED, OSCORE_DONE},
+    {"peer_saved", peer_saved, UNSAVED, OSCORE_DONE},
+    {"peer_find", peer_find, SENT, OSCORE_DONE},
+    {"peer_take, save first", peer_take, SENT, OSCORE_SAVE_FIRST},
+    {"peer_take", peer_take, SAVED, OSCORE_DONE},
+    {"peer_take, bad tag", peer_take, TURNED, OSCORE_TAG},
+    {"peer_take, challenge", peer_take, RESTARTED, OSCORE_CHALLENGE},
+    {"peer_take, replay", peer_take, TAKEN, OSCORE_REPLAY},
+    {"peer_reply", peer_reply, TAKEN, OSCORE_DONE},
+    {"peer_notify", peer_notify, TAKEN, OSCORE_DONE},
+    {"peer_request", peer_request, SENT, OSCORE_DONE},
+    {"peer_hear", peer_hear, SENT, OSCORE_DONE},
+    {"peer_forget", peer_forget, SENT, OSCORE_DONE},
 };
+
+/* The call that is made. */
+static const row *now;
+
+/* A peer behind a record of this generation, with its first record saved. */
+static void begin_peer(oscore_peer *peer, const oscore_context *context, uint64_t sender, uint64_t received, bool saves) {
+    CHECK(!oscore_peer_name(context, &name));
+    record = (oscore_peer_record){name, 1, sender, received};
+    CHECK(!oscore_peer_begin_again(peer, context, &record, 32, LIFE));
+    record.generation = 2, record.sender = sender + 64;
+    if (saves) CHECK(!oscore_peer_saved(peer, &record));
+}
+
+/* Peers of both contexts. What a call of a peer stands on is as that of a server and a client. */
+static void prepare_peers(before before) {
+    uint8_t sent[ROOM];
+    memcpy(sent, request, request_len);
+    begin_peer(&asking, &client_end, NUMBER, 0, true);
+    memset(pending, 0, sizeof pending), pending_count = 0;
+    CHECK(!oscore_peer_request(&asking, pending, 2, &pending_count, 0, ASKS[0], sizeof ASKS[0] - 1, request, ROOM, &request_len, &record, &detail));
+    CHECK(!memcmp(request, sent, request_len));
+    begin_peer(&answering, &server_end, 64, before == RESTARTED ? 0 : NUMBER, before != UNSAVED);
+    if (before == SAVED || before == TAKEN) CHECK(peer_take() == OSCORE_SAVE_FIRST && !peer_saved());
+    if (before == TAKEN) CHECK(!peer_take());
+    peer_ticket.observes = before == TAKEN;
+    if (before == RESTARTED && now && now->call == peer_begin_again) record.generation = 1, record.sender = 64;
+    memcpy(request, sent, request_len);
+}
 
 /* Makes all that a call stands on, under one of the secrets. */
 static void prepare(int which, before before) {
@@ -126,6 +183,7 @@ static void prepare(int which, before before) {
     /* As if it had registered. */
     ticket.observes = before == TAKEN;
     memcpy(request, sent, request_len);
+    prepare_peers(before);
     if (before == TURNED) request[request_len - 1] ^= 1;
     if (before == RESTARTED) CHECK(!server_restart());
 }
@@ -156,7 +214,6 @@ static uint8_t registers[1];
 /* The stack that calls are made on with room for the registers behind it, and a copy of both. */
 static uint8_t *area, kept[WHOLE];
 static ucontext_t here, fresh, there;
-static const row *now;
 static oscore_status status;
 
 static void on_area(void) {
@@ -169,9 +226,9 @@ static void on_area(void) {
 
 /* Makes a call on the area. It begins with the registers of `fresh`, which know of no secret. */
 static void run(const row *row, int which) {
+    now = row, there = fresh;
     prepare(which, row->before);
     memset(area, UNTOUCHED, WHOLE);
-    now = row, there = fresh;
     there.uc_stack.ss_sp = area, there.uc_stack.ss_size = AREA, there.uc_link = &here;
     makecontext(&there, on_area, 0);
     CHECK(!swapcontext(&here, &there) && status == row->wanted);
