@@ -53,7 +53,7 @@ typedef uint64_t oscore_size;
 #endif
 #endif
 
-/* Before a member of 8 bytes, and before a pointer. */
+/* Before a member of 8 bytes, and before a pointer. On i386 also in a struct of yours, before what a call writes 8 bytes to. */
 #ifdef __cplusplus
 #define OSCORE_SLOT alignas(8)
 #else
