@@ -1,5 +1,5 @@
-/* Both ends against hostile datagrams. Two servers of RFC 8613, C.1 to C.3, and two clients of C.1, the first of each by tables and the
-   second in constant time, are called side by side with datagrams that were sealed by the library, or by the test as the other end, and
+/* Peers against hostile datagrams. Twice three that serve, of RFC 8613, C.1 to C.3, and two of C.1 that ask, the first of each by tables and
+   the second in constant time, are called side by side with datagrams that were sealed by the library, or by the test as the other end, and
    then cut, turned, spliced, spelled again; come again, late, or to the wrong end. Each answer, and every byte that is written or left, is
    compared with a reading of the test's own, which uses no layer of the library: hostile/ has it. Built with the sanitizers by .ci/run. */
 #include "hostile/sides.h"
@@ -14,14 +14,14 @@ int main(int count, char **words) {
     fflush(stdout);
     begin_chance(seed);
     begin_sealing();
-    begin_servers();
-    begin_clients();
+    begin_serving();
+    begin_asking();
     for (; datagrams > 0; datagrams--) {
         count_step();
         if (one_in(2))
-            step_servers();
+            step_serving();
         else
-            step_clients();
+            step_asking();
     }
     return end_report();
 }

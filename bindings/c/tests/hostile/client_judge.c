@@ -1,4 +1,4 @@
-/* What a client answers to a datagram, to a request that is asked for, and to a token that is forgotten. */
+/* What a peer that asks answers to a datagram, to a request that is asked for, and to a token that is forgotten. */
 #include "judge.h"
 
 /* Ends the requests under a token, or, where there is none, those that are older than their life; of those that were notified none is. */
@@ -31,7 +31,7 @@ static uint32_t refuses(struct client_judge *judge, struct judged *judged) {
     if (judged->detail) return OSCORE_UNSUPPORTED;
     if (under(judge, plain->head.token)) return OSCORE_TOKEN_IN_USE;
     if (judge->count >= MOST_PENDING) return OSCORE_PENDING_FULL;
-    return judge->next >= NUMBER_LIMIT ? OSCORE_SEQUENCE_EXHAUSTED : OSCORE_DONE;
+    return judge->kept.next >= NUMBER_LIMIT ? OSCORE_SEQUENCE_EXHAUSTED : OSCORE_DONE;
 }
 
 void judge_request(struct client_judge *judge, const struct asked *asked, struct judged *judged) {
@@ -39,11 +39,12 @@ void judge_request(struct client_judge *judge, const struct asked *asked, struct
     judged->status = read_datagram(asked->plain, &judged->seen, &judged->detail);
     /* What is no message moves no clock. */
     if (judged->status) return;
+    save_first(&judge->kept, true, judged);
     advance(judge, asked->now);
     judged->status = refuses(judge, judged);
     if (judged->status) return;
     struct head head = judged->seen.head;
-    struct sealed_as as = {.request = judge->next};
+    struct sealed_as as = {.request = judge->kept.next};
     bool registers = is_registration(head.code, &judged->seen.body);
     head.code = outer_code(as, has_observe(&judged->seen.body));
     seal_plain(as, head, asked->plain, &judged->sealed);
@@ -54,7 +55,7 @@ void judge_request(struct client_judge *judge, const struct asked *asked, struct
     }
     judged->written = judged->sealed.datagram;
     struct pending *pending = &judge->pending[judge->count++];
-    *pending = (struct pending){.number = judge->next++, .moment = judge->clock, .registers = registers};
+    *pending = (struct pending){.number = judge->kept.next++, .moment = judge->clock, .registers = registers};
     add_bytes(&pending->token, judged->seen.head.token);
 }
 

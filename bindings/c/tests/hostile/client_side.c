@@ -1,17 +1,22 @@
-/* Two clients side by side, and what comes to them: calls of an application, responses of the server, and what becomes of those on their
+/* Peers side by side that ask, and what comes to them: calls of an application, responses of the server, and what becomes of those on their
    way. */
 #include "sides.h"
 #include <string.h>
 
-/* A client, and room for what its calls are given. */
+/* A peer, its places, and room for what its calls are given. */
 struct client_end {
-    oscore_client *client;
-    struct room handle, context, datagram, options, opened, request, plain, token, out, out_len, detail;
+    oscore_peer *peer;
+    oscore_pending *pending;
+    oscore_size *count;
+    struct room handle, places, used, context, datagram, options, opened, request, plain, token, out, out_len, record, detail;
 };
+
+/* Each window will do where a peer only asks. */
+enum { WINDOW = 1 };
 
 static struct client_end ends[ENDS];
 static struct client_judge judge;
-static uint64_t last_moment;
+static uint64_t last_moment, name;
 /* The next Sender Sequence Number of the server that the test itself is. */
 static uint64_t next_own;
 
@@ -20,22 +25,36 @@ static void make_rooms(struct client_end *end, int place) {
         struct room *room;
         oscore_size most;
     } rooms[] = {
-        {&end->handle, sizeof(oscore_client)}, {&end->context, sizeof(oscore_context)}, {&end->datagram, 65600},
-        {&end->options, OPTIONS_ROOM * sizeof(oscore_option)}, {&end->opened, sizeof(oscore_opened)}, {&end->request, sizeof(uint64_t)},
-        {&end->plain, TEXT_ROOM}, {&end->token, 8}, {&end->out, OUT_ROOM}, {&end->out_len, sizeof(oscore_size)}, {&end->detail, sizeof(oscore_size)},
+        {&end->handle, sizeof(oscore_peer)}, {&end->places, MOST_PENDING * sizeof(oscore_pending)}, {&end->used, sizeof(oscore_size)},
+        {&end->context, sizeof(oscore_context)}, {&end->datagram, 65600}, {&end->options, OPTIONS_ROOM * sizeof(oscore_option)},
+        {&end->opened, sizeof(oscore_opened)}, {&end->request, sizeof(uint64_t)}, {&end->plain, TEXT_ROOM}, {&end->token, 8},
+        {&end->out, OUT_ROOM}, {&end->out_len, sizeof(oscore_size)}, {&end->record, sizeof(oscore_peer_record)}, {&end->detail, sizeof(oscore_size)},
     };
     for (oscore_size i = 0; i < sizeof rooms / sizeof *rooms; i++) make_end_room(rooms[i].room, place, rooms[i].most);
 }
 
-void begin_clients(void) {
-    for (int i = 0; i < ENDS; i++) {
-        oscore_context context;
-        make_rooms(&ends[i], i);
-        derive(0, false, i == 0, &context);
-        ends[i].client = lay_zeros(&ends[i].handle, sizeof(oscore_client));
-        lay_bytes(&ends[i].context, (struct bytes){(const uint8_t *)&context, sizeof context});
-        NEEDS(!oscore_client_begin(ends[i].client, (const oscore_context *)ends[i].context.at, 0, REQUEST_LIFE_MS));
+static const oscore_context *context_of(struct client_end *end, int place) {
+    oscore_context context;
+    derive(0, false, place == 0, &context);
+    return lay_bytes(&end->context, (struct bytes){(const uint8_t *)&context, sizeof context});
+}
+
+/* No place is used. */
+static void lay_places(struct client_end *end) {
+    end->pending = lay_zeros(&end->places, MOST_PENDING * sizeof *end->pending);
+    end->count = lay_zeros(&end->used, sizeof *end->count);
+}
+
+void begin_asking(void) {
+    for (int place = 0; place < ENDS; place++) {
+        struct client_end *end = &ends[place];
+        make_rooms(end, place);
+        const oscore_context *context = context_of(end, place);
+        end->peer = lay_zeros(&end->handle, sizeof *end->peer);
+        lay_places(end);
+        NEEDS(!oscore_peer_begin_first(end->peer, context, WINDOW, REQUEST_LIFE_MS) && !oscore_peer_name(context, &name));
     }
+    judge.kept = first_kept();
 }
 
 /* One of few tokens, so that they come again; of none, one and eight bytes. */
@@ -59,11 +78,15 @@ static struct pending draw_target(void) {
     return none;
 }
 
-/* What a client shows of itself: its clock, its next number, and what is pending, oldest first. */
-static bool is_state(const oscore_client *client) {
-    if (client->clock != judge.clock || client->next != judge.next || client->count != judge.count) return false;
+/* What a peer shows of itself: its clock, its numbers, and what is pending, oldest first. */
+static bool is_state(const struct client_end *end) {
+    const oscore_peer *peer = end->peer;
+    const struct kept *kept = &judge.kept;
+    if (peer->clock != judge.clock || peer->server.clock != 0 || peer->server.context.next != kept->next || *end->count != judge.count) return false;
+    if (peer->reserved != kept->reserved || peer->received != kept->received || peer->name != name) return false;
+    if (peer->generation != kept->generation || peer->life != kept->life) return false;
     for (oscore_size i = 0; i < judge.count; i++) {
-        const oscore_pending *pending = &client->pending[i];
+        const oscore_pending *pending = &end->pending[i];
         const struct pending *wanted = &judge.pending[i];
         if (pending->number != wanted->number || pending->moment != wanted->moment) return false;
         if (pending->observes != wanted->registers || pending->from != wanted->from) return false;
@@ -72,55 +95,82 @@ static bool is_state(const oscore_client *client) {
     return true;
 }
 
-/* Hands a datagram to a client, behind the judge. */
-static struct came take(struct client_end *end, uint64_t now, struct bytes handed, const struct judged *judged) {
-    const struct room *const rooms[] = {&end->handle, &end->datagram, &end->options, &end->opened, &end->request, &end->detail, NULL};
+/* Hands a datagram to a peer, behind the judge. */
+static struct came hear(struct client_end *end, uint64_t now, struct bytes handed, const struct judged *judged) {
+    const struct room *const rooms[] = {&end->handle, &end->places, &end->used, &end->datagram, &end->options, &end->opened, &end->request,
+                                        &end->detail, NULL};
     uint8_t *datagram = lay_bytes(&end->datagram, handed);
     oscore_option *options = lay_zeros(&end->options, OPTIONS_ROOM * sizeof *options);
     oscore_opened *opened = lay_zeros(&end->opened, sizeof *opened);
     uint64_t *request = lay_zeros(&end->request, sizeof *request);
     oscore_size *detail = lay(&end->detail, sizeof *detail);
-    uint32_t status = oscore_client_take(end->client, now, datagram, handed.len, options, OPTIONS_ROOM, opened, request, detail);
+    uint32_t status = oscore_peer_hear(end->peer, end->pending, MOST_PENDING, end->count, now, datagram, handed.len, options, OPTIONS_ROOM, opened,
+                                       request, detail);
     struct bytes left = {datagram, handed.len};
     const char *differs = status != judged->status ? "answer"
         : status && *detail != judged->detail ? "detail"
         : !is_left(left, handed, judged) ? "left"
         : !are_clean(rooms) ? "behind"
         : !is_shown(&(struct shown){opened, options}, left, judged) || *request != (status ? 0 : judged->request) ? "shown"
-        : !is_state(end->client) ? "state" : NULL;
+        : !is_state(end) ? "state" : NULL;
     return (struct came){status, {NULL, 0}, differs};
 }
 
-/* Asks a client for a request, behind the judge. A refusal writes nothing. */
-static struct came request(struct client_end *end, const struct asked *asked, const struct judged *judged) {
-    const struct room *const rooms[] = {&end->handle, &end->plain, &end->out_len, &end->detail, NULL};
+/* Lays what a request is made of, and asks for it. */
+static uint32_t call_request(struct client_end *end, const struct asked *asked) {
     const uint8_t *plain = lay_bytes(&end->plain, asked->plain);
     uint8_t *out = lay(&end->out, asked->room);
+    oscore_peer_record *record = lay_zeros(&end->record, sizeof *record);
     oscore_size *out_len = lay_zeros(&end->out_len, sizeof *out_len), *detail = lay(&end->detail, sizeof *detail);
-    uint32_t status = oscore_client_request(end->client, asked->now, plain, asked->plain.len, out, asked->room, out_len, detail);
-    struct bytes written = {out, *out_len <= asked->room ? *out_len : asked->room};
+    return oscore_peer_request(end->peer, end->pending, MOST_PENDING, end->count, asked->now, plain, asked->plain.len, out, asked->room, out_len,
+                               record, detail);
+}
+
+/* Whether a request that has to save first wrote nothing but the record to save, which is saved then. */
+static bool is_save(struct client_end *end, const struct asked *asked, const struct save *save) {
+    oscore_peer before = *end->peer;
+    oscore_pending pending[MOST_PENDING];
+    oscore_size count = *end->count;
+    memcpy(pending, end->pending, sizeof pending);
+    uint32_t status = call_request(end, asked);
+    struct saving saving = {end->peer, &before, (oscore_peer_record *)end->record.at, save, name};
+    return is_clean(&end->out, 0) && is_zero(end->out_len.at, end->out_len.len) && is_clean(&end->record, end->record.len)
+        && count == *end->count && !memcmp(pending, end->pending, sizeof pending) && is_saved(&saving, status);
+}
+
+/* Asks a peer for a request, behind the judge. A refusal writes nothing. */
+static struct came request(struct client_end *end, const struct asked *asked, const struct judged *judged) {
+    const struct room *const rooms[] = {&end->handle, &end->places, &end->used, &end->plain, &end->out_len, &end->record, &end->detail, NULL};
+    struct bytes none = {NULL, 0};
+    for (oscore_size i = 0; i < judged->save_count; i++)
+        if (!is_save(end, asked, &judged->saves[i])) return (struct came){OSCORE_SAVE_FIRST, none, "save"};
+    uint32_t status = call_request(end, asked);
+    const oscore_size *out_len = (const oscore_size *)end->out_len.at, *detail = (const oscore_size *)end->detail.at;
+    struct bytes written = {end->out.at, *out_len <= asked->room ? *out_len : asked->room};
     const char *differs = status != judged->status ? "answer"
         : status && *detail != judged->detail ? "detail"
         : *out_len > asked->room || !is_same(written, bytes_of(&judged->written)) ? "written"
-        : !is_same((struct bytes){plain, asked->plain.len}, asked->plain) ? "left"
-        : !is_clean(&end->out, written.len) || !are_clean(rooms) ? "behind"
-        : !is_state(end->client) ? "state" : NULL;
+        : !is_same((struct bytes){end->plain.at, asked->plain.len}, asked->plain) ? "left"
+        : !is_clean(&end->out, written.len) || !is_zero(end->record.at, end->record.len) || !are_clean(rooms) ? "behind"
+        : !is_state(end) ? "state" : NULL;
     return (struct came){status, written, differs};
 }
 
-/* Restarts each; half of the time at a number that the server hasn't seen of the other client of this context. */
-static void restart(void) {
-    uint64_t next = next_number(6), others = requester_of_clients()->next;
-    struct judged judged = {.status = OSCORE_DONE};
+/* Begins each again; mostly at a number that the server hasn't seen of the other client of this context. Its clock begins anew. */
+static void begin_again(void) {
+    uint64_t others = requester_beside()->next;
+    oscore_peer_record record = draw_record(&judge.kept, name, 6);
     struct came came[ENDS];
-    if (one_in(2)) next = others < NUMBER_LIMIT ? others : NUMBER_LIMIT - 1;
-    judge.count = 0;
-    judge.next = next;
+    if (one_in(2)) record.sender = others < NUMBER_LIMIT ? others : NUMBER_LIMIT - 1;
+    struct judged judged = {.status = judge_begin(&record)};
+    if (!judged.status) judge = (struct client_judge){.kept = kept_behind(&record)};
     for (int i = 0; i < ENDS; i++) {
-        uint32_t status = oscore_client_restart(ends[i].client, next);
-        came[i] = (struct came){status, {NULL, 0}, status ? "answer" : !is_state(ends[i].client) ? "state" : NULL};
+        const oscore_peer_record *laid = lay_bytes(&ends[i].record, (struct bytes){(const uint8_t *)&record, sizeof record});
+        uint32_t status = oscore_peer_begin_again(ends[i].peer, context_of(&ends[i], i), laid, WINDOW, REQUEST_LIFE_MS);
+        if (!status) lay_places(&ends[i]);
+        came[i] = (struct came){status, {NULL, 0}, status != judged.status ? "answer" : !is_state(&ends[i]) ? "state" : NULL};
     }
-    report(CLIENT_RESTART, &judged, came, (struct bytes){NULL, 0});
+    report(BEGIN_ASKING, &judged, came, (struct bytes){NULL, 0});
 }
 
 /* Has each forget a token. */
@@ -133,8 +183,8 @@ static void forget(void) {
     judge_forget(&judge, token, &judged);
     for (int i = 0; i < ENDS; i++) {
         const uint8_t *laid = lay_bytes(&ends[i].token, token);
-        uint32_t status = oscore_client_forget(ends[i].client, laid, token.len);
-        came[i] = (struct came){status, {NULL, 0}, status != judged.status ? "answer" : !is_state(ends[i].client) ? "state" : NULL};
+        uint32_t status = oscore_peer_forget(ends[i].peer, ends[i].pending, MOST_PENDING, ends[i].count, laid, token.len);
+        came[i] = (struct came){status, {NULL, 0}, status != judged.status ? "answer" : !is_state(&ends[i]) ? "state" : NULL};
     }
     report(FORGET, &judged, came, token);
 }
@@ -148,7 +198,7 @@ static void ask(void) {
     bool is_cut = one_in(10);
     struct plain plain = draw_plain(kind, code, bytes_of(&token));
     plain.has_proxy = one_in(40);
-    add_echoes(requester_of_clients(), &plain);
+    add_echoes(requester_beside(), &plain);
     struct text datagram = spell_plain(&plain);
     if (is_cut) datagram.len = below(datagram.len);
     struct asked asked = {draw_moment(), bytes_of(&datagram), OUT_ROOM};
@@ -158,6 +208,7 @@ static void ask(void) {
     judge_request(&copy, &asked, &judged);
     asked.room = draw_room(judged.written.len);
     judge_request(&judge, &asked, &judged);
+    for (oscore_size i = 0; i < judged.save_count; i++) count_save(REQUEST);
     for (int i = 0; i < ENDS; i++) came[i] = request(&ends[i], &asked, &judged);
     report(REQUEST, &judged, came, asked.plain);
     judged.sealed.by_library = true;
@@ -182,16 +233,16 @@ static void respond(void) {
 }
 
 /* Makes calls, each now and then, and a datagram, hands it to each, and compares what came of it. */
-void step_clients(void) {
+void step_asking(void) {
     struct judged judged;
     struct came came[ENDS];
-    if (one_in(30)) restart();
+    if (one_in(30)) begin_again();
     if (one_in(20)) forget();
     for (uint64_t times = one_in(15) ? 12 : below(3); times > 0; times--) ask();
     respond();
     struct bytes handed = delivered(true);
     uint64_t now = draw_moment();
     judge_response(&judge, now, handed, &judged);
-    for (int i = 0; i < ENDS; i++) came[i] = take(&ends[i], now, handed, &judged);
-    report(RESPONSE, &judged, came, handed);
+    for (int i = 0; i < ENDS; i++) came[i] = hear(&ends[i], now, handed, &judged);
+    report(HEAR, &judged, came, handed);
 }

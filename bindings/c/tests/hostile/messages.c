@@ -85,7 +85,7 @@ static uint64_t draw_number(struct requester *requester, const struct life *life
     if (choice == 0) return requester->next > far ? requester->next - far - 1 : 0;
     if (choice <= 2) {
         /* About as far below the highest number that is spent as the window reaches. */
-        uint64_t edge = near + (life->spent.count ? highest_of(life) : requester->next), window = life->agreed->window_places;
+        uint64_t edge = near + (has_highest(life) ? highest_of(life) : requester->next), window = life->agreed->window_places;
         return edge > window ? (edge - window < last ? edge - window : last) : 0;
     }
     if (choice <= 4) requester->next += far;

@@ -5,29 +5,33 @@
 /* How many differences are told, and how many bytes of each. */
 enum { MOST_TOLD = 20, MOST_BYTES = 200, STATUSES = OSCORE_OLD_RECORD + 1 };
 
-static const char *const CALL_NAMES[CALLS] = {"oscore_server_take", "oscore_server_reply", "oscore_server_notify", "oscore_server_restart",
-                                              "oscore_client_take", "oscore_client_request", "oscore_client_forget", "oscore_client_restart"};
+static const char *const CALL_NAMES[CALLS] = {"oscore_peer_find", "oscore_peer_take", "oscore_peer_reply", "oscore_peer_notify",
+                                              "oscore_peer_begin_again, to serve", "oscore_peer_hear", "oscore_peer_request",
+                                              "oscore_peer_forget", "oscore_peer_begin_again, to ask"};
 
 /* The answers that have to come, ended by one that is none. */
 static const uint8_t HAVE_TO_COME[CALLS][24] = {
-    [TAKE] = {OSCORE_DONE, OSCORE_DATAGRAM_TOO_LONG, OSCORE_SHORT, OSCORE_VERSION, OSCORE_TOKEN_LENGTH, OSCORE_EMPTY_WITH_REST,
+    [FIND] = {OSCORE_DONE, OSCORE_DATAGRAM_TOO_LONG, OSCORE_SHORT, OSCORE_VERSION, OSCORE_TOKEN_LENGTH, OSCORE_EMPTY_WITH_REST,
+              OSCORE_TOKEN_CUT, OSCORE_NIBBLE15, OSCORE_OPTION_CUT, OSCORE_NUMBER_TOO_LARGE, OSCORE_EMPTY_PAYLOAD, OSCORE_NOT_THAT_KIND,
+              OSCORE_NO_OSCORE, OSCORE_UNDECODABLE, OSCORE_NO_CONTEXT, STATUSES},
+    [TAKE] = {OSCORE_DONE, OSCORE_SAVE_FIRST, OSCORE_DATAGRAM_TOO_LONG, OSCORE_SHORT, OSCORE_VERSION, OSCORE_TOKEN_LENGTH, OSCORE_EMPTY_WITH_REST,
               OSCORE_TOKEN_CUT, OSCORE_NIBBLE15, OSCORE_OPTION_CUT, OSCORE_NUMBER_TOO_LARGE, OSCORE_EMPTY_PAYLOAD, OSCORE_NOT_THAT_KIND,
               OSCORE_NO_OSCORE, OSCORE_UNDECODABLE, OSCORE_NO_CONTEXT, OSCORE_REPLAY, OSCORE_TAG, OSCORE_INNER, OSCORE_CHALLENGE,
               OSCORE_SEQUENCE_EXHAUSTED, STATUSES},
-    [REPLY] = {OSCORE_DONE, OSCORE_SHORT, OSCORE_TOKEN_CUT, OSCORE_OPTION_CUT, OSCORE_EMPTY_PAYLOAD, OSCORE_STALE_TICKET,
+    [REPLY] = {OSCORE_DONE, OSCORE_SAVE_FIRST, OSCORE_SHORT, OSCORE_TOKEN_CUT, OSCORE_OPTION_CUT, OSCORE_EMPTY_PAYLOAD, OSCORE_STALE_TICKET,
                OSCORE_TICKET_SPENT, OSCORE_NOT_THAT_KIND, OSCORE_UNSUPPORTED, OSCORE_SEQUENCE_EXHAUSTED, OSCORE_NO_ROOM, STATUSES},
-    [NOTIFY] = {OSCORE_DONE, OSCORE_SHORT, OSCORE_TOKEN_CUT, OSCORE_OPTION_CUT, OSCORE_EMPTY_PAYLOAD, OSCORE_STALE_TICKET,
+    [NOTIFY] = {OSCORE_DONE, OSCORE_SAVE_FIRST, OSCORE_SHORT, OSCORE_TOKEN_CUT, OSCORE_OPTION_CUT, OSCORE_EMPTY_PAYLOAD, OSCORE_STALE_TICKET,
                 OSCORE_NOT_THAT_KIND, OSCORE_UNSUPPORTED, OSCORE_SEQUENCE_EXHAUSTED, OSCORE_NO_ROOM, OSCORE_NOT_OBSERVING,
                 OSCORE_NOT_NOTIFICATION, STATUSES},
-    [SERVER_RESTART] = {OSCORE_DONE, STATUSES},
-    [RESPONSE] = {OSCORE_DONE, OSCORE_DATAGRAM_TOO_LONG, OSCORE_SHORT, OSCORE_VERSION, OSCORE_TOKEN_LENGTH, OSCORE_EMPTY_WITH_REST,
+    [BEGIN_SERVING] = {OSCORE_DONE, OSCORE_SEQUENCE_EXHAUSTED, STATUSES},
+    [HEAR] = {OSCORE_DONE, OSCORE_DATAGRAM_TOO_LONG, OSCORE_SHORT, OSCORE_VERSION, OSCORE_TOKEN_LENGTH, OSCORE_EMPTY_WITH_REST,
                   OSCORE_TOKEN_CUT, OSCORE_NIBBLE15, OSCORE_OPTION_CUT, OSCORE_NUMBER_TOO_LARGE, OSCORE_EMPTY_PAYLOAD,
                   OSCORE_NOT_THAT_KIND, OSCORE_UNKNOWN_TOKEN, OSCORE_NO_OSCORE, OSCORE_UNDECODABLE, OSCORE_OLD, OSCORE_TAG, OSCORE_INNER,
                   STATUSES},
-    [REQUEST] = {OSCORE_DONE, OSCORE_SHORT, OSCORE_TOKEN_CUT, OSCORE_OPTION_CUT, OSCORE_EMPTY_PAYLOAD, OSCORE_NOT_THAT_KIND,
+    [REQUEST] = {OSCORE_DONE, OSCORE_SAVE_FIRST, OSCORE_SHORT, OSCORE_TOKEN_CUT, OSCORE_OPTION_CUT, OSCORE_EMPTY_PAYLOAD, OSCORE_NOT_THAT_KIND,
                  OSCORE_UNSUPPORTED, OSCORE_TOKEN_IN_USE, OSCORE_PENDING_FULL, OSCORE_SEQUENCE_EXHAUSTED, OSCORE_NO_ROOM, STATUSES},
     [FORGET] = {OSCORE_DONE, OSCORE_NOT_PENDING, STATUSES},
-    [CLIENT_RESTART] = {OSCORE_DONE, STATUSES},
+    [BEGIN_ASKING] = {OSCORE_DONE, OSCORE_SEQUENCE_EXHAUSTED, STATUSES},
 };
 
 static unsigned long steps, differences, counts[CALLS][STATUSES];
@@ -36,6 +40,10 @@ static unsigned long by_library[CALLS], notified, notified_by_library;
 
 void count_step(void) {
     steps++;
+}
+
+void count_save(enum call call) {
+    counts[call][OSCORE_SAVE_FIRST]++;
 }
 
 static const char *name_of(uint32_t status) {
@@ -87,9 +95,9 @@ static bool tell_answers(enum call call) {
 }
 
 int end_report(void) {
-    bool all = by_library[TAKE] && by_library[RESPONSE] && notified && notified_by_library;
+    bool all = by_library[TAKE] && by_library[HEAR] && notified && notified_by_library;
     for (int call = 0; call < CALLS; call++) all &= tell_answers(call);
-    printf("of the library's own: %lu requests delivered, %lu responses\n", by_library[TAKE], by_library[RESPONSE]);
+    printf("of the library's own: %lu requests delivered, %lu responses\n", by_library[TAKE], by_library[HEAR]);
     printf("notifications: %lu, of the library's own %lu\n", notified, notified_by_library);
     printf("hostile: %lu datagrams, %lu calls differ\n", steps, differences);
     return !all || differences > 0;

@@ -73,6 +73,26 @@ bool is_shown(const struct shown *shown, struct bytes left, const struct judged 
         && is_slice(opened->payload, opened->payload_len, left, inner.payload) && are_options(shown, left, &inner);
 }
 
+bool is_saved(const struct saving *saving, uint32_t status) {
+    struct save save = *saving->save;
+    save.written.name = save.stored.name = saving->name;
+    if (status != OSCORE_SAVE_FIRST || memcmp(saving->peer, saving->before, sizeof *saving->peer)) return false;
+    if (memcmp(saving->record, &save.written, sizeof save.written)) return false;
+    *saving->record = save.stored;
+    return !oscore_peer_saved(saving->peer, saving->record);
+}
+
+oscore_peer_record draw_record(const struct kept *kept, uint64_t name, uint64_t times) {
+    uint64_t next = next_number(times), received = below(1000), choice = below(4);
+    uint64_t generation = kept->generation > 0 ? kept->generation : 1;
+    if (choice == 0) return (oscore_peer_record){name, generation, kept->reserved, kept->received};
+    return (oscore_peer_record){name, generation, next, choice == 1 ? received : 0};
+}
+
+uint32_t judge_begin(const oscore_peer_record *record) {
+    return record->sender < NUMBER_LIMIT ? OSCORE_DONE : OSCORE_SEQUENCE_EXHAUSTED;
+}
+
 oscore_size draw_room(oscore_size exact) {
     uint64_t choice = below(12), any = below(OUT_ROOM + 1);
     if (choice == 0) return exact ? exact - 1 : 0;
