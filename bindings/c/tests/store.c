@@ -489,7 +489,13 @@ static void locks(void) {
     oscore_store_close(&second);
 }
 
-/* A process is killed anywhere while it saves: what it was answered is there, or the save that it was at, and the lock is gone with it. */
+/* Waits until the process of `kills` was answered this save, however long it takes. */
+static void await_save(pid_t child, uint32_t number) {
+    while (__atomic_load_n(&shared->done, __ATOMIC_SEQ_CST) < number) CHECK(waitpid(child, NULL, WNOHANG) == 0 && !usleep(100));
+}
+
+/* A process is killed anywhere while it saves, every second one only once it was answered some saves: what it was answered is there, or the save
+   that it was at, and the lock is gone with it. */
 static void kills(void) {
     uint64_t answered = 0;
     begin_race();
@@ -504,13 +510,15 @@ static void kills(void) {
             exit(1);
         }
         int status;
-        CHECK(child > 0 && !usleep((useconds_t)(draw() % 3000)) && !kill(child, SIGKILL) && waitpid(child, &status, 0) == child && WIFSIGNALED(status));
+        CHECK(child > 0);
+        await_save(child, (uint32_t)answered + (kill_count % 2 ? 1 + (uint32_t)draw() % 4 : 0));
+        CHECK(!usleep((useconds_t)(draw() % 3000)) && !kill(child, SIGKILL) && waitpid(child, &status, 0) == child && WIFSIGNALED(status));
         CHECK(open_as(LOCK, false, &record) <= OSCORE_STORE_EMPTY);
         uint64_t number = record.sender, done_now = __atomic_load_n(&shared->done, __ATOMIC_SEQ_CST);
         CHECK(number >= answered && (number == done_now || number == done_now + 1) && is(&record, number, number, 2 * number));
         answered = number, shared->done = (uint32_t)number;
     }
-    CHECK(answered > 0);
+    CHECK(answered >= saves / 40);
     oscore_store_close(&store);
 }
 
