@@ -10,7 +10,7 @@
 #define OSCORE_LIBRARY_VERSION 100
 #define OSCORE_LIBRARY_VERSION_STRING "0.1.0"
 /* Which layout: another number where a status, a struct or a call changed that was there, so that a program has to be compiled anew. */
-#define OSCORE_LAYOUT 3
+#define OSCORE_LAYOUT 4
 
 /* What a struct or an array of structs is begun with, as `oscore_context context = OSCORE_ZERO;`: zero, without a warning. */
 #ifdef __cplusplus
@@ -35,9 +35,9 @@ extern "C" {
    of your own may stand before this header. */
 #ifndef OSCORE_STACK
 #if UINTPTR_MAX == UINT64_MAX
-#define OSCORE_STACK 12288
+#define OSCORE_STACK 10240
 #else
-#define OSCORE_STACK 14848
+#define OSCORE_STACK 11264
 #endif
 #endif
 
@@ -83,69 +83,62 @@ OSCORE_ASSERT(sizeof(bool) == 1, "a bool has 1 byte");
 
    What no call can see is left to the caller: a pointer leads to as many bytes as the length beside it says, or to a whole struct, and
    stays so until the call returns; until then nobody else writes there, no thread, no signal handler and no device, since a call checks a
-   datagram and then reads it a second time; what a call writes (`out`, `datagram`, `options`, `opened`, `head`, `server`, `index`,
+   datagram and then reads it a second time; what a call writes (`out`, `datagram`, `options`, `opened`, `head`, `index`,
    `ticket`, `out_len`, `record`, `detail`, `name`, `sizes`, `peer`, `pending`) overlaps nothing else that it is given; a struct is set to
    zero before it is given for the first time; a `bool` is 0 or 1. A pointer may be NULL where the length beside it is 0, and nowhere
    else. */
 
-/* What a call answers: 0 where it is done, else the first refusal whose condition holds, in the order of this list; those that came last
-   are judged elsewhere: OSCORE_SAME_SENDER right after OSCORE_SAME_LOOKUP; OSCORE_SAVE_FIRST where the calls of a peer say it;
-   OSCORE_OPTION_ORDER and OSCORE_VALUE_TOO_LONG before OSCORE_NO_ROOM; OSCORE_NOT_OBSERVING right after OSCORE_STALE_TICKET,
-   OSCORE_NOT_NOTIFICATION right after OSCORE_UNSUPPORTED, and OSCORE_OLD right after OSCORE_UNDECODABLE; OSCORE_OLD_RECORD right after
-   OSCORE_BAD_NUMBER. A call that refuses writes `detail`: the place of a datagram's fault in bytes from 0, the number of an option, the
-   index of one that was handed in, or 0. It leaves `out`, `out_len`, `options`, `opened`, `head`, `index`, `ticket`, `request`, `record`,
-   the server, the client and the peer as they were; where a call does more, it says so. */
+/* What a call answers: 0 where it is done, else the first refusal whose condition holds, in the order of this list. OSCORE_SAVE_FIRST alone,
+   and OSCORE_LIVES_EXHAUSTED in its place, come elsewhere from `oscore_peer_take`, which says where. A call that refuses writes `detail`: the
+   place of a datagram's fault in bytes from 0, the number of an option, the index of one that was handed in, or 0. It leaves `out`, `out_len`,
+   `options`, `opened`, `head`, `index`, `ticket`, `request`, `record` and the peer as they were; where a call does more, it says so. */
 typedef enum oscore_status {
     OSCORE_DONE = 0,
     OSCORE_BAD_HANDLE = 1,         /* no call wrote such a handle: as a length that is too large, or two identifiers that are one */
-    OSCORE_BAD_NUMBER = 2,         /* a number is 2^40 or more, a kind above 3, a window has neither 1, 32 nor 64 places, or parameters
-                                      have what this header doesn't know */
-    OSCORE_SECRET_LENGTH = 3,      /* the Master Secret has no byte, or more than 64 */
-    OSCORE_SALT_LENGTH = 4,        /* the Master Salt has more than 64 bytes */
-    OSCORE_ID_TOO_LONG = 5,        /* an identifier has more than 7 bytes */
-    OSCORE_SAME_IDS = 6,           /* both ends have one identifier */
-    OSCORE_ID_CONTEXT_LENGTH = 7,  /* the ID Context has no byte, or more than 32 */
-    OSCORE_DATAGRAM_TOO_LONG = 8,  /* from here to OSCORE_EMPTY_PAYLOAD: no CoAP message, and `detail` is the place */
-    OSCORE_SHORT = 9,              /* fewer than 4 bytes */
-    OSCORE_VERSION = 10,           /* not version 1 */
-    OSCORE_TOKEN_LENGTH = 11,      /* a token of more than 8 bytes */
-    OSCORE_EMPTY_WITH_REST = 12,   /* code 0.00, and bytes behind the message ID or a token */
-    OSCORE_TOKEN_CUT = 13,         /* it ends inside the token */
-    OSCORE_NIBBLE15 = 14,          /* an option's delta or length is 15 */
-    OSCORE_OPTION_CUT = 15,        /* it ends inside an option */
-    OSCORE_NUMBER_TOO_LARGE = 16,  /* an option's number is above 65,535 */
-    OSCORE_EMPTY_PAYLOAD = 17,     /* a payload marker, and no payload */
-    OSCORE_NO_SUCH_CONTEXT = 18,   /* no context of the server has this index */
-    OSCORE_LIVES_EXHAUSTED = 19,   /* the context was restarted 2^64 - 1 times, or the peer's records were saved as often */
-    OSCORE_FULL = 20,              /* the server has eight contexts */
-    OSCORE_SAME_LOOKUP = 21,       /* one of them is named by the same kid and kid context */
-    OSCORE_STALE_TICKET = 22,      /* the ticket's context isn't there, or was restarted since; it is another peer's, or of another begin */
-    OSCORE_TICKET_SPENT = 23,      /* the ticket's request has its answer, lies too far back, or was never delivered */
-    OSCORE_NOT_THAT_KIND = 24,     /* the message is no request, or no response, by its kind and code */
-    OSCORE_UNKNOWN_TOKEN = 25,     /* no request with the token of the response is pending */
-    OSCORE_NO_OSCORE = 26,         /* no OSCORE option: the message isn't protected */
-    OSCORE_UNDECODABLE = 27,       /* several OSCORE options, one that can't be used, no payload, or an option for proxies */
-    OSCORE_NO_CONTEXT = 28,        /* no context of the server is the one that the request names */
-    OSCORE_WRONG_CONTEXT = 29,     /* the request names another context by its kid or kid context */
-    OSCORE_REPLAY = 30,            /* the request's number isn't new, or too old to tell */
-    OSCORE_TAG = 31,               /* the payload protects nothing under this context and this number */
-    OSCORE_INNER = 32,             /* it protects what may not stand inside a message */
-    OSCORE_CHALLENGE = 33,         /* the context was restarted, and the request lacks the Echo value that the reply asks for */
-    OSCORE_UNSUPPORTED = 34,       /* an option that isn't sealed, as Proxy-Uri; `detail` is its number */
-    OSCORE_TOKEN_IN_USE = 35,      /* a request with this token is pending */
-    OSCORE_PENDING_FULL = 36,      /* eight requests of a client are pending, or as many of a peer's as there are places */
-    OSCORE_SEQUENCE_EXHAUSTED = 37, /* no Sender Sequence Number below 2^40 is left */
-    OSCORE_TOO_LONG = 38,          /* the sealed message would have more than 65,535 bytes */
-    OSCORE_NO_ROOM = 39,           /* the buffer is shorter than the message */
-    OSCORE_NOT_PENDING = 40,       /* no request with this token is pending */
-    OSCORE_SAME_SENDER = 41,       /* a context of the server has this Sender Key */
-    OSCORE_SAVE_FIRST = 42,        /* a record has to be saved first: the call wrote it to `record` */
-    OSCORE_OPTION_ORDER = 43,      /* an option's number is below that of the one before it; `detail` is its index */
-    OSCORE_VALUE_TOO_LONG = 44,    /* an option's value has more than 65,804 bytes; `detail` is its index */
-    OSCORE_NOT_OBSERVING = 45,     /* the ticket's request registers no observation, so nothing notifies it */
-    OSCORE_NOT_NOTIFICATION = 46,  /* the message isn't of class 2, or has no Observe */
-    OSCORE_OLD = 47,               /* a later response to the same registration came before this one */
-    OSCORE_OLD_RECORD = 48,        /* the record is another context's, or none behind which a peer can begin */
+    OSCORE_BAD_NUMBER = 2,         /* a number is 2^40 or more, a kind above 3, a window has neither 1, 32 nor 64 places, a record isn't the
+                                      next one to save, or parameters have what this header doesn't know */
+    OSCORE_OLD_RECORD = 3,         /* the record is another context's, or none behind which a peer can begin */
+    OSCORE_SECRET_LENGTH = 4,      /* the Master Secret has no byte, or more than 64 */
+    OSCORE_SALT_LENGTH = 5,        /* the Master Salt has more than 64 bytes */
+    OSCORE_ID_TOO_LONG = 6,        /* an identifier has more than 7 bytes */
+    OSCORE_SAME_IDS = 7,           /* both ends have one identifier */
+    OSCORE_ID_CONTEXT_LENGTH = 8,  /* the ID Context has no byte, or more than 32 */
+    OSCORE_DATAGRAM_TOO_LONG = 9,  /* from here to OSCORE_EMPTY_PAYLOAD: no CoAP message, and `detail` is the place */
+    OSCORE_SHORT = 10,             /* fewer than 4 bytes */
+    OSCORE_VERSION = 11,           /* not version 1 */
+    OSCORE_TOKEN_LENGTH = 12,      /* a token of more than 8 bytes */
+    OSCORE_EMPTY_WITH_REST = 13,   /* code 0.00, and bytes behind the message ID or a token */
+    OSCORE_TOKEN_CUT = 14,         /* it ends inside the token */
+    OSCORE_NIBBLE15 = 15,          /* an option's delta or length is 15 */
+    OSCORE_OPTION_CUT = 16,        /* it ends inside an option */
+    OSCORE_NUMBER_TOO_LARGE = 17,  /* an option's number is above 65,535 */
+    OSCORE_EMPTY_PAYLOAD = 18,     /* a payload marker, and no payload */
+    OSCORE_OPTION_ORDER = 19,      /* an option's number is below that of the one before it; `detail` is its index */
+    OSCORE_VALUE_TOO_LONG = 20,    /* an option's value has more than 65,804 bytes; `detail` is its index */
+    OSCORE_STALE_TICKET = 21,      /* the ticket is another peer's, or of another life of this one */
+    OSCORE_SAVE_FIRST = 22,        /* a record has to be saved first: the call wrote it to `record` */
+    OSCORE_LIVES_EXHAUSTED = 23,   /* the same, but the peer's records were saved 2^64 - 1 times */
+    OSCORE_TICKET_SPENT = 24,      /* the ticket's request has its answer, lies too far back, or was never delivered */
+    OSCORE_NOT_OBSERVING = 25,     /* the ticket's request registers no observation, so nothing notifies it */
+    OSCORE_NOT_THAT_KIND = 26,     /* the message is no request, or no response, by its kind and code */
+    OSCORE_UNKNOWN_TOKEN = 27,     /* no request with the token of the response is pending */
+    OSCORE_NO_OSCORE = 28,         /* no OSCORE option: the message isn't protected */
+    OSCORE_UNDECODABLE = 29,       /* several OSCORE options, one that can't be used, no payload, or an option for proxies */
+    OSCORE_NO_CONTEXT = 30,        /* the request names no context of the peer, or of the peers */
+    OSCORE_WRONG_CONTEXT = 31,     /* the request names another context by its kid or kid context */
+    OSCORE_REPLAY = 32,            /* the request's number isn't new, or too old to tell */
+    OSCORE_OLD = 33,               /* a later response to the same registration came before this one */
+    OSCORE_TAG = 34,               /* the payload protects nothing under this context and this number */
+    OSCORE_INNER = 35,             /* it protects what may not stand inside a message */
+    OSCORE_CHALLENGE = 36,         /* a new life, and the request lacks the Echo value that the reply asks for */
+    OSCORE_UNSUPPORTED = 37,       /* an option that isn't sealed, as Proxy-Uri; `detail` is its number */
+    OSCORE_NOT_NOTIFICATION = 38,  /* the message isn't of class 2, or has no Observe */
+    OSCORE_TOKEN_IN_USE = 39,      /* a request with this token is pending */
+    OSCORE_PENDING_FULL = 40,      /* as many requests are pending as there are places */
+    OSCORE_SEQUENCE_EXHAUSTED = 41, /* no Sender Sequence Number below 2^40 is left */
+    OSCORE_TOO_LONG = 42,          /* the sealed message would have more than 65,535 bytes */
+    OSCORE_NO_ROOM = 43,           /* the buffer is shorter than the message */
+    OSCORE_NOT_PENDING = 44,       /* no request with this token is pending */
     OSCORE_STATUS_WIDTH = 0x7fffffff /* no call answers this: it gives the type its 4 bytes under -fshort-enums too */
 } oscore_status;
 
@@ -153,20 +146,19 @@ typedef enum oscore_status {
 OSCORE_ASSERT(sizeof(oscore_status) == 4, "a status has 4 bytes");
 
 /* So many bytes of `out` are enough to seal a plain datagram of so many bytes, whatever its options are, and the context, and the number:
-   by a context, a server or a client that calls wrote, no call then answers OSCORE_NO_ROOM. That is proved (docs/PROVED.md), but of the
-   calls of a peer, which seal by the same code.
+   by a context or a peer that calls wrote, no call then answers OSCORE_NO_ROOM. That is proved (docs/PROVED.md).
    63 are: 48 of the OSCORE option (RFC 8613, 6.1: its option byte, one more byte for its length, the flags, 5 of a Partial IV, a length
    and 32 of a kid context, 7 of a kid); 10 of the marker, the code inside and the tag; 1, since an inner option may come after Uri-Port in
    the plain datagram, and after nothing inside, so that its delta is up to 7 more, and that can take an extended byte more (RFC 7252,
    3.1); and 4 of Observe, which stands outside and inside where the context allows it (RFC 8613, 4.1.3.5), in at most 3 bytes: a longer
    one, and one more, stand inside alone (RFC 7252, 5.4.3 and 5.4.5; RFC 7641, 2). A response has no kid, so its option has at most 7
-   bytes, and the server puts the request's token of up to 8 bytes into it. Some requests with Observe take all 63, and without it 59. The
+   bytes, and the peer puts the request's token of up to 8 bytes into it. Some requests with Observe take all 63, and without it 59. The
    sealed message has at most 65,535 bytes. */
 #define OSCORE_ROOM(plain_len) ((plain_len) + 63)
 
 /* A context as one of its two ends holds it (RFC 8613, 3.1): plain bytes, to be made by `oscore_derive` and copied as you like.
-   It holds keys: `oscore_wipe(&context, sizeof context)` when it isn't needed, as behind `oscore_server_add` or `oscore_client_begin`,
-   which copy it. No number is counted in it: whoever seals uses each number once. */
+   It holds keys: `oscore_wipe(&context, sizeof context)` when it isn't needed, as behind `oscore_peer_begin_first`, which
+   copies it. No number is counted in it: whoever seals uses each number once. */
 typedef struct oscore_context {
     uint8_t sender[7], sender_len;
     uint8_t recipient[7], recipient_len;
@@ -223,7 +215,7 @@ typedef struct oscore_opened {
     OSCORE_SLOT oscore_size payload_len;
     OSCORE_SLOT oscore_size option_count; /* how many options were put into the array, in ascending order of their numbers */
     bool has_more_options; /* the array is full, and there are more */
-    bool is_notification;  /* from a client's take: the request stays pending, and may be notified again; else false */
+    bool is_notification;  /* from `oscore_peer_hear`: the request stays pending, and may be notified again; else false */
 } oscore_opened;
 
 /* What a protected request says to whoever has no key. Nothing of it was protected yet, or is secret. Its slices lie in the datagram. */
@@ -239,56 +231,45 @@ typedef struct oscore_request_head {
     OSCORE_SLOT oscore_size kid_context_len;
 } oscore_request_head;
 
-/* One context of a server: which of its numbers were seen, and which Sender Sequence Number is next. The calls write it:
-   read it, and change nothing. */
+/* The context of a peer: which numbers of requests were seen, and which Sender Sequence Number is next. The calls write it: read it, and
+   change nothing. */
 typedef struct oscore_server_context {
     oscore_context context;
     uint8_t places;        /* of the window that the context gets: 1, 32 or 64 */
     uint8_t window_places; /* of the window that is open */
-    uint8_t gate;          /* 0 restarted, 1 restarted and challenged, 2 open with no number seen, 3 open */
+    uint8_t gate;          /* 0 not open yet, 1 not open yet and challenged, 2 open with no number seen, 3 open */
     uint8_t echo[8];       /* the challenge */
     OSCORE_SLOT uint64_t at;           /* when it was drawn, or the highest number that was seen */
     OSCORE_SLOT uint64_t spent_mask;
-    OSCORE_SLOT uint64_t next; /* Sender Sequence Number of the next call: store it before you send what a call sealed */
-    OSCORE_SLOT uint64_t life; /* how often it was restarted */
+    OSCORE_SLOT uint64_t next; /* the next Sender Sequence Number */
+    OSCORE_SLOT uint64_t life; /* 0: a new life of a peer is a new beginning */
 } oscore_server_context;
 
-/* The requests of one context that wait for their answers. */
+/* The requests that wait for their answers. */
 typedef struct oscore_unanswered {
     OSCORE_SLOT uint64_t highest, mask;
 } oscore_unanswered;
 
-/* A server of up to eight contexts, which counts their numbers: plain bytes, begun by `oscore_server_begin`. Never go on with
-   two copies of one, and never with an old one: its Sender Sequence Numbers would be rolled back, and a nonce used twice. What has lost
-   its server begins a new one, and adds each context as `restarted`. One call at a time works on a server. It holds keys:
-   `oscore_wipe(&server, sizeof server)` when it isn't needed. */
-typedef struct oscore_server {
-    OSCORE_SLOT uint64_t clock;    /* the latest moment that a call was given */
-    OSCORE_SLOT oscore_size count; /* how many of the contexts are in use */
-    oscore_server_context contexts[8];
-    oscore_unanswered unanswered[8];
-} oscore_server;
-
-/* A server of one context, which has the index 0, in the room of one. Its calls do what those of a server with this context alone do.
-   What is said of copies of a server holds of it too. It holds keys: `oscore_wipe(&server, sizeof server)` when it isn't needed. */
-typedef struct oscore_server1 {
-    OSCORE_SLOT uint64_t clock; /* the latest moment that a call was given */
+/* What a peer answers with. */
+typedef struct oscore_server_role {
+    OSCORE_SLOT uint64_t clock; /* the latest moment that a call for what comes was given */
     oscore_server_context context;
     oscore_unanswered unanswered;
-} oscore_server1;
+} oscore_server_role;
 
 /* The right to answer one request that was delivered, and to notify it where it registers an observation. It may be copied, and a copy
    gives no second answer. It holds no secret. */
 typedef struct oscore_ticket {
-    OSCORE_SLOT oscore_size context; /* its index, as `oscore_server_add` gave it */
-    OSCORE_SLOT uint64_t life, number;
+    OSCORE_SLOT oscore_size context; /* the name of the peer's context */
+    OSCORE_SLOT uint64_t life;       /* of the peer */
+    OSCORE_SLOT uint64_t number;     /* of the request */
     uint8_t kind; /* 0 CON, 1 NON */
     uint16_t message_id;
     uint8_t token[8], token_len;
     uint8_t observes; /* 1 where the request registers an observation, else 0 */
 } oscore_ticket;
 
-/* A request of a client that waits for its response. It holds no secret. */
+/* A request of a peer that waits for its response. It holds no secret. */
 typedef struct oscore_pending {
     OSCORE_SLOT uint64_t number;
     OSCORE_SLOT uint64_t moment; /* when it was sealed */
@@ -297,18 +278,6 @@ typedef struct oscore_pending {
     uint8_t observes; /* 1 where it registers an observation, else 0 */
 } oscore_pending;
 
-/* A client of one context, which counts its numbers and knows which requests wait for their responses: plain bytes, begun by
-   `oscore_client_begin`. The calls write it: read it, and change nothing. What is said of copies of a server holds of a client too. It
-   holds keys: `oscore_wipe(&client, sizeof client)` when it isn't needed. */
-typedef struct oscore_client {
-    oscore_context context;
-    OSCORE_SLOT uint64_t life_ms; /* for how long a request is pending that wasn't notified */
-    OSCORE_SLOT uint64_t clock;   /* the latest moment that a call was given */
-    OSCORE_SLOT uint64_t next;    /* number of the next request: store it before you send what a call sealed */
-    OSCORE_SLOT oscore_size count; /* how many of the requests are pending, oldest first */
-    oscore_pending pending[8];
-} oscore_client;
-
 /* One end of one context whose numbers outlive it, begun by `oscore_peer_begin_first` or `oscore_peer_begin_again`. It tells which record
    has to be saved: it uses only Sender Sequence Numbers below the one that was saved, and delivers only requests with a number below the
    received one that was saved. So a power cut at any moment costs some numbers, no nonce is used twice, and no request is delivered
@@ -316,7 +285,7 @@ typedef struct oscore_client {
    a record that isn't behind the one that it has tells which one is too old. It holds keys: `oscore_wipe(&peer, sizeof peer)` when it
    isn't needed. */
 typedef struct oscore_peer {
-    oscore_server1 server;           /* `server.context.next` is the next Sender Sequence Number of both roles */
+    oscore_server_role server;       /* `server.context.next` is the next Sender Sequence Number of both roles */
     OSCORE_SLOT uint64_t reserved;   /* Sender Sequence Numbers below this one may be used */
     OSCORE_SLOT uint64_t received;   /* each request that was delivered has a lower number */
     OSCORE_SLOT uint64_t life_ms;    /* for how long a request of its own is pending that wasn't notified */
@@ -369,19 +338,14 @@ OSCORE_HAS(oscore_server_context, 144); OSCORE_AT(oscore_server_context, context
     OSCORE_AT(oscore_server_context, spent_mask, 120); OSCORE_AT(oscore_server_context, next, 128);
     OSCORE_AT(oscore_server_context, life, 136);
 OSCORE_HAS(oscore_unanswered, 16); OSCORE_AT(oscore_unanswered, highest, 0); OSCORE_AT(oscore_unanswered, mask, 8);
-OSCORE_HAS(oscore_server, 1296); OSCORE_AT(oscore_server, clock, 0); OSCORE_AT(oscore_server, count, 8);
-    OSCORE_AT(oscore_server, contexts, 16); OSCORE_AT(oscore_server, unanswered, 1168);
-OSCORE_HAS(oscore_server1, 168); OSCORE_AT(oscore_server1, clock, 0); OSCORE_AT(oscore_server1, context, 8);
-    OSCORE_AT(oscore_server1, unanswered, 152);
+OSCORE_HAS(oscore_server_role, 168); OSCORE_AT(oscore_server_role, clock, 0); OSCORE_AT(oscore_server_role, context, 8);
+    OSCORE_AT(oscore_server_role, unanswered, 152);
 OSCORE_HAS(oscore_ticket, 40); OSCORE_AT(oscore_ticket, context, 0); OSCORE_AT(oscore_ticket, life, 8);
     OSCORE_AT(oscore_ticket, number, 16); OSCORE_AT(oscore_ticket, kind, 24); OSCORE_AT(oscore_ticket, message_id, 26);
     OSCORE_AT(oscore_ticket, token, 28); OSCORE_AT(oscore_ticket, token_len, 36); OSCORE_AT(oscore_ticket, observes, 37);
 OSCORE_HAS(oscore_pending, 40); OSCORE_AT(oscore_pending, number, 0); OSCORE_AT(oscore_pending, moment, 8);
     OSCORE_AT(oscore_pending, from, 16); OSCORE_AT(oscore_pending, token, 24); OSCORE_AT(oscore_pending, token_len, 32);
     OSCORE_AT(oscore_pending, observes, 33);
-OSCORE_HAS(oscore_client, 456); OSCORE_AT(oscore_client, context, 0); OSCORE_AT(oscore_client, life_ms, 104);
-    OSCORE_AT(oscore_client, clock, 112); OSCORE_AT(oscore_client, next, 120); OSCORE_AT(oscore_client, count, 128);
-    OSCORE_AT(oscore_client, pending, 136);
 OSCORE_HAS(oscore_peer, 224); OSCORE_AT(oscore_peer, server, 0); OSCORE_AT(oscore_peer, reserved, 168); OSCORE_AT(oscore_peer, received, 176);
     OSCORE_AT(oscore_peer, life_ms, 184); OSCORE_AT(oscore_peer, clock, 192); OSCORE_AT(oscore_peer, name, 200); OSCORE_AT(oscore_peer, life, 208);
     OSCORE_AT(oscore_peer, generation, 216);
@@ -392,7 +356,7 @@ OSCORE_HAS(oscore_peer_record, 32); OSCORE_AT(oscore_peer_record, name, 0); OSCO
 
 /* The sizes of the structs above, in bytes, as the library has them. */
 typedef struct oscore_struct_sizes {
-    OSCORE_SLOT oscore_size context, option, opened, request_head, server, ticket, client, server1, peer, peer_record, pending;
+    OSCORE_SLOT oscore_size context, option, opened, request_head, ticket, peer, peer_record, pending;
 } oscore_struct_sizes;
 
 void oscore_sizes(oscore_struct_sizes *sizes);
@@ -408,8 +372,8 @@ void oscore_status_name(uint32_t status, char name[24]);
    message with such an option is sealed, and none opens.
    With `observe` messages may have Observe (6), the option of observations (RFC 7641; RFC 8613, 4.1.3.5): it then stands outside and,
    encrypted, inside, the code outside is 0.05 or 2.05, and who opens sees the one inside. A GET or FETCH whose Observe is 0, an empty
-   value, registers: `oscore_client_request` seals it, `oscore_server_take` delivers it, `oscore_server_notify` seals each notification, in
-   which Observe is empty inside, and `oscore_client_take` opens them. Observe stands in no other response, so `oscore_server_reply` and
+   value, registers: `oscore_peer_request` seals it, `oscore_peer_take` delivers it, `oscore_peer_notify` seals each notification, in
+   which Observe is empty inside, and `oscore_peer_hear` opens them. Observe stands in no other response, so `oscore_peer_reply` and
    `oscore_seal_response` seal none with it, and `oscore_open_response` opens none. Without `observe` no message with Observe is sealed,
    and none opens. Both ends must choose the same of `blocks` and of `observe`. */
 OSCORE_MUST_USE oscore_status oscore_derive(oscore_context *out, const uint8_t *secret, oscore_size secret_len,
@@ -471,130 +435,6 @@ OSCORE_MUST_USE oscore_status oscore_open_response(const oscore_context *context
                                                    oscore_size datagram_len, oscore_option *options, oscore_size options_room,
                                                    oscore_opened *opened, oscore_size *detail);
 
-/* A server without contexts. */
-void oscore_server_begin(oscore_server *server);
-
-/* Adds a context, and writes its index. `restarted` says that it may have received requests before, so that what was seen of them is
-   lost: then no request is delivered until one brings back an Echo value (RFC 8613, B.1.2). `next` is its next Sender Sequence Number,
-   above each that it ever sealed under. A context that was never used begins with false and 0. Its window has 1, 32 or 64 places. From then
-   on the server counts the numbers of the context's sender: seal neither requests nor responses by `context` beside it. Two contexts with
-   the same Sender Key would each count from their own `next`, and share key and nonce, so the second is OSCORE_SAME_SENDER: contexts with
-   the same Master Secret are to differ in Sender ID, Master Salt or ID Context (RFC 8613, 3.3). */
-OSCORE_MUST_USE oscore_status oscore_server_add(oscore_server *server, const oscore_context *context, bool restarted,
-                                                uint64_t next, uint8_t window_places, oscore_size *index);
-
-/* Begins a new life of a context, as if it had been added as restarted: its earlier tickets are stale, and each request that opens is
-   challenged until one brings back the Echo value. `next` is as at `oscore_server_add`. The server's clock stays as it is. */
-OSCORE_MUST_USE oscore_status oscore_server_restart(oscore_server *server, oscore_size context, uint64_t next);
-
-/* Answers a datagram, where it lies. 0: a request is delivered. `opened` and `options` show it, and `ticket` is the right to answer it;
-   these three are written at 0 alone. `now` is the time in milliseconds, by a clock that doesn't go back; `echo` are 8 bytes that
-   nobody can predict, and `mid` is a new message ID: hand in both anew with each datagram. `out_len` is always written: so many bytes
-   of `out` go back to the sender, whatever the status; where it is 0, none do. So a replay, a bad tag and a challenge get the replies
-   of RFC 8613, 7.4, 8.2 and B.1.2.
-   OSCORE_BAD_HANDLE leaves the server as it was, the others move its clock; OSCORE_INNER spends the request's number too where the
-   context's window is open, but not in a context that waits for an Echo value; OSCORE_CHALLENGE spends a Sender Sequence
-   Number. From OSCORE_INNER on, the datagram's payload isn't what came.
-   The clock is the latest `now`: an earlier one counts as that. So a moment from far ahead stays, also over `oscore_server_restart`,
-   and until the time has come there the clock stands: a challenge, which is good for 30 seconds, then doesn't end.
-   A delivered request that comes again because its reply was lost is refused as a replay, though it was obeyed. So whoever speaks over
-   UDP keeps the reply to each delivered request, by sender and message ID, for 247 seconds. If the request comes again, a CON gets that
-   reply again, a NON gets nothing, and this isn't called (RFC 7252, 4.5 and 4.8.2). Any other request that comes again is handed in
-   again. An empty message, as an acknowledgment, a reset or a ping, is OSCORE_NOT_THAT_KIND. */
-OSCORE_MUST_USE oscore_status oscore_server_take(oscore_server *server, uint64_t now, const uint8_t echo[8], uint16_t mid,
-                                                 uint8_t *datagram, oscore_size datagram_len, oscore_option *options,
-                                                 oscore_size options_room, oscore_opened *opened, oscore_ticket *ticket,
-                                                 uint8_t out[64], oscore_size *out_len, oscore_size *detail);
-
-/* Seals the answer to the request of a ticket: with a Partial IV of its own where `own` says so, else under the request's nonce. Of
-   `plain`, which is a datagram, the code, the options and the payload are used; kind, message ID and token are those that the request asks
-   for, and `mid` is the message ID where the request wasn't confirmable. A request is answered once: OSCORE_TICKET_SPENT where it has its
-   answer, or where a request was delivered whose number is at least 64 above that of the ticket's request. A refusal spends nothing.
-   The answer to a registration has a Partial IV of its own whatever `own` says. It has no Observe, and so it is the last: the client then
-   waits for nothing more. */
-OSCORE_MUST_USE oscore_status oscore_server_reply(oscore_server *server, const oscore_ticket *ticket, bool own, uint16_t mid,
-                                                  const uint8_t *plain, oscore_size plain_len, uint8_t *out, oscore_size out_room,
-                                                  oscore_size *out_len, oscore_size *detail);
-
-/* Seals a notification to the registration of a ticket, with a new Partial IV of its own (RFC 7641, 3.2; RFC 8613, 8.3.1). Of `plain`,
-   which is a datagram, all is used but the token, which is the ticket's: kind and message ID too, so the first is an ACK with the message
-   ID of the registration where that is a CON, and each later one a NON or a CON with a new one. It is of class 2 and has Observe, whose
-   value stands outside, for whoever is in between; the client goes by the Partial IV. Any other response, as an error, is a reply, and
-   ends the observation.
-   The ticket stays, and so does the request's right to an answer. The library counts no observations: the program keeps the ticket as
-   long as it has something to notify, and drops it where a request of the same context with the same token and options has Observe 1,
-   where one registers with the same token (the new ticket takes its place), and where a notification is answered by a reset. A ticket may
-   be notified by however many requests came since; OSCORE_STALE_TICKET where its context was restarted. A refusal spends nothing. */
-OSCORE_MUST_USE oscore_status oscore_server_notify(oscore_server *server, const oscore_ticket *ticket, const uint8_t *plain,
-                                                   oscore_size plain_len, uint8_t *out, oscore_size out_room,
-                                                   oscore_size *out_len, oscore_size *detail);
-
-/* A server of this one context: `oscore_server_begin` and `oscore_server_add` in one. Refused with OSCORE_BAD_HANDLE or
-   OSCORE_BAD_NUMBER, it leaves the server as it was. */
-OSCORE_MUST_USE oscore_status oscore_server1_begin(oscore_server1 *server, const oscore_context *context, bool restarted,
-                                                   uint64_t next, uint8_t window_places);
-
-/* Begins a new life of the context, as `oscore_server_restart` does. */
-OSCORE_MUST_USE oscore_status oscore_server1_restart(oscore_server1 *server, uint64_t next);
-
-/* Answers a datagram, as `oscore_server_take` does. */
-OSCORE_MUST_USE oscore_status oscore_server1_take(oscore_server1 *server, uint64_t now, const uint8_t echo[8], uint16_t mid,
-                                                  uint8_t *datagram, oscore_size datagram_len, oscore_option *options,
-                                                  oscore_size options_room, oscore_opened *opened, oscore_ticket *ticket,
-                                                  uint8_t out[64], oscore_size *out_len, oscore_size *detail);
-
-/* Seals the answer to the request of a ticket, as `oscore_server_reply` does. A ticket names no server: answer by the tickets that this
-   one gave. */
-OSCORE_MUST_USE oscore_status oscore_server1_reply(oscore_server1 *server, const oscore_ticket *ticket, bool own, uint16_t mid,
-                                                   const uint8_t *plain, oscore_size plain_len, uint8_t *out,
-                                                   oscore_size out_room, oscore_size *out_len, oscore_size *detail);
-
-/* Seals a notification to the registration of a ticket, as `oscore_server_notify` does. */
-OSCORE_MUST_USE oscore_status oscore_server1_notify(oscore_server1 *server, const oscore_ticket *ticket, const uint8_t *plain,
-                                                    oscore_size plain_len, uint8_t *out, oscore_size out_room,
-                                                    oscore_size *out_len, oscore_size *detail);
-
-/* A client with nothing pending. `next` is its next number, above each that the context ever sealed under; 0 for a context that was
-   never used. A request is pending for `life_ms` milliseconds and no longer; a registration that was notified, until its last response or
-   `oscore_client_forget`. From then on the client counts the numbers of the context's sender: seal neither requests nor responses by
-   `context` beside it. */
-OSCORE_MUST_USE oscore_status oscore_client_begin(oscore_client *client, const oscore_context *context, uint64_t next,
-                                                  uint64_t life_ms);
-
-/* Drops every pending request, and goes on at a number. The clock stays as it is. */
-OSCORE_MUST_USE oscore_status oscore_client_restart(oscore_client *client, uint64_t next);
-
-/* Waits no more for the response to the request of a token; OSCORE_NOT_PENDING where there is none. */
-OSCORE_MUST_USE oscore_status oscore_client_forget(oscore_client *client, const uint8_t *token, oscore_size token_len);
-
-/* Seals a request with the client's next number. `plain` is its datagram, and its token is pending from then on. `now` is as at
-   `oscore_server_take`; a moment from far ahead ends all that is pending, and what is sealed after it is pending until the time has come
-   there. A refusal from OSCORE_NOT_THAT_KIND on moves the clock, which ends what was pending for too long. To send a request again
-   (RFC 7252, 4.2), send the same bytes: what is sealed anew is another request, and is obeyed once more.
-   To cancel an observation, or to register anew, under its token, call `oscore_client_forget` first. */
-OSCORE_MUST_USE oscore_status oscore_client_request(oscore_client *client, uint64_t now, const uint8_t *plain,
-                                                    oscore_size plain_len, uint8_t *out, oscore_size out_room,
-                                                    oscore_size *out_len, oscore_size *detail);
-
-/* Answers a datagram, where it lies. 0: a response to a pending request, which is pending no more, and `request` is its number; that,
-   `opened` and `options` are written at 0 alone. Where `opened->is_notification` is true, it is a notification of the registration
-   `request`, which stays pending, and later ones come in the same way; each is delivered once at most, and none after a later one, which
-   is OSCORE_OLD. OSCORE_BAD_HANDLE leaves the client as it was, the others move its clock.
-   Each other refusal says that this datagram isn't the response, and nothing of the one that may still come: the request stays
-   pending, and the caller keeps waiting, until 0, the end of `life_ms`, `oscore_client_forget` or `oscore_client_restart`. Anyone
-   may have sent what is refused, and anyone can send an error without protection; OSCORE_INNER alone says that it was sealed with the
-   server's Sender Key.
-   A server that asks for an Echo value answers 0 with the code 129, 4.01, and the option 252. It lost what it knew, so this doesn't say
-   that the request wasn't obeyed: the server may have obeyed it before its restart, and may yet obey a copy of it that comes late. Where
-   what is asked for may be done twice, ask anew with that option's value (RFC 9175, 2.3): that is another request, and is obeyed too.
-   Empty messages are OSCORE_NOT_THAT_KIND here: by their message ID they tell the caller that a request arrived (ACK), so that it isn't
-   sent again, or that it isn't answered (RST), so that it can be forgotten.
-   Behind 0 and OSCORE_INNER the datagram holds what was inside, and the old tag behind it; else it is as it came. (What it holds is
-   tested, and proved of the call behind this one.) */
-OSCORE_MUST_USE oscore_status oscore_client_take(oscore_client *client, uint64_t now, uint8_t *datagram, oscore_size datagram_len,
-                                                 oscore_option *options, oscore_size options_room, oscore_opened *opened,
-                                                 uint64_t *request, oscore_size *detail);
-
 /* A peer. A call that needs a number that isn't saved answers OSCORE_SAVE_FIRST, writes the record to save, and leaves all else as it was: the
    peer, its clock, the datagram, `out`, the rest. Then
 
@@ -612,27 +452,52 @@ OSCORE_MUST_USE oscore_status oscore_client_take(oscore_client *client, uint64_t
 OSCORE_MUST_USE oscore_status oscore_peer_name(const oscore_context *context, uint64_t *name);
 
 /* Begins a peer of a context that was never used, neither by this end nor by another library: at its provisioning, once. A record that
-   was lost is no reason: then the context can't be used any more. The window has 1, 32 or 64 places, any of them where the peer only asks.
-   OSCORE_BAD_HANDLE or OSCORE_BAD_NUMBER leave the peer. */
+   was lost is no reason: then the context can't be used any more. The window has 1, 32 or 64 places, any of them where the peer only asks;
+   with 1 a request is delivered where its number is above each that was. A request of its own is pending for `life_ms` milliseconds and no
+   longer; a registration that was notified, until its last response or `oscore_peer_forget`. From then on the peer counts the numbers of
+   the context's sender: seal nothing by `context` beside it, and begin no second peer with its Sender Key, which would use the same nonces.
+   Contexts with the same Master Secret differ in Sender ID, Master Salt or ID Context (RFC 8613, 3.3). OSCORE_BAD_HANDLE or
+   OSCORE_BAD_NUMBER leave the peer. */
 OSCORE_MUST_USE oscore_status oscore_peer_begin_first(oscore_peer *peer, const oscore_context *context, uint8_t window_places,
                                                       uint64_t life_ms);
 
 /* Begins a peer behind the record that was saved last. It delivers requests above the received number without a challenge; where none was
-   delivered yet, the first one is challenged. OSCORE_BAD_HANDLE, OSCORE_BAD_NUMBER (the window), OSCORE_OLD_RECORD, or
+   delivered yet, the first one is challenged, but for a record with the numbers 0 and 0, whose context was never used: its peer begins as
+   at `oscore_peer_begin_first`. OSCORE_BAD_HANDLE, OSCORE_BAD_NUMBER (the window), OSCORE_OLD_RECORD, or
    OSCORE_SEQUENCE_EXHAUSTED where no Sender Sequence Number is left: the peer stays. */
 OSCORE_MUST_USE oscore_status oscore_peer_begin_again(oscore_peer *peer, const oscore_context *context, const oscore_peer_record *record,
                                                       uint8_t window_places, uint64_t life_ms);
 
 /* Says that this record is saved: one to save next, as the last OSCORE_SAVE_FIRST wrote it. It has the peer's name and the next
-   generation; `sender` is as the peer's `server.reserved`, or the next number to reserve up to; `received` isn't below the peer's. So a
-   greater `received`, up to 2^40, may stand in it: requests below that need no save of their own, and a life that begins behind the
-   record delivers none of them. Another record is OSCORE_BAD_NUMBER, and the peer stays. */
+   generation; `sender` is as the peer's `reserved`, or where no number is left below that, the next number to reserve up to; `received`
+   isn't below the peer's. So a greater `received`, up to 2^40, may stand in it: requests below that need no save of their own, and a life
+   that begins behind the record delivers none of them. Another record is OSCORE_BAD_NUMBER, and the peer stays. */
 OSCORE_MUST_USE oscore_status oscore_peer_saved(oscore_peer *peer, const oscore_peer_record *record);
 
-/* Answers a datagram, as `oscore_server_take` does, without random bytes: the Echo value of a challenge is the number with which it is
-   sealed. OSCORE_SAVE_FIRST comes right after OSCORE_BAD_HANDLE where a Sender Sequence Number may be needed, and else once it is known
-   that the request is to be delivered: then the datagram is as it came, and is handed in again. `out_len` is 0 at both. The ticket has
-   the context's name in `context`, and the peer's life. */
+/* Says that this record is saved, though it is saved nowhere: for tests, and for a context that lives no longer than the program. If the
+   context is ever used again, nonces are used twice, and requests are obeyed twice. It first raises `received` to 2^40, so that no request
+   needs a save; what it answers is as at `oscore_peer_saved`. */
+OSCORE_MUST_USE static inline oscore_status oscore_peer_saved_nowhere(oscore_peer *peer, oscore_peer_record *record) {
+    record->received = (uint64_t)1 << 40;
+    return oscore_peer_saved(peer, record);
+}
+
+/* Answers a datagram, where it lies. 0: a request is delivered. `opened` and `options` show it, and `ticket` is the right to answer it;
+   these three are written at 0 alone. `now` is the time in milliseconds, by a clock that doesn't go back, and `mid` is a new message ID:
+   hand in both anew with each datagram. `out_len` is always written: so many bytes of `out` go back to the sender, whatever the status;
+   where it is 0, none do. So a replay, a bad tag and a challenge get the replies of RFC 8613, 7.4, 8.2 and B.1.2, and a request for a
+   context that isn't the peer's gets a 4.01. The Echo value of a challenge is the number with which it is sealed.
+   OSCORE_SAVE_FIRST comes right after OSCORE_BAD_HANDLE where a Sender Sequence Number may be needed, and else last, once it is known
+   that the request is to be delivered: then the datagram is as it came, and is handed in again. `out_len` is 0 at both.
+   These two and OSCORE_LIVES_EXHAUSTED leave the peer as it was, the others move its clock; OSCORE_INNER spends the request's number too
+   where the context's window is open, but not in a context that waits for an Echo value; OSCORE_CHALLENGE spends a Sender Sequence
+   Number. From OSCORE_INNER on, the datagram's payload isn't what came.
+   The clock is the latest `now`: an earlier one counts as that. So a moment from far ahead stays, and until the time has come there the
+   clock stands: a challenge, which is good for 30 seconds, then doesn't end.
+   A delivered request that comes again because its reply was lost is refused as a replay, though it was obeyed. So whoever speaks over
+   UDP keeps the reply to each delivered request, by sender and message ID, for 247 seconds. If the request comes again, a CON gets that
+   reply again, a NON gets nothing, and this isn't called (RFC 7252, 4.5 and 4.8.2). Any other request that comes again is handed in
+   again. An empty message, as an acknowledgment, a reset or a ping, is OSCORE_NOT_THAT_KIND. */
 OSCORE_MUST_USE oscore_status oscore_peer_take(oscore_peer *peer, uint64_t now, uint16_t mid, uint8_t *datagram, oscore_size datagram_len,
                                                oscore_option *options, oscore_size options_room, oscore_opened *opened,
                                                oscore_ticket *ticket, uint8_t out[64], oscore_size *out_len, oscore_peer_record *record,
@@ -640,19 +505,50 @@ OSCORE_MUST_USE oscore_status oscore_peer_take(oscore_peer *peer, uint64_t now, 
 
 /* Writes the index of the first of several peers whose context a request names, by its kid and its kid context: a device with many
    contexts has an array of peers. It reads only, and passes over peers that were never begun. One of the datagram's faults,
-   OSCORE_NOT_THAT_KIND, OSCORE_NO_OSCORE, OSCORE_UNDECODABLE, or OSCORE_NO_CONTEXT where it names none of theirs, leave the index. Which
-   of them a response is for no byte of it says but its token: give it to `oscore_peer_hear` of each that asks. */
+   OSCORE_NOT_THAT_KIND, OSCORE_NO_OSCORE, OSCORE_UNDECODABLE, or OSCORE_NO_CONTEXT where it names none of theirs, leave the index. What goes
+   back to the sender then, as a 4.01, is what `oscore_peer_take` of any of them writes. Which of them a response is for no byte of it says
+   but its token: give it to `oscore_peer_hear` of each that asks. */
 OSCORE_MUST_USE oscore_status oscore_peer_find(const oscore_peer *peers, oscore_size peer_count, const uint8_t *datagram,
                                                oscore_size datagram_len, oscore_size *index, oscore_size *detail);
 
-/* Seals the answer to the request of a ticket, as `oscore_server_reply` does. A ticket of another peer, or of another life of this one,
-   is OSCORE_STALE_TICKET, right before OSCORE_SAVE_FIRST. */
+/* Whether a peer of this context may be begun beside these peers: none of them has its Sender Key, since both would use the same nonces, and
+   none has both its Recipient ID and its ID Context, since `oscore_peer_find` could find but one of them. It passes over peers that were
+   never begun and whose bytes are 0. Of keys a branch depends on one thing alone: whether they are the same. */
+static inline bool oscore_peer_fits(const oscore_peer *peers, size_t peer_count, const oscore_context *context) {
+    for (size_t i = 0; i < peer_count; i++) {
+        if (peers[i].server.context.places == 0) continue;
+        const oscore_context *other = &peers[i].server.context.context;
+        uint8_t key = 0, id = other->recipient_len ^ context->recipient_len, id_context = other->id_context_len ^ context->id_context_len;
+        for (size_t at = 0; at < sizeof context->sender_key; at++) key |= other->sender_key[at] ^ context->sender_key[at];
+        for (size_t at = 0; at < sizeof context->recipient; at++)
+            if (at < context->recipient_len) id |= other->recipient[at] ^ context->recipient[at];
+        for (size_t at = 0; at < sizeof context->id_context; at++)
+            if (at < context->id_context_len) id_context |= other->id_context[at] ^ context->id_context[at];
+        if (key == 0 || (id | id_context) == 0) return false;
+    }
+    return true;
+}
+
+/* Seals the answer to the request of a ticket: with a Partial IV of its own where `own` says so, else under the request's nonce, which
+   needs no number. Of `plain`, which is a datagram, the code, the options and the payload are used; kind, message ID and token are those
+   that the request asks for, and `mid` is the message ID where the request wasn't confirmable. A request is answered once:
+   OSCORE_TICKET_SPENT where it has its answer, or where a request was delivered whose number is at least 64 above that of the ticket's
+   request. A refusal spends nothing.
+   The answer to a registration has a Partial IV of its own whatever `own` says. It has no Observe, and so it is the last: the client then
+   waits for nothing more. */
 OSCORE_MUST_USE oscore_status oscore_peer_reply(oscore_peer *peer, const oscore_ticket *ticket, bool own, uint16_t mid, const uint8_t *plain,
                                                 oscore_size plain_len, uint8_t *out, oscore_size out_room, oscore_size *out_len,
                                                 oscore_peer_record *record, oscore_size *detail);
 
-/* Seals a notification to the registration of a ticket, as `oscore_server_notify` does. It needs a number always. Of another ticket it
-   says what `oscore_peer_reply` says. */
+/* Seals a notification to the registration of a ticket, with a new Partial IV of its own (RFC 7641, 3.2; RFC 8613, 8.3.1). It needs a number
+   always. Of `plain`, which is a datagram, all is used but the token, which is the ticket's: kind and message ID too, so the first is an
+   ACK with the message ID of the registration where that is a CON, and each later one a NON or a CON with a new one. It is of class 2 and
+   has Observe, whose value stands outside, for whoever is in between; the client goes by the Partial IV. Any other response, as an error,
+   is a reply, and ends the observation.
+   The ticket stays, and so does the request's right to an answer. The library counts no observations: the program keeps the ticket as
+   long as it has something to notify, and drops it where a request of the same context with the same token and options has Observe 1,
+   where one registers with the same token (the new ticket takes its place), and where a notification is answered by a reset. A ticket may
+   be notified by however many requests came since, in the life that gave it. A refusal spends nothing. */
 OSCORE_MUST_USE oscore_status oscore_peer_notify(oscore_peer *peer, const oscore_ticket *ticket, const uint8_t *plain, oscore_size plain_len,
                                                  uint8_t *out, oscore_size out_room, oscore_size *out_len, oscore_peer_record *record,
                                                  oscore_size *detail);
@@ -663,22 +559,38 @@ OSCORE_MUST_USE oscore_status oscore_peer_notify(oscore_peer *peer, const oscore
    count above `pending_room`, or places that no call can have written, is OSCORE_BAD_HANDLE, as the peer's bytes are, and changes nothing.
    A peer that asks nothing needs none. */
 
-/* Seals a request with the peer's next number, as `oscore_client_request` does, and puts it into the next place. It needs a number always.
-   OSCORE_SAVE_FIRST comes right before OSCORE_NOT_THAT_KIND. */
+/* Seals a request with the peer's next number, and puts it into the next place. It needs a number always. `plain` is its datagram, and its
+   token is pending from then on. `now` is as at `oscore_peer_take`; a moment from far ahead ends all that is pending, and what is sealed
+   after it is pending until the time has come there. A refusal from OSCORE_NOT_THAT_KIND on moves the clock, which ends what was pending
+   for too long. To send a request again (RFC 7252, 4.2), send the same bytes: what is sealed anew is another request, and is obeyed once
+   more. To cancel an observation, or to register anew, under its token, call `oscore_peer_forget` first. */
 OSCORE_MUST_USE oscore_status oscore_peer_request(oscore_peer *peer, oscore_pending *pending, oscore_size pending_room,
                                                   oscore_size *pending_count, uint64_t now, const uint8_t *plain, oscore_size plain_len,
                                                   uint8_t *out, oscore_size out_room, oscore_size *out_len, oscore_peer_record *record,
                                                   oscore_size *detail);
 
-/* Answers a datagram that may be a response to one of these requests, where it lies, as `oscore_client_take` does. It needs no number, so a
-   peer that asks and answers gives it each datagram first: a request is OSCORE_NOT_THAT_KIND here, as it came, and goes to
-   `oscore_peer_take`. */
+/* Answers a datagram that may be a response to one of these requests, where it lies. It needs no number, so a peer that asks and answers
+   gives it each datagram first: a request is OSCORE_NOT_THAT_KIND here, as it came, and goes to `oscore_peer_take`.
+   0: a response to a pending request, which is pending no more, and `request` is its number; that, `opened` and `options` are written at 0
+   alone. Where `opened->is_notification` is true, it is a notification of the registration `request`, which stays pending, and later ones
+   come in the same way; each is delivered once at most, and none after a later one, which is OSCORE_OLD. OSCORE_BAD_HANDLE leaves the peer
+   as it was, the others move its clock.
+   Each other refusal says that this datagram isn't the response, and nothing of the one that may still come: the request stays pending,
+   and the caller keeps waiting, until 0, the end of `life_ms`, `oscore_peer_forget` or a new life. Anyone may have sent what is refused,
+   and anyone can send an error without protection; OSCORE_INNER alone says that it was sealed with the other end's Sender Key.
+   An end that asks for an Echo value answers 0 with the code 129, 4.01, and the option 252. It may have lost what it knew, so this doesn't
+   say that the request wasn't obeyed: it may have been obeyed before, and a copy of it that comes late may yet be. Where what is asked for
+   may be done twice, ask anew with that option's value (RFC 9175, 2.3): that is another request, and is obeyed too.
+   Empty messages are OSCORE_NOT_THAT_KIND here: by their message ID they tell the caller that a request arrived (ACK), so that it isn't
+   sent again, or that it isn't answered (RST), so that it can be forgotten.
+   Behind 0 and OSCORE_INNER the datagram holds what was inside, and the old tag behind it; else it is as it came. (What it holds is
+   tested, and proved of the call behind this one.) */
 OSCORE_MUST_USE oscore_status oscore_peer_hear(oscore_peer *peer, oscore_pending *pending, oscore_size pending_room,
                                                oscore_size *pending_count, uint64_t now, uint8_t *datagram, oscore_size datagram_len,
                                                oscore_option *options, oscore_size options_room, oscore_opened *opened, uint64_t *request,
                                                oscore_size *detail);
 
-/* Waits no more for the response to the request of a token, as `oscore_client_forget` does. */
+/* Waits no more for the response to the request of a token; OSCORE_NOT_PENDING where there is none. */
 OSCORE_MUST_USE oscore_status oscore_peer_forget(oscore_peer *peer, oscore_pending *pending, oscore_size pending_room,
                                                  oscore_size *pending_count, const uint8_t *token, oscore_size token_len);
 
@@ -704,8 +616,8 @@ static inline uint64_t oscore_clock_at(oscore_clock *clock, uint32_t tick) {
 #define OSCORE_BARRIER(bytes) ((void)(bytes))
 #endif
 
-/* Sets bytes to 0, by writes that a compiler leaves where they stand, though nobody reads the bytes again. A context or a client that was
-   wiped is refused as OSCORE_BAD_HANDLE; a server that was wiped has no context. */
+/* Sets bytes to 0, by writes that a compiler leaves where they stand, though nobody reads the bytes again. A context or a peer that was
+   wiped is refused as OSCORE_BAD_HANDLE. */
 static inline void oscore_wipe(void *bytes, size_t len) {
     volatile uint8_t *at = (volatile uint8_t *)bytes;
     while (len > 0) at[--len] = 0;

@@ -12,15 +12,16 @@
            KIND CODE MESSAGE_ID TOKEN NUMBER URI_HOST URI_PORT PAYLOAD [OPTION VALUE]..
        serve SLOT RESTARTED
            STATUS
-       take NOW ECHO MESSAGE_ID DATAGRAM
+       take NOW MESSAGE_ID DATAGRAM
            STATUS DETAIL REPLY, and behind Done as above
        reply OWN MESSAGE_ID PLAIN
            STATUS DETAIL SEALED
        end
 
-   There is one server, of one context, which `serve` begins; a reply answers the request that it delivered last. What was printed is sent
-   at `end`, so that whoever asks may write several lines before reading. Each run of bytes has memory of its own, of exactly its length, so
-   that a sanitizer sees what reads or writes past it. */
+   There is one peer, which `serve` begins: as one of a context that was never used, or behind a record by which nothing was delivered yet, so
+   that it asks for an Echo value. A record that it wants to be saved counts as saved, and the call is made again. A reply answers the request
+   that it delivered last. What was printed is sent at `end`, so that whoever asks may write several lines before reading. Each run of bytes
+   has memory of its own, of exactly its length, so that a sanitizer sees what reads or writes past it. */
 #define _POSIX_C_SOURCE 200809L
 #include "oscore.h"
 #include <inttypes.h>
@@ -28,7 +29,7 @@
 #include <stdlib.h>
 #include <string.h>
 
-enum { SLOTS = 4, MOST_OPTIONS = 64, MOST_RUNS = 16 };
+enum { SLOTS = 4, MOST_OPTIONS = 64, MOST_RUNS = 16, PLACES = 32, LIFE_MS = 60000, USED = 64 };
 
 typedef struct bytes {
     uint8_t *at;
@@ -37,7 +38,8 @@ typedef struct bytes {
 } bytes;
 
 static oscore_context contexts[SLOTS];
-static oscore_server1 server;
+static oscore_peer peer;
+static oscore_peer_record record;
 static oscore_ticket ticket;
 static void *runs[MOST_RUNS];
 static size_t run_count;
@@ -178,22 +180,34 @@ static void open_message(bool is_request) {
 static void serve(void) {
     const oscore_context *context = next_slot();
     bool restarted = next_number() != 0;
-    server = (oscore_server1)OSCORE_ZERO;
-    print_status(oscore_server1_begin(&server, context, restarted, 0, 32));
+    peer = (oscore_peer)OSCORE_ZERO;
+    record = (oscore_peer_record){.generation = 1, .sender = USED};
+    oscore_status status = oscore_peer_name(context, &record.name);
+    if (!status)
+        status = restarted ? oscore_peer_begin_again(&peer, context, &record, PLACES, LIFE_MS)
+            : oscore_peer_begin_first(&peer, context, PLACES, LIFE_MS);
+    print_status(status);
+}
+
+/* A record that a call asks for counts as saved. Answers whether the call is to be made again. */
+static bool saves(oscore_status status) {
+    if (status != OSCORE_SAVE_FIRST) return false;
+    if (oscore_peer_saved_nowhere(&peer, &record)) stop("not the record that was asked for");
+    return true;
 }
 
 static void take(void) {
     static oscore_option options[MOST_OPTIONS];
     oscore_opened opened = OSCORE_ZERO;
     uint64_t now = next_number();
-    bytes echo = next_bytes();
     uint16_t message_id = (uint16_t)next_number();
     bytes datagram = next_bytes();
     size_t out_len = 0, detail = 0;
     uint8_t *out = room(64);
-    if (echo.len != 8) stop("an Echo value has 8 bytes");
-    oscore_status status = oscore_server1_take(&server, now, echo.at, message_id, datagram.at, datagram.len, options, MOST_OPTIONS, &opened,
-                                               &ticket, out, &out_len, &detail);
+    oscore_status status;
+    do status = oscore_peer_take(&peer, now, message_id, datagram.at, datagram.len, options, MOST_OPTIONS, &opened, &ticket, out, &out_len,
+                                 &record, &detail);
+    while (saves(status));
     print_status(status);
     printf(" %zu", detail);
     print_bytes(out, out_len);
@@ -206,7 +220,10 @@ static void reply(void) {
     bytes plain = next_bytes();
     size_t out_room = OSCORE_ROOM(plain.len), out_len = 0, detail = 0;
     uint8_t *out = room(out_room);
-    print_status(oscore_server1_reply(&server, &ticket, own, message_id, plain.at, plain.len, out, out_room, &out_len, &detail));
+    oscore_status status;
+    do status = oscore_peer_reply(&peer, &ticket, own, message_id, plain.at, plain.len, out, out_room, &out_len, &record, &detail);
+    while (saves(status));
+    print_status(status);
     printf(" %zu", detail);
     print_bytes(out, out_len);
 }

@@ -1,7 +1,8 @@
 /* Datagrams of somebody who has no key, whose numbers are as high as there are: they are refused, and change nothing for who has the key.
-   At a server the next number is delivered still, the one before is a replay still, and behind a restart the Echo value that was asked for
-   is taken still; at a client the request stays pending, and its response opens still. RFC 8613, 8.2, has a server update its window where
-   a request decrypts, and answer 4.00 where it doesn't (own rule: to NON too); what doesn't decrypt at a client is no response (8.4).
+   At a peer that serves the next number is delivered still, the one before is a replay still, no record has to be saved, and in a life that
+   began with a challenge the Echo value that was asked for is taken still; at a peer that asks the request stays pending, and its response
+   opens still. RFC 8613, 8.2, has a server update its window where a request decrypts, and answer 4.00 where it doesn't (own rule: to NON
+   too); what doesn't decrypt at a client is no response (8.4).
 
        forged [ROUNDS [SEED]] */
 #include "oscore.h"
@@ -9,8 +10,13 @@
 #include <stdlib.h>
 #include <string.h>
 
-enum { CONTEXTS = 3, CIPHERS = 2, MOST = 160, GET = 1, POST = 2, CHANGED = 68, BAD_REQUEST = 128, ECHO = 252, LIFE_MS = 60000 };
+enum { CONTEXTS = 3, CIPHERS = 2, MOST = 160, GET = 1, POST = 2, CHANGED = 68, BAD_REQUEST = 128, ECHO = 252, ECHO_LEN = 8, PLACES = 8,
+    LIFE_MS = 60000 };
 #define MOST_NUMBER ((UINT64_C(1) << 40) - 1)
+
+/* How a life begins: as the first of its context; behind a record by which nothing was delivered yet, so that it asks for an Echo value; behind
+   the one that was saved last. */
+typedef enum life { FIRST, CHALLENGING, GOING_ON } life;
 
 typedef struct datagram {
     uint8_t bytes[MOST];
@@ -23,10 +29,12 @@ static const struct {
     const char *client, *server, *id_context;
 } NAMES[CONTEXTS] = {{"c", "s", ""}, {"client7", "", "8 bytes."}, {"", "s", "an ID Context of thirty-two bytes"}};
 
-static oscore_context clients[CONTEXTS][CIPHERS], servers[CONTEXTS][CIPHERS];
 static oscore_option options[8];
 static oscore_opened opened;
 static oscore_ticket ticket;
+/* The requests of the client that wait. */
+static oscore_pending pending[PLACES];
+static size_t pending_count;
 static uint64_t chance;
 static long refused;
 static char where[80];
@@ -99,106 +107,170 @@ static datagram forge(uint8_t kind, uint8_t code, const uint8_t *token, uint8_t 
     return forged;
 }
 
+/* Whether a call asks for a record, which then counts as saved, so that the call is made again. Twice in a call is the most: as the first
+   of its life, and for what it is to deliver. */
+static bool saves(oscore_peer *peer, const oscore_peer_record *record, oscore_status came) {
+    static int in_a_row;
+    in_a_row = came == OSCORE_SAVE_FIRST ? in_a_row + 1 : 0;
+    if (in_a_row > 2) fail("a call", "two records at most", came);
+    if (came == OSCORE_SAVE_FIRST) need("a record", OSCORE_DONE, oscore_peer_saved(peer, record));
+    return came == OSCORE_SAVE_FIRST;
+}
+
 /* A request of the client's next number, with an Echo value where there is one. */
-static datagram ask(oscore_client *client, const uint8_t *echo) {
+static datagram ask(oscore_peer *client, const uint8_t *echo) {
     datagram sealed;
-    uint8_t plain[32] = {0x42, GET, 0, (uint8_t)client->next, (uint8_t)(client->next >> 8), (uint8_t)client->next};
+    uint64_t next = client->server.context.next;
+    uint8_t plain[32] = {0x42, GET, 0, (uint8_t)next, (uint8_t)(next >> 8), (uint8_t)next};
     size_t len = 6, detail;
-    if (echo) plain[len++] = 0xd8, plain[len++] = ECHO - 13, memcpy(plain + len, echo, 8), len += 8;
-    need("a request", OSCORE_DONE, oscore_client_request(client, 0, plain, len, sealed.bytes, MOST, &sealed.len, &detail));
+    oscore_peer_record record;
+    oscore_status came;
+    if (echo) plain[len++] = 0xd8, plain[len++] = ECHO - 13, memcpy(plain + len, echo, ECHO_LEN), len += ECHO_LEN;
+    do came = oscore_peer_request(client, pending, PLACES, &pending_count, 0, plain, len, sealed.bytes, MOST, &sealed.len, &record, &detail);
+    while (saves(client, &record, came));
+    need("a request", OSCORE_DONE, came);
     return sealed;
 }
 
-/* Hands a copy in, under a message ID of its own. Its reply is left in `reply`. */
-static oscore_status take(oscore_server *server, const datagram *request, datagram *reply) {
-    static const uint8_t VALUE[8] = "ABCDEFG";
-    datagram copy = *request;
+static oscore_status hear(oscore_peer *client, datagram *response, uint64_t *number) {
     size_t detail;
-    copy.bytes[2] ^= 0x40;
-    return oscore_server_take(server, 0, VALUE, 7, copy.bytes, copy.len, options, 8, &opened, &ticket, reply->bytes, &reply->len, &detail);
+    return oscore_peer_hear(client, pending, PLACES, &pending_count, 0, response->bytes, response->len, options, 8, &opened, number, &detail);
 }
 
-static void forge_requests(oscore_server *server, const oscore_context *client) {
+/* Hands a copy in, under a message ID of its own. Its reply is left in `reply`. */
+static oscore_status take(oscore_peer *server, const datagram *request, datagram *reply) {
+    datagram copy = *request;
+    oscore_peer_record record;
+    oscore_status came;
+    size_t detail;
+    copy.bytes[2] ^= 0x40;
+    do came = oscore_peer_take(server, 0, 7, copy.bytes, copy.len, options, 8, &opened, &ticket, reply->bytes, &reply->len, &record, &detail);
+    while (saves(server, &record, came));
+    return came;
+}
+
+static bool has_same_numbers(const oscore_peer *peer, const oscore_peer *before) {
+    return peer->generation == before->generation && peer->received == before->received && peer->reserved == before->reserved
+        && peer->server.context.next == before->server.context.next;
+}
+
+static void forge_requests(oscore_peer *server, const oscore_context *client) {
     for (int left = (int)(draw() % 8); left >= 0; left--) {
+        oscore_peer before = *server;
         uint8_t token_len = (uint8_t)(draw() % 6);
         datagram reply = {.len = 0}, forged = forge(draw() % 2, POST, (const uint8_t *)"token", token_len, high_number(), client);
         need("a forged request", OSCORE_TAG, take(server, &forged, &reply));
         if (reply.len < 4 || reply.bytes[1] != BAD_REQUEST) fail("a forged request", "4.00", OSCORE_TAG);
+        if (!has_same_numbers(server, &before)) fail("a forged request", "no number of its own, and no record", OSCORE_TAG);
         refused++;
     }
 }
 
-static void forge_responses(oscore_client *client, const datagram *request) {
-    oscore_status came;
+static void forge_responses(oscore_peer *client, const datagram *request) {
     uint64_t number;
-    size_t detail;
     for (int left = (int)(draw() % 8); left >= 0; left--) {
+        oscore_peer before = *client;
         datagram forged = forge((uint8_t)(draw() % 3), CHANGED, request->bytes + 4, 2, high_number(), NULL);
-        came = oscore_client_take(client, 0, forged.bytes, forged.len, options, 8, &opened, &number, &detail);
-        need("a forged response", OSCORE_TAG, came);
+        need("a forged response", OSCORE_TAG, hear(client, &forged, &number));
+        if (pending_count != 1 || !has_same_numbers(client, &before)) fail("a forged response", "one pending request", OSCORE_TAG);
         refused++;
     }
 }
 
 /* The server's answer to what was delivered, taken by the client. */
-static void answer(oscore_server *server, oscore_client *client, uint64_t number) {
+static void answer(oscore_peer *server, oscore_peer *client, uint64_t number) {
     static const uint8_t PLAIN[] = {0x60, CHANGED, 0, 0, 0xff, 'y', 'e', 's'};
+    bool own = draw() % 2;
     datagram sealed;
+    oscore_peer_record record;
+    oscore_status came;
     uint64_t request;
     size_t detail;
-    need("an answer", OSCORE_DONE,
-         oscore_server_reply(server, &ticket, draw() % 2, 9, PLAIN, sizeof PLAIN, sealed.bytes, MOST, &sealed.len, &detail));
-    need("its response", OSCORE_DONE, oscore_client_take(client, 0, sealed.bytes, sealed.len, options, 8, &opened, &request, &detail));
+    do came = oscore_peer_reply(server, &ticket, own, 9, PLAIN, sizeof PLAIN, sealed.bytes, MOST, &sealed.len, &record, &detail);
+    while (saves(server, &record, came));
+    need("an answer", OSCORE_DONE, came);
+    need("its response", OSCORE_DONE, hear(client, &sealed, &request));
     if (request != number || opened.payload_len != 3) fail("its response", "that of the request", OSCORE_DONE);
 }
 
-/* Requests and their answers, with forged ones around each, in a life that is fresh, or behind a restart. */
-static void live(oscore_server *server, oscore_client *client, bool restarted) {
-    datagram reply, before = {.len = 0};
-    uint8_t echo[8];
-    for (int left = 3; left > 0; left--) {
-        uint64_t number = client->next;
-        datagram request = ask(client, NULL);
-        forge_requests(server, &client->context);
-        if (restarted && left == 3) {
-            need("a request behind the restart", OSCORE_CHALLENGE, take(server, &request, &reply));
-            size_t detail;
-            uint64_t asked;
-            need("the challenge", OSCORE_DONE, oscore_client_take(client, 0, reply.bytes, reply.len, options, 8, &opened, &asked, &detail));
-            memcpy(echo, options[0].value, sizeof echo);
-            forge_requests(server, &client->context);
-            number = client->next;
-            request = ask(client, echo);
-        }
+/* Hands a request in, and hears its challenge, which is left in `options`: the number with which it was sealed, high byte first. */
+static void be_challenged(oscore_peer *server, oscore_peer *client, const datagram *request, uint8_t echo[ECHO_LEN]) {
+    uint64_t asked, value = 0;
+    datagram reply;
+    need("a request that is challenged", OSCORE_CHALLENGE, take(server, request, &reply));
+    need("the challenge", OSCORE_DONE, hear(client, &reply, &asked));
+    if (opened.option_count != 1 || options[0].number != ECHO || options[0].value_len != ECHO_LEN) fail("the challenge", "Echo", OSCORE_DONE);
+    memcpy(echo, options[0].value, ECHO_LEN);
+    for (int byte = 0; byte < ECHO_LEN; byte++) value = value << 8 | echo[byte];
+    if (!opened.has_number || opened.number != value) fail("the challenge", "its number as the Echo value", OSCORE_DONE);
+}
+
+/* The next request, with forged ones around it. Where it is challenged, it is asked anew. */
+static datagram next_request(oscore_peer *server, oscore_peer *client, bool is_challenged) {
+    uint8_t echo[ECHO_LEN];
+    datagram request = ask(client, NULL);
+    forge_requests(server, &client->server.context.context);
+    if (!is_challenged) return request;
+    be_challenged(server, client, &request, echo);
+    forge_requests(server, &client->server.context.context);
+    return ask(client, echo);
+}
+
+/* Requests and their answers, with forged ones around each. What a life before this one delivered is a replay too. */
+static void live(oscore_peer *server, oscore_peer *client, life how) {
+    static datagram before;
+    datagram reply;
+    if (how == FIRST) before.len = 0;
+    for (int at = 0; at < 3; at++) {
+        datagram request = next_request(server, client, how == CHALLENGING && at == 0);
+        uint64_t number = client->server.context.next - 1;
         forge_responses(client, &request);
         need("the next request", OSCORE_DONE, take(server, &request, &reply));
         answer(server, client, number);
-        forge_requests(server, &client->context);
+        forge_requests(server, &client->server.context.context);
         need("the same once more", OSCORE_REPLAY, take(server, &request, &reply));
         if (before.len > 0) need("the one before", OSCORE_REPLAY, take(server, &before, &reply));
         before = request;
     }
 }
 
+/* Begins a life, and saves its first record, which is asked for whatever comes first. */
+static void begin(oscore_peer *server, const oscore_context *context, life how) {
+    static const datagram NOTHING;
+    const oscore_peer_record record = {server->name, server->generation, server->reserved, how == CHALLENGING ? 0 : server->received};
+    uint8_t places = draw() % 2 ? 32 : 64;
+    datagram reply;
+    if (how == FIRST) need("a server", OSCORE_DONE, oscore_peer_begin_first(server, context, places, LIFE_MS));
+    else need("a restart", OSCORE_DONE, oscore_peer_begin_again(server, context, &record, places, LIFE_MS));
+    uint64_t generation = server->generation;
+    need("no byte", OSCORE_SHORT, take(server, &NOTHING, &reply));
+    if (server->generation != generation + 1) fail("the first call of a life", "a record", OSCORE_SHORT);
+}
+
+/* All lives of a context. The client goes on over those of the server. */
+static void try_context(const oscore_context *serving, const oscore_context *asking, const char *which, long round) {
+    static const char *const LIVES[] = {"fresh", "challenging", "going on"};
+    static oscore_peer server, client;
+    memset(pending, 0, sizeof pending), pending_count = 0;
+    need("a client", OSCORE_DONE, oscore_peer_begin_first(&client, asking, 32, LIFE_MS));
+    for (int how = FIRST; how <= GOING_ON; how++) {
+        snprintf(where, sizeof where, "%s, round %ld, %s", which, round, LIVES[how]);
+        begin(&server, serving, (life)how);
+        live(&server, &client, (life)how);
+    }
+}
+
 int main(int count, char **words) {
-    static oscore_server server;
-    static oscore_client client;
     long rounds = count > 1 ? atol(words[1]) : 2000;
     chance = (count > 2 ? strtoull(words[2], NULL, 10) : 7) * 2 + 1;
     for (int at = 0; at < CONTEXTS * CIPHERS; at++) {
         int context = at / CIPHERS, cipher = at % CIPHERS;
-        size_t index;
-        derive(&clients[context][cipher], NAMES[context].client, NAMES[context].server, NAMES[context].id_context, cipher == 1);
-        derive(&servers[context][cipher], NAMES[context].server, NAMES[context].client, NAMES[context].id_context, cipher == 1);
-        for (long round = 0; round < rounds; round++) {
-            snprintf(where, sizeof where, "context %d%s, round %ld", context, cipher == 1 ? " by tables" : "", round);
-            oscore_server_begin(&server);
-            need("a server", OSCORE_DONE, oscore_server_add(&server, &servers[context][cipher], false, 0, draw() % 2 ? 32 : 64, &index));
-            need("a client", OSCORE_DONE, oscore_client_begin(&client, &clients[context][cipher], 0, LIFE_MS));
-            live(&server, &client, false);
-            need("a restart", OSCORE_DONE, oscore_server_restart(&server, index, server.contexts[index].next));
-            live(&server, &client, true);
-        }
+        char which[32];
+        snprintf(which, sizeof which, "context %d%s", context, cipher == 1 ? " by tables" : "");
+        oscore_context client = OSCORE_ZERO, server = OSCORE_ZERO;
+        derive(&client, NAMES[context].client, NAMES[context].server, NAMES[context].id_context, cipher == 1);
+        derive(&server, NAMES[context].server, NAMES[context].client, NAMES[context].id_context, cipher == 1);
+        for (long round = 0; round < rounds; round++) try_context(&server, &client, which, round);
     }
     printf("forged: %ld datagrams of high numbers refused, by both ciphers under %d contexts, and each exchange between them went on\n",
            refused, CONTEXTS);

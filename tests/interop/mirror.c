@@ -4,8 +4,9 @@
 
        mirror (SECRET SALT ID_CONTEXT OWN THEIR)..
 
-   For each context five words in hex, "-" where there are no bytes, "none" for no ID Context. No context was in use before. It listens on
-   127.0.0.1 at a port that the system picks and its first line says, prints what it refuses, and ends when standard input ends. */
+   For each context, eight at most, five words in hex, "-" where there are no bytes, "none" for no ID Context. Each has a peer. No context was
+   in use before, and none is used again: so no record is kept. It listens on 127.0.0.1 at a port that the system picks and its first line
+   says, prints what it refuses, and ends when standard input ends. */
 #define _DEFAULT_SOURCE
 #include "oscore.h"
 #include <arpa/inet.h>
@@ -18,9 +19,11 @@
 #include <time.h>
 #include <unistd.h>
 
-enum { GET = 1, DELETE = 4, FETCH = 5, CONTENT = 69, DELETED = 66, CHANGED = 68, URI_PATH = 11, MOST_DATAGRAM = 1500, MOST_WORD = 64 };
+enum { GET = 1, DELETE = 4, FETCH = 5, CONTENT = 69, DELETED = 66, CHANGED = 68, URI_PATH = 11, MOST_DATAGRAM = 1500, MOST_WORD = 64,
+    MOST_PEERS = 8, LIFE_MS = 60000 };
 
-static oscore_server server;
+static oscore_peer peers[MOST_PEERS];
+static size_t peer_count;
 
 static _Noreturn void stop(const char *why) {
     puts(why);
@@ -48,13 +51,13 @@ static size_t hex(const char *word, uint8_t bytes[MOST_WORD]) {
 
 static void add(char **words) {
     uint8_t bytes[5][MOST_WORD];
-    size_t lens[5], index;
+    size_t lens[5];
     oscore_context context = OSCORE_ZERO;
     for (int i = 0; i < 5; i++) lens[i] = hex(words[i], bytes[i]);
     oscore_status status = oscore_derive(&context, bytes[0], lens[0], bytes[1], lens[1], strcmp(words[2], "none") != 0, bytes[2], lens[2],
                                          bytes[3], lens[3], bytes[4], lens[4], false, false, false);
-    if (!status) status = oscore_server_add(&server, &context, false, 0, 32, &index);
-    if (status) stop("no context");
+    if (status || peer_count == MOST_PEERS || !oscore_peer_fits(peers, peer_count, &context)) stop("no context");
+    if (oscore_peer_begin_first(&peers[peer_count++], &context, 32, LIFE_MS)) stop("no peer");
 }
 
 static uint8_t code_of_reply(uint8_t code) {
@@ -86,34 +89,60 @@ static size_t mirrored(const oscore_opened *request, const oscore_option *option
     return len + request->payload_len;
 }
 
-static void serve(int udp) {
-    static uint8_t datagram[MOST_DATAGRAM], plain[MOST_DATAGRAM], out[OSCORE_ROOM(MOST_DATAGRAM)], refusal[64];
+/* The peer that a request names, else the first: by its take a datagram that names none gets what has to go back. */
+static oscore_peer *peer_of(const uint8_t *datagram, size_t len) {
+    size_t index, detail;
+    return &peers[oscore_peer_find(peers, peer_count, datagram, len, &index, &detail) ? 0 : index];
+}
+
+/* A record that a call asks for counts as saved. Answers whether the call is to be made again. */
+static bool saves(oscore_peer *peer, oscore_peer_record *record, oscore_status status) {
+    if (status != OSCORE_SAVE_FIRST) return false;
+    if (oscore_peer_saved_nowhere(peer, record)) stop("not the record that was asked for");
+    return true;
+}
+
+/* Answers the length of the reply. */
+static size_t reply_to(oscore_peer *peer, const oscore_ticket *ticket, uint16_t mid, const uint8_t *plain, size_t plain_len, uint8_t *out,
+                       size_t room) {
     static bool own;
+    oscore_peer_record record;
+    oscore_status status;
+    size_t out_len, detail;
+    own = !own;
+    do status = oscore_peer_reply(peer, ticket, own, mid, plain, plain_len, out, room, &out_len, &record, &detail);
+    while (saves(peer, &record, status));
+    if (status) stop("no reply");
+    return out_len;
+}
+
+static void print(oscore_status status) {
+    char name[24];
+    oscore_status_name(status, name);
+    puts(name);
+    fflush(stdout);
+}
+
+static void serve(int udp) {
+    static uint8_t datagram[MOST_DATAGRAM], plain[MOST_DATAGRAM], out[OSCORE_ROOM(MOST_DATAGRAM)];
     struct sockaddr_in from;
     socklen_t from_len = sizeof from;
-    ssize_t len = recvfrom(udp, datagram, sizeof datagram, 0, (struct sockaddr *)&from, &from_len);
+    ssize_t came = recvfrom(udp, datagram, sizeof datagram, 0, (struct sockaddr *)&from, &from_len);
+    if (came < 0) stop("no datagram could be read");
     oscore_option options[16] = OSCORE_ZERO;
     oscore_opened request = OSCORE_ZERO;
     oscore_ticket ticket = OSCORE_ZERO;
-    size_t out_len, detail;
-    uint8_t echo[8], *reply = refusal;
+    oscore_peer_record record;
+    oscore_status status;
+    size_t out_len, detail, len = (size_t)came;
+    oscore_peer *peer = peer_of(datagram, len);
     uint16_t mid;
-    if (len < 0) stop("no datagram could be read");
-    draw(echo, sizeof echo), draw(&mid, sizeof mid);
-    oscore_status status = oscore_server_take(&server, milliseconds(), echo, mid, datagram, (size_t)len, options, 16, &request, &ticket,
-                                              refusal, &out_len, &detail);
-    if (status == OSCORE_DONE) {
-        size_t plain_len = mirrored(&request, options, plain);
-        own = !own, reply = out;
-        status = oscore_server_reply(&server, &ticket, own, mid, plain, plain_len, out, sizeof out, &out_len, &detail);
-        if (status) stop("no reply");
-    } else {
-        char name[24];
-        oscore_status_name(status, name);
-        printf("%s\n", name);
-        fflush(stdout);
-    }
-    if (out_len > 0) sendto(udp, reply, out_len, 0, (struct sockaddr *)&from, from_len);
+    draw(&mid, sizeof mid);
+    do status = oscore_peer_take(peer, milliseconds(), mid, datagram, len, options, 16, &request, &ticket, out, &out_len, &record, &detail);
+    while (saves(peer, &record, status));
+    if (status != OSCORE_DONE) print(status);
+    else out_len = reply_to(peer, &ticket, mid, plain, mirrored(&request, options, plain), out, sizeof out);
+    if (out_len > 0) sendto(udp, out, out_len, 0, (struct sockaddr *)&from, from_len);
 }
 
 int main(int count, char **words) {
@@ -121,7 +150,6 @@ int main(int count, char **words) {
     socklen_t at_len = sizeof at;
     int udp = socket(AF_INET, SOCK_DGRAM, 0);
     if (count < 6 || count % 5 != 1) stop("mirror (SECRET SALT ID_CONTEXT OWN THEIR)..");
-    oscore_server_begin(&server);
     for (int i = 1; i < count; i += 5) add(words + i);
     if (udp < 0 || bind(udp, (struct sockaddr *)&at, at_len) || getsockname(udp, (struct sockaddr *)&at, &at_len)) stop("no port");
     printf("port %u\n", ntohs(at.sin_port));

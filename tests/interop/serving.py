@@ -76,8 +76,7 @@ class UdpServer:
 
 
 class CallsServer(UdpServer):
-    """By the C library's calls on a server of one context, through the program calls.c. Each second response has a Partial IV of its
-    own."""
+    """By the C library's calls on a peer, through the program calls.c. Each second response has a Partial IV of its own."""
 
     SLOT = 0
 
@@ -92,8 +91,8 @@ class CallsServer(UdpServer):
         self.library.end()
 
     def answer(self, datagram: bytes) -> Answer:
-        fresh = f"{secrets.token_hex(8)} {secrets.randbelow(1 << 16)}"
-        taken = answer_of(self.library.ask([f"take {int(time.monotonic() * 1000)} {fresh} {shown(datagram)}"])[0])
+        line = f"take {int(time.monotonic() * 1000)} {secrets.randbelow(1 << 16)} {shown(datagram)}"
+        taken = answer_of(self.library.ask([line])[0])
         self.statuses.append(taken.status)
         if taken.opened is None:
             return Answer(taken.datagram or None, False)

@@ -24,10 +24,13 @@ from libcoap import Libcoap
 
 LENGTHS = (0, 12, 64, 256, 512, 1024)
 """Of the response's payload."""
-HERE, TABLES, BARE = "this, in constant time", "this, by tables", "libcoap, without AES in hardware"
+HERE, EACH, TABLES = "this, in constant time", "this, in constant time, a record for each request", "this, by tables"
+BARE = "libcoap, without AES in hardware"
 WITHOUT_AES = "~0x200000200000000"
 """OPENSSL_ia32cap, so that OpenSSL uses neither AES-NI nor SSSE3."""
-ROUNDS = {HERE: 4000, TABLES: 10000, "libcoap": 4000, BARE: 4000, "aiocoap": 150}
+WORDS = {EACH: ["each"], TABLES: ["tables"]}
+"""For exchange.c, which says what they change."""
+ROUNDS = {HERE: 4000, EACH: 4000, TABLES: 10000, "libcoap": 4000, BARE: 4000, "aiocoap": 150}
 TURN_MS = 300
 PATHS = {HERE: "mirror", "libcoap": "thing", "aiocoap": "mirror"}
 FIRST_NUMBER = 1 << 16
@@ -62,11 +65,11 @@ class Speed:
         libcoap, aiocoap = self.bench.ours / "exchange_libcoap", pathlib.Path(__file__).with_name("exchange_aiocoap.py")
         program = {"libcoap": [str(libcoap)], BARE: [str(libcoap)], "aiocoap": [sys.executable, str(aiocoap)]}
         words = program.get(who, [str(self.bench.ours / "exchange")]) + [str(length), str(ROUNDS[who])]
-        return float(printed(words + (["tables"] if who == TABLES else []), who == BARE)[0]) / 1000
+        return float(printed(words + WORDS.get(who, []), who == BARE)[0]) / 1000
 
     def exchanges(self) -> None:
         """Turns of all lengths, until the time is over."""
-        names = [HERE, TABLES, *self.peers] + ([BARE] if "libcoap" in self.peers else [])
+        names = [HERE, EACH, TABLES, *self.peers] + ([BARE] if "libcoap" in self.peers else [])
         turns: List[Dict[tuple, float]] = []
         until = time.monotonic() + self.seconds
         while time.monotonic() < until or len(turns) < 3:

@@ -3,7 +3,6 @@
 #include <stdlib.h>
 #include <string.h>
 
-enum { PLACES = 64 };
 enum { SECRET, SALT, OWN, THEIR, ID_CONTEXT, STATE, NEXT };
 static const size_t ROOMS[] = {64, 64, 7, 7, 32};
 
@@ -41,7 +40,7 @@ static bool read_number(const char *word, uint64_t *to) {
     size_t len = strspn(word, "0123456789");
     if (len == 0 || len > 15 || word[len]) return false;
     *to = strtoull(word, NULL, 10);
-    return true;
+    return *to < NUMBERS;
 }
 
 /* What is wrong with the words, or NULL. */
@@ -54,6 +53,7 @@ static const char *read_words(char *words[], size_t count, description *to) {
     to->restarted = !strcmp(words[STATE], "restarted");
     if (!to->restarted && strcmp(words[STATE], "fresh")) return "the state, which is fresh or restarted";
     if (!read_number(words[NEXT], &to->next)) return "the next number";
+    if (!to->restarted && to->next > 0) return "the next number, which is 0 of a fresh context";
     for (size_t i = WORDS_LEAST; i < count; i++) {
         if (!strcmp(words[i], "tables")) to->tables = true;
         else if (!strcmp(words[i], "blocks")) to->blocks = true;
@@ -87,12 +87,18 @@ typedef struct making {
     row_bytes bytes;
 } making;
 
+/* A context that was restarted begins as behind the first record of a life before. */
+static oscore_status begin(const description *of, making *m) {
+    oscore_status status = make_context(of, &m->context);
+    if (status != OSCORE_DONE) return status;
+    return of->restarted ? life_begin_again(&m->row.peer, &m->context, 1, of->next) : life_begin_first(&m->row.peer, &m->context);
+}
+
 static store_answer add(store *to, const description *of, making *m, char why[WHY_ROOM]) {
     row_key key;
     uint8_t fingerprint[FINGERPRINT_LEN];
     char name[24];
-    oscore_status status = make_context(of, &m->context);
-    if (status == OSCORE_DONE) status = oscore_server1_begin(&m->row.handle, &m->context, of->restarted, of->next, PLACES);
+    oscore_status status = begin(of, m);
     if (status != OSCORE_DONE) {
         oscore_status_name(status, name);
         return refuse(why, name);

@@ -45,7 +45,7 @@ void application_obey(item *of, bool counts) {
     text[len++] = ' ';
     size_t payload_len = of->opened.payload_len < PAYLOAD_MOST ? of->opened.payload_len : PAYLOAD_MOST;
     if (payload_len > 0) memcpy(text + len, of->opened.payload, payload_len);
-    of->own = payload_len >= 3 && !memcmp(of->opened.payload, "own", 3);
+    if (payload_len >= 3 && !memcmp(of->opened.payload, "own", 3)) of->own = true;
     write_reply(of, CHANGED, text, len + payload_len);
     oscore_wipe(text, len + payload_len);
 }

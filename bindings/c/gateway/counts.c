@@ -19,8 +19,8 @@ int counts_end(counts *made) {
     return munmap(made, sizeof *made);
 }
 
-bool counts_allow(counts *in, const peer *to, uint32_t most, uint64_t second) {
-    _Atomic uint64_t *place = &in->hosts[peer_host(to) % HOSTS];
+bool counts_allow(counts *in, const address *to, uint32_t most, uint64_t second) {
+    _Atomic uint64_t *place = &in->hosts[address_host(to) % HOSTS];
     uint64_t before = atomic_load(place), after;
     do {
         bool same_second = before >> 32 == (second & UINT32_MAX);

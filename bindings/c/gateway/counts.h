@@ -2,7 +2,7 @@
 #ifndef GATEWAY_COUNTS_H
 #define GATEWAY_COUNTS_H
 
-#include "peer.h"
+#include "address.h"
 #include <stdatomic.h>
 #include <stdbool.h>
 
@@ -54,7 +54,7 @@ static inline void count_one(counts *in, count what) {
 }
 
 /* Whether one more unprotected reply may go to a host in this second, by a clock that doesn't go back. */
-bool counts_allow(counts *in, const peer *to, uint32_t most, uint64_t second);
+bool counts_allow(counts *in, const address *to, uint32_t most, uint64_t second);
 
 /* All counts as text, a line each. Answers its length. */
 enum { METRICS_ROOM = 2048 };

@@ -75,7 +75,7 @@ static void begin_item(item *to, const forward *of) {
     to->hash = of->hash;
     to->ticket = of->ticket;
     to->mid = of->mid;
-    to->own = false;
+    to->own = of->ticket.observes;
     to->came_len = to->out_len = 0;
     to->outcome = ITEM_DELIVERED;
 }
@@ -105,7 +105,34 @@ static void take_empty(forwarder *with, item *to, uint8_t kind, uint16_t message
     release(with, of);
 }
 
-/* A response that comes by itself is acknowledged, each time that it comes (RFC 7252, 5.2.2). */
+/* The delta or the length of an option: half a byte, and what may lie behind it (RFC 7252, 3.1). Cut off, it leaves no byte. */
+static size_t read_half(reader *from, const uint8_t *end, uint8_t half) {
+    size_t len = half < 13 ? 0 : half - 12u;
+    if (len == 0) return half;
+    if ((size_t)(end - from->at) < len) {
+        from->at = end;
+        return 0;
+    }
+    return get_number(from, len) + (len == 1 ? 13 : 269);
+}
+
+/* Whether a message that begins with a token has an option of this number. What is no message is refused where it is sealed. */
+static bool has_option(const uint8_t *bytes, size_t len, size_t wanted) {
+    const uint8_t *end = bytes + len;
+    reader from = {bytes + HEAD + TOKEN_LEN};
+    for (size_t number = 0; from.at < end && *from.at != 0xff;) {
+        uint8_t halves = *from.at++;
+        number += read_half(&from, end, halves >> 4);
+        size_t value_len = read_half(&from, end, halves & 15);
+        if (number == wanted) return true;
+        if (value_len > (size_t)(end - from.at)) return false;
+        from.at += value_len;
+    }
+    return false;
+}
+
+/* A response that comes by itself is acknowledged, each time that it comes (RFC 7252, 5.2.2). An Echo value is the gateway's to send: another
+   one might be a number that it comes to later. */
 static void take_response(forwarder *with, item *to, const uint8_t *bytes, size_t len) {
     uint8_t kind = bytes[0] >> 4 & 3, acknowledged[HEAD] = {0x60, 0, bytes[2], bytes[3]};
     if (kind == CON) send_plain(with, acknowledged, sizeof acknowledged);
@@ -113,8 +140,12 @@ static void take_response(forwarder *with, item *to, const uint8_t *bytes, size_
     forward *of = find_token(with, bytes + HEAD);
     if (!of) return;
     begin_item(to, of);
-    memcpy(to->plain, bytes, len);
-    to->plain_len = len;
+    if (has_option(bytes, len, ECHO)) {
+        application_say(to, BAD_GATEWAY);
+    } else {
+        memcpy(to->plain, bytes, len);
+        to->plain_len = len;
+    }
     release(with, of);
 }
 

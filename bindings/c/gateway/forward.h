@@ -16,7 +16,7 @@ enum { FORWARDS = 128, FORWARD_TRIES = 5 };
 /* A request that waits for its answer, with what answering needs. */
 typedef struct forward {
     bool used, acknowledged;
-    peer from;
+    address from;
     row_key key;
     uint64_t number, hash, serial, next_ms;
     oscore_ticket ticket;

@@ -2,11 +2,10 @@
 #ifndef GATEWAY_ITEM_H
 #define GATEWAY_ITEM_H
 
-#include "peer.h"
+#include "address.h"
 #include "store.h"
 
-/* A datagram gets so many fresh bytes: of an Echo value, and of a message ID. */
-enum { OPTIONS_MOST = 32, FRESH_LEN = 10 };
+enum { OPTIONS_MOST = 32 };
 
 typedef enum outcome {
     ITEM_SILENT,      /* nothing is sent */
@@ -18,12 +17,11 @@ typedef enum outcome {
 } outcome;
 
 typedef struct item {
-    peer from;
+    address from;
     uint8_t came[DATAGRAM_MOST]; /* the datagram as it came: a lost swap begins with it again */
     size_t came_len;
     bool confirmable;
     uint64_t number, hash;
-    uint8_t fresh[FRESH_LEN];
     uint16_t mid; /* a new message ID, where the reply needs one */
     outcome outcome;
 
@@ -36,7 +34,7 @@ typedef struct item {
     oscore_opened opened;
     oscore_option options[OPTIONS_MOST];
     oscore_ticket ticket;
-    bool own;                     /* whether the reply gets a Partial IV of its own */
+    bool own;                     /* whether the reply gets a Partial IV of its own: that to a registration always does */
     uint8_t plain[DATAGRAM_MOST]; /* the application's reply */
     size_t plain_len;
     uint8_t out[DATAGRAM_MOST]; /* what is sent */

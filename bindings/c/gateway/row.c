@@ -3,20 +3,23 @@
 #include "era.h"
 
 /* The state, in this order, each number high byte first:
-       format 1
-       clock 8, places 1, window places 1, gate 1, Echo value 8, at 8, spent mask 8, next 8, life 8, unanswered 8 and 8
+       format 2
+       clock 6, gate 1, Echo value 5, at 6, spent mask 8, next 6, unanswered 6 and 8
+       reserved 6, name 8, life 6, generation 6
        Sender Key 16, Recipient Key 16, Common IV 13, features 1, length of the Sender ID 1 and its bytes
-       era 8, effect 8
-       asked 1, number 8, hash 8, length of the reply 2, and the reply where it has room here
-   The format's number changes with what stands here. Of the features, bit 0 asked for constant time when tables were the default: it is
-   written no more, and says nothing. */
-enum { FORMAT = 1, BLOCKS = 2, OBSERVE = 4, TABLES = 8 };
-enum { NUMBERS_LEN = 8 + 3 + 8 + 4 * 8 + 2 * 8, KEYS_LEN = 16 + 16 + 13 + 1, ASKED_LEN = 1 + 8 + 8 + 2 };
-enum { FIXED_LEN = 1 + NUMBERS_LEN + KEYS_LEN + 1 + 8 + 8 + ASKED_LEN };
+       era 4, effect 8
+       asked 1, number 6, hash 8, length of the reply 2, and the reply where it has room here
+   The format's number changes with what stands here. Six bytes are enough for a moment (era.h), for a number, which is 2^40 at most, and for a
+   generation: of those a row has one for each era, and one for each 64 numbers. An Echo value is a Sender Sequence Number, in eight bytes. What all
+   rows have alike doesn't stand here: read_peer says what that is. */
+enum { FORMAT = 2, TABLES = 1, BLOCKS = 2, OBSERVE = 4, FEATURES_ALL = 7, OPEN_WITH_HIGHEST = 3 };
+enum { NUMBER_LEN = 6, ECHO_LEN = 5, ECHO_AT = 3, ERA_LEN = 4 };
+enum { ROLE_LEN = 4 * NUMBER_LEN + 1 + ECHO_LEN + 2 * 8, RECORD_LEN = 3 * NUMBER_LEN + 8, KEYS_LEN = 16 + 16 + 13 + 1 };
+enum { FIXED_LEN = 1 + ROLE_LEN + RECORD_LEN + KEYS_LEN + 1 + ERA_LEN + 8 + 1 + NUMBER_LEN + 8 + 2 };
 
 /* With the longest names there is room for a reply of some bytes. */
 OSCORE_ASSERT(FIXED_LEN + 7 + KEY_MOST + 32 <= STATE_MOST, "a row has more bytes than 256");
-OSCORE_ASSERT(sizeof(oscore_server1) == 168, "a handle has a field that row.c doesn't know");
+OSCORE_ASSERT(sizeof(oscore_peer) == 224, "a peer has a field that row.c doesn't know");
 
 bool row_key_of(row_key *key, const oscore_request_head *head) {
     if (head->kid_len > KID_MOST || head->kid_context_len > KID_CONTEXT_MOST) return false;
@@ -59,66 +62,90 @@ static bool read_key(oscore_context *context, const row_key *key) {
     return true;
 }
 
-static void write_handle(cursor *to, const oscore_server1 *handle) {
-    const oscore_server_context *of = &handle->context;
-    const oscore_context *context = &of->context;
-    put_number(to, handle->clock, 8);
-    put_number(to, of->places, 1);
-    put_number(to, of->window_places, 1);
-    put_number(to, of->gate, 1);
-    put_bytes(to, of->echo, 8);
-    put_number(to, of->at, 8);
-    put_number(to, of->spent_mask, 8);
-    put_number(to, of->next, 8);
-    put_number(to, of->life, 8);
-    put_number(to, handle->unanswered.highest, 8);
-    put_number(to, handle->unanswered.mask, 8);
-    put_bytes(to, context->sender_key, 16);
-    put_bytes(to, context->recipient_key, 16);
-    put_bytes(to, context->common_iv, 13);
-    put_number(to, (context->blocks ? BLOCKS : 0u) | (context->observe ? OBSERVE : 0u) | (context->tables ? TABLES : 0u), 1);
-    put_number(to, context->sender_len, 1);
-    put_bytes(to, context->sender, context->sender_len);
+static void write_context(cursor *to, const oscore_context *of) {
+    put_bytes(to, of->sender_key, 16);
+    put_bytes(to, of->recipient_key, 16);
+    put_bytes(to, of->common_iv, 13);
+    put_number(to, (of->tables ? TABLES : 0u) | (of->blocks ? BLOCKS : 0u) | (of->observe ? OBSERVE : 0u), 1);
+    put_number(to, of->sender_len, 1);
+    put_bytes(to, of->sender, of->sender_len);
 }
 
-static void read_handle(reader *from, oscore_server1 *handle) {
-    oscore_server_context *of = &handle->context;
-    oscore_context *context = &of->context;
-    handle->clock = get_number(from, 8);
-    of->places = (uint8_t)get_number(from, 1);
-    of->window_places = (uint8_t)get_number(from, 1);
-    of->gate = (uint8_t)get_number(from, 1);
-    get_bytes(from, of->echo, 8);
-    of->at = get_number(from, 8);
-    of->spent_mask = get_number(from, 8);
-    of->next = get_number(from, 8);
-    of->life = get_number(from, 8);
-    handle->unanswered.highest = get_number(from, 8);
-    handle->unanswered.mask = get_number(from, 8);
-    get_bytes(from, context->sender_key, 16);
-    get_bytes(from, context->recipient_key, 16);
-    get_bytes(from, context->common_iv, 13);
+static void write_peer(cursor *to, const oscore_peer *of) {
+    put_number(to, of->server.clock, NUMBER_LEN);
+    put_number(to, of->server.context.gate, 1);
+    put_bytes(to, of->server.context.echo + ECHO_AT, ECHO_LEN);
+    put_number(to, of->server.context.at, NUMBER_LEN);
+    put_number(to, of->server.context.spent_mask, 8);
+    put_number(to, of->server.context.next, NUMBER_LEN);
+    put_number(to, of->server.unanswered.highest, NUMBER_LEN);
+    put_number(to, of->server.unanswered.mask, 8);
+    put_number(to, of->reserved, NUMBER_LEN);
+    put_number(to, of->name, 8);
+    put_number(to, of->life, NUMBER_LEN);
+    put_number(to, of->generation, NUMBER_LEN);
+    write_context(to, &of->server.context.context);
+}
+
+/* The Sender ID comes behind it, where there are as many bytes as its length says. */
+static bool read_context(reader *from, oscore_context *to) {
+    get_bytes(from, to->sender_key, 16);
+    get_bytes(from, to->recipient_key, 16);
+    get_bytes(from, to->common_iv, 13);
     uint64_t features = get_number(from, 1);
-    context->blocks = (features & BLOCKS) != 0;
-    context->observe = (features & OBSERVE) != 0;
-    context->tables = (features & TABLES) != 0;
-    context->sender_len = (uint8_t)get_number(from, 1);
+    to->tables = (features & TABLES) != 0;
+    to->blocks = (features & BLOCKS) != 0;
+    to->observe = (features & OBSERVE) != 0;
+    to->sender_len = (uint8_t)get_number(from, 1);
+    return features <= FEATURES_ALL && to->sender_len <= KID_MOST;
+}
+
+/* The first record of the life is saved, by which all numbers count as received (life.h); a peer begins one life as a server, and asks nothing. */
+static bool read_peer(reader *from, oscore_peer *to) {
+    to->server.context.places = to->server.context.window_places = WINDOW_PLACES;
+    to->received = NUMBERS;
+    to->life_ms = PENDING_MS;
+    to->server.clock = get_number(from, NUMBER_LEN);
+    to->server.context.gate = (uint8_t)get_number(from, 1);
+    get_bytes(from, to->server.context.echo + ECHO_AT, ECHO_LEN);
+    to->server.context.at = get_number(from, NUMBER_LEN);
+    to->server.context.spent_mask = get_number(from, 8);
+    to->server.context.next = get_number(from, NUMBER_LEN);
+    to->server.unanswered.highest = get_number(from, NUMBER_LEN);
+    to->server.unanswered.mask = get_number(from, 8);
+    to->reserved = get_number(from, NUMBER_LEN);
+    to->name = get_number(from, 8);
+    to->life = get_number(from, NUMBER_LEN);
+    to->generation = get_number(from, NUMBER_LEN);
+    return read_context(from, &to->server.context.context);
+}
+
+/* Whether the numbers are those of a peer that a call wrote. */
+static bool has_numbers(const oscore_peer *of) {
+    uint8_t gate = of->server.context.gate;
+    return gate <= OPEN_WITH_HIGHEST && (gate < OPEN_WITH_HIGHEST || of->server.context.at < NUMBERS) && of->server.unanswered.highest < NUMBERS
+        && of->server.context.next <= of->reserved && of->reserved <= NUMBERS
+        && 0 < of->life && of->life <= of->generation && of->generation <= NUMBERS;
+}
+
+static bool has_two_ids(const oscore_context *of) {
+    return of->sender_len != of->recipient_len || memcmp(of->sender, of->recipient, of->sender_len);
 }
 
 /* How long a reply may be to have room in the state. */
 static size_t reply_room(const row *of, const row_key *key) {
-    return (size_t)STATE_MOST - FIXED_LEN - of->handle.context.context.sender_len - key->len;
+    return (size_t)STATE_MOST - FIXED_LEN - of->peer.server.context.context.sender_len - key->len;
 }
 
 void row_write(const row *from, const row_key *key, row_bytes *to) {
     bool inside = from->reply_len <= reply_room(from, key);
     cursor at = {to->state};
     put_number(&at, FORMAT, 1);
-    write_handle(&at, &from->handle);
-    put_number(&at, from->era, 8);
+    write_peer(&at, &from->peer);
+    put_number(&at, from->era, ERA_LEN);
     put_number(&at, from->effect, 8);
     put_number(&at, from->asked, 1);
-    put_number(&at, from->number, 8);
+    put_number(&at, from->number, NUMBER_LEN);
     put_number(&at, from->hash, 8);
     put_number(&at, from->reply_len, 2);
     if (inside) put_bytes(&at, from->reply, from->reply_len);
@@ -143,20 +170,20 @@ static bool read_reply(reader *from, row *to, const row_key *key, const row_byte
 
 bool row_read(row *to, const row_key *key, const row_bytes *from) {
     if (from->state_len < FIXED_LEN || from->state_len > STATE_MOST || from->state[0] != FORMAT) return false;
-    memset(&to->handle, 0, sizeof to->handle);
-    oscore_context *context = &to->handle.context.context;
-    if (!read_key(context, key)) return false;
+    memset(&to->peer, 0, sizeof to->peer);
+    oscore_context *context = &to->peer.server.context.context;
     reader at = {from->state + 1};
-    read_handle(&at, &to->handle);
-    if (context->sender_len > KID_MOST || from->state_len < (size_t)FIXED_LEN + context->sender_len) return false;
+    if (!read_key(context, key) || !read_peer(&at, &to->peer) || !has_numbers(&to->peer)) return false;
+    if (from->state_len < (size_t)FIXED_LEN + context->sender_len) return false;
     get_bytes(&at, context->sender, context->sender_len);
-    to->era = get_number(&at, 8);
+    to->era = get_number(&at, ERA_LEN);
     to->effect = get_number(&at, 8);
-    to->asked = get_number(&at, 1) != 0;
-    to->number = get_number(&at, 8);
+    uint64_t asked = get_number(&at, 1);
+    to->asked = asked == 1;
+    to->number = get_number(&at, NUMBER_LEN);
     to->hash = get_number(&at, 8);
     to->reply_len = (size_t)get_number(&at, 2);
-    return read_reply(&at, to, key, from);
+    return has_two_ids(context) && asked <= 1 && to->number < NUMBERS && read_reply(&at, to, key, from);
 }
 
 void row_asked(row *of, uint64_t number, uint64_t hash) {
@@ -173,8 +200,10 @@ void row_answered(row *of, uint64_t number, uint64_t hash, const uint8_t *reply,
 }
 
 oscore_status row_renew(row *of, uint64_t era) {
-    uint64_t next = of->handle.context.next, begin = era_begin(era);
-    oscore_status status = oscore_server1_restart(&of->handle, next > begin ? next : begin);
+    oscore_context context = of->peer.server.context.context;
+    uint64_t next = of->peer.server.context.next, begin = era_begin(era);
+    oscore_status status = life_begin_again(&of->peer, &context, of->peer.generation, next > begin ? next : begin);
+    oscore_wipe(&context, sizeof context);
     if (status != OSCORE_DONE) return status;
     of->era = era;
     of->asked = false;
@@ -199,7 +228,7 @@ bool row_fingerprint(const oscore_context *context, uint8_t fingerprint[FINGERPR
 
 /* Of each datagram, so by the C library's call, which writes more than a byte at a time. */
 void row_wipe(row *of) {
-    explicit_bzero(&of->handle, sizeof of->handle);
+    explicit_bzero(&of->peer, sizeof of->peer);
 }
 
 void row_bytes_wipe(row_bytes *of) {

@@ -10,7 +10,7 @@
 #ifndef GATEWAY_ROW_H
 #define GATEWAY_ROW_H
 
-#include "../oscore.h"
+#include "life.h"
 
 enum { ROW_MOST = 256, KID_MOST = 7, KID_CONTEXT_MOST = 32, KEY_MOST = 1 + KID_MOST + 1 + KID_CONTEXT_MOST };
 enum { VERSION_LEN = 8, FINGERPRINT_LEN = 16, STATE_MOST = ROW_MOST - VERSION_LEN - FINGERPRINT_LEN };
@@ -22,7 +22,7 @@ typedef struct row_key {
 } row_key;
 
 typedef struct row {
-    oscore_server1 handle;
+    oscore_peer peer;
     uint64_t era;    /* under which it was written last */
     uint64_t effect; /* of the built-in application: how many requests it obeyed */
     bool asked;      /* whether there is a last request in this era */

@@ -3,6 +3,7 @@
 #include "era.h"
 #include "monotonic.h"
 #include "trial.h"
+#include <stdio.h>
 #include <sys/random.h>
 
 /* A row that others write first so often in a row is left to them. */
@@ -16,7 +17,7 @@ bool steps_send(const steps *s, const item *of) {
         return false;
     }
     if (!unprotected) trial_sent(&of->stored.key, of->number, of->out, of->out_len);
-    ssize_t sent = sendto(s->udp, of->out, of->out_len, MSG_DONTWAIT, (const struct sockaddr *)&of->from.address, of->from.len);
+    ssize_t sent = sendto(s->udp, of->out, of->out_len, MSG_DONTWAIT, (const struct sockaddr *)&of->from.bytes, of->from.len);
     if (sent == (ssize_t)of->out_len) return true;
     count_one(s->counted, COUNT_UNSENT);
     return false;
@@ -27,22 +28,31 @@ void steps_drop(item *of) {
     of->out_len = 0;
 }
 
-/* Fresh bytes: none is handed out twice. */
-static bool draw(steps *s, uint8_t fresh[FRESH_LEN]) {
+/* A new message ID, of fresh bytes: none are handed out twice. */
+static bool draw(steps *s, uint16_t *mid) {
     if (s->fresh_left == 0) {
         if (getrandom(s->fresh, sizeof s->fresh, 0) != sizeof s->fresh) return false;
         s->fresh_left = FRESH_AT_ONCE;
     }
-    memcpy(fresh, s->fresh[--s->fresh_left], FRESH_LEN);
+    *mid = s->fresh[--s->fresh_left];
     return true;
+}
+
+/* A peer takes a copy of the datagram. */
+static oscore_status take(oscore_peer *by, item *of) {
+    oscore_peer_record record = OSCORE_ZERO;
+    oscore_status status;
+    size_t detail;
+    memcpy(of->datagram, of->came, of->came_len);
+    do status = oscore_peer_take(by, now_ms(), of->mid, of->datagram, of->came_len, of->options, OPTIONS_MOST, &of->opened, &of->ticket, of->out,
+                                 &of->out_len, &record, &detail);
+    while (life_goes_on(by, status, &record));
+    return status;
 }
 
 /* What the library says to a request without a context; and a ping is answered by an RST (RFC 7252, 4.3). */
 static void refuse(steps *s, item *of) {
-    size_t detail;
-    memcpy(of->datagram, of->came, of->came_len);
-    oscore_status status = oscore_server_take(&s->none, now_ms(), of->fresh, of->mid, of->datagram, of->came_len, of->options, OPTIONS_MOST,
-                                              &of->opened, &of->ticket, of->out, &of->out_len, &detail);
+    oscore_status status = take(&s->none, of);
     bool ping = status == OSCORE_NOT_THAT_KIND && of->came_len == 4 && of->came[0] == 0x40 && of->came[1] == 0;
     if (ping) memcpy(of->out, (const uint8_t[]){0x70, 0, of->came[2], of->came[3]}, of->out_len = 4);
     of->outcome = of->out_len > 0 ? ITEM_UNPROTECTED : ITEM_SILENT;
@@ -58,8 +68,8 @@ static bool renew(steps *s, item *of) {
         count_one(s->counted, COUNT_LATER_ERA);
         return false;
     }
-    bool challenges = of->row.handle.context.gate < 2;
-    if (!challenges || own_number_allowed(of->row.handle.context.next, now_ms())) return true;
+    bool challenges = of->row.peer.server.context.gate < 2;
+    if (!challenges || own_number_allowed(of->row.peer.server.context.next, now_ms())) return true;
     count_one(s->counted, COUNT_LIMITED);
     return false;
 }
@@ -78,14 +88,11 @@ static void judge_replay(steps *s, item *of) {
     count_one(s->counted, again ? COUNT_RESENT : COUNT_WAITING);
 }
 
-/* Step 3: the library takes a copy of the datagram. */
+/* Step 3: the row's peer takes the datagram. */
 static void judge(steps *s, item *of) {
-    size_t detail;
-    memcpy(of->datagram, of->came, of->came_len);
-    oscore_status status = oscore_server1_take(&of->row.handle, now_ms(), of->fresh, of->mid, of->datagram, of->came_len, of->options, OPTIONS_MOST,
-                                               &of->opened, &of->ticket, of->out, &of->out_len, &detail);
+    oscore_status status = take(&of->row.peer, of);
     of->outcome = of->out_len > 0 ? ITEM_UNPROTECTED : ITEM_SILENT;
-    of->own = false;
+    of->own = status == OSCORE_DONE && of->ticket.observes;
     if (status == OSCORE_DONE) {
         of->outcome = ITEM_DELIVERED;
         row_asked(&of->row, of->number, of->hash);
@@ -105,18 +112,27 @@ static bool is_written(const item *of) {
     return of->outcome == ITEM_SPENT || of->outcome == ITEM_CHALLENGE || of->outcome == ITEM_DELIVERED;
 }
 
+static oscore_status reply(item *of) {
+    oscore_peer *by = &of->row.peer;
+    oscore_peer_record record = OSCORE_ZERO;
+    oscore_status status;
+    size_t detail;
+    do status = oscore_peer_reply(by, &of->ticket, of->own, of->mid, of->plain, of->plain_len, of->out, sizeof of->out, &of->out_len, &record,
+                                  &detail);
+    while (life_goes_on(by, status, &record));
+    return status;
+}
+
 /* Seals the reply in the row. What the application says that can't be sealed becomes a 5.02. */
 static bool seal(steps *s, item *of) {
     enum { BAD_GATEWAY = 162 };
-    size_t detail;
     of->out_len = 0;
-    if (of->own && !own_number_allowed(of->row.handle.context.next, now_ms())) {
+    if (of->own && !own_number_allowed(of->row.peer.server.context.next, now_ms())) {
         count_one(s->counted, COUNT_LIMITED);
         return false;
     }
     for (int attempt = 0; attempt < 2; attempt++) {
-        oscore_status status = oscore_server1_reply(&of->row.handle, &of->ticket, of->own, of->mid, of->plain, of->plain_len, of->out, sizeof of->out,
-                                                    &of->out_len, &detail);
+        oscore_status status = reply(of);
         if (status == OSCORE_DONE) {
             row_answered(&of->row, of->number, of->hash, of->out, of->out_len);
             return true;
@@ -142,7 +158,7 @@ static bool name(item *of) {
     if (oscore_head(of->came, of->came_len, &head, &detail) || !row_key_of(&of->stored.key, &head)) return false;
     of->number = head.number;
     of->confirmable = head.kind == 0;
-    of->hash = hash_bytes(peer_hash(&of->from), of->came, of->came_len);
+    of->hash = hash_bytes(address_hash(&of->from), of->came, of->came_len);
     return true;
 }
 
@@ -230,7 +246,7 @@ static bool settle_all(steps *s, item items[], size_t count, maker *make) {
     return true;
 }
 
-/* Steps 2 and 3, with the datagram as it came: what an earlier attempt made is forgotten, and its Echo value was never sent. */
+/* Steps 2 and 3, with the datagram as it came: what an earlier attempt made is forgotten, and was never sent. */
 static bool make_delivery(steps *s, item *of) {
     steps_drop(of);
     if (of->stored.answer == STORE_NOT) {
@@ -261,13 +277,30 @@ static bool make_reply(steps *s, item *of) {
     return true;
 }
 
-void steps_open(steps *s, const settings *with, counts *counted, int udp) {
+/* A peer of a context that nobody has: its secret is drawn, and so is its ID context, so that no request names it. */
+static bool begin_none(oscore_peer *none) {
+    enum { LEN = 32 };
+    static const uint8_t END[] = {1};
+    uint8_t fresh[2 * LEN];
+    oscore_context context = OSCORE_ZERO;
+    oscore_parameters parameters = OSCORE_ZERO;
+    if (getrandom(fresh, sizeof fresh, 0) != sizeof fresh) {
+        perror("worker: random bytes");
+        return false;
+    }
+    parameters.secret = fresh, parameters.secret_len = LEN;
+    parameters.id_context = fresh + LEN, parameters.id_context_len = LEN;
+    parameters.recipient_id = END, parameters.recipient_id_len = sizeof END;
+    return oscore_derive_from(&context, &parameters) == OSCORE_DONE && life_begin_first(none, &context) == OSCORE_DONE;
+}
+
+bool steps_open(steps *s, const settings *with, counts *counted, int udp) {
     s->with = with;
     s->counted = counted;
     s->udp = udp;
     s->fresh_left = 0;
-    oscore_server_begin(&s->none);
     s->store = store_open(with->store);
+    return s->store && begin_none(&s->none);
 }
 
 /* Whether what is read and written for several datagrams is one transaction. */
@@ -287,8 +320,7 @@ bool steps_take(steps *s, item items[], size_t count) {
     for (size_t i = 0; i < count; i++) {
         item *of = &items[i];
         steps_drop(of);
-        if (!draw(s, of->fresh)) return false;
-        of->mid = (uint16_t)(of->fresh[8] << 8 | of->fresh[9]);
+        if (!draw(s, &of->mid)) return false;
         of->is_read = false;
         of->settled = !name(of);
         if (of->settled) refuse(s, of);

@@ -7,21 +7,21 @@
 #include "item.h"
 #include "settings.h"
 
-/* The system is asked for the fresh bytes of several datagrams: it gives up to 256 at once, whole. */
-enum { FRESH_AT_ONCE = 25 };
+/* The system is asked for the message IDs of several datagrams: it gives up to 256 bytes at once, whole. */
+enum { FRESH_AT_ONCE = 128 };
 
 typedef struct steps {
     const settings *with;
     counts *counted;
     store *store;
     int udp;
-    oscore_server none; /* a server without contexts, which says what is said to whoever has none */
-    uint8_t fresh[FRESH_AT_ONCE][FRESH_LEN]; /* that nobody can predict; the first fresh_left are unused */
+    oscore_peer none; /* of a context that nobody has: it says what is said to whoever has no context */
+    uint16_t fresh[FRESH_AT_ONCE]; /* message IDs that nobody can predict; the first fresh_left are unused */
     size_t fresh_left;
 } steps;
 
-/* Opens the store: NULL where that can't be. */
-void steps_open(steps *s, const settings *with, counts *counted, int udp);
+/* Opens the store, and begins the peer of no context. False where one of these can't be; the store is then open or NULL. */
+bool steps_open(steps *s, const settings *with, counts *counted, int udp);
 
 /* Begin and end what steps_take does for several datagrams. False: the store is broken, and it isn't known what was written. */
 bool steps_begin(const steps *s);

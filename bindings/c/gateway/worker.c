@@ -60,8 +60,8 @@ static void send_all(worker *w, size_t count) {
    came in WAIT_MS. */
 static bool receive_one(worker *w, size_t *count, int flags) {
     item *to = &w->items[*count];
-    to->from.len = sizeof to->from.address;
-    ssize_t len = recvfrom(w->udp, to->came, sizeof to->came, flags | MSG_TRUNC, (struct sockaddr *)&to->from.address, &to->from.len);
+    to->from.len = sizeof to->from.bytes;
+    ssize_t len = recvfrom(w->udp, to->came, sizeof to->came, flags | MSG_TRUNC, (struct sockaddr *)&to->from.bytes, &to->from.len);
     if (len < 0) return errno == EINTR;
     to->came_len = (size_t)len;
     if (to->came_len <= sizeof to->came) {
@@ -206,9 +206,8 @@ int worker_run(const settings *with, int udp, counts *counted, unsigned index) {
     w->counted = counted;
     w->udp = udp;
     w->waits_on_all = w->waits_on_answers = w->application.udp = -1;
-    steps_open(&w->steps, with, counted, udp);
     int status = WORKER_BROKEN;
-    if (w->steps.store && begin_waiting(w) && trial_begin_worker(index)) {
+    if (steps_open(&w->steps, with, counted, udp) && begin_waiting(w) && trial_begin_worker(index)) {
         count_one(counted, COUNT_STARTS);
         status = run(w);
     }

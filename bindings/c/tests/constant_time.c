@@ -1,9 +1,8 @@
 /* Whether a branch or an address depends on a key. To valgrind's memcheck the Master Secret is unknown, and so is all that comes of it; it
    reports each branch and each address that depends on something unknown. Derived, sealed and opened are messages of 0 to 100 bytes of
-   payload, alone, by a server and a client, and by two peers. In constant time there is one report for each bad tag, the verdict on it, and none before;
-   behind a good tag there are those of what reads the message: bindings/c/check looks that they stand there. So it is of contexts that
-   ask for nothing. With the word `tables` they ask for the cipher with tables: then there are many, so that it is seen that memcheck
-   sees. */
+   payload, alone and by two peers. In constant time there is one report for each bad tag, the verdict on it, and none before; behind a
+   good tag there are those of what reads the message: bindings/c/check looks that they stand there. So it is of contexts that ask for
+   nothing. Whether two peers may stand beside each other has one report for each, on whether their keys are the same. With the word `tables` they ask for the cipher with tables: then there are many, so that it is seen that memcheck sees. */
 #include "../oscore.h"
 #include <stdio.h>
 #include <stdlib.h>
@@ -14,7 +13,7 @@
 
 enum { LONGEST = 100, ROOM = 256 };
 
-static const uint8_t one = 1, salt[8] = {0x9e, 0x7c, 0xa9, 0x22, 0x23, 0x78, 0x63, 0x40}, echo[8] = {4, 4, 4, 4, 4, 4, 4, 4};
+static const uint8_t one = 1, salt[8] = {0x9e, 0x7c, 0xa9, 0x22, 0x23, 0x78, 0x63, 0x40};
 
 /* The reports so far: before the verdict on a tag, and of calls that end with a bad one. */
 static unsigned long with_keys, with_bad_tags, bad_tags;
@@ -84,41 +83,6 @@ static void messages(const oscore_context *client, const oscore_context *server,
     }
 }
 
-/* The same by both ends: a request that comes with a turned tag and then whole, and its response. */
-static void ends(oscore_client *client, oscore_server *server, oscore_size len) {
-    uint8_t plain[ROOM], datagram[ROOM], turned[ROOM], out[64];
-    oscore_size sealed = 0, out_len = 0, detail = 0;
-    uint64_t number = 0;
-    oscore_option options[4];
-    oscore_opened opened;
-    oscore_ticket ticket = {0};
-    oscore_size plain_len = message(plain, 0x01, (uint8_t)len, len);
-    CHECK(!oscore_client_request(client, len, plain, plain_len, datagram, ROOM, &sealed, &detail));
-    with_keys += reports();
-    shown(datagram, sealed);
-    memcpy(turned, datagram, sealed);
-    turned[sealed - 1] ^= 1;
-    CHECK(oscore_server_take(server, len, echo, 1, turned, sealed, options, 4, &opened, &ticket, out, &out_len, &detail));
-    with_bad_tags += reports();
-    bad_tags++;
-    CHECK(!oscore_server_take(server, len, echo, 1, datagram, sealed, options, 4, &opened, &ticket, out, &out_len, &detail));
-    (void)reports();
-    shown(&ticket, sizeof ticket);
-    shown(server->unanswered, sizeof server->unanswered);
-    shown(&server->clock, sizeof server->clock);
-    plain_len = message(plain, 0x45, (uint8_t)len, len);
-    CHECK(!oscore_server_reply(server, &ticket, len % 2, 1, plain, plain_len, datagram, ROOM, &sealed, &detail));
-    with_keys += reports();
-    shown(datagram, sealed);
-    memcpy(turned, datagram, sealed);
-    turned[sealed - 1] ^= 1;
-    CHECK(oscore_client_take(client, len, turned, sealed, options, 4, &opened, &number, &detail));
-    with_bad_tags += reports();
-    bad_tags++;
-    CHECK(!oscore_client_take(client, len, datagram, sealed, options, 4, &opened, &number, &detail));
-    (void)reports();
-}
-
 /* All of a peer but its keys. The name of its context is made of them, and is no secret. */
 static void shown_peer(oscore_peer *peer) {
     shown(peer, offsetof(oscore_peer, server.context));
@@ -139,8 +103,8 @@ static void begin_peer(oscore_peer *peer, const oscore_context *context) {
     shown_peer(peer);
 }
 
-/* The same by two peers. A request is encrypted again where its number has to be saved: to memcheck what comes of that is unknown, though it
-   is what was sent. */
+/* The same by two peers: a request that comes with a turned tag and then whole, and its response. A request is encrypted again where its
+   number has to be saved: to memcheck what comes of that is unknown, though it is what was sent. */
 static void peers(oscore_peer *asking, oscore_peer *answering, oscore_size len) {
     uint8_t plain[ROOM], datagram[ROOM], turned[ROOM], out[64];
     oscore_size sealed = 0, out_len = 0, detail = 0;
@@ -192,24 +156,24 @@ static void peers(oscore_peer *asking, oscore_peer *answering, oscore_size len) 
     shown(pending, sizeof pending), shown(&pending_count, sizeof pending_count);
 }
 
+/* A context beside a peer of the other end's, and beside one of its own. Both keys are unknown, and each comparison is one branch. */
+static void fits(const oscore_peer *other, const oscore_peer *own, const oscore_context *context) {
+    (void)reports();
+    CHECK(oscore_peer_fits(other, 1, context) && reports() == 1);
+    CHECK(!oscore_peer_fits(own, 1, context) && reports() == 1);
+}
+
 int main(int count, char **words) {
     bool tables = count > 1 && !strcmp(words[1], "tables");
-    static oscore_server server;
-    static oscore_client client;
     static oscore_peer asking, answering;
     oscore_context client_context, server_context;
-    oscore_size index;
     CHECK(RUNNING_ON_VALGRIND);
     (void)reports(); /* those of a C library that is linked in, before main */
     derive(&client_context, &server_context, tables);
-    oscore_server_begin(&server);
-    CHECK(!oscore_server_add(&server, &server_context, false, 0, 32, &index));
-    CHECK(!oscore_client_begin(&client, &client_context, 0, 60000));
-    with_keys += reports();
     begin_peer(&asking, &client_context), begin_peer(&answering, &server_context);
+    fits(&asking, &answering, &server_context), fits(&answering, &asking, &client_context);
     for (oscore_size len = 0; len <= LONGEST; len += tables ? LONGEST / 2 : 1) {
         messages(&client_context, &server_context, len);
-        ends(&client, &server, len);
         peers(&asking, &answering, len);
     }
     printf("%lu reports with keys, and %lu of %lu bad tags\n", with_keys, with_bad_tags, bad_tags);

@@ -1,12 +1,13 @@
-/* What code of oscore.h itself does, which is the program's: parameters of a context, the moments of a tick of 32 bits, and how many
-   elements an array has. The keys are those that RFC 8613, C.3 prints. Built with the sanitizers by .ci/run. */
+/* What code of oscore.h itself does, which is the program's: parameters of a context, a record that is saved nowhere, which peers may stand
+   beside each other, the moments of a tick of 32 bits, and how many elements an array has. The keys are those that RFC 8613, C.3 prints.
+   Built with the sanitizers by .ci/run. */
 #include "guarded.h"
 #include "../oscore.h"
 
 #define CHECK(holds) do { if (!(holds)) { printf("header.c:%d: %s\n", __LINE__, #holds); exit(1); } } while (0)
 
 /* What is handed in, each at a place of its own. */
-enum { PARAMETERS, CONTEXT, SECRET_PLACE, SALT_PLACE, ID_PLACE, SERVER_PLACE };
+enum { PARAMETERS, CONTEXT, SECRET_PLACE, SALT_PLACE, ID_PLACE, SERVER_PLACE, PEER, RECORD, DETAIL, PEERS, BESIDE, PENDING, COUNT, PLAIN, OUT, OUT_LEN };
 
 static const uint8_t SECRET[16] = {1, 2, 3, 4, 5, 6, 7, 8, 9, 10, 11, 12, 13, 14, 15, 16};
 static const uint8_t SALT[8] = {0x9e, 0x7c, 0xa9, 0x22, 0x23, 0x78, 0x63, 0x40}, SERVER = 1;
@@ -91,6 +92,98 @@ static void refuses(void) {
     is_refused(OSCORE_SAME_IDS);
 }
 
+/* ---- peers */
+
+static oscore_peer *peer;
+static oscore_peer_record *record;
+
+static void begin_peer(void) {
+    begin();
+    peer = guarded(PEER, sizeof *peer), record = guarded(RECORD, sizeof *record);
+    CHECK(!oscore_derive_from(context, parameters) && !oscore_peer_begin_first(peer, context, 32, 1000));
+}
+
+/* Asks for a request, which needs a number. */
+static oscore_status ask(void) {
+    static const uint8_t plain[] = {0x40, 1, 0, 1};
+    oscore_pending *pending = guarded(PENDING, sizeof *pending);
+    oscore_size *count = guarded(COUNT, sizeof *count), *out_len = guarded(OUT_LEN, sizeof *out_len), *detail = guarded(DETAIL, sizeof *detail);
+    uint8_t *out = guarded(OUT, OSCORE_ROOM(sizeof plain));
+    return oscore_peer_request(peer, pending, 1, count, 0, guarded_copy(PLAIN, plain, sizeof plain), sizeof plain, out, OSCORE_ROOM(sizeof plain), out_len,
+                               record, detail);
+}
+
+/* All numbers count as received, and nothing else changes of the record; what isn't the next one is refused. */
+static void saves_nowhere(void) {
+    const uint64_t numbers = (uint64_t)1 << 40;
+    begin_peer();
+    CHECK(ask() == OSCORE_SAVE_FIRST && record->received == 0 && record->generation == 1 && record->sender == 64);
+    CHECK(!oscore_peer_saved_nowhere(peer, record) && peer->received == numbers && peer->generation == 1 && peer->reserved == 64);
+    CHECK(record->received == numbers && record->generation == 1 && record->sender == 64 && record->name == peer->name && !ask());
+    CHECK(oscore_peer_saved_nowhere(peer, record) == OSCORE_BAD_NUMBER && peer->generation == 1);
+    for (int i = 1; i < 64; i++) CHECK(!ask());
+    CHECK(ask() == OSCORE_SAVE_FIRST && !oscore_peer_saved_nowhere(peer, record) && peer->generation == 2 && peer->reserved == 128 && !ask());
+    oscore_wipe(peer, sizeof *peer);
+    CHECK(oscore_peer_saved_nowhere(peer, record) == OSCORE_BAD_HANDLE);
+}
+
+static oscore_peer *peers;
+
+static bool fits(const oscore_context *other) {
+    return oscore_peer_fits(peers, 2, guarded_copy(BESIDE, other, sizeof *other));
+}
+
+/* A bit of these bytes, one after the other: each makes another key, or another name to be found by. */
+static void each_bit_tells(oscore_context *other, uint8_t *bytes, size_t len, bool fit) {
+    for (size_t bit = 0; bit < 8 * len; bit++) {
+        bytes[bit / 8] ^= (uint8_t)(1 << bit % 8);
+        CHECK(fits(other) == fit);
+        bytes[bit / 8] ^= (uint8_t)(1 << bit % 8);
+    }
+}
+
+/* Beside a peer: neither another of its Sender Key, nor one that is found by the same kid and kid context. */
+static void tells_peers_apart(const oscore_context *of) {
+    oscore_context other = *of;
+    CHECK(!fits(&other));
+    other.sender_key[0] ^= 1;
+    CHECK(!fits(&other));
+    each_bit_tells(&other, other.recipient, other.recipient_len, true);
+    each_bit_tells(&other, other.recipient + other.recipient_len, 7u - other.recipient_len, false);
+    each_bit_tells(&other, other.id_context, other.id_context_len, true);
+    each_bit_tells(&other, other.id_context + other.id_context_len, 32u - other.id_context_len, false);
+    other.recipient_len--;
+    CHECK(fits(&other));
+    other.recipient_len++, other.id_context_len--;
+    CHECK(fits(&other));
+    other.sender_key[0] ^= 1;
+    CHECK(!fits(&other));
+    each_bit_tells(&other, other.sender_key, sizeof other.sender_key, true);
+    /* Two differences are no sameness. */
+    other.sender_key[3] ^= 0x80, other.sender_key[7] ^= 0x80;
+    CHECK(fits(&other));
+}
+
+static void tells_apart(void) {
+    static const uint8_t ids[7] = {2, 3, 4, 5, 6, 7, 8}, id_context[32] = {9};
+    oscore_peer two[2];
+    begin_peer();
+    two[0] = *peer;
+    parameters->id_context = guarded_copy(ID_PLACE, id_context, sizeof id_context), parameters->id_context_len = sizeof id_context;
+    parameters->recipient_id = guarded_copy(SERVER_PLACE, ids, sizeof ids), parameters->recipient_id_len = sizeof ids;
+    CHECK(!oscore_derive_from(context, parameters) && !oscore_peer_begin_first(peer, context, 32, 1000));
+    two[1] = *peer;
+    peers = guarded_copy(PEERS, two, sizeof two);
+    for (int i = 0; i < 2; i++) tells_peers_apart(&two[i].server.context.context);
+    CHECK(oscore_peer_fits(NULL, 0, context) && !oscore_peer_fits(peers, 2, context));
+    peers = guarded_copy(PEERS, two, sizeof two[0]);
+    CHECK(oscore_peer_fits(peers, 1, context));
+    /* A peer that was never begun is none, and the one behind it is. */
+    two[0] = (oscore_peer)OSCORE_ZERO;
+    peers = guarded_copy(PEERS, two, sizeof two);
+    CHECK(!fits(context) && fits(&two[0].server.context.context));
+}
+
 /* A tick begins anew at 0: before it, at it, and behind it, and twice. */
 static void counts_moments(void) {
     oscore_clock clock = OSCORE_ZERO;
@@ -111,6 +204,7 @@ int main(void) {
     for (int before = 0; before < 2; before++) {
         guarded_before = before;
         derives(), refuses();
+        saves_nowhere(), tells_apart();
     }
     counts_moments();
     puts("all as said");

@@ -9,7 +9,7 @@
 enum { C1, C2, C3, CONTEXTS };
 /* What is handed in, each at a place of its own. */
 enum { CLIENTS, SERVERS = CLIENTS + CONTEXTS, OPTIONS = SERVERS + CONTEXTS, OPENED, HEAD, OUT, SEALED_LEN, DETAIL, PLAIN, DATAGRAM, HANDLE,
-    SECRET, SALT, ID_CONTEXT, SENDER, RECIPIENT, NAME, SIZES, SERVER, CLIENT, TICKET, INDEX, REPLY, ECHO };
+    SECRET, SALT, ID_CONTEXT, SENDER, RECIPIENT, NAME, SIZES };
 static oscore_context *clients[CONTEXTS], *servers[CONTEXTS];
 static oscore_option *options;
 static oscore_opened *opened;
@@ -205,46 +205,6 @@ static void takes_no_notification(void) {
     derives(false);
 }
 
-/* A server takes a registration, and a plain reply answers it: the other reading's bytes of one to the cancellation, 2.05 with
-   Content-Format 0 and 20.5, to a request of the number 21. A reply with Observe is refused. A client seals the registration. */
-static void serves_observe(void) {
-    static const uint8_t echo_bytes[8] = {1};
-    uint8_t wanted[64], answered[64];
-    oscore_size plain_len, len = hex("410501024a6101320915ff936409589edfdd4f42d67694bb1ccab7", wanted), answer_len;
-    oscore_size answered_len = hex("614401024a90ff084f7601a8fc2d24e35074827481bc", answered);
-    oscore_server *server = guarded(SERVER, sizeof *server);
-    oscore_client *client = guarded(CLIENT, sizeof *client);
-    oscore_ticket *ticket = guarded(TICKET, sizeof *ticket);
-    oscore_size *index = guarded_room(INDEX, sizeof *index);
-    uint8_t *reply = guarded_room(REPLY, 64), *out = guarded_room(OUT, answered_len);
-    clients[C1]->observe = servers[C1]->observe = 1;
-    oscore_server_begin(server);
-    CHECK(!oscore_server_add(server, servers[C1], false, 0, 32, index));
-    uint8_t *datagram = guarded_copy(DATAGRAM, wanted, len);
-    const uint8_t *echo = guarded_copy(ECHO, echo_bytes, 8);
-    CHECK(!oscore_server_take(server, 0, echo, 3, datagram, len, options, 4, opened, ticket, reply, out_len, detail) && *out_len == 0);
-    CHECK(opened->code == 1 && opened->number == 21 && opened->option_count == 2 && options[0].number == 6 && options[0].value_len == 1
-        && options[0].value[0] == 1 && options[1].number == 11);
-    uint8_t *noted = bytes_at(PLAIN, "604500006060ff32302e35", 0, &answer_len);
-    CHECK(oscore_server_reply(server, ticket, false, 3, noted, answer_len, out, answered_len, out_len, detail) == OSCORE_UNSUPPORTED
-        && *detail == 6);
-    uint8_t *answer = bytes_at(PLAIN, "60450000c0ff32302e35", 0, &answer_len);
-    CHECK(!oscore_server_reply(server, ticket, false, 3, answer, answer_len, out, answered_len, out_len, detail));
-    CHECK(*out_len == answered_len && !memcmp(out, answered, answered_len));
-    CHECK(!oscore_open_response(clients[C1], 21, out, answered_len, options, 4, opened, detail) && opened->code == 0x45
-        && opened->payload_len == 4 && !memcmp(opened->payload, "20.5", 4));
-    datagram = guarded_copy(DATAGRAM, wanted, hex(REGISTERED, wanted));
-    CHECK(!oscore_server_take(server, 0, echo, 3, datagram, strlen(REGISTERED) / 2, options, 4, opened, ticket, reply, out_len, detail));
-    is_registration();
-    CHECK(!oscore_client_begin(client, clients[C1], 20, 1000));
-    uint8_t *plain = bytes_at(PLAIN, REGISTRATION, 0, &plain_len);
-    out = guarded_room(OUT, OSCORE_ROOM(plain_len));
-    CHECK(!oscore_client_request(client, 0, plain, plain_len, out, OSCORE_ROOM(plain_len), out_len, detail) && client->next == 21);
-    len = hex(REGISTERED, wanted);
-    CHECK(*out_len == len && !memcmp(out, wanted, len));
-    derives(false);
-}
-
 /* Three options where the array has room for two: Uri-Path a, b and c. */
 static void counts_options(void) {
     oscore_size len;
@@ -344,15 +304,13 @@ static void refuses_messages(void) {
 }
 
 static void names_statuses(void) {
-    static const char *NAMES[] = {"Done", "BadHandle", "BadNumber", "SecretLength", "SaltLength", "IdTooLong", "SameIds", "IdContextLength",
-        "DatagramTooLong", "Short", "Version", "TokenLength", "EmptyWithRest", "TokenCut", "Nibble15", "OptionCut",
-        "NumberTooLarge", "EmptyPayload", "NoSuchContext", "LivesExhausted", "Full", "SameLookup", "StaleTicket",
-        "TicketSpent", "NotThatKind", "UnknownToken", "NoOscore", "Undecodable", "NoContext", "WrongContext", "Replay",
-        "Tag", "Inner", "Challenge", "Unsupported", "TokenInUse", "PendingFull", "SequenceExhausted", "TooLong", "NoRoom",
-        "NotPending", "SameSender", "SaveFirst", "OptionOrder", "ValueTooLong", "NotObserving", "NotNotification", "Old", "OldRecord",
-        "Unknown"};
+    static const char *NAMES[] = {"Done", "BadHandle", "BadNumber", "OldRecord", "SecretLength", "SaltLength", "IdTooLong", "SameIds", "IdContextLength",
+        "DatagramTooLong", "Short", "Version", "TokenLength", "EmptyWithRest", "TokenCut", "Nibble15", "OptionCut", "NumberTooLarge",
+        "EmptyPayload", "OptionOrder", "ValueTooLong", "StaleTicket", "SaveFirst", "LivesExhausted", "TicketSpent", "NotObserving",
+        "NotThatKind", "UnknownToken", "NoOscore", "Undecodable", "NoContext", "WrongContext", "Replay", "Old", "Tag", "Inner", "Challenge",
+        "Unsupported", "NotNotification", "TokenInUse", "PendingFull", "SequenceExhausted", "TooLong", "NoRoom", "NotPending", "Unknown"};
     char *name = guarded_room(NAME, 24);
-    for (uint32_t status = 0; status <= OSCORE_OLD_RECORD + 1; status++) {
+    for (uint32_t status = 0; status <= OSCORE_NOT_PENDING + 1; status++) {
         oscore_status_name(status, name);
         CHECK(!strcmp(name, NAMES[status]));
     }
@@ -366,8 +324,8 @@ static void has_sizes(void) {
     oscore_sizes(sizes);
     CHECK(sizes->context == sizeof(oscore_context) && sizes->option == sizeof(oscore_option));
     CHECK(sizes->opened == sizeof(oscore_opened) && sizes->request_head == sizeof(oscore_request_head));
-    CHECK(sizes->server == sizeof(oscore_server) && sizes->ticket == sizeof(oscore_ticket) && sizes->server1 == sizeof(oscore_server1)
-        && sizes->client == sizeof(oscore_client));
+    CHECK(sizes->ticket == sizeof(oscore_ticket) && sizes->pending == sizeof(oscore_pending));
+    CHECK(sizes->peer == sizeof(oscore_peer) && sizes->peer_record == sizeof(oscore_peer_record));
 }
 
 static void spoils_datagrams(void) {
@@ -517,7 +475,6 @@ int main(int count, char **words) {
         allows_blocks();
         allows_observe();
         takes_no_notification();
-        serves_observe();
         counts_options();
         shows_what_is_not_there();
         refuses_arguments();

@@ -36,17 +36,14 @@ static const uint8_t PRK[3][32] = {{0xbf, 0x4f, 0x72, 0xde, 0x4e, 0xed, 0x44, 0x
                                     0x9a, 0x37, 0x08, 0x20, 0x6e, 0xff, 0x96, 0x8b, 0x7e, 0xd6, 0xba, 0x0c, 0x10, 0xf3, 0xd6, 0x8c}};
 /* PUT /lock with the token 07, and with 08; an answer, and a notification. */
 static const uint8_t ASKS[2][28] = {"\x41\3\0\1\7\xb4lock\xffthe door is shut", "\x41\3\0\2\x08\xb4lock\xffthe door is shut"};
-static const uint8_t ANSWER[23] = "\x61\x44\0\1\7\xffthe door is shut", NOTE[24] = "\x61\x45\0\1\7\x60\xffthe door is shut",
-                     RANDOM[8] = {4, 4, 4, 4, 4, 4, 4, 4};
+static const uint8_t ANSWER[23] = "\x61\x44\0\1\7\xffthe door is shut", NOTE[24] = "\x61\x45\0\1\7\x60\xffthe door is shut";
 
 /* Who wipes the stack behind a call: nobody, the function that made it, or the one that called that. */
 static enum { NOBODY, CALLER, ITS_CALLER } wiping;
 static const uint8_t *secret;
 static bool tables;
 static oscore_context client_end, server_end;
-static oscore_client client;
-static oscore_server server;
-static oscore_ticket ticket, peer_ticket;
+static oscore_ticket ticket;
 static oscore_peer answering, asking;
 static oscore_peer_record record;
 static oscore_pending pending[2];
@@ -73,31 +70,21 @@ CALL(seal_request, &client_end, NUMBER, ASKS[0], sizeof ASKS[0] - 1, out, ROOM, 
 CALL(seal_response, &server_end, NUMBER, false, 0, ANSWER, sizeof ANSWER - 1, response, ROOM, &response_len, &detail)
 CALL(open_request, &server_end, request, request_len, options, 4, &opened, &detail)
 CALL(open_response, &client_end, NUMBER, response, response_len, options, 4, &opened, &detail)
-CALL(server_add, &server, &server_end, false, 0, 32, &at)
-CALL(server_restart, &server, 0, 5)
-CALL(server_take, &server, 0, RANDOM, 1, request, request_len, options, 4, &opened, &ticket, out, &out_len, &detail)
-CALL(server_reply, &server, &ticket, true, 1, ANSWER, sizeof ANSWER - 1, out, ROOM, &out_len, &detail)
-CALL(server_notify, &server, &ticket, NOTE, sizeof NOTE - 1, out, ROOM, &out_len, &detail)
-CALL(client_begin, &client, &client_end, NUMBER, LIFE)
-CALL(client_request, &client, 0, ASKS[1], sizeof ASKS[1] - 1, out, ROOM, &out_len, &detail)
-CALL(client_take, &client, 0, response, response_len, options, 4, &opened, &number, &detail)
-CALL(client_forget, &client, ASKS[0] + 4, 1)
-CALL(client_restart, &client, NUMBER + 1)
 CALL(peer_name, &server_end, &name)
 CALL(peer_begin_first, &answering, &server_end, 32, LIFE)
 CALL(peer_begin_again, &answering, &server_end, &record, 32, LIFE)
 CALL(peer_saved, &answering, &record)
 CALL(peer_find, &answering, 1, request, request_len, &at, &detail)
-CALL(peer_take, &answering, 0, 1, request, request_len, options, 4, &opened, &peer_ticket, out, &out_len, &record, &detail)
-CALL(peer_reply, &answering, &peer_ticket, true, 1, ANSWER, sizeof ANSWER - 1, out, ROOM, &out_len, &record, &detail)
-CALL(peer_notify, &answering, &peer_ticket, NOTE, sizeof NOTE - 1, out, ROOM, &out_len, &record, &detail)
+CALL(peer_take, &answering, 0, 1, request, request_len, options, 4, &opened, &ticket, out, &out_len, &record, &detail)
+CALL(peer_reply, &answering, &ticket, true, 1, ANSWER, sizeof ANSWER - 1, out, ROOM, &out_len, &record, &detail)
+CALL(peer_notify, &answering, &ticket, NOTE, sizeof NOTE - 1, out, ROOM, &out_len, &record, &detail)
 CALL(peer_request, &asking, pending, 2, &pending_count, 0, ASKS[1], sizeof ASKS[1] - 1, out, ROOM, &out_len, &record, &detail)
 CALL(peer_hear, &asking, pending, 2, &pending_count, 0, response, response_len, options, 4, &opened, &number, &detail)
 CALL(peer_forget, &asking, pending, 2, &pending_count, ASKS[0] + 4, 1)
 
-/* What went before a call: a server has no context yet; a request was sent, turned on its way, or taken and comes again; or the server was
-   restarted. Of a peer, SENT is before the request's number was saved, and SAVED behind that; UNSAVED is before its first record is saved. */
-typedef enum { EMPTY, SENT, TURNED, TAKEN, RESTARTED, SAVED, UNSAVED } before;
+/* What went before a call: the peer that answers has no record saved yet; a request was sent, and its number isn't saved, or is saved; it was
+   turned on its way, or taken and comes again; or that peer began behind a record that tells of no request. */
+typedef enum { UNSAVED, SENT, SAVED, TURNED, TAKEN, RESTARTED } before;
 typedef struct row {
     const char *name;
     oscore_status (*call)(void);
@@ -111,19 +98,6 @@ static const row ROWS[] = {
     {"open_request", open_request, SENT, OSCORE_DONE},
     {"open_request, bad tag", open_request, TURNED, OSCORE_TAG},
     {"open_response", open_response, SENT, OSCORE_DONE},
-    {"server_add", server_add, EMPTY, OSCORE_DONE},
-    {"server_restart", server_restart, SENT, OSCORE_DONE},
-    {"server_take", server_take, SENT, OSCORE_DONE},
-    {"server_take, bad tag", server_take, TURNED, OSCORE_TAG},
-    {"server_take, challenge", server_take, RESTARTED, OSCORE_CHALLENGE},
-    {"server_take, replay", server_take, TAKEN, OSCORE_REPLAY},
-    {"server_reply", server_reply, TAKEN, OSCORE_DONE},
-    {"server_notify", server_notify, TAKEN, OSCORE_DONE},
-    {"client_begin", client_begin, SENT, OSCORE_DONE},
-    {"client_request", client_request, SENT, OSCORE_DONE},
-    {"client_take", client_take, SENT, OSCORE_DONE},
-    {"client_forget", client_forget, SENT, OSCORE_DONE},
-    {"client_restart", client_restart, SENT, OSCORE_DONE},
     {"peer_name", peer_name, SENT, OSCORE_DONE},
     {"peer_begin_first", peer_begin_first, SENT, OSCORE_DONE},
     {"peer_begin_again", peer_begin_again, RESTARTED, OSCORE_DONE},
@@ -153,39 +127,25 @@ static void begin_peer(oscore_peer *peer, const oscore_context *context, uint64_
     if (saves) CHECK(!oscore_peer_saved(peer, &record));
 }
 
-/* Peers of both contexts. What a call of a peer stands on is as that of a server and a client. */
-static void prepare_peers(before before) {
-    uint8_t sent[ROOM];
-    memcpy(sent, request, request_len);
-    begin_peer(&asking, &client_end, NUMBER, 0, true);
-    memset(pending, 0, sizeof pending), pending_count = 0;
-    CHECK(!oscore_peer_request(&asking, pending, 2, &pending_count, 0, ASKS[0], sizeof ASKS[0] - 1, request, ROOM, &request_len, &record, &detail));
-    CHECK(!memcmp(request, sent, request_len));
-    begin_peer(&answering, &server_end, 64, before == RESTARTED ? 0 : NUMBER, before != UNSAVED);
-    if (before == SAVED || before == TAKEN) CHECK(peer_take() == OSCORE_SAVE_FIRST && !peer_saved());
-    if (before == TAKEN) CHECK(!peer_take());
-    peer_ticket.observes = before == TAKEN;
-    if (before == RESTARTED && now && now->call == peer_begin_again) record.generation = 1, record.sender = 64;
-    memcpy(request, sent, request_len);
-}
-
-/* Makes all that a call stands on, under one of the secrets. */
+/* Makes peers of both contexts, and a request and its response under NUMBER, under one of the secrets. */
 static void prepare(int which, before before) {
     uint8_t sent[ROOM];
     secret = SECRETS[which];
     CHECK(!derive());
     CHECK(!oscore_derive(&server_end, secret, 16, SALT, 8, false, NULL, 0, &ONE, 1, NULL, 0, tables, false, true));
-    oscore_server_begin(&server);
-    CHECK(!client_begin() && !seal_response() && (before == EMPTY || !server_add()));
-    CHECK(!oscore_client_request(&client, 0, ASKS[0], sizeof ASKS[0] - 1, request, ROOM, &request_len, &detail));
+    CHECK(!seal_response());
+    begin_peer(&asking, &client_end, NUMBER, 0, true);
+    memset(pending, 0, sizeof pending), pending_count = 0;
+    CHECK(!oscore_peer_request(&asking, pending, 2, &pending_count, 0, ASKS[0], sizeof ASKS[0] - 1, request, ROOM, &request_len, &record, &detail));
     memcpy(sent, request, request_len);
-    if (before == TAKEN) CHECK(!server_take());
+    begin_peer(&answering, &server_end, 64, before == RESTARTED ? 0 : NUMBER, before != UNSAVED);
+    if (before == SAVED || before == TAKEN) CHECK(peer_take() == OSCORE_SAVE_FIRST && !peer_saved());
+    if (before == TAKEN) CHECK(!peer_take());
     /* As if it had registered. */
     ticket.observes = before == TAKEN;
+    if (before == RESTARTED && now && now->call == peer_begin_again) record.generation = 1, record.sender = 64;
     memcpy(request, sent, request_len);
-    prepare_peers(before);
     if (before == TURNED) request[request_len - 1] ^= 1;
-    if (before == RESTARTED) CHECK(!server_restart());
 }
 
 /* The registers that a function may change: those for vectors, and behind these the others. */
@@ -354,14 +314,17 @@ static void check_search(void) {
     CHECK(left.in_registers == 1);
 }
 
-/* All bytes are wiped, and none beside them. A handle that was wiped is refused, or has no context. */
+/* All bytes are wiped, and none beside them. A handle that was wiped is refused. */
 static void check_handles(void) {
-    static const uint8_t zeros[sizeof server];
+    static const uint8_t zeros[sizeof answering];
     memset(kept, UNTOUCHED, AREA);
     oscore_wipe(kept + 1, sizeof zeros);
     CHECK(kept[0] == UNTOUCHED && !memcmp(kept + 1, zeros, sizeof zeros) && kept[1 + sizeof zeros] == UNTOUCHED);
-    oscore_wipe(&client_end, sizeof client_end), oscore_wipe(&client, sizeof client), oscore_wipe(&server, sizeof server);
-    CHECK(client_begin() == OSCORE_BAD_HANDLE && client_request() == OSCORE_BAD_HANDLE && server_take() == OSCORE_NO_CONTEXT);
+    oscore_wipe(&client_end, sizeof client_end), oscore_wipe(&server_end, sizeof server_end);
+    oscore_wipe(&asking, sizeof asking), oscore_wipe(&answering, sizeof answering);
+    CHECK(seal_request() == OSCORE_BAD_HANDLE && peer_name() == OSCORE_BAD_HANDLE && peer_begin_first() == OSCORE_BAD_HANDLE);
+    CHECK(peer_request() == OSCORE_BAD_HANDLE && peer_hear() == OSCORE_BAD_HANDLE && peer_take() == OSCORE_BAD_HANDLE);
+    CHECK(peer_find() == OSCORE_NO_CONTEXT);
 }
 
 /* Answers what is left where nobody wipes. */

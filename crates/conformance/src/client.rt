@@ -7,15 +7,15 @@ use crate::client_calls::make;
 use crate::client_entry::show;
 use crate::client_events::{event_of, show_left};
 use crate::ends::{Begins, End, Left, in_all_ways, in_both_ways};
-use crate::steps::{Step, Way, are_events};
+use crate::peer_alike::AskingPeer;
+use crate::server::are_of_one_life;
+use crate::steps::{Step, Way};
 use osc_context::{Context, Piv};
 use osc_endpoint::{Client, ClientEntry, ClientEvent, run_client, run_client_on};
-use osc_handle::{ClientHandle, ContextHandle};
-use osc_kept_handle::KeptClientHandle;
 use std::alloc::{AllocError, Global};
 
 /// Reads `new CONTEXT ROOM NEXT LIFE`: the context, the next number, and how long a request is pending.
-fn read_new(step: &Step<'_>) -> Option<(Context, Piv, u64)> {
+pub(crate) fn read_new(step: &Step<'_>) -> Option<(Context, Piv, u64)> {
     if step.verb != "new" {
         return None;
     }
@@ -81,54 +81,19 @@ impl<const N: usize> End for Client<N> {
     }
 }
 
-impl Begins for ClientHandle {
-    fn begin(first: &Step<'_>, _answer: &mut Answer) -> Option<ClientHandle> {
-        let (context, next, life) = read_new(first)?;
-        ClientHandle::begin(&ContextHandle::of(&context), next, life)
-    }
-}
-
-impl End for ClientHandle {
-    fn make(&mut self, steps: &[Step<'_>], way: Way, answer: &mut Answer) -> Left {
-        Ok(Some(make(self, steps, way, answer)))
-    }
-}
-
-impl Begins for KeptClientHandle {
-    /// Begins with `begin CONTEXT LOADED LIFE`.
-    fn begin(first: &Step<'_>, answer: &mut Answer) -> Option<KeptClientHandle> {
-        let fields = &first.fields;
-        fields.count(3);
-        let context = ContextHandle::of(&first.context()?);
-        answer.word("begun ;");
-        KeptClientHandle::begin(&context, fields.sequence_number(1), fields.number(2))
-    }
-}
-
-impl End for KeptClientHandle {
-    fn make(&mut self, steps: &[Step<'_>], way: Way, answer: &mut Answer) -> Left {
-        make(self, steps, way, answer);
-        answer.is_whole = answer.is_whole && self.is_whole();
-        Ok(None)
-    }
-}
-
-/// Returns whether the bytes of a client, which have room for eight pending requests, answer as a client with this room does. They do if
-/// this room is eight too, or if neither room fills up.
-fn has_room_of_bytes(room: u64, steps: &[Step<'_>]) -> bool {
-    let requests = steps.iter().filter(|step| step.verb == "request").count();
-    room == 8 || requests as u64 <= room.min(8)
-}
-
-/// Makes a row's steps over a client that has room for N pending requests.
+/// Makes a row's steps over a client that has room for N pending requests, and if all of them are events of one life, over a peer that has as
+/// much too.
 fn over_room<const N: usize>(first: &Step<'_>, steps: &[Step<'_>], answer: &mut Answer)
     requires { N ≤ 16 }
 {
     in_all_ways::<Client<N>>(first, steps, answer);
+    if are_of_one_life(steps) {
+        answer.again();
+        in_both_ways::<AskingPeer<N>>(first, steps, answer);
+    }
 }
 
-/// Makes a row's steps over a client with the room that the first step says. If all of them are events, and the bytes of a client answer
-/// as this room does, makes them over those bytes too.
+/// Makes a row's steps over a client with the room that the first step says.
 pub(crate) fn over_all(first: &Step<'_>, steps: &[Step<'_>], answer: &mut Answer) {
     match first.fields.word(1) {
         "0" => over_room::<0>(first, steps, answer),
@@ -137,10 +102,5 @@ pub(crate) fn over_all(first: &Step<'_>, steps: &[Step<'_>], answer: &mut Answer
         "8" => over_room::<8>(first, steps, answer),
         "16" => over_room::<16>(first, steps, answer),
         _ => first.fields.refuse(),
-    }
-    let room = first.fields.number(1);
-    if are_events(steps) && has_room_of_bytes(room, steps) {
-        answer.again();
-        in_both_ways::<ClientHandle>(first, steps, answer);
     }
 }

@@ -7,9 +7,7 @@ use crate::steps::Step;
 use osc_coap::Message;
 use osc_context::Piv;
 use osc_endpoint::{Client, ClientOutcome};
-use osc_handle::ClientHandle;
 use osc_kept::KeptClient;
-use osc_kept_handle::KeptClientHandle;
 
 impl<const N: usize> ClientEnd for Client<N> {
     fn request(&mut self, now: u64, plain: &Message<'_>, out: &mut [u8]) -> Made<usize> {
@@ -83,60 +81,6 @@ impl ClientEnd for KeptClient<Memory<'_>, 2> {
     fn other(&mut self, step: &Step<'_>) -> Made<&'static str> {
         match step.verb {
             "restart" => restarted(KeptClient::restart(self)),
-            _ => Err(Refusal::Bad),
-        }
-    }
-}
-
-impl ClientEnd for ClientHandle {
-    fn request(&mut self, now: u64, plain: &Message<'_>, out: &mut [u8]) -> Made<usize> {
-        let requested = ClientHandle::request(self, now, plain, out);
-        requested.ok_or(Refusal::Bad)?.map_err(Refusal::of_request)
-    }
-
-    fn take<'b>(&mut self, now: u64, bytes: &'b mut [u8]) -> Made<ClientOutcome<'b>> {
-        ClientHandle::take(self, now, bytes).ok_or(Refusal::Bad)
-    }
-
-    fn halves<'b>(&mut self, now: u64, bytes: &'b mut [u8]) -> Made<ClientOutcome<'b>> {
-        match ClientHandle::decide(self, now, bytes) {
-            Some(decision) => Ok(decision.outcome(bytes)),
-            None => Err(Refusal::Bad),
-        }
-    }
-
-    fn forget(&mut self, token: &[u8]) -> Made<bool> {
-        ClientHandle::forget(self, token).ok_or(Refusal::Bad)
-    }
-
-    fn restart(&mut self, next: Piv) -> Made<()> {
-        ClientHandle::restart(self, next).ok_or(Refusal::Bad)
-    }
-}
-
-impl ClientEnd for KeptClientHandle {
-    fn request(&mut self, now: u64, plain: &Message<'_>, out: &mut [u8]) -> Made<usize> {
-        KeptClientHandle::request(self, now, plain, out).map_err(Refusal::Request)
-    }
-
-    fn take<'b>(&mut self, now: u64, bytes: &'b mut [u8]) -> Made<ClientOutcome<'b>> {
-        KeptClientHandle::take(self, now, bytes).ok_or(Refusal::Bad)
-    }
-
-    fn halves<'b>(&mut self, now: u64, bytes: &'b mut [u8]) -> Made<ClientOutcome<'b>> {
-        match KeptClientHandle::decide(self, now, bytes) {
-            Some(decision) => Ok(decision.outcome(bytes)),
-            None => Err(Refusal::Bad),
-        }
-    }
-
-    fn forget(&mut self, token: &[u8]) -> Made<bool> {
-        KeptClientHandle::forget(self, token).ok_or(Refusal::Bad)
-    }
-
-    fn other(&mut self, step: &Step<'_>) -> Made<&'static str> {
-        match step.verb {
-            "saved" => step.saved(KeptClientHandle::saved(self, step.fields.number(0))),
             _ => Err(Refusal::Bad),
         }
     }

@@ -106,14 +106,11 @@ impl<'t> Corpus<'t> {
                 command::run(row.verb, row.fields, &mut answer);
             }
             "server"
-            | "server-bytes"
             | "client"
             | "kept-server"
             | "kept-client"
             | "kept-peer"
             | "peers-in-turn"
-            | "kept-server-bytes"
-            | "kept-client-bytes"
             | "peer-bytes" => {
                 ends::make(row.verb, row.fields, contexts, &mut answer);
             }

@@ -7,7 +7,6 @@ use crate::peer_bytes::PeerBytes;
 use crate::steps::{Step, Way, steps_of};
 use crate::{client, kept, peer, server, turns};
 use osc_kept::{KeptClient, KeptServer};
-use osc_kept_handle::{KeptClientHandle, KeptServerHandle};
 use std::alloc::AllocError;
 
 /// What the steps of a row left, if the row shows it.
@@ -65,14 +64,11 @@ pub(crate) fn make<'t>(
     };
     match verb {
         "server" => server::over_all(first, rest, &steps, answer),
-        "server-bytes" => server::over_bytes(first, rest, &steps, answer),
         "client" => client::over_all(first, rest, answer),
         "kept-server" => kept::over_all::<KeptServer<Memory<'_>>>(&steps, answer),
         "kept-client" => kept::over_all::<KeptClient<Memory<'_>, 2>>(&steps, answer),
         "kept-peer" => peer::over_both(&steps, answer),
         "peers-in-turn" => turns::make(&steps, answer),
-        "kept-server-bytes" => in_both_ways::<KeptServerHandle>(first, rest, answer),
-        "kept-client-bytes" => in_both_ways::<KeptClientHandle>(first, rest, answer),
         "peer-bytes" => in_both_ways::<PeerBytes>(first, rest, answer),
         _ => answer.is_whole = false,
     }

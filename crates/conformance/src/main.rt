@@ -23,6 +23,7 @@ mod keeper;
 mod kept;
 mod numbers;
 mod peer;
+mod peer_alike;
 mod peer_bytes;
 mod peer_record;
 mod protection;

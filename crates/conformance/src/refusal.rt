@@ -2,9 +2,8 @@
 
 use crate::answer::Answer;
 use osc_endpoint::{AddRefusal, ReplyError, RequestError, RestartError, SkipError, TooFewLeft};
-use osc_handle::ReplyRefusal;
+use osc_handle::{KeptReplyRefusal, KeptRequestRefusal};
 use osc_kept::KeptError;
-use osc_kept_handle::{KeptRefusal, KeptReplyRefusal, KeptRequestRefusal};
 use osc_peer_handle::PeerRefusal;
 
 /// Why an end doesn't make a step, whichever end it is.
@@ -15,7 +14,6 @@ pub(crate) enum Refusal {
     Skip(SkipError),
     TooFewLeft(TooFewLeft),
     Kept(KeptError),
-    Take(KeptRefusal),
     Peer(PeerRefusal),
     Reply(KeptReplyRefusal),
     Request(KeptRequestRefusal),
@@ -37,15 +35,6 @@ impl Refusal {
         Refusal::Request(KeptRequestRefusal::Refused(refusal))
     }
 
-    /// Returns the refusal of a reply by the bytes of a server.
-    pub(crate) fn of_bytes(refusal: ReplyRefusal) -> Refusal {
-        Refusal::Reply(match refusal {
-            ReplyRefusal::BadHandle => KeptReplyRefusal::BadHandle,
-            ReplyRefusal::TicketSpent => KeptReplyRefusal::TicketSpent,
-            ReplyRefusal::Refused(refusal) => KeptReplyRefusal::Refused(refusal),
-        })
-    }
-
     /// Shows the refusal. A bad step makes the row differ.
     pub(crate) fn show(self, answer: &mut Answer) {
         match self {
@@ -61,15 +50,13 @@ impl Refusal {
                 answer.word("keep-first");
                 answer.print(number);
             }
-            Refusal::Take(KeptRefusal::SaveFirst(number))
-            | Refusal::Peer(PeerRefusal::SaveFirst(number))
+            Refusal::Peer(PeerRefusal::SaveFirst(number))
             | Refusal::Reply(KeptReplyRefusal::SaveFirst(number))
             | Refusal::Request(KeptRequestRefusal::SaveFirst(number)) => {
                 answer.word("save-first");
                 answer.print(number);
             }
-            Refusal::Take(KeptRefusal::BadHandle)
-            | Refusal::Peer(PeerRefusal::BadHandle)
+            Refusal::Peer(PeerRefusal::BadHandle)
             | Refusal::Reply(KeptReplyRefusal::BadHandle)
             | Refusal::Request(KeptRequestRefusal::BadHandle)
             | Refusal::Bad => answer.is_whole = false,

@@ -4,15 +4,12 @@ ghost use Rattle.std.specs.Prelude.{◌≡◌, []};
 
 use crate::answer::Answer;
 use crate::ends::{Begins, End, Left, in_all_ways, in_both_ways};
-use crate::refusal::Refusal;
+use crate::peer_alike::{AnsweringPeer, can_answer};
 use crate::server_calls::make;
-use crate::server_end::ServerEnd;
 use crate::server_entry::show;
-use crate::server_events::{addition, event_of, show_left, without_doubt};
+use crate::server_events::{event_of, show_left};
 use crate::steps::{Step, Way, are_events};
-use osc_endpoint::{AddRefusal, Server, ServerEntry, ServerEvent, run_server, run_server_on};
-use osc_handle::{ContextHandle, ServerHandle, SingleServerHandle};
-use osc_kept_handle::KeptServerHandle;
+use osc_endpoint::{Server, ServerEntry, ServerEvent, run_server, run_server_on};
 use std::alloc::{AllocError, Global};
 
 /// Returns how many steps at the front add contexts.
@@ -81,87 +78,13 @@ impl End for Server {
     }
 }
 
-impl Begins for ServerHandle {
-    fn begin(_first: &Step<'_>, _answer: &mut Answer) -> Option<ServerHandle> {
-        Some(ServerHandle::new())
-    }
+/// Returns whether all of these are events over one life.
+pub(crate) fn are_of_one_life(steps: &[Step<'_>]) -> bool {
+    are_events(steps) && steps.iter().all(|step| step.verb != "restart")
 }
 
-impl End for ServerHandle {
-    fn make(&mut self, steps: &[Step<'_>], way: Way, answer: &mut Answer) -> Left {
-        Ok(Some(make(self, steps, way, answer)))
-    }
-}
-
-impl Begins for SingleServerHandle {
-    /// Begins with the context that the first step adds.
-    fn begin(first: &Step<'_>, answer: &mut Answer) -> Option<SingleServerHandle> {
-        let (context, start, size) = addition(first)?;
-        let start = without_doubt(start)?;
-        answer.word("added 0 ;");
-        SingleServerHandle::begin(&ContextHandle::of(&context), start, size)
-    }
-}
-
-impl End for SingleServerHandle {
-    fn make(&mut self, steps: &[Step<'_>], way: Way, answer: &mut Answer) -> Left {
-        Ok(Some(make(self, steps, way, answer)))
-    }
-}
-
-impl Begins for KeptServerHandle {
-    /// Begins with `begin CONTEXT LOADED SIZE`.
-    fn begin(first: &Step<'_>, answer: &mut Answer) -> Option<KeptServerHandle> {
-        let fields = &first.fields;
-        fields.count(3);
-        let context = ContextHandle::of(&first.context()?);
-        answer.word("begun ;");
-        KeptServerHandle::begin(&context, fields.sequence_number(1), fields.window_size(2))
-    }
-}
-
-impl End for KeptServerHandle {
-    fn make(&mut self, steps: &[Step<'_>], way: Way, answer: &mut Answer) -> Left {
-        make(self, steps, way, answer);
-        answer.is_whole = answer.is_whole && self.is_whole();
-        Ok(None)
-    }
-}
-
-/// Makes a row's steps over the bytes of a server and, if it has one context, over the bytes of a server of one context. `all` is the first
-/// step and those after it.
-pub(crate) fn over_bytes(
-    first: &Step<'_>,
-    steps: &[Step<'_>],
-    all: &[Step<'_>],
-    answer: &mut Answer,
-) {
-    in_both_ways::<ServerHandle>(first, all, answer);
-    if first.verb == "add" && are_events(steps) {
-        answer.again();
-        in_both_ways::<SingleServerHandle>(first, steps, answer);
-    }
-}
-
-/// Returns whether the bytes of a server take all the contexts. They refuse one for its Sender Key, which a `Server` doesn't (RFC 8613, 3.3),
-/// and have no room for numbers in doubt.
-fn fit_in_bytes(steps: &[Step<'_>]) -> bool {
-    let mut server = ServerHandle::new();
-    for step in steps {
-        if step.verb == "add" {
-            if let Some((context, start, size)) = addition(step) {
-                let added = ServerEnd::add(&mut server, context, start, size);
-                if let Err(Refusal::Add(AddRefusal::SameSender) | Refusal::Bad) = added {
-                    return false;
-                }
-            }
-        }
-    }
-    true
-}
-
-/// Makes a row's steps over a server. If the steps only add contexts that the bytes of a server take, and are events, makes them over these
-/// bytes too.
+/// Makes a row's steps over a server. If the first step adds a context as a peer can begin, and the others are events of one life, makes them
+/// over a peer too. `all` is the first step and those after it.
 pub(crate) fn over_all(
     first: &Step<'_>,
     steps: &[Step<'_>],
@@ -169,9 +92,8 @@ pub(crate) fn over_all(
     answer: &mut Answer,
 ) {
     in_all_ways::<Server>(first, all, answer);
-    let mut others = all.iter().filter(|step| step.verb != "add");
-    if others.all(|step| step.is_event()) && fit_in_bytes(all) {
+    if can_answer(first) && are_of_one_life(steps) {
         answer.again();
-        over_bytes(first, steps, all, answer);
+        in_both_ways::<AnsweringPeer>(first, steps, answer);
     }
 }

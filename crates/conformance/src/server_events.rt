@@ -1,8 +1,5 @@
 //! The steps of a server's row: its events, and the contexts that are added.
 
-ghost use Rattle.std.specs.Prelude.{IfSome};
-ghost use Rattle.osc_handle.specs.SlotBytes.{HasNoDoubt};
-
 use crate::answer::Answer;
 use crate::fields::Fields;
 use crate::steps::{FILLED_WITH, Step};
@@ -32,18 +29,6 @@ fn beginning(fields: &Fields<'_>) -> Start {
         Start::Fresh(next)
     } else {
         Start::Restarted(next)
-    }
-}
-
-/// Returns how a context begins, if no numbers are in doubt: the bytes of a server have no room for them.
-pub(crate) fn without_doubt(start: Start) -> Option<Start>
-    ensures { IfSome result HasNoDoubt }
-{
-    match start {
-        Start::Fresh(next) => Some(Start::Fresh(next)),
-        Start::Restarted(next) => Some(Start::Restarted(next)),
-        Start::Received { next, highest } => Some(Start::Received { next, highest }),
-        Start::Reserved { .. } => None,
     }
 }
 

@@ -1,10 +1,6 @@
 mod Moved
 mod LeftBytes
 mod Names
-mod Taking
-mod Serving
-mod Singles
-mod Read
 mod OptionLists
 mod Unwritten
 mod Growth

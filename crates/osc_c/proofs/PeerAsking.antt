@@ -1,6 +1,6 @@
 -- What a peer asks and hears, as C reads it. p are its bytes before the call, q those after it, n of the places ps hold a request before it, m of qs after it, a is the
 -- history of its client before it, old are the numbers then.
-use Rattle.std.proofs.Common.{◌≡◌, ◌∙◌, ap, sym, subst, ℕ, Bool, true, false, List}
+use Rattle.std.proofs.Common.{◌≡◌, ◌∙◌, ap, refl, sym, subst, ℕ, Bool, true, false, List}
 use Rattle.osc_coap.specs.Fault.{HasFault}
 use Rattle.osc_coap.specs.Laws.{DatagramHasNoFault, DatagramHasOneFault}
 use Rattle.osc_coap.specs.declared.format_error.Fault.{Fault}
@@ -13,13 +13,15 @@ use Rattle.osc_client.specs.ClientHistory.{Answer, Datagram, Deliver, History, N
 use Rattle.osc_client.specs.Views.{ClientShows}
 use Rattle.osc_client.specs.declared.client_outcome.ClientOutcome.{ClientOutcome}
 use Rattle.osc_client.specs.declared.client_outcome.ClientOutcome.TheVariants as outcomes
-use Rattle.osc_handle.specs.ClientBytes.{ArePending}
+use Rattle.osc_handle.specs.PendingBytes.{ArePending}
 use Rattle.osc_handle.specs.declared.pending_handle.PendingHandle.{PendingHandle}
 use Rattle.osc_kept_ends.specs.Numbering.{Own}
 use Rattle.osc_peer_handle.specs.PeerBytes.{IsPeer}
 use Rattle.osc_peer_handle.specs.declared.peer_handle.PeerHandle.{PeerHandle}
 use Rattle.osc_peer_handle.specs.declared.record_handle.RecordHandle.{RecordHandle}
-use Rattle.osc_c.specs.ClientCalls.{IsAnswerStatus, IsOutcomeStatus, heard_as, shown_as}
+use Rattle.osc_c.specs.Asking.{IsAnswerStatus, IsOutcomeStatus, ReadsTaking, heard_as, shown_as}
+use Rattle.osc_c.specs.Opened.{Shows}
+use Rattle.osc_c.specs.declared.opened_view.OpenedView.{OpenedView}
 use Rattle.osc_c.specs.PeerAskingCalls.{PeerAnswersBy, RefusesPeerAsking, StepsAmong, TakesAmong}
 use Rattle.osc_c.specs.PeerAskingCalls.RefusesPeerAsking.{bad_handle, malformed, save_first, refused}
 use Rattle.osc_c.specs.Statuses.{code, format_status}
@@ -56,6 +58,25 @@ pub peer_heard_to : (p : PeerHandle) (ps : List PendingHandle) (a : History) (q 
     → StepsAmong p ps a (Datagram now d) (Took (heard_as stays (received_of o) (number_of n))) old q m qs
 peer_heard_to p ps a q m qs now d outcome stays o n old is takes =
     subst (λ x. StepsAmong p ps a (Datagram now d) (Took x) old q m qs) (heard_is stays o n takes.answer (subst (λ x. ClientShows x takes.answer) is takes.shows)) takes.step
+
+-- that is what C reads
+pub heard_read : (stays : Bool) (o : Opened) (n : ℕ) (detail request : ℕ) → request ≡ n → ReadsTaking (Took (heard_as stays (received_of o) n)) 0 detail request stays
+heard_read true o n detail request same = (refl, same, refl)
+heard_read false o n detail request same = (refl, same, refl)
+
+-- whether it's a notification leaves the rest of what is shown
+pub shows_too : (view : OpenedView) (o : Opened) (stays : Bool) → Shows view o → Shows (record view { is_notification = stays }) o
+shows_too view o stays s =
+    record {
+      kind = s.kind;
+      message_id = s.message_id;
+      token = s.token;
+      code = s.code;
+      payload = s.payload;
+      number = s.number;
+      uri_host = s.uri_host;
+      uri_port = s.uri_port;
+    }
 
 -- a plain message that is none
 pub peer_request_faulty : DatagramHasOneFault → DatagramHasNoFault → (p : PeerHandle) (n : ℕ) (ps : List PendingHandle) (kept : RecordHandle) (now : ℕ) (plain : List ℕ) (room : ℕ) (q : PeerHandle) (m : ℕ) (qs : List PendingHandle)

@@ -1,6 +1,6 @@
 -- What C reads of a peer is what the one answer to an event says. p are its bytes before the call, q those after it, h is the history of its server before it, a of its
 -- client, g and b are those once they passed over the numbers of the other role, o are the numbers before it.
-use Rattle.std.proofs.Common.{◌≡◌, ◌≢◌, ◌∙◌, ◌+◌, ap, arith, inl, inr, sym, subst, ℕ, Bool, List, Option, Some, None, length}
+use Rattle.std.proofs.Common.{◌≡◌, ◌≢◌, ◌∙◌, ◌+◌, ap, arith, inl, inr, refl, sym, subst, ℕ, Bool, List, Option, Some, None, length}
 use Rattle.std.specs.Option.{option_map}
 use Rattle.std.proofs.lemmas.Option.{none-some, same_Some}
 use Rattle.osc_coap.specs.Datagram.{Parts, IsDatagram}
@@ -13,7 +13,7 @@ use Rattle.osc_endpoint.specs.ServerAnswer.{ServerAnswer}
 use Rattle.osc_life.specs.Life.{Life, PassedOver, marked, next_own}
 use Rattle.osc_life.specs.LifeAnswer.{asks_own}
 use Rattle.osc_life.specs.ServerHistory as server
-use Rattle.osc_handle.specs.ClientBytes.{ArePending}
+use Rattle.osc_handle.specs.PendingBytes.{ArePending}
 use Rattle.osc_handle.specs.ServerBytes.{IsSpent}
 use Rattle.osc_handle.specs.TicketBytes.{IsTicket, ticket_in}
 use Rattle.osc_handle.specs.declared.pending_handle.PendingHandle.{PendingHandle}
@@ -24,8 +24,7 @@ use Rattle.osc_kept_ends.specs.Peering.{ClientPasses, ServerPasses}
 use Rattle.osc_peer_handle.specs.PeerBytes.{CatchesUp, CatchesUpAsking, IsTicketOf, ServesBehind, StepsAnswering, inside_of, next_in}
 use Rattle.osc_peer_handle.specs.declared.peer_handle.PeerHandle.{PeerHandle}
 use Rattle.osc_peer_handle.specs.declared.record_handle.RecordHandle.{RecordHandle}
-use Rattle.osc_c.proofs.Read.{carried, status_read, status_taken}
-use Rattle.osc_c.specs.ClientCalls as asks
+use Rattle.osc_c.specs.Asking as asks
 use Rattle.osc_c.specs.PeerAskingCalls.{AsksAmong, RefusesPeerAsking, RefusesPeerHearing, StepsAmong}
 use Rattle.osc_c.specs.PeerAskingCalls.RefusesPeerAsking.{bad_handle as ask_handle, malformed as ask_malformed, save_first as ask_first, refused as ask_refused}
 use Rattle.osc_c.specs.PeerAskingCalls.RefusesPeerHearing.{bad_handle as hear_handle, refused as hear_refused}
@@ -33,7 +32,7 @@ use Rattle.osc_c.specs.PeerCalls.{AsksToSave, RefusesPeerNotifying, RefusesPeerR
 use Rattle.osc_c.specs.PeerCalls.RefusesPeerNotifying.{bad_handle as notify_handle, malformed as notify_malformed, save_first as notify_first, refused as notify_refused}
 use Rattle.osc_c.specs.PeerCalls.RefusesPeerReplying.{bad_handle as reply_handle, malformed as reply_malformed, save_first as reply_first, spent as reply_spent, refused as reply_refused}
 use Rattle.osc_c.specs.PeerCalls.RefusesPeerServing.{bad_handle as serve_handle, save_first as serve_first, keep_first as serve_keep, refused as serve_refused}
-use Rattle.osc_c.specs.ServerCalls as serves
+use Rattle.osc_c.specs.Answering as serves
 use Rattle.osc_c.specs.Statuses.{code}
 use Rattle.osc_c.specs.declared.status.Status.{Status}
 use Rattle.osc_c.specs.declared.status.Status.TheVariants.{LivesExhausted, SaveFirst}
@@ -68,7 +67,7 @@ pub answered_once : OneServerAnswer → (P : server.Entry → Type 0) (p q : Pee
     → StepsAnswering p h event mine o q → ServerAnswer g event other → P mine → P other
 answered_once one P p q h g o event mine other w catches step y holds =
     let same : step.g ≡ g = passes_once h step.g g (upcoming o) step.passes catches.0 step.reaches catches.1 in
-    carried one P g event mine other (subst AllAnswers (sym catches.0.is) (w.serves.answers, catches.0.row)) (subst (λ k. ServerAnswer k event mine) same step.row) y holds
+    subst P (one g event mine other (subst AllAnswers (sym catches.0.is) (w.serves.answers, catches.0.row)) (subst (λ k. ServerAnswer k event mine) same step.row) y) holds
 
 pub heard_once : OneClientAnswer → (P : client.Entry → Type 0) (p q : PeerHandle) (n m : ℕ) (ps qs : List PendingHandle) (a b : client.History) (o : Own) (event : client.Event) (mine other : client.Entry) → AsksAmong p n ps o a
     → CatchesUpAsking (length ps) a b o → StepsAmong p ps a event mine o q m qs → ClientAnswer (length ps) b event other → P mine → P other
@@ -82,6 +81,34 @@ none_to_save p sender received kept status result (inl asks) says none never = n
 none_to_save p sender received kept status result (inr asks) says none never = never (says ∙ ap code asks.0)
 
 -- ---- what C reads of a refusal
+
+-- the number of the status that an answer has is read of it
+status_read : (answer : server.Answer) (status : Status) (result detail : ℕ) (ticket : server.TicketValues) (reply : List ℕ) → serves.IsAnswerStatus answer status detail → result ≡ code status
+    → serves.ReadsServing (server.Took answer reply) result detail ticket reply
+status_read (server.Malformed fault place) status result detail ticket reply is says = (status, says, is, refl)
+status_read server.NotRequest status result detail ticket reply is says = (status, says, is, refl)
+status_read server.Plain status result detail ticket reply is says = (status, says, is, refl)
+status_read server.Undecodable status result detail ticket reply is says = (status, says, is, refl)
+status_read server.NoContext status result detail ticket reply is says = (status, says, is, refl)
+status_read server.Replay status result detail ticket reply is says = (status, says, is, refl)
+status_read server.BadTag status result detail ticket reply is says = (status, says, is, refl)
+status_read (server.BadInner i n) status result detail ticket reply is says = (status, says, is, refl)
+status_read (server.Challenge i n echo issued) status result detail ticket reply is says = (status, says, is, refl)
+status_read server.SequenceExhausted status result detail ticket reply is says = (status, says, is, refl)
+status_read (server.Deliver received t) status result detail ticket reply is says = absurd is
+
+-- the number of the status that a client's answer has is read of it
+status_taken : (answer : client.Answer) (status : Status) (result detail request : ℕ) (stays : Bool) → asks.IsAnswerStatus answer status detail → result ≡ code status → asks.ReadsTaking (client.Took answer) result detail request stays
+status_taken (client.Malformed fault place) status result detail request stays is says = (status, says, is)
+status_taken client.NotResponse status result detail request stays is says = (status, says, is)
+status_taken client.UnknownToken status result detail request stays is says = (status, says, is)
+status_taken client.Unprotected status result detail request stays is says = (status, says, is)
+status_taken client.Undecodable status result detail request stays is says = (status, says, is)
+status_taken client.Old status result detail request stays is says = (status, says, is)
+status_taken client.BadTag status result detail request stays is says = (status, says, is)
+status_taken client.BadInner status result detail request stays is says = (status, says, is)
+status_taken (client.Notified received n) status result detail request stays is says = absurd is
+status_taken (client.Deliver received n) status result detail request stays is says = absurd is
 
 pub peer_serving_read : OneServerAnswer → (p q : PeerHandle) (kept : RecordHandle) (now mid : ℕ) (d reply : List ℕ) (status : Status) (result detail : ℕ) (ticket : server.TicketValues) → RefusesPeerServing p q kept now mid d reply status detail
     → result ≡ code status → (h g : server.History) (o : Own) (entry : server.Entry) → ServesBehind p o h → CatchesUp h g o → result ≢ code SaveFirst → result ≢ code LivesExhausted

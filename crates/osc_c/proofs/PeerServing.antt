@@ -30,17 +30,31 @@ use Rattle.osc_peer_handle.specs.PeerBytes.{IsPeer, ServesBehind, StepsAnswering
 use Rattle.osc_peer_handle.specs.declared.peer_handle.PeerHandle.{PeerHandle}
 use Rattle.osc_peer_handle.specs.declared.record_handle.RecordHandle.{RecordHandle}
 use Rattle.osc_c.proofs.Moved.{same_error}
-use Rattle.osc_c.proofs.Serving.{says_too}
 use Rattle.osc_c.specs.PeerCalls.{PeerTakesBy, RefusesPeerNotifying, RefusesPeerReplying}
 use Rattle.osc_c.specs.PeerCalls.RefusesPeerNotifying.{bad_handle as notify_handle, malformed as notify_malformed, save_first as notify_first, refused as notify_refused}
 use Rattle.osc_c.specs.PeerCalls.RefusesPeerReplying.{bad_handle as reply_handle, malformed as reply_malformed, save_first as reply_first, spent as reply_spent, refused as reply_refused}
-use Rattle.osc_c.specs.ServerCalls.{IsOutcomeStatus}
+use Rattle.osc_c.specs.Answering.{IsAnswerStatus, IsOutcomeStatus}
 use Rattle.osc_c.specs.Statuses.{code, format_status}
 use Rattle.osc_c.specs.declared.status.Status.{Status}
 
 -- the Echo value of a peer's challenge, and the message ID
 abbrev pub fresh_of : PeerHandle → ℕ → Fresh
 fresh_of p mid = record { echo = echo_of (next_in p); mid = mid }
+
+-- the answer that an outcome shows has its status
+says_too : (outcome : Outcome) (answer : server.Answer) (status : Status) (detail : ℕ) → Shows outcome answer → IsOutcomeStatus outcome status detail → IsAnswerStatus answer status detail
+says_too (outcomes.Malformed e) (server.Malformed fault place) status detail shows says = (says.0 ∙ ap format_status shows.0, says.1 ∙ shows.1)
+says_too outcomes.NotRequest server.NotRequest status detail shows says = says
+says_too outcomes.Plain server.Plain status detail shows says = says
+says_too outcomes.Undecodable server.Undecodable status detail shows says = says
+says_too outcomes.NoContext server.NoContext status detail shows says = says
+says_too outcomes.Replay server.Replay status detail shows says = says
+says_too outcomes.BadTag server.BadTag status detail shows says = says
+says_too outcomes.BadInner (server.BadInner i n) status detail shows says = says
+says_too (outcomes.Challenge echo issued) (server.Challenge i n given moment) status detail shows says = says
+says_too outcomes.SequenceExhausted server.SequenceExhausted status detail shows says = says
+says_too (outcomes.Deliver o t) (server.Deliver received ticket) status detail shows says = absurd says
+says_too outcome answer status detail shows says = absurd shows
 
 pub peer_takes_by : (p : PeerHandle) (h : server.History) (q : PeerHandle) (now mid : ℕ) (d reply : List ℕ) (outcome : Outcome) (status : Status) (detail : ℕ) (old : Own)
     → TakesAnswering p h now (fresh_of p mid) d outcome reply old q → IsOutcomeStatus outcome status detail → PeerTakesBy p h q now mid d reply old status detail

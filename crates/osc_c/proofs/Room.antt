@@ -1,6 +1,6 @@
--- So much room is enough: a sealing isn't refused for want of it. s are the bytes of a server before a call, c those of a
--- client or of a context, t those of a ticket, new are the bytes afterwards, plain is the datagram of a plain message, room the length of the buffer.
-use Rattle.std.proofs.Common.{◌≡◌, ℕ, ◌+◌, ◌≤◌, Bool, true, false, List, Option, zero, suc, length, ap, sym, subst, arith, length-take}
+-- So much room is enough: a sealing isn't refused for want of it. c are the bytes of a context, p those of a peer before a call, new those afterwards, t those of a
+-- ticket, plain is the datagram of a plain message, room the length of the buffer.
+use Rattle.std.proofs.Common.{◌≡◌, ◌∙◌, ℕ, ◌+◌, ◌≤◌, Bool, true, false, List, Option, zero, suc, inl, inr, length, ap, refl, sym, subst, arith, length-take}
 use Rattle.osc_coap.specs.Datagram.{Parts, IsDatagram}
 use Rattle.osc_coap.specs.Laws.{DatagramHasItsLength, OptionsAscend}
 use Rattle.osc_coap.specs.Search.{has_number}
@@ -20,28 +20,34 @@ use Rattle.osc_protect.specs.declared.protect_error.ProtectError.TheVariants as 
 use Rattle.osc_protect.proofs.Supported.{sealing_supported}
 use Rattle.osc_life.proofs.SealedReplies.{replied_features}
 use Rattle.osc_client.specs.ClientHistory as client
-use Rattle.osc_life.specs.Replies.{reply_id, reply_kind}
-use Rattle.osc_life.specs.LifeAnswer.{as_notification}
-use Rattle.osc_life.specs.ServerHistory as server
+use Rattle.osc_client.specs.declared.client_outcome.RequestError.{RequestError}
 use Rattle.osc_client.specs.declared.client_outcome.RequestError.TheVariants as asks
+use Rattle.osc_life.specs.Replies.{reply_id, reply_kind}
+use Rattle.osc_life.specs.LifeAnswer.{as_notification, asks_own}
+use Rattle.osc_life.specs.ServerHistory as server
+use Rattle.osc_life.specs.declared.server_error.ReplyError.{ReplyError}
 use Rattle.osc_life.specs.declared.server_error.ReplyError.TheVariants as replies
-use Rattle.osc_handle.specs.ClientBytes.{Asks}
 use Rattle.osc_context_handle.specs.ContextBytes.{IsContext, client_in, id_context_in}
-use Rattle.osc_handle.specs.ServerBytes.{Serves}
-use Rattle.osc_handle.specs.TicketBytes.{ticket_in}
-use Rattle.osc_handle.specs.declared.client_handle.ClientHandle.{ClientHandle}
 use Rattle.osc_context_handle.specs.declared.context_handle.ContextHandle.{ContextHandle}
-use Rattle.osc_handle.specs.declared.server_handle.ServerHandle.{ServerHandle}
+use Rattle.osc_handle.specs.TicketBytes.{IsTicket, ticket_in}
+use Rattle.osc_handle.specs.declared.pending_handle.PendingHandle.{PendingHandle}
 use Rattle.osc_handle.specs.declared.ticket_handle.TicketHandle.{TicketHandle}
+use Rattle.osc_kept_ends.specs.Numbering.{Own}
+use Rattle.osc_peer_handle.specs.PeerBytes.{IsPeer, IsTicketOf, ServesBehind, StepsAnswering, inside_of}
+use Rattle.osc_peer_handle.specs.declared.peer_handle.PeerHandle.{PeerHandle}
+use Rattle.osc_peer_handle.specs.declared.record_handle.RecordHandle.{RecordHandle}
+use Rattle.osc_c.specs.Answering.{IsReplyStatus}
+use Rattle.osc_c.specs.Asking.{IsAskingStatus}
 use Rattle.osc_c.specs.Calls.{HasRoomFor, RefusesSealing}
 use Rattle.osc_c.specs.Calls.RefusesSealing.{bad_handle, bad_number, malformed, refused}
-use Rattle.osc_c.specs.ClientCalls.{RefusesAsking}
-use Rattle.osc_c.specs.ClientCalls.RefusesAsking.{bad_handle as ask_handle, malformed as ask_malformed, refused as ask_refused}
-use Rattle.osc_c.specs.ServerCalls.{RefusesNotifying, RefusesReplying}
-use Rattle.osc_c.specs.ServerCalls.RefusesNotifying.{bad_handle as notify_handle, malformed as notify_malformed, refused as notify_refused}
-use Rattle.osc_c.specs.ServerCalls.RefusesReplying.{bad_handle as reply_handle, malformed as reply_malformed, spent as reply_spent, refused as reply_refused}
+use Rattle.osc_c.specs.PeerAskingCalls.{AsksAmong, RefusesPeerAsking, StepsAmong}
+use Rattle.osc_c.specs.PeerAskingCalls.RefusesPeerAsking.{bad_handle as ask_handle, malformed as ask_malformed, save_first as ask_first, refused as ask_refused}
+use Rattle.osc_c.specs.PeerCalls.{AsksToSave, RefusesPeerNotifying, RefusesPeerReplying}
+use Rattle.osc_c.specs.PeerCalls.RefusesPeerNotifying.{bad_handle as notify_handle, malformed as notify_malformed, save_first as notify_first, refused as notify_refused}
+use Rattle.osc_c.specs.PeerCalls.RefusesPeerReplying.{bad_handle as reply_handle, malformed as reply_malformed, save_first as reply_first, spent as reply_spent, refused as reply_refused}
 use Rattle.osc_c.specs.Statuses.{code, format_status}
 use Rattle.osc_c.specs.declared.status.Status.{Status}
+use Rattle.osc_c.specs.declared.status.Status.TheVariants.{StaleTicket}
 use Rattle.osc_c.proofs.Growth.{most_room, sealed_growth, short_as_it_is, short_as_notified}
 
 -- ---- how long values are
@@ -101,7 +107,7 @@ notification_room long ascend most s asked own p token plain room of few enough 
 -- ---- in C
 
 -- no fault of a datagram has the number of a want of room
-fault_code : (fault : Fault) → code (format_status fault) ≤ 17
+fault_code : (fault : Fault) → code (format_status fault) ≤ 18
 fault_code faults.DatagramTooLong = omega arith
 fault_code faults.Short = omega arith
 fault_code faults.Version = omega arith
@@ -115,7 +121,7 @@ fault_code faults.EmptyPayload = omega arith
 
 -- a single message isn't refused so where its protection isn't
 sealing_room : {I : Type 0} (A B : Type 0) (f : Protection I) (i : I) (plain : List ℕ) (room : ℕ) (status : Status) (detail : ℕ) → (A → (p : Parts) → IsDatagram p plain → RefusesToSeal f i p room seals.NoRoom → ⊥)
-    → RefusesSealing A B f i plain room status detail → code status ≡ 39 → ⊥
+    → RefusesSealing A B f i plain room status detail → code status ≡ 43 → ⊥
 sealing_room A B f i plain room status detail enough (bad_handle bad is at) says = let number = ap code is in omega (arith, number, says)
 sealing_room A B f i plain room status detail enough (bad_number a bad is at) says = let number = ap code is in omega (arith, number, says)
 sealing_room A B f i plain room status detail enough (malformed a b fault place has is at) says = let number = ap code is in let small = fault_code fault in omega (arith, number, small, says)
@@ -126,66 +132,94 @@ sealing_room A B f i plain room status detail enough (refused a b p of seals.NoR
 
 -- a request of a context has enough
 pub request_has_room : DatagramHasItsLength → OptionsAscend → ValueMostLen → (B : Type 0) (c : ContextHandle) (n : ℕ) (plain : List ℕ) (room : ℕ) (status : Status) (detail : ℕ)
-    → RefusesSealing (IsContext c) B (requests (client_in c)) n plain room status detail → HasRoomFor (client_in c).features.observe plain room → code status ≡ 39 → ⊥
+    → RefusesSealing (IsContext c) B (requests (client_in c)) n plain room status detail → HasRoomFor (client_in c).features.observe plain room → code status ≡ 43 → ⊥
 request_has_room long ascend most B c n plain room status detail refuses enough =
     sealing_room (IsContext c) B (requests (client_in c)) n plain room status detail (λ whole p of. request_room long ascend most c n p plain room whole of enough) refuses
 
 -- a response too
 pub response_has_room : DatagramHasItsLength → OptionsAscend → ValueMostLen → (A B : Type 0) (s : SecurityContext) (asked : ℕ) (own : Option ℕ) (plain : List ℕ) (room : ℕ) (status : Status) (detail : ℕ)
-    → RefusesSealing A B (responses s asked) own plain room status detail → length plain + 59 ≤ room → code status ≡ 39 → ⊥
+    → RefusesSealing A B (responses s asked) own plain room status detail → length plain + 59 ≤ room → code status ≡ 43 → ⊥
 response_has_room long ascend most A B s asked own plain room status detail refuses enough =
     sealing_room A B (responses s asked) own plain room status detail (λ a p of. response_room long ascend most s asked own p p.kind p.message_id p.token plain room of of.token enough) refuses
 
--- a reply of a server
-pub reply_has_room : DatagramHasItsLength → OptionsAscend → ValueMostLen → (s new : ServerHandle) (t : TicketHandle) (own : Bool) (mid : ℕ) (plain : List ℕ) (room : ℕ) (status : Status) (detail : ℕ)
-    → RefusesReplying s new t own mid plain room status detail → (h : server.History) → Serves s h → length plain + 59 ≤ room → code status ≡ 39 → ⊥
-reply_has_room long ascend most s new t own mid plain room status detail (reply_handle bad is at) h held enough says = let number = ap code is in omega (arith, number, says)
-reply_has_room long ascend most s new t own mid plain room status detail (reply_malformed a b fault place has is at) h held enough says = let number = ap code is in let small = fault_code fault in omega (arith, number, small, says)
-reply_has_room long ascend most s new t own mid plain room status detail (reply_spent a b p of spent is at) h held enough says = let number = ap code is in omega (arith, number, says)
-reply_has_room long ascend most s new t own mid plain room status detail (reply_refused a b p of replies.StaleTicket is holds) h held enough says = let number = ap code is.0 in omega (arith, number, says)
-reply_has_room long ascend most s new t own mid plain room status detail (reply_refused a b p of replies.NotObserving is holds) h held enough says = let number = ap code is.0 in omega (arith, number, says)
-reply_has_room long ascend most s new t own mid plain room status detail (reply_refused a b p of replies.NotNotification is holds) h held enough says = let number = ap code is.0 in omega (arith, number, says)
-reply_has_room long ascend most s new t own mid plain room status detail (reply_refused a b p of replies.NotThatKind is holds) h held enough says = let number = ap code is.0 in omega (arith, number, says)
-reply_has_room long ascend most s new t own mid plain room status detail (reply_refused a b p of (replies.Unsupported k) is holds) h held enough says = let number = ap code is.0 in omega (arith, number, says)
-reply_has_room long ascend most s new t own mid plain room status detail (reply_refused a b p of replies.SequenceExhausted is holds) h held enough says = let number = ap code is.0 in omega (arith, number, says)
-reply_has_room long ascend most s new t own mid plain room status detail (reply_refused a b p of replies.TooLong is holds) h held enough says = let number = ap code is.0 in omega (arith, number, says)
-reply_has_room long ascend most s new t own mid plain room status detail (reply_refused a b p of replies.KeeperFailed is holds) h held enough says = absurd is
-reply_has_room long ascend most s new t own mid plain room status detail (reply_refused a b p of replies.NoRoom is holds) h held enough says =
-    let row = (holds h held).0 in
-    let few = b.token in
-    response_room long ascend most row.0.context t.number _ p (reply_kind (ticket_in t).kind) (reply_id (ticket_in t).kind (ticket_in t).message_id mid) (ticket_in t).token plain room of (omega (arith, few, length-take t.token_len t.token)) enough row.2.1
+-- no refusal to reply or to notify but one has the number of a want of room
+reply_code : (e : ReplyError) (status : Status) (detail : ℕ) → IsReplyStatus e status detail → code status ≡ 43 → e ≡ replies.NoRoom
+reply_code replies.NoRoom status detail is says = refl
+reply_code replies.StaleTicket status detail is says = let number = ap code is.0 in absurd (omega (arith, number, says))
+reply_code replies.NotObserving status detail is says = let number = ap code is.0 in absurd (omega (arith, number, says))
+reply_code replies.NotNotification status detail is says = let number = ap code is.0 in absurd (omega (arith, number, says))
+reply_code replies.NotThatKind status detail is says = let number = ap code is.0 in absurd (omega (arith, number, says))
+reply_code (replies.Unsupported k) status detail is says = let number = ap code is.0 in absurd (omega (arith, number, says))
+reply_code replies.SequenceExhausted status detail is says = let number = ap code is.0 in absurd (omega (arith, number, says))
+reply_code replies.TooLong status detail is says = let number = ap code is.0 in absurd (omega (arith, number, says))
+reply_code replies.KeeperFailed status detail is says = absurd is
 
--- a notification of a server
-pub notify_has_room : DatagramHasItsLength → OptionsAscend → ValueMostLen → (s new : ServerHandle) (t : TicketHandle) (plain : List ℕ) (room : ℕ) (status : Status) (detail : ℕ)
-    → RefusesNotifying s new t plain room status detail → (h : server.History) → Serves s h → HasRoomFor true plain room → code status ≡ 39 → ⊥
-notify_has_room long ascend most s new t plain room status detail (notify_handle bad is at) h held enough says = let number = ap code is in omega (arith, number, says)
-notify_has_room long ascend most s new t plain room status detail (notify_malformed a b fault place has is at) h held enough says = let number = ap code is in let small = fault_code fault in omega (arith, number, small, says)
-notify_has_room long ascend most s new t plain room status detail (notify_refused a b p of replies.StaleTicket is holds) h held enough says = let number = ap code is.0 in omega (arith, number, says)
-notify_has_room long ascend most s new t plain room status detail (notify_refused a b p of replies.NotObserving is holds) h held enough says = let number = ap code is.0 in omega (arith, number, says)
-notify_has_room long ascend most s new t plain room status detail (notify_refused a b p of replies.NotThatKind is holds) h held enough says = let number = ap code is.0 in omega (arith, number, says)
-notify_has_room long ascend most s new t plain room status detail (notify_refused a b p of (replies.Unsupported k) is holds) h held enough says = let number = ap code is.0 in omega (arith, number, says)
-notify_has_room long ascend most s new t plain room status detail (notify_refused a b p of replies.NotNotification is holds) h held enough says = let number = ap code is.0 in omega (arith, number, says)
-notify_has_room long ascend most s new t plain room status detail (notify_refused a b p of replies.SequenceExhausted is holds) h held enough says = let number = ap code is.0 in omega (arith, number, says)
-notify_has_room long ascend most s new t plain room status detail (notify_refused a b p of replies.TooLong is holds) h held enough says = let number = ap code is.0 in omega (arith, number, says)
-notify_has_room long ascend most s new t plain room status detail (notify_refused a b p of replies.KeeperFailed is holds) h held enough says = absurd is
-notify_has_room long ascend most s new t plain room status detail (notify_refused a b p of replies.NoRoom is holds) h held enough says =
-    let row = (holds h held).0 in
-    let few = b.token in
-    notification_room long ascend most row.1.0.context t.number _ p (ticket_in t).token plain room of (omega (arith, few, length-take t.token_len t.token)) enough row.1.2.2
+-- nor a refusal to ask
+request_code : (e : RequestError) (status : Status) (detail : ℕ) → IsAskingStatus e status detail → code status ≡ 43 → e ≡ asks.NoRoom
+request_code asks.NoRoom status detail is says = refl
+request_code asks.NotThatKind status detail is says = let number = ap code is.0 in absurd (omega (arith, number, says))
+request_code (asks.Unsupported k) status detail is says = let number = ap code is.0 in absurd (omega (arith, number, says))
+request_code asks.TokenInUse status detail is says = let number = ap code is.0 in absurd (omega (arith, number, says))
+request_code asks.PendingFull status detail is says = let number = ap code is.0 in absurd (omega (arith, number, says))
+request_code asks.SequenceExhausted status detail is says = let number = ap code is.0 in absurd (omega (arith, number, says))
+request_code asks.TooLong status detail is says = let number = ap code is.0 in absurd (omega (arith, number, says))
+request_code asks.KeeperFailed status detail is says = absurd is
 
--- a request of a client
-pub asking_has_room : DatagramHasItsLength → OptionsAscend → ValueMostLen → (c new : ClientHandle) (now : ℕ) (plain : List ℕ) (room : ℕ) (status : Status) (detail : ℕ)
-    → RefusesAsking c new now plain room status detail → (h : client.History) → Asks c h → HasRoomFor (client_in c.context).features.observe plain room → code status ≡ 39 → ⊥
-asking_has_room long ascend most c new now plain room status detail (ask_handle bad same is at) h held enough says = let number = ap code is in omega (arith, number, says)
-asking_has_room long ascend most c new now plain room status detail (ask_malformed a same fault place has is at) h held enough says = let number = ap code is in let small = fault_code fault in omega (arith, number, small, says)
-asking_has_room long ascend most c new now plain room status detail (ask_refused a p of asks.NotThatKind is holds) h held enough says = let number = ap code is.0 in omega (arith, number, says)
-asking_has_room long ascend most c new now plain room status detail (ask_refused a p of (asks.Unsupported k) is holds) h held enough says = let number = ap code is.0 in omega (arith, number, says)
-asking_has_room long ascend most c new now plain room status detail (ask_refused a p of asks.TokenInUse is holds) h held enough says = let number = ap code is.0 in omega (arith, number, says)
-asking_has_room long ascend most c new now plain room status detail (ask_refused a p of asks.PendingFull is holds) h held enough says = let number = ap code is.0 in omega (arith, number, says)
-asking_has_room long ascend most c new now plain room status detail (ask_refused a p of asks.SequenceExhausted is holds) h held enough says = let number = ap code is.0 in omega (arith, number, says)
-asking_has_room long ascend most c new now plain room status detail (ask_refused a p of asks.TooLong is holds) h held enough says = let number = ap code is.0 in omega (arith, number, says)
-asking_has_room long ascend most c new now plain room status detail (ask_refused a p of asks.KeeperFailed is holds) h held enough says = absurd is
-asking_has_room long ascend most c new now plain room status detail (ask_refused a p of asks.NoRoom is holds) h held enough says =
-    let row = (holds h held).0 in
-    request_room long ascend most c.context (client.next h) p plain room a.context of enough
-    (subst (λ (s : SecurityContext). RefusesToSeal (requests s) (client.next h) p room seals.NoRoom) (sym held.context_is) row.1)
+-- nor does a record that has to be saved first
+save_code : (p : PeerHandle) (sender received : ℕ) (kept : RecordHandle) (status : Status) → AsksToSave p sender received kept status → code status ≡ 43 → ⊥
+save_code p sender received kept status (inl wants) says = let number = ap code wants.0 in omega (arith, number, says)
+save_code p sender received kept status (inr wants) says = let number = ap code wants.0 in omega (arith, number, says)
+
+-- ---- a peer has enough
+
+-- for a reply; a ticket that isn't the peer's is stale
+pub peer_reply_has_room : DatagramHasItsLength → OptionsAscend → ValueMostLen → (p : PeerHandle) (kept : RecordHandle) (t : TicketHandle) (own : Bool) (mid : ℕ) (plain : List ℕ) (room : ℕ) (new : PeerHandle) (status : Status) (detail : ℕ)
+    → RefusesPeerReplying p kept t own mid plain room new status detail → ((q : Parts) → IsDatagram q plain → IsPeer p → IsTicket t → (IsTicketOf p t → ⊥) → status ≡ StaleTicket)
+    → (h : server.History) (o : Own) → ServesBehind p o h → length plain + 59 ≤ room → code status ≡ 43 → ⊥
+peer_reply_has_room long ascend most p kept t own mid plain room new status detail (reply_handle bad is at) foreign h o w enough says = let number = ap code is in omega (arith, number, says)
+peer_reply_has_room long ascend most p kept t own mid plain room new status detail (reply_malformed a b fault place has is at) foreign h o w enough says = let number = ap code is in let small = fault_code fault in omega (arith, number, small, says)
+peer_reply_has_room long ascend most p kept t own mid plain room new status detail (reply_first a b q of wants at has) foreign h o w enough says = save_code p _ _ kept status wants says
+peer_reply_has_room long ascend most p kept t own mid plain room new status detail (reply_spent a b q of spent is at) foreign h o w enough says = let number = ap code is in omega (arith, number, says)
+peer_reply_has_room long ascend most p kept t own mid plain room new status detail (reply_refused a b q of e is holds) foreign h o w enough says =
+    let number = ap code (foreign q of a b stays) in omega (arith, number, says)
+  where
+    stays : IsTicketOf p t → ⊥
+    stays named =
+        let v = ticket_in (inside_of p t) in
+        let step = subst (λ (x : ReplyError). StepsAnswering p h (server.Reply v (asks_own v own) mid q room) (server.NotReplied x) o new) (reply_code e status detail is says) (holds named h o w) in
+        let row = step.row in
+        let few = b.token in
+        response_room long ascend most row.0.context t.number _ q (reply_kind v.kind) (reply_id v.kind v.message_id mid) v.token plain room of (omega (arith, few, length-take t.token_len t.token)) enough row.2.1
+
+-- for a notification
+pub peer_notify_has_room : DatagramHasItsLength → OptionsAscend → ValueMostLen → (p : PeerHandle) (kept : RecordHandle) (t : TicketHandle) (plain : List ℕ) (room : ℕ) (new : PeerHandle) (status : Status) (detail : ℕ)
+    → RefusesPeerNotifying p kept t plain room new status detail → ((q : Parts) → IsDatagram q plain → IsPeer p → IsTicket t → (IsTicketOf p t → ⊥) → status ≡ StaleTicket)
+    → (h : server.History) (o : Own) → ServesBehind p o h → HasRoomFor true plain room → code status ≡ 43 → ⊥
+peer_notify_has_room long ascend most p kept t plain room new status detail (notify_handle bad is at) foreign h o w enough says = let number = ap code is in omega (arith, number, says)
+peer_notify_has_room long ascend most p kept t plain room new status detail (notify_malformed a b fault place has is at) foreign h o w enough says = let number = ap code is in let small = fault_code fault in omega (arith, number, small, says)
+peer_notify_has_room long ascend most p kept t plain room new status detail (notify_first a b q of wants at has) foreign h o w enough says = save_code p _ _ kept status wants says
+peer_notify_has_room long ascend most p kept t plain room new status detail (notify_refused a b q of e is holds) foreign h o w enough says =
+    let number = ap code (foreign q of a b stays) in omega (arith, number, says)
+  where
+    stays : IsTicketOf p t → ⊥
+    stays named =
+        let v = ticket_in (inside_of p t) in
+        let step = subst (λ (x : ReplyError). StepsAnswering p h (server.Notify v q room) (server.NotReplied x) o new) (reply_code e status detail is says) (holds named h o w) in
+        let row = step.row in
+        let few = b.token in
+        notification_room long ascend most row.1.0.context t.number _ q v.token plain room of (omega (arith, few, length-take t.token_len t.token)) enough row.1.2.2
+
+-- for a request
+pub peer_request_has_room : DatagramHasItsLength → OptionsAscend → ValueMostLen → (p : PeerHandle) (n : ℕ) (ps : List PendingHandle) (kept : RecordHandle) (now : ℕ) (plain : List ℕ) (room : ℕ) (new : PeerHandle) (m : ℕ) (qs : List PendingHandle)
+    (status : Status) (detail : ℕ) → RefusesPeerAsking p n ps kept now plain room new m qs status detail → (a : client.History) (o : Own) → AsksAmong p n ps o a
+    → HasRoomFor (client_in p.server.server.slot.context).features.observe plain room → code status ≡ 43 → ⊥
+peer_request_has_room long ascend most p n ps kept now plain room new m qs status detail (ask_handle bad x y z is at) a o w enough says = let number = ap code is in omega (arith, number, says)
+peer_request_has_room long ascend most p n ps kept now plain room new m qs status detail (ask_malformed whole placed x y z fault place has is at) a o w enough says =
+    let number = ap code is in let small = fault_code fault in omega (arith, number, small, says)
+peer_request_has_room long ascend most p n ps kept now plain room new m qs status detail (ask_first whole placed x y z q of wants at has) a o w enough says = save_code p _ _ kept status wants says
+peer_request_has_room long ascend most p n ps kept now plain room new m qs status detail (ask_refused whole placed q of e is holds) a o w enough says =
+    let step = subst (λ (x : RequestError). StepsAmong p ps a (client.Request now q room) (client.NotSent x) o new m qs) (request_code e status detail is says) (holds a o w) in
+    let context = p.server.server.slot.context in
+    let same : client_in context ≡ client.context step.b = w.context_is ∙ ap client.context (sym step.passes.is) in
+    request_room long ascend most context (client.next step.b) q plain room whole.server.bytes.context of enough
+    (subst (λ (s : SecurityContext). RefusesToSeal (requests s) (client.next step.b) q room seals.NoRoom) (sym same) step.row.1)

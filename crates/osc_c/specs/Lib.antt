@@ -2,8 +2,8 @@ pub mod Handle
 pub mod Statuses
 pub mod Calls
 pub mod Opened
-pub mod ClientCalls
-pub mod ServerCalls
+pub mod Asking
+pub mod Answering
 pub mod Writing
 pub mod WritingSteps
 pub mod PeerCalls

@@ -9,13 +9,13 @@ use Rattle.osc_context.specs.Reserving.{next_limit}
 use Rattle.osc_client.specs.ClientHistory.{Answer, Datagram, Entry, Event, Forget, Forgot, History, NotSent, Request, Took}
 use Rattle.osc_client.specs.declared.client_outcome.ClientOutcome.{ClientOutcome}
 use Rattle.osc_client.specs.declared.client_outcome.RequestError.{RequestError}
-use Rattle.osc_handle.specs.ClientBytes.{ArePending, asked_among}
+use Rattle.osc_handle.specs.PendingBytes.{ArePending, asked_among}
 use Rattle.osc_handle.specs.declared.pending_handle.PendingHandle.{PendingHandle}
 use Rattle.osc_kept_ends.specs.Numbering.{Own}
 use Rattle.osc_peer_handle.specs.PeerBytes.{AsksBehind, HasToSave, IsPeer, StepsAsking, TakesAsking, next_in}
 use Rattle.osc_peer_handle.specs.declared.peer_handle.PeerHandle.{PeerHandle}
 use Rattle.osc_peer_handle.specs.declared.record_handle.RecordHandle.{RecordHandle}
-use Rattle.osc_c.specs.ClientCalls.{IsAnswerStatus, IsAskingStatus}
+use Rattle.osc_c.specs.Asking.{IsAnswerStatus, IsAskingStatus}
 use Rattle.osc_c.specs.PeerCalls.{AsksToSave}
 use Rattle.osc_c.specs.Statuses.{format_status}
 use Rattle.osc_c.specs.declared.status.Status.{Status}

@@ -22,7 +22,7 @@ use Rattle.osc_peer_handle.specs.PeerBytes.{HasNumbers, HasToSave, IsPeer, IsTic
 use Rattle.osc_peer_handle.specs.RecordBytes.{IsRecordOf}
 use Rattle.osc_peer_handle.specs.declared.peer_handle.PeerHandle.{PeerHandle}
 use Rattle.osc_peer_handle.specs.declared.record_handle.RecordHandle.{RecordHandle}
-use Rattle.osc_c.specs.ServerCalls.{IsAnswerStatus, IsReplyStatus}
+use Rattle.osc_c.specs.Answering.{IsAnswerStatus, IsReplyStatus}
 use Rattle.osc_c.specs.Statuses.{format_status}
 use Rattle.osc_c.specs.declared.status.Status.{Status}
 use Rattle.osc_c.specs.declared.status.Status.TheVariants.{BadHandle, BadNumber, LivesExhausted, OldRecord, SaveFirst, SequenceExhausted, TicketSpent}

@@ -11,62 +11,58 @@ use Rattle.osc_protect.specs.declared.protect_error.ProtectError.TheVariants as 
 use Rattle.osc_protect.specs.declared.unprotect_error.UnprotectError.{UnprotectError}
 use Rattle.osc_protect.specs.declared.unprotect_error.UnprotectError.TheVariants as opens
 use Rattle.osc_c.specs.declared.status.Status.{Status}
-use Rattle.osc_c.specs.declared.status.Status.TheVariants.{BadHandle, BadNumber, SecretLength, SaltLength, IdTooLong, SameIds, IdContextLength, DatagramTooLong, Short, Version, TokenLength, EmptyWithRest, TokenCut, Nibble15, OptionCut, NumberTooLarge, EmptyPayload, NoSuchContext, LivesExhausted, Full, SameLookup, StaleTicket, TicketSpent, NotThatKind, UnknownToken, NoOscore, Undecodable, NoContext, WrongContext, Replay, Tag, Inner, Challenge, Unsupported, TokenInUse, PendingFull, SequenceExhausted, TooLong, NoRoom, NotPending, SameSender, SaveFirst, OptionOrder, ValueTooLong, NotObserving, NotNotification, Old, OldRecord}
+use Rattle.osc_c.specs.declared.status.Status.TheVariants.{BadHandle, BadNumber, OldRecord, SecretLength, SaltLength, IdTooLong, SameIds, IdContextLength, DatagramTooLong, Short, Version, TokenLength, EmptyWithRest, TokenCut, Nibble15, OptionCut, NumberTooLarge, EmptyPayload, OptionOrder, ValueTooLong, StaleTicket, SaveFirst, LivesExhausted, TicketSpent, NotObserving, NotThatKind, UnknownToken, NoOscore, Undecodable, NoContext, WrongContext, Replay, Old, Tag, Inner, Challenge, Unsupported, NotNotification, TokenInUse, PendingFull, SequenceExhausted, TooLong, NoRoom, NotPending}
 
 -- the number of a status, as C reads it; a call that is done has 0 (own rule)
 abbrev pub code : Status → ℕ
 code BadHandle = 1
 code BadNumber = 2
-code SecretLength = 3
-code SaltLength = 4
-code IdTooLong = 5
-code SameIds = 6
-code IdContextLength = 7
-code DatagramTooLong = 8
-code Short = 9
-code Version = 10
-code TokenLength = 11
-code EmptyWithRest = 12
-code TokenCut = 13
-code Nibble15 = 14
-code OptionCut = 15
-code NumberTooLarge = 16
-code EmptyPayload = 17
-code NoSuchContext = 18
-code LivesExhausted = 19
-code Full = 20
-code SameLookup = 21
-code StaleTicket = 22
-code TicketSpent = 23
-code NotThatKind = 24
-code UnknownToken = 25
-code NoOscore = 26
-code Undecodable = 27
-code NoContext = 28
-code WrongContext = 29
-code Replay = 30
-code Tag = 31
-code Inner = 32
-code Challenge = 33
-code Unsupported = 34
-code TokenInUse = 35
-code PendingFull = 36
-code SequenceExhausted = 37
-code TooLong = 38
-code NoRoom = 39
-code NotPending = 40
-code SameSender = 41
-code SaveFirst = 42
-code OptionOrder = 43
-code ValueTooLong = 44
-code NotObserving = 45
-code NotNotification = 46
-code Old = 47
-code OldRecord = 48
+code OldRecord = 3
+code SecretLength = 4
+code SaltLength = 5
+code IdTooLong = 6
+code SameIds = 7
+code IdContextLength = 8
+code DatagramTooLong = 9
+code Short = 10
+code Version = 11
+code TokenLength = 12
+code EmptyWithRest = 13
+code TokenCut = 14
+code Nibble15 = 15
+code OptionCut = 16
+code NumberTooLarge = 17
+code EmptyPayload = 18
+code OptionOrder = 19
+code ValueTooLong = 20
+code StaleTicket = 21
+code SaveFirst = 22
+code LivesExhausted = 23
+code TicketSpent = 24
+code NotObserving = 25
+code NotThatKind = 26
+code UnknownToken = 27
+code NoOscore = 28
+code Undecodable = 29
+code NoContext = 30
+code WrongContext = 31
+code Replay = 32
+code Old = 33
+code Tag = 34
+code Inner = 35
+code Challenge = 36
+code Unsupported = 37
+code NotNotification = 38
+code TokenInUse = 39
+code PendingFull = 40
+code SequenceExhausted = 41
+code TooLong = 42
+code NoRoom = 43
+code NotPending = 44
 
 -- the names of the statuses in the order of their numbers, from 0 (own rule)
 abbrev pub status_names : List (List ℕ)
-status_names = codes "Done" ∷ codes "BadHandle" ∷ codes "BadNumber" ∷ codes "SecretLength" ∷ codes "SaltLength" ∷ codes "IdTooLong" ∷ codes "SameIds" ∷ codes "IdContextLength" ∷ codes "DatagramTooLong" ∷ codes "Short" ∷ codes "Version" ∷ codes "TokenLength" ∷ codes "EmptyWithRest" ∷ codes "TokenCut" ∷ codes "Nibble15" ∷ codes "OptionCut" ∷ codes "NumberTooLarge" ∷ codes "EmptyPayload" ∷ codes "NoSuchContext" ∷ codes "LivesExhausted" ∷ codes "Full" ∷ codes "SameLookup" ∷ codes "StaleTicket" ∷ codes "TicketSpent" ∷ codes "NotThatKind" ∷ codes "UnknownToken" ∷ codes "NoOscore" ∷ codes "Undecodable" ∷ codes "NoContext" ∷ codes "WrongContext" ∷ codes "Replay" ∷ codes "Tag" ∷ codes "Inner" ∷ codes "Challenge" ∷ codes "Unsupported" ∷ codes "TokenInUse" ∷ codes "PendingFull" ∷ codes "SequenceExhausted" ∷ codes "TooLong" ∷ codes "NoRoom" ∷ codes "NotPending" ∷ codes "SameSender" ∷ codes "SaveFirst" ∷ codes "OptionOrder" ∷ codes "ValueTooLong" ∷ codes "NotObserving" ∷ codes "NotNotification" ∷ codes "Old" ∷ codes "OldRecord" ∷ []
+status_names = codes "Done" ∷ codes "BadHandle" ∷ codes "BadNumber" ∷ codes "OldRecord" ∷ codes "SecretLength" ∷ codes "SaltLength" ∷ codes "IdTooLong" ∷ codes "SameIds" ∷ codes "IdContextLength" ∷ codes "DatagramTooLong" ∷ codes "Short" ∷ codes "Version" ∷ codes "TokenLength" ∷ codes "EmptyWithRest" ∷ codes "TokenCut" ∷ codes "Nibble15" ∷ codes "OptionCut" ∷ codes "NumberTooLarge" ∷ codes "EmptyPayload" ∷ codes "OptionOrder" ∷ codes "ValueTooLong" ∷ codes "StaleTicket" ∷ codes "SaveFirst" ∷ codes "LivesExhausted" ∷ codes "TicketSpent" ∷ codes "NotObserving" ∷ codes "NotThatKind" ∷ codes "UnknownToken" ∷ codes "NoOscore" ∷ codes "Undecodable" ∷ codes "NoContext" ∷ codes "WrongContext" ∷ codes "Replay" ∷ codes "Old" ∷ codes "Tag" ∷ codes "Inner" ∷ codes "Challenge" ∷ codes "Unsupported" ∷ codes "NotNotification" ∷ codes "TokenInUse" ∷ codes "PendingFull" ∷ codes "SequenceExhausted" ∷ codes "TooLong" ∷ codes "NoRoom" ∷ codes "NotPending" ∷ []
 
 -- the name if there is one, or else Unknown (own rule)
 abbrev pub name_or_unknown : Option (List ℕ) → List ℕ

@@ -3,20 +3,17 @@
 //! ends: it refuses what can't be used, by name.
 #![tactic(auto)]
 
-mod client;
 mod derivation;
 mod head_view;
-mod notifying;
 mod opened_view;
 mod opening;
 mod peer;
 mod peer_answering;
 mod peer_asking;
 mod peer_finding;
+mod refusals;
 mod rooms;
 mod sealing;
-mod server;
-mod single_server;
 mod sizes;
 mod status;
 mod writing;

@@ -21,16 +21,16 @@ ghost use Rattle.osc_kept_ends.specs.Numbering.{Load, Own, after, nothing_drawn,
 ghost use Rattle.osc_kept_ends.specs.Peering.{IsPeerStart};
 ghost use Rattle.osc_peer_handle.specs.PeerBytes.{AsksBehind, CatchesUp, HasNumbers, HasToSave, IsPeer, IsSamePeer, IsSavedAs, IsTicketOf, ServesBehind, StepsAnswering, inside_of, next_in};
 ghost use Rattle.osc_peer_handle.specs.RecordBytes.{IsRecordOf, name_in};
-ghost use Rattle.osc_c.specs.ClientCalls.{RefusesNumber};
+ghost use Rattle.osc_c.specs.Asking.{RefusesNumber};
 ghost use Rattle.osc_c.specs.Opened.{option_in, Shows};
 ghost use Rattle.osc_c.specs.PeerCalls.{AsksToSave, IsNotNext, RefusesAgain, RefusesPeerSaved, RefusesPeerServing, next_record};
-ghost use Rattle.osc_c.specs.ServerCalls.{ReadsServing};
+ghost use Rattle.osc_c.specs.Answering.{ReadsServing};
 ghost use Rattle.osc_c.specs.Statuses.{code};
 ghost use Rattle.osc_c.specs.declared.status.Status.{Status as StatusOf};
 ghost use Rattle.osc_c.specs.declared.status.Status.TheVariants.{BadHandle, LivesExhausted, SaveFirst};
 
 use crate::opened_view::{OpenedView, OptionView, show};
-use crate::server::delivery;
+use crate::refusals::delivery;
 use crate::status::{DONE, Refusal, Status};
 use osc_context_handle::ContextHandle;
 use osc_endpoint::Taken;
@@ -211,11 +211,14 @@ fn take_in<'b>(
     }
 }
 
-/// Takes a datagram in place (RFC 8613, 8.2), as `oscore_server_take` does. The Echo value of a challenge is the number with which it is sealed. At
-/// SaveFirst, `kept` is a record: save it durably, pass it to `oscore_peer_saved`, and pass in the same datagram again; until then nothing
-/// changes, and there is no reply. The ticket names the peer's context and its life. A refusal is BadHandle, SaveFirst, one of the
-/// refusals of `oscore_server_take`, or SaveFirst once more for a request that is to be delivered, in this order; where a record has to be saved that
-/// would be the 2^64th, it is LivesExhausted. All but BadHandle, SaveFirst and LivesExhausted move the clock.
+/// Takes a datagram in place (RFC 8613, 8.2). It returns 0 if a request is delivered, with its ticket, which names the peer's context and its
+/// life. The first `out_len` bytes of `out`, if there are any, are the reply that goes back to the sender, whether or not a request is
+/// delivered. `mid` is a Message ID for a reply to a request that isn't confirmable; the Echo value of a challenge is the number with which it
+/// is sealed. At SaveFirst, `kept` is a record: save it durably, pass it to `oscore_peer_saved`, and pass in the same datagram again; until
+/// then nothing changes, and there is no reply. A refusal is BadHandle, SaveFirst, one of the datagram's faults with its place, NotThatKind,
+/// NoOscore, Undecodable, NoContext, Replay, Tag, Inner, Challenge or SequenceExhausted, or SaveFirst once more for a request that is to be
+/// delivered, in this order; where a record has to be saved that would be the 2^64th, it is LivesExhausted. All but BadHandle, SaveFirst and
+/// LivesExhausted move the clock.
 #[unsafe(no_mangle)]
 pub extern "C" fn oscore_peer_take<'b>(
     peer: &mut PeerHandle,

@@ -12,18 +12,19 @@ ghost use Rattle.osc_handle.specs.ServerBytes.{IsSpent};
 ghost use Rattle.osc_handle.specs.TicketBytes.{IsTicket, ticket_in};
 ghost use Rattle.osc_kept_ends.specs.Numbering.{Own, upcoming};
 ghost use Rattle.osc_peer_handle.specs.PeerBytes.{CatchesUp, HasToSave, IsPeer, IsSamePeer, IsTicketOf, ServesBehind, StepsAnswering, inside_of};
+ghost use Rattle.osc_c.specs.Calls.{HasRoomFor};
 ghost use Rattle.osc_c.specs.PeerCalls.{RefusesPeerNotifying, RefusesPeerReplying, next_record};
-ghost use Rattle.osc_c.specs.ServerCalls.{ReadsReplying};
+ghost use Rattle.osc_c.specs.Answering.{ReadsReplying};
 ghost use Rattle.osc_c.specs.Statuses.{code, format_status};
 ghost use Rattle.osc_c.specs.declared.status.Status.{Status as StatusOf};
-ghost use Rattle.osc_c.specs.declared.status.Status.TheVariants.{BadHandle, LivesExhausted, SaveFirst, StaleTicket, TicketSpent};
+ghost use Rattle.osc_c.specs.declared.status.Status.TheVariants.{BadHandle, LivesExhausted, NoRoom, SaveFirst, StaleTicket, TicketSpent};
 
 use crate::peer::save_next;
-use crate::server::replying_refusal;
+use crate::refusals::replying_refusal;
+use crate::rooms::room_laws;
 use crate::status::{DONE, Refusal, Status};
 use osc_coap::{one_datagram, parse};
-use osc_handle::TicketHandle;
-use osc_kept_handle::KeptReplyRefusal;
+use osc_handle::{KeptReplyRefusal, TicketHandle};
 use osc_laws::one_server_answer;
 use osc_peer_handle::{PeerHandle, RecordHandle};
 
@@ -74,8 +75,10 @@ fn reply_in(
     }
 }
 
-/// Seals a reply to the request of a ticket (RFC 8613, 8.3), as `oscore_server_reply` does. A reply with its own Partial IV needs a number,
-/// also where the ticket observes, and at SaveFirst `kept` is the record to save, as above. A refusal is BadHandle, one of the datagram's
+/// Seals a reply to the request of a ticket (RFC 8613, 8.3), with its own Partial IV or under the Partial IV of the request. `plain` is a
+/// datagram, of which the code, options and payload are used. If the request registers an observation, the reply has its own Partial IV in
+/// any case, and ends the observation. The first `out_len` bytes of `out` are the sealed reply, and the request then has its answer. A reply
+/// with its own Partial IV needs a number, and at SaveFirst `kept` is the record to save, as above. A refusal is BadHandle, one of the datagram's
 /// faults with its place, StaleTicket where the ticket names another context or another life, SaveFirst, StaleTicket, TicketSpent, NotThatKind,
 /// Unsupported with the lowest number of such an option, SequenceExhausted, TooLong or NoRoom, in this order, and changes nothing.
 #[unsafe(no_mangle)]
@@ -111,10 +114,12 @@ pub extern "C" fn oscore_peer_reply(
     ensures stays { IsSamePeer peer.old peer.new }
     ensures within { result ≡ 0 → out_len.new ≤ length out.new }
     ensures behind { result ≡ 0 → drop out_len.new out.new ≡ drop out_len.new out.old }
+    ensures enough { (h : History) (o : Own) → ServesBehind peer.old o h → length plain.now + 59 ≤ length out.old → result ≢ code NoRoom }
     ensures unchanged { result ≢ 0 → (peer.new ≡ peer.old) × (out.new ≡ out.old) × (out_len.new ≡ out_len.old) }
 {
     // For the proof alone.
     one_server_answer();
+    room_laws();
     one_datagram();
     match reply_in(peer, ticket, own, mid, plain, out, kept) {
         Ok(len) => {
@@ -171,10 +176,12 @@ fn notify_in(
     }
 }
 
-/// Seals a notification to the request of a ticket (RFC 8613, 8.3.1), as `oscore_server_notify` does. It needs a number, and at SaveFirst
-/// `kept` is the record to save, as above. A refusal is BadHandle, one of the datagram's faults with its place, StaleTicket where the ticket names
-/// another context or another life, SaveFirst, or one of the refusals of `oscore_server_notify` from StaleTicket on, in this order, and changes
-/// nothing.
+/// Seals a notification to the request of a ticket, which registers an observation (RFC 8613, 8.3.1), with its own Partial IV. `plain` is a
+/// datagram, of which all but the token is used. The first `out_len` bytes of `out` are the sealed notification. The ticket stays good, also
+/// after 64 later requests, until a reply to it. It needs a number, and at SaveFirst `kept` is the record to save, as above. A refusal is
+/// BadHandle, one of the datagram's faults with its place, StaleTicket where the ticket names another context or another life, SaveFirst,
+/// StaleTicket, NotObserving, NotThatKind, Unsupported with the lowest number of such an option, NotNotification, SequenceExhausted, TooLong
+/// or NoRoom, in this order, and changes nothing.
 #[unsafe(no_mangle)]
 pub extern "C" fn oscore_peer_notify(
     peer: &mut PeerHandle,
@@ -203,10 +210,12 @@ pub extern "C" fn oscore_peer_notify(
     ensures stays { IsSamePeer peer.old peer.new }
     ensures within { result ≡ 0 → out_len.new ≤ length out.new }
     ensures behind { result ≡ 0 → drop out_len.new out.new ≡ drop out_len.new out.old }
+    ensures enough { (h : History) (o : Own) → ServesBehind peer.old o h → HasRoomFor true plain.now (length out.old) → result ≢ code NoRoom }
     ensures unchanged { result ≢ 0 → (peer.new ≡ peer.old) × (out.new ≡ out.old) × (out_len.new ≡ out_len.old) }
 {
     // For the proof alone.
     one_server_answer();
+    room_laws();
     one_datagram();
     match notify_in(peer, ticket, plain, out, kept) {
         Ok(len) => {

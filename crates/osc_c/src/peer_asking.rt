@@ -14,28 +14,29 @@ ghost use Rattle.osc_client.specs.ClientAnswer.{ClientAnswer};
 ghost use Rattle.osc_client.specs.ClientHistory.{Datagram, Entry, Forget, Forgot, History, Request, Sent, Took};
 ghost use Rattle.osc_client.specs.declared.client_outcome.RequestError.TheVariants.{KeeperFailed};
 ghost use Rattle.osc_observe.specs.Views.{received_of};
-ghost use Rattle.osc_handle.specs.ClientBytes.{ArePending, ArePlaced, asked_among};
+ghost use Rattle.osc_handle.specs.PendingBytes.{ArePending, ArePlaced, asked_among, entry_of_kept_request};
 ghost use Rattle.osc_kept_ends.specs.Numbering.{Own};
-ghost use Rattle.osc_kept_handle.specs.KeptClientBytes.{entry_of_kept_request};
-ghost use Rattle.osc_kept_handle.specs.declared.kept_refusal.KeptRequestRefusal.TheVariants as refusals;
+ghost use Rattle.osc_handle.specs.declared.kept_refusal.KeptRequestRefusal.TheVariants as refusals;
 ghost use Rattle.osc_peer_handle.specs.PeerBytes.{CatchesUpAsking, HasToSave, IsPeer, IsSamePeer, next_in};
-ghost use Rattle.osc_c.specs.ClientCalls.{ReadsAsking, ReadsForgetting, ReadsTaking, heard_as};
+ghost use Rattle.osc_context_handle.specs.ContextBytes.{client_in};
+ghost use Rattle.osc_c.specs.Asking.{ReadsAsking, ReadsForgetting, ReadsTaking, heard_as};
+ghost use Rattle.osc_c.specs.Calls.{HasRoomFor};
 ghost use Rattle.osc_c.specs.Opened.{option_in, Shows};
 ghost use Rattle.osc_c.specs.PeerAskingCalls.{AsksAmong, RefusesPeerAsking, RefusesPeerForgetting, RefusesPeerHearing, StepsAmong, TakesAmong};
 ghost use Rattle.osc_c.specs.PeerCalls.{next_record};
 ghost use Rattle.osc_c.specs.Statuses.{code, format_status};
 ghost use Rattle.osc_c.specs.declared.status.Status.{Status as StatusOf};
-ghost use Rattle.osc_c.specs.declared.status.Status.TheVariants.{BadHandle, LivesExhausted, SaveFirst};
+ghost use Rattle.osc_c.specs.declared.status.Status.TheVariants.{BadHandle, LivesExhausted, NoRoom, SaveFirst};
 
-use crate::client::{asking_refusal, hearing};
 use crate::opened_view::{OpenedView, OptionView, show};
 use crate::peer::save_next;
+use crate::refusals::{asking_refusal, hearing};
+use crate::rooms::room_laws;
 use crate::status::{DONE, Refusal, Status};
 use osc_coap::{Message, one_datagram, parse};
 use osc_context::Piv;
 use osc_endpoint::ClientOutcome;
-use osc_handle::{PendingHandle, Places, are_pending};
-use osc_kept_handle::KeptRequestRefusal;
+use osc_handle::{KeptRequestRefusal, PendingHandle, Places, are_pending};
 use osc_laws::one_client_answer;
 use osc_peer_handle::{PeerHandle, RecordHandle};
 use osc_protect::Opened;
@@ -115,10 +116,11 @@ fn request_in(
     }
 }
 
-/// Seals a request with the peer's next number (RFC 8613, 8.1), as `oscore_client_request` does. The first `pending_count` of the places hold the
-/// requests that wait for their responses, and this one is put behind them. It needs a number, and at SaveFirst `kept` is the record to save, as
-/// at `oscore_peer_take`. A refusal is BadHandle, one of the datagram's faults with its place, SaveFirst, or one of the refusals of
-/// `oscore_client_request` from NotThatKind on, in this order; these move the clock, and the others change nothing.
+/// Seals a request with the peer's next number (RFC 8613, 8.1). `plain` is its datagram. The first `out_len` bytes of `out` are the sealed
+/// datagram. The first `pending_count` of the places hold the requests that wait for their responses, and this one is put behind them. It needs
+/// a number, and at SaveFirst `kept` is the record to save, as at `oscore_peer_take`. A refusal is BadHandle, one of the datagram's faults with
+/// its place, SaveFirst, NotThatKind, Unsupported with the lowest number of such an option, TokenInUse, PendingFull, SequenceExhausted, TooLong
+/// or NoRoom, in this order; from NotThatKind on it moves the clock, and the others change nothing.
 #[unsafe(no_mangle)]
 pub extern "C" fn oscore_peer_request(
     peer: &mut PeerHandle,
@@ -149,10 +151,13 @@ pub extern "C" fn oscore_peer_request(
     ensures room { length pending.new ≡ length pending.old }
     ensures within { result ≡ 0 → out_len.new ≤ length out.new }
     ensures behind { result ≡ 0 → drop out_len.new out.new ≡ drop out_len.new out.old }
+    ensures enough { (a : History) (o : Own) → AsksAmong peer.old pending_count.old pending.old o a
+        → HasRoomFor (client_in peer.old.server.server.slot.context).features.observe plain.now (length out.old) → result ≢ code NoRoom }
     ensures unchanged { result ≢ 0 → (out.new ≡ out.old) × (out_len.new ≡ out_len.old) }
 {
     // For the proof alone.
     one_client_answer();
+    room_laws();
     one_datagram();
     match request_in(peer, pending, pending_count, now, plain, out, kept) {
         Ok(len) => {
@@ -219,8 +224,10 @@ fn hear_in<'b>(
     }
 }
 
-/// Takes a datagram that may be a response to one of these requests in place (RFC 8613, 8.4), as `oscore_client_take` does. Needs no number. A
-/// refusal is BadHandle, or one of the refusals of `oscore_client_take` after it, in this order; all but BadHandle move the clock.
+/// Takes a datagram that may be a response to one of these requests in place (RFC 8613, 8.4). It returns 0 if a response is delivered; then
+/// `request` is that request's number, and the request is no longer pending, unless `opened` says that this is a notification. Needs no number.
+/// A refusal is BadHandle, one of the datagram's faults with its place, NotThatKind, UnknownToken, NoOscore, Undecodable, Old, Tag or Inner, in
+/// this order; all but BadHandle move the clock.
 #[unsafe(no_mangle)]
 pub extern "C" fn oscore_peer_hear<'b>(
     peer: &mut PeerHandle,

@@ -4,9 +4,7 @@ ghost use Rattle.std.specs.Prelude.{◌≡◌};
 
 use crate::head_view::HeadView;
 use crate::opened_view::{OpenedView, OptionView};
-use osc_handle::{
-    ClientHandle, ContextHandle, PendingHandle, ServerHandle, SingleServerHandle, TicketHandle,
-};
+use osc_handle::{ContextHandle, PendingHandle, TicketHandle};
 use osc_peer_handle::{PeerHandle, RecordHandle};
 
 /// The sizes of the structs of `oscore.h` in bytes, as the library has them.
@@ -17,10 +15,7 @@ pub struct Sizes {
     pub option: usize,
     pub opened: usize,
     pub request_head: usize,
-    pub server: usize,
     pub ticket: usize,
-    pub client: usize,
-    pub server1: usize,
     pub peer: usize,
     pub peer_record: usize,
     pub pending: usize,
@@ -29,17 +24,14 @@ pub struct Sizes {
 /// Writes the sizes, so that a caller can compare them with the sizes that its compiler has.
 #[unsafe(no_mangle)]
 pub extern "C" fn oscore_sizes(sizes: &mut Sizes)
-    ensures { sizes.new ≡ record { context = 97; option = 24; opened = 104; request_head = 64; server = 1296; ticket = 40; client = 456; server1 = 168; peer = 224; peer_record = 32; pending = 40 } }
+    ensures { sizes.new ≡ record { context = 97; option = 24; opened = 104; request_head = 64; ticket = 40; peer = 224; peer_record = 32; pending = 40 } }
 {
     *sizes = Sizes {
         context: size_of::<ContextHandle>(),
         option: size_of::<OptionView<'_>>(),
         opened: size_of::<OpenedView<'_>>(),
         request_head: size_of::<HeadView<'_>>(),
-        server: size_of::<ServerHandle>(),
         ticket: size_of::<TicketHandle>(),
-        client: size_of::<ClientHandle>(),
-        server1: size_of::<SingleServerHandle>(),
         peer: size_of::<PeerHandle>(),
         peer_record: size_of::<RecordHandle>(),
         pending: size_of::<PendingHandle>(),

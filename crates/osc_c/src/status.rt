@@ -11,10 +11,11 @@ use osc_protect::{HeadError, ProtectError, UnprotectError};
 pub(crate) const DONE: u32 = 0;
 
 /// The names of the statuses, in the order of their numbers from 0.
-const NAMES: [&[u8]; 49] = [
+const NAMES: [&[u8]; 45] = [
     b"Done",
     b"BadHandle",
     b"BadNumber",
+    b"OldRecord",
     b"SecretLength",
     b"SaltLength",
     b"IdTooLong",
@@ -30,12 +31,13 @@ const NAMES: [&[u8]; 49] = [
     b"OptionCut",
     b"NumberTooLarge",
     b"EmptyPayload",
-    b"NoSuchContext",
-    b"LivesExhausted",
-    b"Full",
-    b"SameLookup",
+    b"OptionOrder",
+    b"ValueTooLong",
     b"StaleTicket",
+    b"SaveFirst",
+    b"LivesExhausted",
     b"TicketSpent",
+    b"NotObserving",
     b"NotThatKind",
     b"UnknownToken",
     b"NoOscore",
@@ -43,88 +45,77 @@ const NAMES: [&[u8]; 49] = [
     b"NoContext",
     b"WrongContext",
     b"Replay",
+    b"Old",
     b"Tag",
     b"Inner",
     b"Challenge",
     b"Unsupported",
+    b"NotNotification",
     b"TokenInUse",
     b"PendingFull",
     b"SequenceExhausted",
     b"TooLong",
     b"NoRoom",
     b"NotPending",
-    b"SameSender",
-    b"SaveFirst",
-    b"OptionOrder",
-    b"ValueTooLong",
-    b"NotObserving",
-    b"NotNotification",
-    b"Old",
-    b"OldRecord",
 ];
 
-/// Why a call does nothing: the first refusal whose condition holds, in this order, except for the statuses that were added last.
-/// SameSender is checked right after SameLookup. SaveFirst is checked right before NoSuchContext, and for a datagram right after
-/// BadHandle; a peer's is checked right after StaleTicket, and once more where a request is to be delivered. OldRecord is checked right
-/// after BadNumber. OptionOrder and ValueTooLong are checked before NoRoom. NotObserving is checked right after StaleTicket,
-/// NotNotification right after Unsupported, and Old right after Undecodable. A call that is done returns 0.
+/// Why a call does nothing: the first refusal whose condition holds, in this order, but for SaveFirst and LivesExhausted at a datagram: a
+/// number of the peer's own is asked for right after BadHandle, and a received one last. A call that is done returns 0.
 #[derive(Clone, Copy, PartialEq, Eq)]
 pub(crate) enum Status {
     /// The bytes of the handle can't have been written by a call.
     BadHandle = 1,
     /// A number is 2^40 or more, or isn't one that the call takes.
     BadNumber = 2,
-    SecretLength = 3,
-    SaltLength = 4,
-    IdTooLong = 5,
-    SameIds = 6,
-    IdContextLength = 7,
-    DatagramTooLong = 8,
-    Short = 9,
-    Version = 10,
-    TokenLength = 11,
-    EmptyWithRest = 12,
-    TokenCut = 13,
-    Nibble15 = 14,
-    OptionCut = 15,
-    NumberTooLarge = 16,
-    EmptyPayload = 17,
-    NoSuchContext = 18,
-    LivesExhausted = 19,
-    Full = 20,
-    SameLookup = 21,
-    StaleTicket = 22,
-    TicketSpent = 23,
-    NotThatKind = 24,
-    UnknownToken = 25,
-    NoOscore = 26,
-    Undecodable = 27,
-    NoContext = 28,
-    WrongContext = 29,
-    Replay = 30,
-    Tag = 31,
-    Inner = 32,
-    Challenge = 33,
-    Unsupported = 34,
-    TokenInUse = 35,
-    PendingFull = 36,
-    SequenceExhausted = 37,
-    TooLong = 38,
-    NoRoom = 39,
-    NotPending = 40,
-    SameSender = 41,
-    /// A number has to be saved first.
-    SaveFirst = 42,
-    OptionOrder = 43,
-    ValueTooLong = 44,
-    /// The request of a ticket registers no observation.
-    NotObserving = 45,
-    /// A message that is to notify isn't of class 2, or has no Observe.
-    NotNotification = 46,
-    /// A later response to the same registration was delivered.
-    Old = 47,
     /// A record is of another context, or no save can have written it.
-    OldRecord = 48,
+    OldRecord = 3,
+    SecretLength = 4,
+    SaltLength = 5,
+    IdTooLong = 6,
+    SameIds = 7,
+    IdContextLength = 8,
+    DatagramTooLong = 9,
+    Short = 10,
+    Version = 11,
+    TokenLength = 12,
+    EmptyWithRest = 13,
+    TokenCut = 14,
+    Nibble15 = 15,
+    OptionCut = 16,
+    NumberTooLarge = 17,
+    EmptyPayload = 18,
+    OptionOrder = 19,
+    ValueTooLong = 20,
+    /// A ticket is another peer's, or of another life.
+    StaleTicket = 21,
+    /// A record has to be saved first.
+    SaveFirst = 22,
+    /// A record would have to be saved first, and a count of 64 bits is at its end.
+    LivesExhausted = 23,
+    TicketSpent = 24,
+    /// The request of a ticket registers no observation.
+    NotObserving = 25,
+    NotThatKind = 26,
+    UnknownToken = 27,
+    NoOscore = 28,
+    Undecodable = 29,
+    NoContext = 30,
+    WrongContext = 31,
+    Replay = 32,
+    /// A later response to the same registration was delivered.
+    Old = 33,
+    Tag = 34,
+    Inner = 35,
+    Challenge = 36,
+    Unsupported = 37,
+    /// A message that is to notify isn't of class 2, or has no Observe.
+    NotNotification = 38,
+    TokenInUse = 39,
+    PendingFull = 40,
+    SequenceExhausted = 41,
+    TooLong = 42,
+    NoRoom = 43,
+    NotPending = 44,
 }
 
 impl Status {

@@ -1,14 +1,13 @@
 //! A context in the caller's memory: plain bytes, each of which may have any value.
 
 ghost use Rattle.std.specs.Option.{option_map};
-ghost use Rattle.std.specs.Prelude.{◌≡◌, ◌≤◌, ◌&&◌, ◌↔◌, not, take, IfSome, IfNone, IsSome, IsTrue, length, true, false};
+ghost use Rattle.std.specs.Prelude.{◌≡◌, ◌≤◌, ◌&&◌, not, take, IfSome, IsSome, length, true, false};
 ghost use Rattle.osc_context.specs.SecurityContext.{AnswersTo};
 ghost use Rattle.osc_context.specs.Views.{as_client, as_server, is_constant_time};
-ghost use Rattle.osc_context.specs.Senders.{HaveSameSender};
 ghost use Rattle.osc_context_handle.specs.ContextBytes.{client_in, server_in, id_context_in, is_constant_time_in, IsContext};
 
 use osc_ccm::{Key, Nonce};
-use osc_context::{Context, Features, IdContext, Kid, is_same_key};
+use osc_context::{Context, Features, IdContext, Kid};
 
 /// A context in the caller's memory. If the ID Context has no bytes, there is none.
 #[repr(C)]
@@ -61,27 +60,6 @@ impl ContextHandle {
         }
     }
 
-    /// Returns the bytes of no context.
-    #[must_use]
-    pub fn unused() -> ContextHandle
-        ensures { IsContext result → ⊥ }
-    {
-        ContextHandle {
-            sender: [0; 7],
-            sender_len: 0,
-            recipient: [0; 7],
-            recipient_len: 0,
-            id_context: [0; 32],
-            id_context_len: 0,
-            sender_key: [0; 16],
-            recipient_key: [0; 16],
-            common_iv: [0; 13],
-            tables: 0,
-            blocks: 0,
-            observe: 0,
-        }
-    }
-
     /// Returns the context that the handle holds, or `None` if its bytes can't have been written by a call.
     pub fn context(&self) -> Option<Context>
         ensures client { IfSome result (λ c. as_client c ≡ client_in self.now) }
@@ -123,27 +101,6 @@ impl ContextHandle {
                 != self.recipient[..usize::from(self.recipient_len)]
     }
 
-    /// Returns the identifier by which requests name the context at its server.
-    #[must_use]
-    pub fn kid(&self) -> &[u8]
-        requires { IsContext self.now }
-        ensures { result.now ≡ (server_in self.now).client }
-    {
-        &self.recipient[..usize::from(self.recipient_len)]
-    }
-
-    /// Returns the ID Context, if there is one.
-    #[must_use]
-    pub fn kid_context(&self) -> Option<&[u8]>
-        requires { IsContext self.now }
-        ensures { option_map (λ bytes. bytes.now) result ≡ (server_in self.now).id_context }
-    {
-        if self.id_context_len == 0 {
-            return None;
-        }
-        Some(&self.id_context[..usize::from(self.id_context_len)])
-    }
-
     /// Returns whether requests with this kid, and with this kid context or none, are for the context at its server.
     #[must_use]
     pub fn answers_to(&self, kid: &[u8], kid_context: Option<&[u8]>) -> bool
@@ -157,14 +114,6 @@ impl ContextHandle {
             None => id_context.is_empty(),
         };
         same && &self.recipient[..usize::from(self.recipient_len)] == kid
-    }
-
-    /// Returns whether both contexts have the same Sender Key.
-    #[must_use]
-    pub fn has_sender_of(&self, other: &ContextHandle) -> bool
-        ensures { IsTrue result ↔ HaveSameSender (server_in self.now) (server_in other.now) }
-    {
-        is_same_key(&self.sender_key, &other.sender_key)
     }
 }
 

@@ -1,9 +1,8 @@
-pub mod ClientHistories
-pub mod ClientPlaces
+pub mod PendingPlaces
 pub mod Tables
 pub mod Bits
 pub mod Waits
-pub mod Senders
 pub mod Servers
 pub mod Singles
-pub mod Plainness
+pub mod NumberSteps
+pub mod ServerSteps

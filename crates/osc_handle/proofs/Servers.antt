@@ -1,14 +1,11 @@
 -- A server in bytes after each call. s and t are the bytes before and after, h is the history.
-use Rattle.std.proofs.Common.{◌≡◌, ◌≢◌, ◌∙◌, ◌<◌, ◌≤◌, ◌+◌, sym, ap, subst, refl, arith, ℕ, zero, suc, Bool, true, false, not, ◌&&◌, ◌==◌, List, [], ◌∷◌, ◌++◌, Option, Some, None, IfSome, Result, Ok, Err, length, take, slice_set, if◌then◌else◌}
+use Rattle.std.proofs.Common.{◌≡◌, ◌≢◌, ◌∙◌, ◌<◌, ◌≤◌, sym, ap, subst, refl, arith, ℕ, zero, suc, Bool, true, false, not, ◌&&◌, ◌==◌, List, [], ◌∷◌, Option, Some, None, Result, Ok, Err, length, take, slice_set, if◌then◌else◌}
 use Rattle.std.specs.Prelude.{OnErr, slice_get}
 use Rattle.std.specs.Option.{option_map}
-use Rattle.std.proofs.lemmas.Bool.{both_ways, cond-false, cond-true, eq-eqb, eqb-true, ne_eqb}
-use Rattle.std.proofs.lemmas.Option.{same_Some}
+use Rattle.std.proofs.lemmas.Bool.{both_ways, cond-false, eq-eqb, eqb-true, ne_eqb}
+use Rattle.std.proofs.lemmas.Option.{none-some, slice_get_within}
 use Rattle.osc_coap.specs.Datagram.{Parts}
 use Rattle.osc_coap.specs.declared.message.Kind.{Kind}
-use Rattle.osc_context.specs.SecurityContext.{SecurityContext}
-use Rattle.osc_context.specs.Views.{as_server}
-use Rattle.osc_protect.specs.Views.{context_of}
 use Rattle.osc_window.specs.declared.window_size.WindowSize.{WindowSize}
 use Rattle.osc_endpoint.proofs.Additions.{agrees_added}
 use Rattle.osc_endpoint.proofs.Decisions.{agrees_notified, agrees_replied}
@@ -18,62 +15,37 @@ use Rattle.osc_endpoint.specs.Agrees.{Agrees, PlaceAgrees, TableAgrees, server_o
 use Rattle.osc_life.specs.Agrees.{HoldsLife, SlotAgrees}
 use Rattle.osc_endpoint.specs.Deciding.{DecidesTo}
 use Rattle.osc_laws.specs.Laws.{AllAnswers}
-use Rattle.osc_life.specs.Life.{Answered, Life, born, marked, renewed}
+use Rattle.osc_life.specs.Life.{Answered, Life, born, marked}
 use Rattle.osc_life.specs.Replies.{as_reply}
 use Rattle.osc_life.specs.Replying.{reply_mark}
-use Rattle.osc_endpoint.specs.Restarting.{lives_after}
 use Rattle.osc_laws.specs.Senders.{SendersDiffer}
-use Rattle.osc_endpoint.specs.ServerAnswer.{HaveSameLookup, IsContext, IsPresent, IsTaken, ReplyAnswer, ServerAnswer}
-use Rattle.osc_life.specs.LifeAnswer.{LifeNotify, LifeReply, LifeRestart, as_notification}
+use Rattle.osc_endpoint.specs.ServerAnswer.{IsContext, IsPresent, IsTaken, ReplyAnswer, ServerAnswer}
+use Rattle.osc_life.specs.LifeAnswer.{LifeNotify, LifeReply, as_notification}
 use Rattle.osc_life.specs.ServerHistory as server
-use Rattle.osc_endpoint.specs.Table.{FindsAt, context_of_place}
-use Rattle.osc_endpoint.specs.Views.{entry_of_add}
 use Rattle.osc_life.specs.Views.{reply_entry}
-use Rattle.osc_laws.specs.Waiting.{AnswersWaiting, WaitingHasLife, waits}
+use Rattle.osc_laws.specs.Waiting.{AnswersWaiting, waits}
 use Rattle.osc_life.specs.declared.decision.Decided.{Decided}
-use Rattle.osc_life.specs.declared.server_error.AddError.TheVariants.{Full, SameLookup}
 use Rattle.osc_life.specs.declared.server_error.ReplyError.{ReplyError}
-use Rattle.osc_life.specs.declared.server_error.RestartError.{RestartError}
 use Rattle.osc_life.specs.declared.server_error.ReplyError.TheVariants as replies
 use Rattle.osc_life.specs.declared.slot.Slot.{Slot}
 use Rattle.osc_life.specs.declared.start.Fresh.{Fresh}
 use Rattle.osc_life.specs.declared.start.Start.{Start}
-use Rattle.osc_life.specs.declared.start.Start.TheVariants as starts
-use Rattle.osc_handle.proofs.Senders.{sender_in_bytes, sender_there}
-use Rattle.osc_handle.proofs.Tables.{bytes_of, in_front, life_past, life_there}
-use Rattle.osc_handle.proofs.Waits.{none_waits_new, none_waits_next, remembers_begun, remembers_notified, remembers_replied, remembers_took}
+use Rattle.osc_handle.proofs.Tables.{alone, life_there}
+use Rattle.osc_handle.proofs.Waits.{remembers_begun, remembers_notified, remembers_replied, remembers_took}
 use Rattle.osc_context_handle.specs.ContextBytes.{IsContext as IsContextBytes, server_in}
 use Rattle.osc_handle.specs.Held.{held}
 use Rattle.osc_handle.specs.Noting.{Notes}
 use Rattle.osc_handle.specs.ServerBytes.{AddsIn, DecidesIn, Remembers, RemembersAt, RemembersLife, NotifiesIn, RepliesIn, Serves}
 use Rattle.osc_handle.specs.SlotBytes.{IsSlotIn}
-use Rattle.osc_handle.specs.TableBytes.{IsPlaceIn, IsTableIn, bytes_at, places_in}
-use Rattle.osc_handle.specs.TableSteps.{ChangesAt, GrowsBy, HasSenderIn, RefusesToAdd, is_present_in, life_in}
+use Rattle.osc_handle.specs.TableBytes.{IsPlaceIn, IsTableIn}
+use Rattle.osc_handle.specs.TableSteps.{ChangesAt, is_present_in, life_in}
 use Rattle.osc_handle.specs.UnansweredBytes.{holds}
-use Rattle.osc_endpoint.specs.Senders.{IsSameSender}
-use Rattle.osc_endpoint.specs.declared.add_refusal.AddRefusal.{AddRefusal}
-use Rattle.osc_endpoint.specs.declared.add_refusal.AddRefusal.TheVariants.{Refused as NotAddedBy, SameSender}
 use Rattle.osc_context_handle.specs.declared.context_handle.ContextHandle.{ContextHandle}
-use Rattle.osc_handle.specs.declared.contexts_handle.ContextsHandle.{ContextsHandle}
-use Rattle.osc_handle.specs.declared.server_handle.ServerHandle.{ServerHandle}
+use Rattle.osc_handle.specs.ServerParts.{ServerParts}
 use Rattle.osc_handle.specs.declared.slot_handle.SlotHandle.{SlotHandle}
 use Rattle.osc_handle.specs.declared.unanswered_handle.UnansweredHandle.{UnansweredHandle}
 
--- ---- the first
-
-pub serves_new : (s : ServerHandle) → s.clock ≡ 0 → s.contexts.count ≡ 0 → Serves s server.Begin
-serves_new s clock count =
-    record {
-      slots = [];
-      table = record { at = λ i. subst (λ n. IsPlaceIn (slice_get (take n s.contexts.slots) i) None) (sym count) tt };
-      agrees = record { clock_is = clock; contexts = refl; places = record { at = λ i. tt }; one_each = contexts_differ server.Begin tt };
-      remembers = record { at = λ i u e. tt };
-      answers = tt;
-      waiting = tt;
-      senders = tt;
-    }
-
--- ---- a context that is added
+-- ---- the one context
 
 taken_len : (xs : List ℕ) (n : ℕ) → length (take n xs) ≤ n
 taken_len [] zero = omega arith
@@ -89,80 +61,24 @@ usable c h =
     let also = h.sender_fits in
     record { client = omega (arith, client, most); server = omega (arith, own, also); differ = λ e. h.differ (sym e) }
 
--- the bytes of a context of a life
-found_bytes_of : (t : ContextsHandle) (slots : List (Option Slot)) (i : ℕ) (p : Option Slot) (of : Life) (s : SecurityContext) → IsTableIn t slots → slice_get slots i ≡ Some p → HoldsLife p of
-    → HaveSameLookup of.context s → FindsAt (bytes_at t) i s.client s.id_context
-found_bytes_of t slots i None of s h at holds same = absurd holds
-found_bytes_of t slots i (Some slot) of s h at holds same =
-    record {
-      context = as_server (context_of slot.context);
-      there = held t slots i h ∙ ap context_of_place at;
-      answers = (ap (λ (c : SecurityContext). c.client) holds.context ∙ same.0, ap (λ (c : SecurityContext). c.id_context) holds.context ∙ same.1);
-    }
-
-not_taken : (t : ContextsHandle) (slots : List (Option Slot)) (h : server.History) (s : SecurityContext) → IsTableIn t slots → TableAgrees slots (server.life h)
-    → ((i : ℕ) → FindsAt (bytes_at t) i s.client s.id_context → ⊥) → IsTaken h s → ⊥
-not_taken t slots h s table agrees none (i, of, is, same) =
-    let (p, at, holds) = slot_at slots (server.life h) i of agrees is in
-    none i (found_bytes_of t slots i p of s table at holds same)
-
-taken : (t : ContextsHandle) (slots : List (Option Slot)) (h : server.History) (s : SecurityContext) (i : ℕ) → IsTableIn t slots → TableAgrees slots (server.life h)
-    → FindsAt (bytes_at t) i s.client s.id_context → IsTaken h s
-taken t slots h s i table agrees found =
-    let (b, there, same) = bytes_of t i found.context found.there in
-    let (of, is, slot, made, stands) = life_there t slots (server.life h) i b table agrees there in
-    let context : of.context ≡ found.context = sym stands.context ∙ (made.context ∙ same) in
-    (i, of, is, (ap (λ (c : SecurityContext). c.client) context ∙ found.answers.0, ap (λ (c : SecurityContext). c.id_context) context ∙ found.answers.1))
-
-lengths : (bs : List SlotHandle) (ps : List (Option Slot)) → ((i : ℕ) → IsPlaceIn (slice_get bs i) (slice_get ps i)) → length bs ≡ length ps
-lengths [] [] h = refl
-lengths [] (p ∷ ps) h = absurd (h 0)
-lengths (b ∷ bs) [] h = absurd (h 0)
-lengths (b ∷ bs) (p ∷ ps) h = ap suc (lengths bs ps (λ i. h (suc i)))
-
-taken_all : (xs : List SlotHandle) (n : ℕ) → n ≤ length xs → length (take n xs) ≡ n
-taken_all xs zero h = refl
-taken_all [] (suc n) h = absurd (omega (arith, h))
-taken_all (x ∷ xs) (suc n) h = ap suc (taken_all xs n (omega (arith, h)))
-
--- as many contexts were added as there are places in use
-count_added : (s : ServerHandle) (h : server.History) → Serves s h → s.contexts.count ≤ length s.contexts.slots → s.contexts.count ≡ server.added h
-count_added s h serves room =
-    sym (taken_all s.contexts.slots s.contexts.count room) ∙ (lengths (places_in s.contexts) serves.slots serves.table.at ∙ serves.agrees.contexts)
-
-born_count : (s : SecurityContext) (start : Start) (size : WindowSize) → (born s start size).count ≡ 0
-born_count s (starts.Fresh n) size = refl
-born_count s (starts.Restarted n) size = refl
-born_count s (starts.Received n highest) size = refl
-born_count s (starts.Reserved n highest ahead) size = refl
-
-pub serves_added : WaitingHasLife → (s t : ServerHandle) (h : server.History) (context : ContextHandle) (start : Start) (size : WindowSize) (index : ℕ) (u : UnansweredHandle)
-    → Serves s h → IsContextBytes context → s.contexts.count ≤ length s.contexts.slots → index ≡ s.contexts.count → index < 8
-    → ((i : ℕ) → FindsAt (bytes_at s.contexts) i (server_in context).client (server_in context).id_context → ⊥) → (HasSenderIn s.contexts (server_in context) → ⊥)
-    → ((slots : List (Option Slot)) → IsTableIn s.contexts slots → GrowsBy slots (born (server_in context) start size) t.contexts)
-    → ((n : ℕ) → holds u n ≡ false) → u.highest ≡ 0 → t.clock ≡ s.clock → t.unanswered ≡ slice_set s.unanswered index u
-    → AddsIn h (server_in context) start size (server.Added index) t
-serves_added law s t h context start size index u serves bytes room is less none apart grows bare low clock numbers =
+-- the one context was added to none
+pub serves_begun : (context : ContextHandle) (start : Start) (size : WindowSize) (b : SlotHandle) (u : UnansweredHandle) (slot : Slot) → IsContextBytes context → IsSlotIn b slot
+    → SlotAgrees slot (born (server_in context) start size) → ((n : ℕ) → holds u n ≡ false) → u.highest ≡ 0
+    → AddsIn server.Begin (server_in context) start size (server.Added 0) (record { clock = 0; contexts = b ∷ []; unanswered = u ∷ [] })
+serves_begun context start size b u slot bytes is begins bare low =
     let c = server_in context in
-    let g = server.Then h (server.Add c start size) (server.Added index) in
-    let added_is : index ≡ server.added h = is ∙ count_added s h serves room in
-    let free : IsTaken h c → ⊥ = not_taken s.contexts serves.slots h c serves.table serves.agrees.places none in
-    let row : ServerAnswer h (server.Add c start size) (server.Added index) = (usable context bytes, (subst (λ n. n < 8) added_is less, free, added_is)) in
-    let (slot, begins, table) = grows serves.slots serves.table in
-    let past : server.life h index ≡ None = life_past s.contexts serves.slots (server.life h) index serves.table serves.agrees.places (omega (arith, is)) in
-    let here : server.life g index ≡ Some (born c start size) = cond-true (index == index) (Some (born c start size)) (server.life h index) (eq-eqb index index refl) in (
+    let free : IsTaken server.Begin c → ⊥ = λ x. none-some x.1 x.2 in
+    let row : ServerAnswer server.Begin (server.Add c start size) (server.Added 0) = (usable context bytes, (omega arith, free, refl)) in
+    let none : Agrees (server_of 0 []) server.Begin = record { clock_is = refl; contexts = refl; places = record { at = λ i. tt }; one_each = contexts_differ server.Begin tt } in (
       row,
       record {
-        slots = serves.slots ++ Some slot ∷ [];
-        table = table;
-        agrees = agrees_added (server_of s.clock serves.slots) (server_of t.clock (serves.slots ++ Some slot ∷ [])) h c start size slot index serves.agrees free clock (added_is ∙ sym serves.agrees.contexts) refl begins;
-        remembers = subst (λ us. Remembers us g) (sym numbers)
-            (remembers_begun s.unanswered h g index u bare low (λ j c n. refl)
-            (λ of e n. none_waits_new law h serves.answers index of.count n past)
-            (λ j other. cond-false (j == index) (Some (born c start size)) (server.life h j) (ne_eqb j index other)) serves.remembers);
-        answers = (serves.answers, row);
-        waiting = serves.waiting;
-        senders = (serves.senders, λ same. apart (sender_in_bytes s.contexts serves.slots h c serves.table serves.agrees.places same));
+        slots = Some slot ∷ [];
+        table = alone b slot is;
+        agrees = agrees_added (server_of 0 []) (server_of 0 (Some slot ∷ [])) server.Begin c start size slot 0 none free refl refl refl begins;
+        remembers = remembers_begun u c start size bare low;
+        answers = (tt, row);
+        waiting = tt;
+        senders = (tt, λ same. none-some same.1 same.2);
       },
     )
 
@@ -182,7 +98,7 @@ same_remembered : (u : UnansweredHandle) (o : Option Life) (w x : ℕ → ℕ �
 same_remembered u None w x same r = tt
 same_remembered u (Some of) w x same r = record { held = λ n. r.held n ∙ sym (same of.count n); reach = r.reach }
 
-serves_still : (s : ServerHandle) (h g : server.History) → Leaves h g → AllAnswers g → AnswersWaiting g → SendersDiffer g → Serves s h → Serves s g
+serves_still : (s : ServerParts) (h g : server.History) → Leaves h g → AllAnswers g → AnswersWaiting g → SendersDiffer g → Serves s h → Serves s g
 serves_still s h g same answers waiting senders serves =
     record {
       slots = serves.slots;
@@ -202,12 +118,12 @@ serves_still s h g same answers waiting senders serves =
     }
 
 -- the contexts may be written once more as they were
-pub serves_same : (s : ServerHandle) (contexts : ContextsHandle) (h : server.History) → contexts ≡ s.contexts → Serves s h
+pub serves_same : (s : ServerParts) (contexts : List SlotHandle) (h : server.History) → contexts ≡ s.contexts → Serves s h
     → Serves (record { clock = s.clock; contexts = contexts; unanswered = s.unanswered }) h
 serves_same s contexts h same serves =
     record {
       slots = serves.slots;
-      table = subst (λ (x : ContextsHandle). IsTableIn x serves.slots) (sym same) serves.table;
+      table = subst (λ (x : List SlotHandle). IsTableIn x serves.slots) (sym same) serves.table;
       agrees = serves.agrees;
       remembers = serves.remembers;
       answers = serves.answers;
@@ -215,86 +131,9 @@ serves_same s contexts h same serves =
       senders = serves.senders;
     }
 
--- why a context isn't added, in the bytes and after the history
-pub serves_not_added : (s : ServerHandle) (contexts : ContextsHandle) (h : server.History) (context : ContextHandle) (start : Start) (size : WindowSize) (e : AddRefusal) → contexts ≡ s.contexts → Serves s h
-    → IsContextBytes context → s.contexts.count ≤ length s.contexts.slots → s.contexts.count ≤ 8 → RefusesToAdd s.contexts (server_in context) e
-    → IfSome (entry_of_add (Err e)) (λ entry. AddsIn h (server_in context) start size entry (record { clock = s.clock; contexts = contexts; unanswered = s.unanswered }))
-serves_not_added s contexts h context start size (NotAddedBy Full) same serves bytes room most refuses =
-    let row : ServerAnswer h (server.Add (server_in context) start size) (server.NotAdded Full) = (usable context bytes, let count = count_added s h serves room in omega (arith, count, refuses)) in
-    (row, serves_same s contexts _ same (serves_still s h _ (record { clock = refl; added = refl; lives = λ i. refl; waiting = λ i c n. refl }) (serves.answers, row) serves.waiting serves.senders serves))
-serves_not_added s contexts h context start size (NotAddedBy SameLookup) same serves bytes room most (more, i, found) =
-    let count = count_added s h serves room in
-    let row : ServerAnswer h (server.Add (server_in context) start size) (server.NotAdded SameLookup) = (
-      usable context bytes,
-      (omega (arith, count, more, most), taken s.contexts serves.slots h (server_in context) i serves.table serves.agrees.places found),
-    ) in
-    (row, serves_same s contexts _ same (serves_still s h _ (record { clock = refl; added = refl; lives = λ i. refl; waiting = λ i c n. refl }) (serves.answers, row) serves.waiting serves.senders serves))
-serves_not_added s contexts h context start size SameSender same serves bytes room most refuses = tt
-
-pub same_sender : (s : ServerHandle) (h : server.History) (context : ContextHandle) (e : AddRefusal) → Serves s h → s.contexts.count ≤ length s.contexts.slots → s.contexts.count ≤ 8
-    → RefusesToAdd s.contexts (server_in context) e → e ≡ SameSender → IsSameSender h (server_in context)
-same_sender s h context e serves room most refuses is =
-    let (more, none, same) = subst (RefusesToAdd s.contexts (server_in context)) is refuses in
-    let count = count_added s h serves room in (
-      omega (arith, count, more, most),
-      not_taken s.contexts serves.slots h (server_in context) serves.table serves.agrees.places none,
-      sender_there s.contexts serves.slots h (server_in context) serves.table serves.agrees.places same,
-    )
-
-pub sender_refused : (s : ServerHandle) (h : server.History) (context : ContextHandle) (e : AddRefusal) → Serves s h → s.contexts.count ≤ length s.contexts.slots
-    → RefusesToAdd s.contexts (server_in context) e → IsSameSender h (server_in context) → e ≡ SameSender
-sender_refused s h context (NotAddedBy Full) serves room refuses same = absurd (let count = count_added s h serves room in let less = same.0 in omega (arith, count, refuses, less))
-sender_refused s h context (NotAddedBy SameLookup) serves room (more, i, found) same =
-    absurd (same.1 (taken s.contexts serves.slots h (server_in context) i serves.table serves.agrees.places found))
-sender_refused s h context SameSender serves room refuses same = refl
-
--- ---- a restart
-
-life_some : (o : Option Life) → LifeRestart o server.Restarted → (of : Life) × (o ≡ Some of)
-life_some None row = absurd row
-life_some (Some of) row = (of, refl)
-
-pub serves_restarted : WaitingHasLife → (s t : ServerHandle) (h : server.History) (context next : ℕ) (u : UnansweredHandle) → Serves s h
-    → LifeRestart (server.life h context) server.Restarted
-    → ((slots : List (Option Slot)) (lives : ℕ → Option Life) → IsTableIn s.contexts slots → TableAgrees slots lives
-    → (new : List (Option Slot)) × IsTableIn t.contexts new × (length new ≡ length slots) × TableAgrees new (lives_after (Ok tt) context next lives))
-    → ((n : ℕ) → holds u n ≡ false) → u.highest ≡ 0 → t.clock ≡ s.clock → t.unanswered ≡ slice_set s.unanswered context u
-    → ServerAnswer h (server.Restart context next) server.Restarted × Serves t (server.Then h (server.Restart context next) server.Restarted)
-serves_restarted law s t h context next u serves row kept bare low clock numbers =
-    let g = server.Then h (server.Restart context next) server.Restarted in
-    let (new, table, len, agrees) = kept serves.slots (server.life h) serves.table serves.agrees.places in
-    let (of, there) = life_some (server.life h context) row in
-    let here : server.life g context ≡ Some (renewed next of) =
-    cond-true (context == context) (option_map (renewed next) (server.life h context)) (server.life h context) (eq-eqb context context refl) ∙ ap (option_map (renewed next)) there in (
-      row,
-      record {
-        slots = new;
-        table = table;
-        agrees = record {
-          clock_is = clock ∙ serves.agrees.clock_is;
-          contexts = len ∙ serves.agrees.contexts;
-          places = agrees;
-          one_each = contexts_differ g (serves.answers, row);
-        };
-        remembers = subst (λ us. Remembers us g) (sym numbers)
-            (remembers_begun s.unanswered h g context u bare low (λ j c n. refl)
-            (λ l e n. let same : l.count ≡ of.count + 1 = ap (λ (x : Life). x.count) (same_Some l (renewed next of) (sym e ∙ here)) in
-            subst (λ c. waits h context c n ≡ false) (sym same) (none_waits_next law h serves.answers context n of there))
-            (λ j other. cond-false (j == context) (option_map (renewed next) (server.life h j)) (server.life h j) (ne_eqb j context other)) serves.remembers);
-        answers = (serves.answers, row);
-        waiting = serves.waiting;
-        senders = serves.senders;
-      },
-    )
-
-pub serves_not_restarted : (s : ServerHandle) (h : server.History) (context next : ℕ) (e : RestartError) → Serves s h → LifeRestart (server.life h context) (server.NotRestarted e)
-    → ServerAnswer h (server.Restart context next) (server.NotRestarted e) × Serves s (server.Then h (server.Restart context next) (server.NotRestarted e))
-serves_not_restarted s h context next e serves row =
-    (row, serves_still s h _ (record { clock = refl; added = refl; lives = λ i. refl; waiting = λ i c n. refl }) (serves.answers, row) serves.waiting serves.senders serves)
-
 -- ---- a datagram
 
-pub serves_took : (s t : ServerHandle) (h : server.History) (now : ℕ) (fresh : Fresh) (d new reply : List ℕ) (decided : Decided) (clock : ℕ) (contexts : ContextsHandle) → Serves s h
+pub serves_took : (s t : ServerParts) (h : server.History) (now : ℕ) (fresh : Fresh) (d new reply : List ℕ) (decided : Decided) (clock : ℕ) (contexts : List SlotHandle) → Serves s h
     → ((g : server.History) (slots : List (Option Slot)) → IsTableIn s.contexts slots → Agrees (server_of s.clock slots) g
     → (after : List (Option Slot)) × IsTableIn contexts after × DecidesTo g now fresh d decided new reply (server_of clock after))
     → t.clock ≡ clock → t.contexts ≡ contexts → Notes s.unanswered t.unanswered decided.decision → DecidesIn h now fresh d decided.decision new reply t
@@ -306,7 +145,7 @@ serves_took s t h now fresh d new reply decided clock contexts serves decides cl
       decides = to.decides;
       serves = record {
         slots = after;
-        table = subst (λ (x : ContextsHandle). IsTableIn x after) (sym contexts_are) table;
+        table = subst (λ (x : List SlotHandle). IsTableIn x after) (sym contexts_are) table;
         agrees = subst (λ n. Agrees (server_of n after) (server.Then h (server.Datagram now fresh.echo fresh.mid d) (server.Took to.answer reply))) (sym clock_is) to.agrees;
         remembers = remembers_took s.unanswered t.unanswered h now fresh.mid fresh.echo d new decided.decision to.answer reply to.row to.decides notes serves.remembers;
         answers = (serves.answers, to.row);
@@ -318,16 +157,16 @@ serves_took s t h now fresh d new reply decided clock contexts serves decides cl
 -- ---- a reply
 
 -- whether the life of a ticket is the present one
-present_of : (t : ContextsHandle) (slots : List (Option Slot)) (lives : ℕ → Option Life) (i life : ℕ) (o : Option SlotHandle) → IsTableIn t slots → TableAgrees slots lives → slice_get (places_in t) i ≡ o
+present_of : (t : List SlotHandle) (slots : List (Option Slot)) (lives : ℕ → Option Life) (i life : ℕ) (o : Option SlotHandle) → IsTableIn t slots → TableAgrees slots lives → slice_get t i ≡ o
     → life_in o life ≡ true → (of : Life) × (lives i ≡ Some of) × (life ≡ of.count)
 present_of t slots lives i life None h agrees there e = absurd (both_ways false refl e)
 present_of t slots lives i life (Some b) h agrees there e =
     let (of, is, s, made, stands) = life_there t slots lives i b h agrees there in
     (of, is, sym (eqb-true b.life life e) ∙ (made.life ∙ stands.life))
 
-pub is_there : (s : ServerHandle) (h : server.History) (t : server.TicketValues) → Serves s h → is_present_in s.contexts t.context t.life ≡ true → (of : Life) × IsPresent h t of
+pub is_there : (s : ServerParts) (h : server.History) (t : server.TicketValues) → Serves s h → is_present_in s.contexts t.context t.life ≡ true → (of : Life) × IsPresent h t of
 is_there s h t serves e =
-    let (of, is, count) = present_of s.contexts serves.slots (server.life h) t.context t.life (slice_get (places_in s.contexts) t.context) serves.table serves.agrees.places refl e in
+    let (of, is, count) = present_of s.contexts serves.slots (server.life h) t.context t.life (slice_get s.contexts t.context) serves.table serves.agrees.places refl e in
     (of, (is, count))
 
 absent_of : (o : Option SlotHandle) (p : Option (Option Slot)) (slot : Slot) (life : ℕ) → IsPlaceIn o p → p ≡ Some (Some slot) → life ≡ slot.life → life_in o life ≡ true
@@ -338,31 +177,28 @@ held_slot : (p : Option Slot) (of : Life) → HoldsLife p of → (s : Slot) × (
 held_slot None of h = absurd h
 held_slot (Some s) of h = (s, refl, h)
 
-pub is_absent : (s : ServerHandle) (h : server.History) (t : server.TicketValues) → Serves s h → is_present_in s.contexts t.context t.life ≡ false → (of : Life) → IsPresent h t of → ⊥
+pub is_absent : (s : ServerParts) (h : server.History) (t : server.TicketValues) → Serves s h → is_present_in s.contexts t.context t.life ≡ false → (of : Life) → IsPresent h t of → ⊥
 is_absent s h t serves e of present =
     let (p, at, holds) = slot_at serves.slots (server.life h) t.context of serves.agrees.places present.0 in
     let (slot, is, stands) = held_slot p of holds in
     both_ways (is_present_in s.contexts t.context t.life) e
-    (absent_of (slice_get (places_in s.contexts) t.context) (slice_get serves.slots t.context) slot t.life (serves.table.at t.context) (at ∙ ap Some is) (present.1 ∙ sym stands.life))
+    (absent_of (slice_get s.contexts t.context) (slice_get serves.slots t.context) slot t.life (serves.table.at t.context) (at ∙ ap Some is) (present.1 ∙ sym stands.life))
 
-used_of : (t : ContextsHandle) (i life : ℕ) (o : Option SlotHandle) → slice_get (places_in t) i ≡ o → life_in o life ≡ true → i < t.count
+used_of : (t : List SlotHandle) (i life : ℕ) (o : Option SlotHandle) → slice_get t i ≡ o → life_in o life ≡ true → i < length t
 used_of t i life None there e = absurd (both_ways false refl e)
-used_of t i life (Some b) there e = (in_front t.slots t.count i b there).0
+used_of t i life (Some b) there e = slice_get_within t i b there
 
-pub present_used : (t : ContextsHandle) (i life : ℕ) → is_present_in t i life ≡ true → i < t.count
-present_used t i life e = used_of t i life (slice_get (places_in t) i) refl e
+pub present_used : (t : List SlotHandle) (i life : ℕ) → is_present_in t i life ≡ true → i < length t
+present_used t i life e = used_of t i life (slice_get t i) refl e
 
 -- what waits for an answer, by its bit
-pub bit_says : (s : ServerHandle) (h : server.History) (t : server.TicketValues) (of : Life) (u : UnansweredHandle) → Serves s h → IsPresent h t of → slice_get s.unanswered t.context ≡ Some u
+pub bit_says : (s : ServerParts) (h : server.History) (t : server.TicketValues) (of : Life) (u : UnansweredHandle) → Serves s h → IsPresent h t of → slice_get s.unanswered t.context ≡ Some u
     → holds u t.number ≡ waits h t.context t.life t.number
 bit_says s h t of u serves present there =
     let r : RemembersLife u of (waits h t.context of.count) = subst (λ o. RemembersAt u o (waits h t.context)) present.0 (serves.remembers.at t.context u there) in
     r.held t.number ∙ ap (λ c. waits h t.context c t.number) (sym present.1)
 
-stale_row : (h : server.History) (t : server.TicketValues) (own : Bool) (p : Parts) (room : ℕ) → ((of : Life) → IsPresent h t of → ⊥) → ReplyAnswer h t own p room (server.NotReplied replies.StaleTicket)
-stale_row h t own p room none = none
-
-pub serves_stale : (s : ServerHandle) (h : server.History) (t : server.TicketValues) (own : Bool) (mid room : ℕ) (plain : Parts) → Serves s h → ((of : Life) → IsPresent h t of → ⊥)
+pub serves_stale : (s : ServerParts) (h : server.History) (t : server.TicketValues) (own : Bool) (mid room : ℕ) (plain : Parts) → Serves s h → ((of : Life) → IsPresent h t of → ⊥)
     → RepliesIn h t own mid plain room (server.NotReplied replies.StaleTicket) s
 serves_stale s h t own mid room plain serves none =
     (none, serves_still s h _ (record { clock = refl; added = refl; lives = λ i. refl; waiting = λ i c n. refl }) (serves.answers, none) serves.waiting serves.senders serves)
@@ -377,7 +213,7 @@ reply_as of own mid room plain entry n number k kind m message_id bytes token a 
     (subst (λ x. LifeReply of n own (as_reply k x token mid plain) room entry) c (subst (λ x. LifeReply of n own (as_reply k m x mid plain) room entry) d row)))
 
 -- the same reply, where it is known otherwise whether it asks for a Partial IV of its own
-pub asked_as : (h : server.History) (t : server.TicketValues) (own asked : Bool) (mid room : ℕ) (plain : Parts) (entry : server.Entry) (s : ServerHandle) → asked ≡ own → RepliesIn h t asked mid plain room entry s
+pub asked_as : (h : server.History) (t : server.TicketValues) (own asked : Bool) (mid room : ℕ) (plain : Parts) (entry : server.Entry) (s : ServerParts) → asked ≡ own → RepliesIn h t asked mid plain room entry s
     → RepliesIn h t own mid plain room entry s
 asked_as h t own asked mid room plain entry s e r = subst (λ o. RepliesIn h t o mid plain room entry s) e r
 
@@ -394,7 +230,7 @@ refused_row h t own p room of replies.SequenceExhausted present row = (of, prese
 refused_row h t own p room of replies.TooLong present row = (of, present, row)
 refused_row h t own p room of replies.NoRoom present row = (of, present, row)
 
-pub serves_not_replied : (s : ServerHandle) (h : server.History) (t : server.TicketValues) (own : Bool) (mid room : ℕ) (plain : Parts) (of : Life) (e : ReplyError) → Serves s h → IsPresent h t of
+pub serves_not_replied : (s : ServerParts) (h : server.History) (t : server.TicketValues) (own : Bool) (mid room : ℕ) (plain : Parts) (of : Life) (e : ReplyError) → Serves s h → IsPresent h t of
     → LifeReply of t.number own (as_reply t.kind t.message_id t.token mid plain) room (server.NotReplied e) → RepliesIn h t own mid plain room (server.NotReplied e) s
 serves_not_replied s h t own mid room plain of e serves present reply =
     let row = refused_row h t own (as_reply t.kind t.message_id t.token mid plain) room of e present reply in
@@ -416,7 +252,7 @@ mark_here t own = ap (λ b. if b then Some Answered else None) (and_true own (t.
 mark_other : (t : server.TicketValues) (own : Bool) (j : ℕ) → j ≢ t.context → server.reply_mark_at j t own ≡ None
 mark_other t own j other = cond-false (own && (j == t.context)) (Some Answered) None (and_false own (j == t.context) (ne_eqb j t.context other))
 
-pub serves_replied : (s t : ServerHandle) (h : server.History) (ticket : server.TicketValues) (own : Bool) (mid room : ℕ) (plain : Parts) (bytes : List ℕ) (of : Life) (u v : UnansweredHandle) (n : ℕ)
+pub serves_replied : (s t : ServerParts) (h : server.History) (ticket : server.TicketValues) (own : Bool) (mid room : ℕ) (plain : Parts) (bytes : List ℕ) (of : Life) (u v : UnansweredHandle) (n : ℕ)
     → (serves : Serves s h) → IsPresent h ticket of → slice_get s.unanswered ticket.context ≡ Some u → holds u ticket.number ≡ true
     → LifeReply of ticket.number own (as_reply ticket.kind ticket.message_id ticket.token mid plain) room (server.Replied bytes)
     → ChangesAt serves.slots (server.life h) ticket.context (marked (reply_mark (Ok n) own) of) t.contexts
@@ -442,12 +278,12 @@ serves_replied s t h ticket own mid room plain bytes of u v n serves present the
 
 -- ---- a notification
 
-pub notify_stale : (s : ServerHandle) (h : server.History) (t : server.TicketValues) (room : ℕ) (plain : Parts) → Serves s h → ((of : Life) → IsPresent h t of → ⊥)
+pub notify_stale : (s : ServerParts) (h : server.History) (t : server.TicketValues) (room : ℕ) (plain : Parts) → Serves s h → ((of : Life) → IsPresent h t of → ⊥)
     → NotifiesIn h t plain room (server.NotReplied replies.StaleTicket) s
 notify_stale s h t room plain serves none =
     (none, serves_still s h _ (record { clock = refl; added = refl; lives = λ i. refl; waiting = λ i c n. refl }) (serves.answers, none) serves.waiting serves.senders serves)
 
-pub notify_unobserved : (s : ServerHandle) (h : server.History) (t : server.TicketValues) (room : ℕ) (plain : Parts) (of : Life) → Serves s h → IsPresent h t of → t.observes ≡ false
+pub notify_unobserved : (s : ServerParts) (h : server.History) (t : server.TicketValues) (room : ℕ) (plain : Parts) (of : Life) → Serves s h → IsPresent h t of → t.observes ≡ false
     → NotifiesIn h t plain room (server.NotReplied replies.NotObserving) s
 notify_unobserved s h t room plain of serves present not_so =
     let row : ServerAnswer h (server.Notify t plain room) (server.NotReplied replies.NotObserving) = (of, present, not_so) in
@@ -473,7 +309,7 @@ unsent_row h t plain room of replies.TooLong present so row = (so, (of, present,
 unsent_row h t plain room of replies.NoRoom present so row = (so, (of, present, row))
 
 -- what the ticket's life answers to a notification, after the history and in the bytes
-pub serves_notified : (s : ServerHandle) (contexts : ContextsHandle) (h : server.History) (t : server.TicketValues) (room : ℕ) (plain : Parts) (out : List ℕ) (r : Result ℕ ReplyError) (of : Life)
+pub serves_notified : (s : ServerParts) (contexts : List SlotHandle) (h : server.History) (t : server.TicketValues) (room : ℕ) (plain : Parts) (out : List ℕ) (r : Result ℕ ReplyError) (of : Life)
     → (serves : Serves s h) → IsPresent h t of → t.observes ≡ true → LifeNotify of t.number (as_notification t.token plain) room (reply_entry r out)
     → ChangesAt serves.slots (server.life h) t.context (marked (reply_mark r true) of) contexts → OnErr r (contexts ≡ s.contexts)
     → NotifiesIn h t plain room (reply_entry r out) (record { clock = s.clock; contexts = contexts; unanswered = s.unanswered })

@@ -1,10 +1,9 @@
 -- The table of one context, and the list of one.
-use Rattle.std.proofs.Common.{◌≡◌, ◌<◌, ◌∷◌, [], ℕ, List, Option, Some, suc, zero, arith, refl, subst, sym, ap, ◌∙◌}
-use Rattle.std.specs.Prelude.{slice_get, slice_index_or, slice_set}
+use Rattle.std.proofs.Common.{◌≡◌, ◌<◌, ◌∷◌, [], ℕ, List, Option, Some, suc, zero, arith, refl, subst, sym, ap, ◌∙◌, Result, Ok, Err}
+use Rattle.std.specs.Prelude.{OnErr, slice_get, slice_index_or, slice_set}
 use Rattle.osc_life.specs.Life.{Life}
 use Rattle.osc_life.specs.declared.slot.Slot.{Slot}
 use Rattle.osc_handle.specs.TableSteps.{ChangesAt}
-use Rattle.osc_handle.specs.declared.contexts_handle.ContextsHandle.{ContextsHandle}
 use Rattle.osc_handle.specs.declared.slot_handle.SlotHandle.{SlotHandle}
 use Rattle.osc_handle.specs.declared.unanswered_handle.UnansweredHandle.{UnansweredHandle}
 
@@ -31,5 +30,10 @@ set_number u v (suc i) h = absurd (omega (arith, h))
 pub life_at_first : (lives : ℕ → Option Life) (i : ℕ) (l : Life) → i ≡ 0 → lives i ≡ Some l → lives 0 ≡ Some l
 life_at_first lives i l first is = ap lives (sym first) ∙ is
 
-pub changes_first : (slots : List (Option Slot)) (lives : ℕ → Option Life) (i : ℕ) (l : Life) (t : ContextsHandle) → i ≡ 0 → ChangesAt slots lives 0 l t → ChangesAt slots lives i l t
+pub changes_first : (slots : List (Option Slot)) (lives : ℕ → Option Life) (i : ℕ) (l : Life) (t : List SlotHandle) → i ≡ 0 → ChangesAt slots lives 0 l t → ChangesAt slots lives i l t
 changes_first slots lives i l t first changes = subst (λ k. ChangesAt slots lives k l t) (sym first) changes
+
+-- what holds where it is refused
+pub on_err : {A B : Type 0} → (r : Result A B) (P Q : Type 0) → (P → Q) → OnErr r P → OnErr r Q
+on_err (Ok x) P Q f h = tt
+on_err (Err e) P Q f h = f h

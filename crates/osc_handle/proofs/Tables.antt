@@ -1,5 +1,5 @@
 -- The bytes of a server's contexts, and what they stand for. t are the bytes of the table, b those of one context.
-use Rattle.std.proofs.Common.{◌≡◌, ◌≢◌, ◌∙◌, ◌<◌, ◌≤◌, sym, ap, ap₂, subst, refl, arith, ℕ, zero, suc, List, [], ◌∷◌, ◌++◌, ◌+◌, Option, Some, None, IfSome, IfNone, true, false, is_some, length, take, slice_set, slice_index_or, inl, inr}
+use Rattle.std.proofs.Common.{◌≡◌, ◌≢◌, ◌∙◌, ◌<◌, ◌≤◌, sym, ap, ap₂, subst, refl, arith, ℕ, zero, suc, List, [], ◌∷◌, Option, Some, None, length, slice_set, slice_index_or, inl, inr}
 use Rattle.std.specs.Prelude.{slice_get, unwrap_or}
 use Rattle.std.specs.Option.{option_map}
 use Rattle.std.proofs.lemmas.Bool.{cases_eq}
@@ -28,51 +28,10 @@ use Rattle.osc_life.specs.declared.judging.Named.{Named}
 use Rattle.osc_life.specs.declared.slot.Slot.{Slot}
 use Rattle.osc_context_handle.specs.ContextBytes.{server_in}
 use Rattle.osc_handle.specs.SingleServerBytes.{table_of}
-use Rattle.osc_handle.specs.SlotBytes.{HoldsIn, IsGateIn, IsHighestIn, IsSlotBytes, IsSlotIn}
-use Rattle.osc_handle.specs.TableBytes.{IsPlaceIn, IsTable, IsTableIn, bytes_at, places_in}
+use Rattle.osc_handle.specs.SlotBytes.{HoldsIn, IsGateIn, IsHighestIn, IsSlotIn}
+use Rattle.osc_handle.specs.TableBytes.{IsPlaceIn, IsTableIn, bytes_at}
 use Rattle.osc_handle.specs.TableSteps.{ChangesAt}
-use Rattle.osc_handle.specs.declared.contexts_handle.ContextsHandle.{ContextsHandle}
 use Rattle.osc_handle.specs.declared.slot_handle.SlotHandle.{SlotHandle}
-
--- an element of the front of a list, after another was written
-taken_set : {A : Type 0} → (xs : List A) (n i j : ℕ) (y : A) → j ≢ i → slice_get (take n (slice_set xs i y)) j ≡ slice_get (take n xs) j
-taken_set [] n i j y h = refl
-taken_set (x ∷ xs) zero i j y h = refl
-taken_set (x ∷ xs) (suc n) zero zero y h = absurd (h refl)
-taken_set (x ∷ xs) (suc n) zero (suc j) y h = refl
-taken_set (x ∷ xs) (suc n) (suc i) zero y h = refl
-taken_set (x ∷ xs) (suc n) (suc i) (suc j) y h = taken_set xs n i j y (λ e. h (ap suc e))
-
--- the element that was written
-taken_set_same : {A : Type 0} → (xs : List A) (n i : ℕ) (y x : A) → slice_get (take n xs) i ≡ Some x → slice_get (take n (slice_set xs i y)) i ≡ Some y
-taken_set_same [] zero i y x h = absurd (none-some x h)
-taken_set_same [] (suc n) i y x h = absurd (none-some x h)
-taken_set_same (z ∷ xs) zero i y x h = absurd (none-some x h)
-taken_set_same (z ∷ xs) (suc n) zero y x h = refl
-taken_set_same (z ∷ xs) (suc n) (suc i) y x h = taken_set_same xs n i y x h
-
--- an element of the front of a list is one of the list
-pub in_front : {A : Type 0} → (xs : List A) (n i : ℕ) (x : A) → slice_get (take n xs) i ≡ Some x → (i < n) × (slice_get xs i ≡ Some x)
-in_front [] zero i x h = absurd (none-some x h)
-in_front [] (suc n) i x h = absurd (none-some x h)
-in_front (z ∷ xs) zero i x h = absurd (none-some x h)
-in_front (z ∷ xs) (suc n) zero x h = (omega arith, h)
-in_front (z ∷ xs) (suc n) (suc i) x h = let there = in_front xs n i x h in (omega (arith, there.0), there.1)
-
--- behind the front there is none
-pub past_front : {A : Type 0} → (xs : List A) (n i : ℕ) → n ≤ i → slice_get (take n xs) i ≡ None
-past_front [] zero i h = refl
-past_front [] (suc n) i h = refl
-past_front (x ∷ xs) zero i h = refl
-past_front (x ∷ xs) (suc n) zero h = absurd (omega (arith, h))
-past_front (x ∷ xs) (suc n) (suc i) h = past_front xs n i (omega (arith, h))
-
--- an element of a list that stands in its front
-pub front_has : {A : Type 0} → (xs : List A) (n i : ℕ) → i < n → slice_get (take n xs) i ≡ slice_get xs i
-front_has xs zero i h = absurd (omega (arith, h))
-front_has [] (suc n) i h = refl
-front_has (x ∷ xs) (suc n) zero h = refl
-front_has (x ∷ xs) (suc n) (suc i) h = front_has xs n i (omega (arith, h))
 
 -- bytes of an open window say so
 open_gate : (b : SlotHandle) (highest : Option ℕ) → IsHighestIn b highest → 2 ≤ b.gate
@@ -123,25 +82,25 @@ slot_in b (Some None) h = absurd h
 slot_in b (Some (Some s)) h = (s, refl, h)
 
 -- what the bytes at an index stand for
-pub slot_at : (t : ContextsHandle) (slots : List (Option Slot)) (i : ℕ) (b : SlotHandle) → IsTableIn t slots → slice_get (places_in t) i ≡ Some b
+pub slot_at : (t : List SlotHandle) (slots : List (Option Slot)) (i : ℕ) (b : SlotHandle) → IsTableIn t slots → slice_get t i ≡ Some b
     → (s : Slot) × (slice_get slots i ≡ Some (Some s)) × IsSlotIn b s
 slot_at t slots i b h e = slot_in b (slice_get slots i) (subst (λ o. IsPlaceIn o (slice_get slots i)) e (h.at i))
 
 -- a place is written, in the bytes and in what they stand for
-pub table_set : (t : ContextsHandle) (slots : List (Option Slot)) (i : ℕ) (b c : SlotHandle) (s : Slot)
-    → IsTableIn t slots → slice_get (places_in t) i ≡ Some b → IsSlotIn c s
+pub table_set : (t : List SlotHandle) (slots : List (Option Slot)) (i : ℕ) (b c : SlotHandle) (s : Slot)
+    → IsTableIn t slots → slice_get t i ≡ Some b → IsSlotIn c s
     → (p : Option Slot) → slice_get slots i ≡ Some p
-    → IsTableIn (record { count = t.count; slots = slice_set t.slots i c }) (slice_set slots i (Some s))
+    → IsTableIn (slice_set t i c) (slice_set slots i (Some s))
 table_set t slots i b c s h e there p at =
     record {
       at = λ j. elim (cases_eq j i) [
         | inl same ↦
-            subst (λ k. IsPlaceIn (slice_get (take t.count (slice_set t.slots i c)) k) (slice_get (slice_set slots i (Some s)) k)) (sym same)
-            (subst (λ o. IsPlaceIn o (slice_get (slice_set slots i (Some s)) i)) (sym (taken_set_same t.slots t.count i c b e))
+            subst (λ k. IsPlaceIn (slice_get (slice_set t i c) k) (slice_get (slice_set slots i (Some s)) k)) (sym same)
+            (subst (λ o. IsPlaceIn o (slice_get (slice_set slots i (Some s)) i)) (sym (slice_get-set_same t i c (slice_get_within t i b e)))
             (subst (λ o. IsPlaceIn (Some c) o) (sym (slice_get-set_same slots i (Some s) (slice_get_within slots i p at))) there))
         | inr other ↦
-            subst (λ o. IsPlaceIn o (slice_get (slice_set slots i (Some s)) j)) (sym (taken_set t.slots t.count i j c other))
-            (subst (λ o. IsPlaceIn (slice_get (places_in t) j) o) (sym (slice_get-set_other slots i j (Some s) other)) (h.at j))
+            subst (λ o. IsPlaceIn o (slice_get (slice_set slots i (Some s)) j)) (sym (slice_get-set_other t i j c other))
+            (subst (λ o. IsPlaceIn (slice_get t j) o) (sym (slice_get-set_other slots i j (Some s) other)) (h.at j))
       ];
     }
 
@@ -160,23 +119,22 @@ bytes_there None c e = absurd (none-some c e)
 bytes_there (Some b) c e = (b, refl, ap (λ (o : Option SecurityContext). unwrap_or o c) e)
 
 -- the bytes at the index of a context
-pub bytes_of : (t : ContextsHandle) (i : ℕ) (c : SecurityContext) → bytes_at t i ≡ Some c
-    → (b : SlotHandle) × (slice_get (places_in t) i ≡ Some b) × (server_in b.context ≡ c)
-bytes_of t i c e = bytes_there (slice_get (places_in t) i) c e
+pub bytes_of : (t : List SlotHandle) (i : ℕ) (c : SecurityContext) → bytes_at t i ≡ Some c
+    → (b : SlotHandle) × (slice_get t i ≡ Some b) × (server_in b.context ≡ c)
+bytes_of t i c e = bytes_there (slice_get t i) c e
 
 -- what the bytes at a request's index stand for
-pub record NamedIn (t : ContextsHandle) (r : Named) (d : List ℕ) (slot : Slot) : Type 0 where
+pub record NamedIn (t : List SlotHandle) (r : Named) (d : List ℕ) (slot : Slot) : Type 0 where
   pub bytes : SlotHandle
-  pub there : slice_get (places_in t) r.index ≡ Some bytes
+  pub there : slice_get t r.index ≡ Some bytes
   pub slot_is : IsSlotIn bytes slot
   pub named : IsNamed (as_server (context_of slot.context)) (number_of r.number) d
   pub sealed : IsSealedRequest (requests (as_server (context_of slot.context))) d r.sealed
 
-pub named_in : (t : ContextsHandle) (r : Named) (d : List ℕ) (other : SlotHandle) (slot : Slot) → NamesAt (bytes_at t) r d → IsSlotIn (slice_index_or t.slots r.index other) slot → NamedIn t r d slot
+pub named_in : (t : List SlotHandle) (r : Named) (d : List ℕ) (other : SlotHandle) (slot : Slot) → NamesAt (bytes_at t) r d → IsSlotIn (slice_index_or t r.index other) slot → NamedIn t r d slot
 named_in t r d other slot names made =
     let (b, there, same) = bytes_of t r.index names.context names.there in
-    let front = in_front t.slots t.count r.index b there in
-    let one : slice_index_or t.slots r.index other ≡ b = get_or_from_slice_get t.slots r.index b other front.1 in
+    let one : slice_index_or t r.index other ≡ b = get_or_from_slice_get t r.index b other there in
     let is : IsSlotIn b slot = subst (λ x. IsSlotIn x slot) one made in
     let context : names.context ≡ as_server (context_of slot.context) = sym (is.context ∙ same) in
     record {
@@ -188,12 +146,12 @@ named_in t r d other slot names made =
     }
 
 -- a context judged a request, and its bytes with it
-pub judged_in : (t : ContextsHandle) (slots : List (Option Slot)) (lives : ℕ → Option Life) (r : Named) (d : List ℕ) (result : Decided) (new reply : List ℕ) (slot after : Slot) (kept : SlotHandle)
+pub judged_in : (t : List SlotHandle) (slots : List (Option Slot)) (lives : ℕ → Option Life) (r : Named) (d : List ℕ) (result : Decided) (new reply : List ℕ) (slot after : Slot) (kept : SlotHandle)
     → (in_t : NamedIn t r d slot) → IsTableIn t slots → TableAgrees slots lives
     → ((l : Life) → SlotAgrees slot l → JudgesTo l r d result new reply (Some after))
     → after.context ≡ slot.context
     → (after.size ≡ slot.size → IsSlotIn kept after)
-    → (x : List (Option Slot)) × IsTableIn (record { count = t.count; slots = slice_set t.slots r.index kept }) x × (length x ≡ length slots) × TableJudges lives r d result new reply x
+    → (x : List (Option Slot)) × IsTableIn (slice_set t r.index kept) x × (length x ≡ length slots) × TableJudges lives r d result new reply x
 judged_in t slots lives r d result new reply slot after kept n h agrees judges context keeps =
     let (s, at, is) = slot_at t slots r.index n.bytes h n.there in
     let (l, life_is, holds) = life_at slots lives r.index (Some s) agrees at in
@@ -206,19 +164,6 @@ judged_in t slots lives r d result new reply slot after kept n h agrees judges c
       table_judges slots lives r d result new reply (Some s) (Some after) agrees at (λ k held. judges k (slots_alike n.bytes s slot k is n.slot_is held)),
     )
 
--- a place is written, and the bytes are a table still
-pub table_kept : (t : ContextsHandle) (i : ℕ) (b c : SlotHandle) → IsTable t → slice_get (places_in t) i ≡ Some b → IsSlotBytes c → IsTable (record { count = t.count; slots = slice_set t.slots i c })
-table_kept t i b c h e bytes =
-    record {
-      fits = h.fits;
-      each = λ j x there. elim (cases_eq j i) [
-        | inl same ↦
-            let is : Some c ≡ Some x = sym (taken_set_same t.slots t.count i c b e) ∙ (ap (slice_get (take t.count (slice_set t.slots i c))) (sym same) ∙ there) in
-            subst IsSlotBytes (ap (λ (o : Option SlotHandle). unwrap_or o x) is) bytes
-        | inr other ↦ h.each j x (sym (taken_set t.slots t.count i j c other) ∙ there)
-      ];
-    }
-
 -- opened under a context of the one table is opened under one of the other
 opened_in : (slot : Slot) (slots : List (Option Slot)) (i : ℕ) (s : Slot) (d new : List ℕ) → slice_get slots i ≡ Some (Some s) → as_server (context_of s.context) ≡ as_server (context_of slot.context)
     → IsOpenedIn (Some slot ∷ []) d new → IsOpenedIn slots d new
@@ -230,7 +175,7 @@ opened_in slot slots i s d new at same (suc k, x, e, n, len, decrypts) = absurd 
 -- the table of one context
 pub alone : (b : SlotHandle) (s : Slot) → IsSlotIn b s → IsTableIn (table_of b) (Some s ∷ [])
 alone b s is = record { at = λ i. place b s is i } where
-  place : (b : SlotHandle) (s : Slot) → IsSlotIn b s → (i : ℕ) → IsPlaceIn (slice_get (places_in (table_of b)) i) (slice_get (Some s ∷ []) i)
+  place : (b : SlotHandle) (s : Slot) → IsSlotIn b s → (i : ℕ) → IsPlaceIn (slice_get (table_of b) i) (slice_get (Some s ∷ []) i)
   place b s is zero = is
   place b s is (suc i) = tt
 
@@ -255,24 +200,17 @@ leaves_in (decisions.Challenge echo issued) slot slots i s d new at same h = ope
 leaves_in decisions.SequenceExhausted slot slots i s d new at same h = opened_in slot slots i s d new at same h
 leaves_in (decisions.Deliver x ticket) slot slots i s d new at same h = opened_in slot slots i s d new at same h
 
--- the bytes at the index of a context are ones that a call may have written
-pub bytes_kept : (t : ContextsHandle) (r : Named) (d : List ℕ) (other : SlotHandle) → NamesAt (bytes_at t) r d → IsTable t → IsSlotBytes (slice_index_or t.slots r.index other)
-bytes_kept t r d other names h =
-    let (b, there, same) = bytes_of t r.index names.context names.there in
-    let front = in_front t.slots t.count r.index b there in
-    subst IsSlotBytes (sym (get_or_from_slice_get t.slots r.index b other front.1)) (h.each r.index b there)
-
 -- bytes in use are read
-pub read_at : (t : ContextsHandle) (i : ℕ) (other : SlotHandle) → i < t.count → i < length t.slots → slice_get (places_in t) i ≡ Some (slice_index_or t.slots i other)
-read_at t i other used within = front_has t.slots t.count i used ∙ slice_get-get_or t.slots i other within
+read_at : (t : List SlotHandle) (i : ℕ) (other : SlotHandle) → i < length t → slice_get t i ≡ Some (slice_index_or t i other)
+read_at t i other within = slice_get-get_or t i other within
 
 -- bytes whose context answers are found
-pub found_bytes : (t : ContextsHandle) (i : ℕ) (other : SlotHandle) (kid : List ℕ) (kid_context : Option (List ℕ)) → i < t.count → i < length t.slots
-    → AnswersTo (server_in (slice_index_or t.slots i other).context) kid kid_context → FindsAt (bytes_at t) i kid kid_context
-found_bytes t i other kid kid_context used within answers =
+pub found_bytes : (t : List SlotHandle) (i : ℕ) (other : SlotHandle) (kid : List ℕ) (kid_context : Option (List ℕ)) → i < length t
+    → AnswersTo (server_in (slice_index_or t i other).context) kid kid_context → FindsAt (bytes_at t) i kid kid_context
+found_bytes t i other kid kid_context within answers =
     record {
-      context = server_in (slice_index_or t.slots i other).context;
-      there = ap (option_map (λ (b : SlotHandle). server_in b.context)) (read_at t i other used within);
+      context = server_in (slice_index_or t i other).context;
+      there = ap (option_map (λ (b : SlotHandle). server_in b.context)) (read_at t i other within);
       answers = answers;
     }
 
@@ -284,10 +222,9 @@ set_itself {A = A} (y ∷ ys) zero x h = ap (λ z. z ∷ ys) (sym (ap (λ (o : O
 set_itself (y ∷ ys) (suc i) x h = ap (λ zs. y ∷ zs) (set_itself ys i x h)
 
 -- a table whose place is written with what it holds
-pub kept_itself : (t : ContextsHandle) (slots : List (Option Slot)) (i : ℕ) (b : SlotHandle) → slice_get (places_in t) i ≡ Some b
-    → IsTableIn (record { count = t.count; slots = slice_set t.slots i b }) slots → IsTableIn t slots
-kept_itself t slots i b there h =
-    subst (λ (xs : List SlotHandle). IsTableIn (record { count = t.count; slots = xs }) slots) (set_itself t.slots i b (in_front t.slots t.count i b there).1) h
+pub kept_itself : (t : List SlotHandle) (slots : List (Option Slot)) (i : ℕ) (b : SlotHandle) → slice_get t i ≡ Some b
+    → IsTableIn (slice_set t i b) slots → IsTableIn t slots
+kept_itself t slots i b there h = subst (λ (xs : List SlotHandle). IsTableIn xs slots) (set_itself t i b there) h
 
 table_changed : (slots : List (Option Slot)) (lives after : ℕ → Option Life) (i : ℕ) (s t : Option Slot) (m : Life) → TableAgrees slots lives → slice_get slots i ≡ Some s
     → after i ≡ Some m → HoldsLife t m → ((j : ℕ) → j ≢ i → after j ≡ lives j) → TableAgrees (slice_set slots i t) after
@@ -303,9 +240,9 @@ table_changed slots lives after i s t m h e here holds others =
     }
 
 -- the bytes of one place change, and the life that they stand for
-pub place_changed : (t : ContextsHandle) (slots : List (Option Slot)) (lives : ℕ → Option Life) (i : ℕ) (b kept : SlotHandle) (l m : Life) → IsTableIn t slots → TableAgrees slots lives
-    → slice_get (places_in t) i ≡ Some b → lives i ≡ Some l → ((s : Slot) → IsSlotIn b s → SlotAgrees s l → HoldsIn kept m)
-    → ChangesAt slots lives i m (record { count = t.count; slots = slice_set t.slots i kept })
+pub place_changed : (t : List SlotHandle) (slots : List (Option Slot)) (lives : ℕ → Option Life) (i : ℕ) (b kept : SlotHandle) (l m : Life) → IsTableIn t slots → TableAgrees slots lives
+    → slice_get t i ≡ Some b → lives i ≡ Some l → ((s : Slot) → IsSlotIn b s → SlotAgrees s l → HoldsIn kept m)
+    → ChangesAt slots lives i m (slice_set t i kept)
 place_changed t slots lives i b kept l m h agrees there life changes =
     let (s, at, is) = slot_at t slots i b h there in
     let (k, life_is, holds) = life_at slots lives i (Some s) agrees at in
@@ -318,112 +255,33 @@ place_changed t slots lives i b kept l m h agrees there life changes =
     }
 
 -- the life of a place in use
-pub life_there : (t : ContextsHandle) (slots : List (Option Slot)) (lives : ℕ → Option Life) (i : ℕ) (b : SlotHandle) → IsTableIn t slots → TableAgrees slots lives → slice_get (places_in t) i ≡ Some b
+pub life_there : (t : List SlotHandle) (slots : List (Option Slot)) (lives : ℕ → Option Life) (i : ℕ) (b : SlotHandle) → IsTableIn t slots → TableAgrees slots lives → slice_get t i ≡ Some b
     → (l : Life) × (lives i ≡ Some l) × (s : Slot) × IsSlotIn b s × SlotAgrees s l
 life_there t slots lives i b h agrees there =
     let (s, at, is) = slot_at t slots i b h there in
     let (l, life_is, holds) = life_at slots lives i (Some s) agrees at in
     (l, life_is, s, is, holds)
 
-none_place : (p : Option (Option Slot)) → IsPlaceIn None p → p ≡ None
-none_place None h = refl
-none_place (Some p) h = absurd h
-
-none_life : (o : Option Life) → PlaceAgrees None o → o ≡ None
-none_life None h = refl
-none_life (Some l) h = absurd h
-
--- past the places in use there is no life
-pub life_past : (t : ContextsHandle) (slots : List (Option Slot)) (lives : ℕ → Option Life) (i : ℕ) → IsTableIn t slots → TableAgrees slots lives → t.count ≤ i → lives i ≡ None
-life_past t slots lives i h agrees past =
-    let e : slice_get slots i ≡ None = none_place (slice_get slots i) (subst (λ o. IsPlaceIn o (slice_get slots i)) (past_front t.slots t.count i past) (h.at i)) in
-    none_life (lives i) (subst (λ o. PlaceAgrees o (lives i)) e (agrees.at i))
-
--- ---- one place more
-
-taken_more : (xs : List SlotHandle) (n : ℕ) (y : SlotHandle) → n < length xs → take (suc n) (slice_set xs n y) ≡ take n xs ++ y ∷ []
-taken_more [] n y h = absurd (omega arith)
-taken_more (x ∷ xs) zero y h = refl
-taken_more (x ∷ xs) (suc n) y h = ap (λ zs. x ∷ zs) (taken_more xs n y (omega arith))
-
--- the places in use, once there is one more
-pub places_more : (t : ContextsHandle) (y : SlotHandle) → t.count < length t.slots → places_in (record { count = t.count + 1; slots = slice_set t.slots t.count y }) ≡ places_in t ++ y ∷ []
-places_more t y h = let e : t.count + 1 ≡ suc t.count = omega arith in ap (λ n. take n (slice_set t.slots t.count y)) e ∙ taken_more t.slots t.count y h
-
-stands_more : (bs : List SlotHandle) (ps : List (Option Slot)) (c : SlotHandle) (s : Slot) → ((i : ℕ) → IsPlaceIn (slice_get bs i) (slice_get ps i)) → IsSlotIn c s
-    → (i : ℕ) → IsPlaceIn (slice_get (bs ++ c ∷ []) i) (slice_get (ps ++ Some s ∷ []) i)
-stands_more [] [] c s h is zero = is
-stands_more [] [] c s h is (suc i) = tt
-stands_more [] (p ∷ ps) c s h is i = absurd (h 0)
-stands_more (b ∷ bs) [] c s h is i = absurd (h 0)
-stands_more (b ∷ bs) (p ∷ ps) c s h is zero = h 0
-stands_more (b ∷ bs) (p ∷ ps) c s h is (suc i) = stands_more bs ps c s (λ j. h (suc j)) is i
-
-pub table_grown : (t : ContextsHandle) (slots : List (Option Slot)) (c : SlotHandle) (s : Slot) → IsTableIn t slots → t.count < length t.slots → IsSlotIn c s
-    → IsTableIn (record { count = t.count + 1; slots = slice_set t.slots t.count c }) (slots ++ Some s ∷ [])
-table_grown t slots c s h room is =
-    record { at = λ i. subst (λ (bs : List SlotHandle). IsPlaceIn (slice_get bs i) (slice_get (slots ++ Some s ∷ []) i)) (sym (places_more t c room)) (stands_more (places_in t) slots c s h.at is i) }
-
-each_more : (P : SlotHandle → Type 0) (bs : List SlotHandle) (c : SlotHandle) → ((i : ℕ) (b : SlotHandle) → slice_get bs i ≡ Some b → P b) → P c
-    → (i : ℕ) (b : SlotHandle) → slice_get (bs ++ c ∷ []) i ≡ Some b → P b
-each_more P [] c h p zero b e = subst P (ap (λ (o : Option SlotHandle). unwrap_or o b) e) p
-each_more P [] c h p (suc i) b e = absurd (none-some b e)
-each_more P (x ∷ bs) c h p zero b e = h 0 b e
-each_more P (x ∷ bs) c h p (suc i) b e = each_more P bs c (λ j. h (suc j)) p i b e
-
-pub bytes_grown : (t : ContextsHandle) (c : SlotHandle) → IsTable t → t.count < length t.slots → t.count < 8 → IsSlotBytes c → IsTable (record { count = t.count + 1; slots = slice_set t.slots t.count c })
-bytes_grown t c h room less bytes =
-    record {
-      fits = omega arith;
-      each = λ i b e. each_more IsSlotBytes (places_in t) c h.each bytes i b (sym (ap (λ (bs : List SlotHandle). slice_get bs i) (places_more t c room)) ∙ e);
-    }
-
--- a test that found nothing
-pub none_found : (o : Option ℕ) (P : Type 0) → is_some o ≡ false → IfNone o P → P
-none_found None P e h = h
-none_found (Some i) P e h = cc
-
-pub one_found : (o : Option ℕ) (P : ℕ → Type 0) → is_some o ≡ true → IfSome o P → (i : ℕ) × P i
-one_found None P e h = cc
-one_found (Some i) P e h = (i, h)
-
 -- the context at an index that is in use
-pub index_used : (t : ContextsHandle) (i : ℕ) (c : SecurityContext) → bytes_at t i ≡ Some c → i < t.count
-index_used t i c e = let b = bytes_of t i c e in (in_front t.slots t.count i b.0 b.1).0
-
--- the context of these words is found, or isn't
-pub found_by : (t : ContextsHandle) (c : SecurityContext) (kid : List ℕ) (kid_context : Option (List ℕ)) (o : Option ℕ) → kid ≡ c.client → kid_context ≡ c.id_context → is_some o ≡ true
-    → IfSome o (λ i. FindsAt (bytes_at t) i kid kid_context) → (i : ℕ) × FindsAt (bytes_at t) i c.client c.id_context
-found_by t c kid kid_context o same also some found =
-    let (i, finds) = one_found o (λ i. FindsAt (bytes_at t) i kid kid_context) some found in
-    (i, subst (λ k. FindsAt (bytes_at t) i k c.id_context) same (subst (λ k. FindsAt (bytes_at t) i kid k) also finds))
-
-pub not_found_by : (t : ContextsHandle) (c : SecurityContext) (kid : List ℕ) (kid_context : Option (List ℕ)) (o : Option ℕ) → kid ≡ c.client → kid_context ≡ c.id_context → is_some o ≡ false
-    → IfNone o ((i : ℕ) → FindsAt (bytes_at t) i kid kid_context → ⊥) → (i : ℕ) → FindsAt (bytes_at t) i c.client c.id_context → ⊥
-not_found_by t c kid kid_context o same also none found i finds =
-    none_found o ((j : ℕ) → FindsAt (bytes_at t) j kid kid_context → ⊥) none found i
-    (subst (λ k. FindsAt (bytes_at t) i k kid_context) (sym same) (subst (λ k. FindsAt (bytes_at t) i c.client k) (sym also) finds))
+pub index_used : (t : List SlotHandle) (i : ℕ) (c : SecurityContext) → bytes_at t i ≡ Some c → i < length t
+index_used t i c e = let b = bytes_of t i c e in slice_get_within t i b.0 b.1
 
 -- the place of a life that is known
-pub there_as : (t : ContextsHandle) (slots : List (Option Slot)) (lives : ℕ → Option Life) (i : ℕ) (b : SlotHandle) (l : Life) → IsTableIn t slots → TableAgrees slots lives → slice_get (places_in t) i ≡ Some b
+pub there_as : (t : List SlotHandle) (slots : List (Option Slot)) (lives : ℕ → Option Life) (i : ℕ) (b : SlotHandle) (l : Life) → IsTableIn t slots → TableAgrees slots lives → slice_get t i ≡ Some b
     → lives i ≡ Some l → (s : Slot) × IsSlotIn b s × SlotAgrees s l
 there_as t slots lives i b l h agrees there life =
     let (k, life_is, s, is, stands) = life_there t slots lives i b h agrees there in
     (s, is, subst (λ k. SlotAgrees s k) (same_Some k l (sym life_is ∙ life)) stands)
 
--- a place in use is written, and the bytes are a table still
-pub table_written : (t : ContextsHandle) (i : ℕ) (c : SlotHandle) → IsTable t → i < t.count → i < length t.slots → IsSlotBytes c → IsTable (record { count = t.count; slots = slice_set t.slots i c })
-table_written t i c h used within bytes = table_kept t i (slice_index_or t.slots i c) c h (read_at t i c used within) bytes
-
 -- a context whose gate refuses a request answers it, and its bytes stay
-pub replayed_in : (t : ContextsHandle) (slots : List (Option Slot)) (lives : ℕ → Option Life) (r : Named) (d : List ℕ) (result : Decided) (reply : List ℕ) (other : SlotHandle) (gate : Gate)
-    → NamesAt (bytes_at t) r d → IsTableIn t slots → TableAgrees slots lives → IsGateIn (slice_index_or t.slots r.index other) gate
+pub replayed_in : (t : List SlotHandle) (slots : List (Option Slot)) (lives : ℕ → Option Life) (r : Named) (d : List ℕ) (result : Decided) (reply : List ℕ) (other : SlotHandle) (gate : Gate)
+    → NamesAt (bytes_at t) r d → IsTableIn t slots → TableAgrees slots lives → IsGateIn (slice_index_or t r.index other) gate
     → ((s : Slot) (l : Life) → s.gate ≡ gate → s.doubt ≡ None → SlotAgrees s l → JudgesTo l r d result d reply (Some s))
     → (x : List (Option Slot)) × IsTableIn t x × (length x ≡ length slots) × TableJudges lives r d result d reply x
 replayed_in t slots lives r d result reply other gate names h agrees made judges =
     let (b, there, same) = bytes_of t r.index names.context names.there in
     let (s, at, is) = slot_at t slots r.index b h there in
-    let one : slice_index_or t.slots r.index other ≡ b = get_or_from_slice_get t.slots r.index b other (in_front t.slots t.count r.index b there).1 in
+    let one : slice_index_or t r.index other ≡ b = get_or_from_slice_get t r.index b other there in
     let x : Slot = record s { gate = gate } in
     let slot_is : IsSlotIn b x = record { handle = is.handle; context = is.context; size = is.size; doubt = is.doubt; gate = subst (λ y. IsGateIn y gate) one made; next = is.next; life = is.life } in
     let context : names.context ≡ as_server (context_of s.context) = sym (is.context ∙ same) in
@@ -438,9 +296,5 @@ replayed_in t slots lives r d result reply other gate names h agrees made judges
     (new, kept_itself t new r.index b there kept, len, judged)
 
 -- a request's context is one that is in use
-pub named_used : (t : ContextsHandle) (r : Named) (d : List ℕ) → NamesAt (bytes_at t) r d → r.index < t.count
+pub named_used : (t : List SlotHandle) (r : Named) (d : List ℕ) → NamesAt (bytes_at t) r d → r.index < length t
 named_used t r d names = index_used t r.index names.context names.there
-
--- the count of a life, by its bytes
-pub life_count : (b : SlotHandle) (s : Slot) (l : Life) → IsSlotIn b s → SlotAgrees s l → b.life ≡ l.count
-life_count b s l is a = is.life ∙ a.life

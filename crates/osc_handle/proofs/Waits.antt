@@ -4,23 +4,25 @@ use Rattle.std.proofs.Common.{◌≡◌, ◌≢◌, ◌∙◌, ◌<◌, ◌≤�
 use Rattle.std.specs.Prelude.{max, nat_le, slice_get}
 use Rattle.std.specs.List.{All}
 use Rattle.std.specs.Option.{option_map}
-use Rattle.std.proofs.lemmas.Bool.{and_left, both_ways, cases_eq, cases_Bool, cond-false, eq-eqb, false_from_ne_true, ne_eqb}
+use Rattle.std.proofs.lemmas.Bool.{and_left, both_ways, cases_eq, cases_Bool, cond-false, eq-eqb, ne_eqb}
 use Rattle.std.proofs.lemmas.List.Elements.{All-head, All-nil, All-tail, All-weaker}
-use Rattle.std.proofs.lemmas.Option.{same_Some, slice_get_within}
+use Rattle.std.proofs.lemmas.Option.{none-some, same_Some, slice_get_within}
 use Rattle.osc_coap.specs.Datagram.{Parts}
 use Rattle.osc_coap.specs.Inner.{InnerParts}
 use Rattle.osc_window.proofs.Agreements.{places_most}
 use Rattle.osc_window.specs.Views.{places_of}
+use Rattle.osc_window.specs.declared.window_size.WindowSize.{WindowSize}
 use Rattle.osc_life.proofs.Lives.{closed_bare}
 use Rattle.osc_endpoint.proofs.Places.{same_life, slice_get-set_other}
 use Rattle.osc_life.specs.Deciding.{Decides}
-use Rattle.osc_laws.specs.Laws.{AllAnswers}
-use Rattle.osc_life.specs.Life.{Admits, Answered, Challenged, Delivered, Life, Mark, PassedOver, Spoiled, is_open, marked, opened, spent}
+use Rattle.osc_context.specs.SecurityContext.{SecurityContext}
+use Rattle.osc_life.specs.Life.{Admits, Answered, Challenged, Delivered, Life, Mark, PassedOver, Spoiled, born, is_open, marked, opened, spent}
 use Rattle.osc_observe.specs.Received.{Received}
 use Rattle.osc_endpoint.specs.ServerAnswer.{ServerAnswer}
 use Rattle.osc_life.specs.ServerHistory as server
-use Rattle.osc_laws.specs.Waiting.{WaitingHasLife, is_far_above, is_to, waits}
+use Rattle.osc_laws.specs.Waiting.{is_far_above, is_to, waits}
 use Rattle.osc_life.specs.declared.decision.Decision.{Decision}
+use Rattle.osc_life.specs.declared.start.Start.{Start}
 use Rattle.osc_life.specs.declared.decision.Decision.TheVariants as decisions
 use Rattle.osc_handle.specs.Noting.{AddsNumber, Notes, NotesTicket}
 use Rattle.osc_handle.specs.ServerBytes.{Remembers, RemembersAt, RemembersLife}
@@ -223,37 +225,14 @@ notes_none_at us t i same past = notes_none us t (subst (λ k. length us ≤ k) 
 bare_life : (u : UnansweredHandle) (l : Life) (w : ℕ → Bool) → ((n : ℕ) → holds u n ≡ false) → u.highest ≡ 0 → ((n : ℕ) → w n ≡ false) → RemembersLife u l w
 bare_life u l w none low waiting = record { held = λ n. none n ∙ sym (waiting n); reach = λ bound some all. subst (λ n. n < bound) (sym low) some }
 
--- nothing waits in a life that wasn't yet
-none_waits : WaitingHasLife → (h : server.History) → AllAnswers h → (i c n : ℕ) → ((of : Life) → server.life h i ≡ Some of → of.count < c) → waits h i c n ≡ false
-none_waits law h all i c n later =
-    false_from_ne_true (waits h i c n) (λ e.
-    let (of, is, most) = law h i c n all e in
-    let less = later of is in
-    omega (arith, most, less))
-
--- the numbers of one context are those of a life that begins; g is the later history, b says of which context
-pub remembers_begun : (us : List UnansweredHandle) (h g : server.History) (i : ℕ) (u : UnansweredHandle) → ((n : ℕ) → holds u n ≡ false) → u.highest ≡ 0
-    → ((j c n : ℕ) → waits g j c n ≡ waits h j c n) → ((of : Life) → server.life g i ≡ Some of → (n : ℕ) → waits h i of.count n ≡ false) → ((j : ℕ) → j ≢ i → server.life g j ≡ server.life h j)
-    → Remembers us h → Remembers (slice_set us i u) g
-remembers_begun us h g i u none low same begun others r =
-    record {
-      at = λ j v e. elim (cases_eq j i) [
-        | inl here ↦ subst (λ k. RemembersAt v (server.life g k) (waits g k)) (sym here) (begun_at (server.life g i) v (set_is us i u v (sym (ap (slice_get (slice_set us i u)) here) ∙ e)) begun)
-        | inr other ↦
-            subst (λ o. RemembersAt v o (waits g j)) (sym (others j other))
-            (at_same v (server.life h j) (waits h j) (waits g j) (λ c n. sym (same j c n)) (r.at j v (sym (slice_get-set_other us i j u other) ∙ e)))
-      ];
-    } where
-      begun_at : (o : Option Life) (v : UnansweredHandle) → v ≡ u → ((of : Life) → o ≡ Some of → (n : ℕ) → waits h i of.count n ≡ false) → RemembersAt v o (waits g i)
-      begun_at None v is waiting = tt
-      begun_at (Some of) v is waiting =
-          bare_life v of (waits g i of.count) (λ n. ap (λ (x : UnansweredHandle). holds x n) is ∙ none n) (ap (λ (x : UnansweredHandle). x.highest) is ∙ low) (λ n. same i of.count n ∙ waiting of refl n)
-
-pub none_waits_new : WaitingHasLife → (h : server.History) → AllAnswers h → (i c n : ℕ) → server.life h i ≡ None → waits h i c n ≡ false
-none_waits_new law h all i c n none = none_waits law h all i c n (λ of is. absurd (let e : None ≡ Some of = sym none ∙ is in cc))
-
-pub none_waits_next : WaitingHasLife → (h : server.History) → AllAnswers h → (i n : ℕ) (of : Life) → server.life h i ≡ Some of → waits h i (of.count + 1) n ≡ false
-none_waits_next law h all i n of there = none_waits law h all i (of.count + 1) n (λ k is. let same : k.count ≡ of.count = ap (λ (l : Life). l.count) (same_Some k of (sym is ∙ there)) in omega (arith, same))
+-- the numbers of the one context, once it is added
+pub remembers_begun : (u : UnansweredHandle) (context : SecurityContext) (start : Start) (size : WindowSize) → ((n : ℕ) → holds u n ≡ false) → u.highest ≡ 0
+    → Remembers (u ∷ []) (server.Then server.Begin (server.Add context start size) (server.Added 0))
+remembers_begun u context start size none low = record { at = at } where
+  at : (i : ℕ) (v : UnansweredHandle) → slice_get (u ∷ []) i ≡ Some v
+      → RemembersAt v (server.life (server.Then server.Begin (server.Add context start size) (server.Added 0)) i) (waits (server.Then server.Begin (server.Add context start size) (server.Added 0)) i)
+  at zero v e = subst (λ (x : UnansweredHandle). RemembersLife x (born context start size) (λ n. false)) (same_Some u v e) (bare_life u (born context start size) (λ n. false) none low (λ n. refl))
+  at (suc i) v e = absurd (none-some v e)
 
 -- ---- a reply
 

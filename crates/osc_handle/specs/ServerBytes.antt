@@ -11,10 +11,8 @@ use Rattle.osc_life.specs.Life.{Life, spent}
 use Rattle.osc_laws.specs.Senders.{SendersDiffer}
 use Rattle.osc_endpoint.specs.ServerAnswer.{IsPresent, ServerAnswer}
 use Rattle.osc_life.specs.ServerHistory.{Add, Answer, Datagram, Entry, History, NotReplied, Notify, Replied, Reply, Then, TicketValues, Took, life}
-use Rattle.osc_life.specs.Views.{Shows}
 use Rattle.osc_laws.specs.Waiting.{AnswersWaiting, waits}
 use Rattle.osc_life.specs.declared.decision.Decision.{Decision}
-use Rattle.osc_life.specs.declared.outcome.Outcome.{Outcome}
 use Rattle.osc_life.specs.declared.slot.Slot.{Slot}
 use Rattle.osc_life.specs.declared.start.Fresh.{Fresh}
 use Rattle.osc_life.specs.declared.start.Start.{Start}
@@ -22,7 +20,7 @@ use Rattle.osc_handle.specs.TableBytes.{IsTableIn}
 use Rattle.osc_handle.specs.UnansweredBytes.{holds}
 use Rattle.osc_handle.specs.declared.reply_refusal.ReplyRefusal.{ReplyRefusal}
 use Rattle.osc_handle.specs.declared.reply_refusal.ReplyRefusal.TheVariants.{BadHandle, TicketSpent, Refused}
-use Rattle.osc_handle.specs.declared.server_handle.ServerHandle.{ServerHandle}
+use Rattle.osc_handle.specs.ServerParts.{ServerParts}
 use Rattle.osc_handle.specs.declared.unanswered_handle.UnansweredHandle.{UnansweredHandle}
 
 -- the bytes hold exactly the numbers that are waiting in this life, and none above those that were spent in it (RFC 8613, 8.3)
@@ -41,7 +39,7 @@ pub record Remembers (us : List UnansweredHandle) (h : History) : Type 0 where
 
 -- the bytes stand for a server that is as its history says; each entry of the history was the answer, each reply was one to a request that waited for
 -- it, and no context was added if another had its Sender Key (RFC 8613, 3.1, 3.3 and 8.3)
-pub record Serves (s : ServerHandle) (h : History) : Type 0 where
+pub record Serves (s : ServerParts) (h : History) : Type 0 where
   pub slots : List (Option Slot)
   pub table : IsTableIn s.contexts slots
   pub agrees : Agrees (server_of s.clock slots) h
@@ -51,21 +49,14 @@ pub record Serves (s : ServerHandle) (h : History) : Type 0 where
   pub senders : SendersDiffer h
 
 -- after the history, the entry is the answer to the addition, and the bytes are as both say (RFC 8613, B.1)
-abbrev pub AddsIn : History → SecurityContext → Start → WindowSize → Entry → ServerHandle → Type 0
+abbrev pub AddsIn : History → SecurityContext → Start → WindowSize → Entry → ServerParts → Type 0
 AddsIn h c start size entry s = ServerAnswer h (Add c start size) entry × Serves s (Then h (Add c start size) entry)
 
 -- after the history, what was decided about a datagram is the answer, and the bytes are as both say (how the code is seen)
-pub record DecidesIn (h : History) (now : ℕ) (fresh : Fresh) (d : List ℕ) (decision : Decision) (new reply : List ℕ) (s : ServerHandle) : Type 0 where
+pub record DecidesIn (h : History) (now : ℕ) (fresh : Fresh) (d : List ℕ) (decision : Decision) (new reply : List ℕ) (s : ServerParts) : Type 0 where
   pub answer : Answer
   pub row : ServerAnswer h (Datagram now fresh.echo fresh.mid d) (Took answer reply)
   pub decides : Decides decision new answer
-  pub serves : Serves s (Then h (Datagram now fresh.echo fresh.mid d) (Took answer reply))
-
--- after the history, the outcome shows the answer, and the bytes are as both say (how the code is seen)
-pub record TakesIn (h : History) (now : ℕ) (fresh : Fresh) (d : List ℕ) (outcome : Outcome) (reply : List ℕ) (s : ServerHandle) : Type 0 where
-  pub answer : Answer
-  pub row : ServerAnswer h (Datagram now fresh.echo fresh.mid d) (Took answer reply)
-  pub shows : Shows outcome answer
   pub serves : Serves s (Then h (Datagram now fresh.echo fresh.mid d) (Took answer reply))
 
 -- the ticket is of the present life of its context, and its request isn't waiting for an answer (RFC 8613, 8.3)
@@ -80,9 +71,9 @@ entry_of_reply (Err TicketSpent) out = None
 entry_of_reply (Err (Refused e)) out = Some (NotReplied e)
 
 -- after the history, the entry is the answer to the reply, and the bytes are as both say (RFC 8613, 8.3)
-abbrev pub RepliesIn : History → TicketValues → Bool → ℕ → Parts → ℕ → Entry → ServerHandle → Type 0
+abbrev pub RepliesIn : History → TicketValues → Bool → ℕ → Parts → ℕ → Entry → ServerParts → Type 0
 RepliesIn h t own mid plain room entry s = ServerAnswer h (Reply t own mid plain room) entry × Serves s (Then h (Reply t own mid plain room) entry)
 
 -- after the history, the entry is the answer to the notification, and the bytes are as both say (RFC 8613, 8.3.1)
-abbrev pub NotifiesIn : History → TicketValues → Parts → ℕ → Entry → ServerHandle → Type 0
+abbrev pub NotifiesIn : History → TicketValues → Parts → ℕ → Entry → ServerParts → Type 0
 NotifiesIn h t plain room entry s = ServerAnswer h (Notify t plain room) entry × Serves s (Then h (Notify t plain room) entry)

@@ -5,7 +5,7 @@ ghost use Rattle.osc_client.specs.ClientHistory.{is_alive as alive_still};
 ghost use Rattle.osc_client.specs.Views.{asked_of};
 ghost use Rattle.osc_client.specs.declared.pending.Wait.TheVariants.{Once, Observing};
 ghost use Rattle.osc_context.specs.Views.{number_of};
-ghost use Rattle.osc_handle.specs.ClientBytes.{IsPending, IsWait, asked_at, wait_in};
+ghost use Rattle.osc_handle.specs.PendingBytes.{IsPending, IsWait, asked_at, wait_in};
 
 use osc_client::siblings::{Found, Pending, Wait};
 use osc_context::Piv;
@@ -39,16 +39,6 @@ fn bytes_of(wait: Wait) -> (u8, u64)
 }
 
 impl PendingHandle {
-    /// The bytes of a place where no request is pending.
-    pub(crate) const NONE: PendingHandle = PendingHandle {
-        number: 0,
-        moment: 0,
-        from: 0,
-        token: [0; 8],
-        token_len: 0,
-        observes: 0,
-    };
-
     /// Returns the bytes of a pending request.
     pub fn of(pending: &Pending) -> PendingHandle
         ensures made { asked_at result ≡ asked_of pending.now }

@@ -1,9 +1,9 @@
 //! The requests that wait for their responses, in places that a caller hands in.
 
-ghost use Rattle.std.specs.Prelude.{◌≡◌, ◌≤◌, ◌∷◌, ℕ, [], Some, IfSome, IfNone, true, false, length, map, slice_get, take};
+ghost use Rattle.std.specs.Prelude.{◌≡◌, ◌∷◌, [], Some, IfSome, IfNone, true, false, length, map, slice_get};
 ghost use Rattle.osc_client.specs.ClientAnswer.{IsAmong};
 ghost use Rattle.osc_client.specs.ClientHistory.{Asked, alive};
-ghost use Rattle.osc_handle.specs.ClientBytes.{ArePending, ArePlaced, IsPending, asked_among, asked_at};
+ghost use Rattle.osc_handle.specs.PendingBytes.{ArePending, ArePlaced, asked_among, asked_at};
 
 use crate::pending_handle::PendingHandle;
 use osc_client::siblings::{Found, Pending, Wait, Waiting};

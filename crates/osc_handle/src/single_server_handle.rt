@@ -1,19 +1,16 @@
-//! A server of one context, as bytes. It does what a `ServerHandle` with one context does, in the room of one context.
+//! A server of one context, as bytes. It does what a `Server` does that has this context alone, at index 0.
 
-ghost use Rattle.std.specs.Prelude.{◌≡◌, ◌≢◌, ◌≤◌, ◌∷◌, [], ℕ, List, Option, Err, IfErr, IfOk, IfSome, IsSome, None, OnErr, length, take, drop};
+ghost use Rattle.std.specs.Prelude.{◌≡◌, ◌≢◌, ◌≤◌, ◌∷◌, [], List, Option, Err, IfErr, IfOk, IfSome, IsSome, None, OnErr, length, take, drop};
 ghost use Rattle.osc_coap.specs.Views.{parts_of};
-ghost use Rattle.osc_context.specs.Views.{number_of};
 ghost use Rattle.osc_life.specs.Deciding.{CanShow, Leaves};
-ghost use Rattle.osc_endpoint.specs.ServerAnswer.{ServerAnswer};
 ghost use Rattle.osc_life.specs.LifeAnswer.{asks_own};
-ghost use Rattle.osc_life.specs.ServerHistory.{Added, Begin, History, Restart, Then};
-ghost use Rattle.osc_life.specs.Views.{reply_entry, restarted_entry, values_of};
-ghost use Rattle.osc_life.specs.declared.outcome.Outcome.TheVariants.{KeeperFailed as KeeperFailedOutcome};
+ghost use Rattle.osc_life.specs.ServerHistory.{Added, Begin, History};
+ghost use Rattle.osc_life.specs.Views.{reply_entry, values_of};
 ghost use Rattle.osc_life.specs.declared.server_error.ReplyError.TheVariants.{KeeperFailed};
 ghost use Rattle.osc_life.specs.declared.slot.Slot.{Slot as SlotOf};
 ghost use Rattle.osc_context_handle.specs.ContextBytes.{IsContext, server_in};
 ghost use Rattle.osc_handle.specs.Noting.{Notes, NotesTicket};
-ghost use Rattle.osc_handle.specs.ServerBytes.{AddsIn, DecidesIn, IsSpent, NotifiesIn, RepliesIn, Serves, TakesIn, entry_of_reply};
+ghost use Rattle.osc_handle.specs.ServerBytes.{AddsIn, DecidesIn, IsSpent, NotifiesIn, RepliesIn, Serves, entry_of_reply};
 ghost use Rattle.osc_handle.specs.SingleServerBytes.{server_of_one, table_of};
 ghost use Rattle.osc_handle.specs.SlotBytes.{HasNoDoubt, IsSlotBytes};
 ghost use Rattle.osc_handle.specs.TableBytes.{IsTableIn};
@@ -21,17 +18,14 @@ ghost use Rattle.osc_handle.specs.TableSteps.{is_present_in};
 ghost use Rattle.osc_handle.specs.TicketBytes.{IsTicket, ticket_in};
 ghost use Rattle.osc_handle.specs.declared.reply_refusal.ReplyRefusal.TheVariants.{BadHandle, TicketSpent, Refused};
 
-use crate::left::Left;
 use crate::reply_refusal::ReplyRefusal;
 use crate::slot_handle::SlotHandle;
 use crate::ticket_handle::TicketHandle;
 use crate::unanswered_handle::UnansweredHandle;
 use osc_coap::Message;
-use osc_context::Piv;
 use osc_context_handle::ContextHandle;
 use osc_endpoint::siblings::{Slot, decide_over};
-use osc_endpoint::{Decided, Decision, Fresh, ReplyError, RestartError, Start, Taken, Ticket};
-use osc_laws::answered_once;
+use osc_endpoint::{Decided, Decision, Fresh, ReplyError, Start, Ticket};
 use osc_protect::KeyedContext;
 use osc_window::WindowSize;
 
@@ -45,8 +39,8 @@ pub struct SingleServerHandle {
 }
 
 impl SingleServerHandle {
-    /// Makes a server with this context (RFC 8613, B.1), as `ServerHandle::add` adds the first one. Returns `None` if the context
-    /// bytes can't have been written by a call. The start isn't `Reserved`, as there.
+    /// Makes a server with this context (RFC 8613, B.1), as `Server::add` adds the first one. Returns `None` if the context bytes can't have been
+    /// written by a call.
     pub fn begin(
         context: &ContextHandle,
         start: Start,
@@ -58,8 +52,6 @@ impl SingleServerHandle {
         ensures accepted { IsSome result → IsContext context.now }
         ensures bytes { IfSome result (λ s. IsSlotBytes s.slot) }
     {
-        // For the proof alone.
-        answered_once();
         if !context.is_whole() {
             return None;
         }
@@ -73,32 +65,6 @@ impl SingleServerHandle {
             slot: SlotHandle::of(context, &Slot::begin(made, start, size)),
             unanswered: UnansweredHandle::none(),
         })
-    }
-
-    /// Begins a new life of the context (RFC 8613, B.1). Returns `None` if the bytes can't have been written by a call.
-    /// `LivesExhausted` is the only refusal, and changes nothing.
-    pub fn restart(&mut self, next: Piv) -> Option<Result<(), RestartError>>
-        ensures accepts { IsSlotBytes self.old.slot → IsSome result }
-        ensures accepted { IsSome result → IsSlotBytes self.old.slot }
-        ensures answered { IfSome result (λ r. (h : History) → Serves (server_of_one self.old) h
-            → ServerAnswer h (Restart 0 (number_of next)) (restarted_entry r)
-            × Serves (server_of_one self.new) (Then h (Restart 0 (number_of next)) (restarted_entry r))) }
-        ensures bytes { IfSome result (λ r. IsSlotBytes self.new.slot) }
-        ensures same { IfSome result (λ r. OnErr r (self.new ≡ self.old)) }
-        ensures unchanged { result ≡ None → self.new ≡ self.old }
-    {
-        // For the proof alone.
-        answered_once();
-        if !self.slot.is_whole() {
-            return None;
-        }
-        match self.slot.restart_alone(next) {
-            Ok(()) => {
-                self.unanswered = UnansweredHandle::none();
-                Some(Ok(()))
-            }
-            Err(error) => Some(Err(error)),
-        }
     }
 
     /// Notes the request of a ticket.
@@ -151,57 +117,6 @@ impl SingleServerHandle {
         let decided = decide_over(&mut self.clock, &mut self.slot, now, fresh, datagram, out);
         self.note(&decided.decision);
         Some(decided)
-    }
-
-    /// Decides, and lends the datagram for reading alone: `left` says what it holds, and from there on `take` can't write to it any more.
-    fn decide_and_lend<'b>(
-        &mut self,
-        now: u64,
-        fresh: Fresh,
-        datagram: &'b mut [u8],
-        out: &mut [u8; 64],
-    ) -> Left<'b, Option<Decided>>
-        ensures accepts { IsSlotBytes self.old.slot → IsSome result.decided }
-        ensures accepted { IsSome result.decided → IsSlotBytes self.old.slot }
-        ensures answered { IfSome result.decided (λ decided. (h : History) → Serves (server_of_one self.old) h
-            → DecidesIn h now fresh datagram.old decided.decision result.datagram.now (take decided.reply out.new) (server_of_one self.new)) }
-        ensures bytes { IfSome result.decided (λ decided. IsSlotBytes self.new.slot) }
-        ensures shown { IfSome result.decided (λ decided. CanShow decided.decision result.datagram.now) }
-        ensures left { IfSome result.decided (λ decided. (slots : List (Option SlotOf)) → IsTableIn (table_of self.old.slot) slots
-            → Leaves slots decided.decision datagram.old result.datagram.now) }
-        ensures within { IfSome result.decided (λ decided. decided.reply ≤ 64) }
-        ensures behind { IfSome result.decided (λ decided. drop decided.reply out.new ≡ drop decided.reply out.old) }
-        ensures unchanged { result.decided ≡ None → (self.new ≡ self.old) × (result.datagram.now ≡ datagram.old) × (out.new ≡ out.old) }
-    {
-        let decided = self.decide(now, fresh, datagram, out);
-        Left { decided, datagram }
-    }
-
-    /// Takes a datagram in place (RFC 8613, 8.2): calls `decide`, and returns the decision as an outcome. The first `reply` bytes of
-    /// `out` are the reply. Returns `None` if the bytes can't have been written by a call. `decide` says what the datagram holds afterwards.
-    pub fn take<'b>(
-        &mut self,
-        now: u64,
-        fresh: Fresh,
-        datagram: &'b mut [u8],
-        out: &mut [u8; 64],
-    ) -> Option<Taken<'b>>
-        ensures accepts { IsSlotBytes self.old.slot → IsSome result }
-        ensures accepted { IsSome result → IsSlotBytes self.old.slot }
-        ensures answered { IfSome result (λ taken. (h : History) → Serves (server_of_one self.old) h
-            → TakesIn h now fresh datagram.old taken.outcome (take taken.reply out.new) (server_of_one self.new)) }
-        ensures bytes { IfSome result (λ taken. IsSlotBytes self.new.slot) }
-        ensures within { IfSome result (λ taken. taken.reply ≤ 64) }
-        ensures behind { IfSome result (λ taken. drop taken.reply out.new ≡ drop taken.reply out.old) }
-        ensures no_keeper_failed { IfSome result (λ taken. taken.outcome ≢ KeeperFailedOutcome) }
-        ensures unchanged { result ≡ None → (self.new ≡ self.old) × (out.new ≡ out.old) }
-    {
-        let Left { decided, datagram } = self.decide_and_lend(now, fresh, datagram, out);
-        let Some(Decided { decision, reply }) = decided else {
-            return None;
-        };
-        let outcome = decision.outcome(datagram);
-        Some(Taken { outcome, reply })
     }
 
     /// Returns whether a ticket is of the context's present life.

@@ -7,9 +7,8 @@ ghost use Rattle.osc_endpoint.specs.Agrees.{TableAgrees};
 ghost use Rattle.osc_life.specs.Life.{Life, marked};
 ghost use Rattle.osc_life.specs.Replies.{as_reply};
 ghost use Rattle.osc_life.specs.Replying.{reply_mark};
-ghost use Rattle.osc_endpoint.specs.Restarting.{lives_after};
-ghost use Rattle.osc_life.specs.LifeAnswer.{LifeNotify, LifeReply, LifeRestart, as_notification};
-ghost use Rattle.osc_life.specs.Views.{reply_entry, restarted_entry};
+ghost use Rattle.osc_life.specs.LifeAnswer.{LifeNotify, LifeReply, as_notification};
+ghost use Rattle.osc_life.specs.Views.{reply_entry};
 ghost use Rattle.osc_life.specs.declared.server_error.ReplyError.TheVariants.{KeeperFailed};
 ghost use Rattle.osc_life.specs.declared.slot.Slot.{Slot as SlotOf};
 ghost use Rattle.osc_handle.specs.Held as lemmas;
@@ -22,27 +21,10 @@ use crate::slot_handle::SlotHandle;
 use osc_coap::{Message, Token};
 use osc_context::Piv;
 use osc_endpoint::siblings::{Asker, Contexts, Named, is_replay, refuse_replay};
-use osc_endpoint::{Decided, ReplyError, RestartError};
+use osc_endpoint::{Decided, ReplyError};
 use osc_protect::encrypt_again;
 
 impl SlotHandle {
-    /// Begins a new life of the context, which has index 0.
-    pub(crate) fn restart_alone(&mut self, next: Piv) -> Result<(), RestartError>
-        requires { IsSlotBytes self.old }
-        ensures answer { (slots : List (Option SlotOf)) (lives : ℕ → Option Life) → IsTableIn (table_of self.old) slots → TableAgrees slots lives
-            → LifeRestart (lives 0) (restarted_entry result) }
-        ensures kept { (slots : List (Option SlotOf)) (lives : ℕ → Option Life) → IsTableIn (table_of self.old) slots → TableAgrees slots lives
-            → (new : List (Option SlotOf)) × IsTableIn (table_of self.new) new × (length new ≡ length slots) × TableAgrees new (lives_after result 0 (number_of next) lives) }
-        ensures bytes { IsSlotBytes self.new }
-        ensures same { OnErr result (self.new ≡ self.old) }
-    {
-        if !self.can_renew() {
-            return Err(RestartError::LivesExhausted);
-        }
-        self.renew(next);
-        Ok(())
-    }
-
     /// Seals a reply to a request of the context's present life.
     pub(crate) fn reply_alone(
         &mut self,

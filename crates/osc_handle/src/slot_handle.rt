@@ -1,6 +1,6 @@
 //! One context of a server, in its present life, as bytes.
 
-ghost use Rattle.std.specs.Prelude.{◌≡◌, ◌≢◌, ◌≤◌, ◌<◌, ◌+◌, ◌^◌, ◌⊎◌, IfSome, IsSome, IfOk, IfErr, OnErr, None, true, false, length, drop};
+ghost use Rattle.std.specs.Prelude.{◌≡◌, ◌≢◌, ◌≤◌, ◌<◌, ◌^◌, ◌⊎◌, IfSome, IsSome, IfOk, IfErr, OnErr, None, true, false, length, drop};
 ghost use Rattle.std.specs.Option.{option_map};
 ghost use Rattle.osc_context.specs.Views.{as_server, is_constant_time, number_of};
 ghost use Rattle.osc_window.specs.Views.{places_of};
@@ -8,7 +8,7 @@ ghost use Rattle.osc_window.specs.Window.{HasPlaces};
 ghost use Rattle.osc_coap.specs.Views.{parts_of};
 ghost use Rattle.osc_protect.specs.Views.{context_of};
 ghost use Rattle.osc_life.specs.Agrees.{SlotAgrees};
-ghost use Rattle.osc_life.specs.Life.{Life, marked, renewed};
+ghost use Rattle.osc_life.specs.Life.{Life, marked};
 ghost use Rattle.osc_life.specs.Replies.{as_reply};
 ghost use Rattle.osc_life.specs.Replying.{reply_mark};
 ghost use Rattle.osc_life.specs.LifeAnswer.{LifeNotify, LifeReply, as_notification};
@@ -190,21 +190,6 @@ impl SlotHandle {
         self.slot_with(gate)
     }
 
-    /// Returns the bytes of a place that isn't in use.
-    pub(crate) fn unused() -> SlotHandle {
-        SlotHandle {
-            context: ContextHandle::unused(),
-            places: 0,
-            window_places: 0,
-            gate: 0,
-            echo: [0; 8],
-            at: 0,
-            spent_mask: 0,
-            next: 0,
-            life: 0,
-        }
-    }
-
     /// Returns the bytes of a context in its life.
     pub(crate) fn of(context: &ContextHandle, slot: &Slot) -> SlotHandle
         requires handle { IsContext context.now }
@@ -228,26 +213,6 @@ impl SlotHandle {
         };
         bytes.keep_gate(&slot.gate);
         bytes
-    }
-
-    /// Returns whether another life may begin: whether a count of 64 bits has room for it.
-    pub(crate) fn can_renew(&self) -> bool
-        ensures yes { result ≡ true → self.now.life + 1 < 2 ^ 64 }
-        ensures no { result ≡ false → 2 ^ 64 ≤ self.now.life + 1 }
-    {
-        self.life < u64::MAX
-    }
-
-    /// Begins a new life.
-    pub(crate) fn renew(&mut self, next: Piv)
-        requires bytes { IsSlotBytes self.old }
-        requires left { self.old.life + 1 < 2 ^ 64 }
-        ensures kept { (before : SlotOf) (l : Life) → IsSlotIn self.old before → SlotAgrees before l → HoldsIn self.new (renewed (number_of next) l) }
-        ensures bytes { IsSlotBytes self.new }
-    {
-        let mut slot = self.slot();
-        slot.renew(next);
-        self.keep(&slot);
     }
 
     /// Seals a reply to the request of the present life with this number from this requester, writes it to the front of `out`, and

@@ -16,7 +16,7 @@ use Rattle.osc_life.specs.ServerHistory as server
 use Rattle.osc_life.specs.declared.start.Start.{Start}
 use Rattle.osc_life.specs.declared.start.Start.TheVariants as starts
 use Rattle.osc_handle.specs.ServerBytes.{Serves}
-use Rattle.osc_handle.specs.declared.server_handle.ServerHandle.{ServerHandle}
+use Rattle.osc_handle.specs.ServerParts.{ServerParts}
 use Rattle.osc_kept.proofs.InWorld.{had_tickets}
 use Rattle.osc_kept.specs.Premises.{Answers, AtEach}
 use Rattle.osc_kept.specs.World.{World, Has, delivered, server_history}
@@ -24,7 +24,7 @@ use Rattle.osc_kept_ends.specs.KeptAsking as asking
 use Rattle.osc_kept_ends.specs.KeptServing as serving
 use Rattle.osc_kept_ends.specs.Numbering.{Own, Draws, DrawsFrom, Load, Reserve, Steps, after, nothing_drawn, upcoming}
 use Rattle.osc_kept_ends.specs.Peering.{IsPeerStart, MayDraw, ServerPasses}
-use Rattle.osc_kept_handle.proofs.GivenTickets.{held}
+use Rattle.osc_peer_bytes.proofs.GivenTickets.{held}
 use Rattle.osc_peers.specs.Peers.{Peers, back, forth, near_numbers}
 use Rattle.osc_peers.specs.Roles.{turned}
 use Rattle.osc_peer_calls.proofs.OneMore.{may_draw}
@@ -85,7 +85,7 @@ asks_after law s w p q requests later room runs event entry counted plain step t
 
 -- an accepted reply takes a ticket that is left, however often that was copied
 pub reply_trusts : AnsweredOnce → (n : ℕ) (s : SecurityContext) (w : World) (h g : server.History) (t : server.TicketValues) (own : Bool) (mid : ℕ) (plain : Parts) (room : ℕ) (entry : server.Entry)
-    (z : ServerHandle) → AtEach (Answers n s) w → server_history s w ≡ Some h → Has t (all_delivered h) → ServerPasses h g → Serves z (server.Then g (server.Reply t own mid plain room) entry)
+    (z : ServerParts) → AtEach (Answers n s) w → server_history s w ≡ Some h → Has t (all_delivered h) → ServerPasses h g → Serves z (server.Then g (server.Reply t own mid plain room) entry)
     → ServerTrusts s w h (server.Reply t own mid plain room) entry
 reply_trusts once n s w h g t own mid plain room (server.Replied bytes) z answers known has passes serves =
     let left = had_tickets n s w h answers known in

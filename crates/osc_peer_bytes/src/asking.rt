@@ -6,7 +6,7 @@ ghost use Rattle.osc_context.specs.SecurityContext.{SecurityContext};
 ghost use Rattle.osc_client.specs.ClientHistory as asked;
 ghost use Rattle.osc_kept.specs.EchoNumbers.{EchoesHeard};
 ghost use Rattle.osc_kept.specs.World.{AtClient};
-ghost use Rattle.osc_kept_handle.specs.KeptClientBytes.{entry_of_kept_request};
+ghost use Rattle.osc_handle.specs.PendingBytes.{entry_of_kept_request};
 ghost use Rattle.osc_peers.specs.Peers.{Peers, forth};
 ghost use Rattle.osc_peer_bytes.specs.BytesInList.{AsksAfter, DecidesBack, HearsInList, RunsIn};
 ghost use Rattle.osc_peer_calls.specs.Counting.{AreCounted};
@@ -16,12 +16,12 @@ ghost use Rattle.osc_client.specs.Agrees.{TokensDiffer};
 ghost use Rattle.osc_client.specs.ClientDeciding.{CanShow};
 ghost use Rattle.osc_client.specs.declared.client_outcome.RequestError.TheVariants.{KeeperFailed};
 ghost use Rattle.osc_peer_handle.specs.PeerBytes.{HasToSave, IsPeer, IsSamePeer, next_in};
-ghost use Rattle.osc_kept_handle.specs.declared.kept_refusal.KeptRequestRefusal.TheVariants as refusals;
+ghost use Rattle.osc_handle.specs.declared.kept_refusal.KeptRequestRefusal.TheVariants as refusals;
 
 use osc_client::siblings::Waiting;
 use osc_coap::Message;
 use osc_endpoint::{ClientDecision, ClientOutcome};
-use osc_kept_handle::KeptRequestRefusal;
+use osc_handle::KeptRequestRefusal;
 use osc_peer_calls::peer_calls_in_list;
 use osc_peer_handle::PeerHandle;
 

@@ -22,11 +22,11 @@ use Rattle.osc_kept_ends.specs.KeptServing.{draws, uses}
 use Rattle.osc_kept_ends.specs.Numbering.{Own, Draws, DrawsFrom, Steps, upcoming}
 use Rattle.osc_kept_ends.specs.Peering.{DeliversBelow, ServerPasses, TakesBelow}
 use Rattle.osc_kept_ends.proofs.Drawing.{upcoming_stays}
-use Rattle.osc_kept_handle.proofs.ServerSteps.{next_in as next_in_bytes, serves_with}
-use Rattle.osc_kept_handle.proofs.NumberSteps.{upcoming_within}
-use Rattle.osc_kept_handle.specs.KeptServerBytes.{DecidesWith, ServesWith, StepsServer}
-use Rattle.osc_kept_handle.specs.Reserved.{AreReserved, WantsSave}
-use Rattle.osc_kept_handle.specs.declared.kept_server_handle.KeptServerHandle.{KeptServerHandle}
+use Rattle.osc_handle.proofs.ServerSteps.{next_in as next_in_bytes, serves_with}
+use Rattle.osc_handle.proofs.NumberSteps.{upcoming_within}
+use Rattle.osc_handle.specs.KeptServerBytes.{DecidesWith, ServesWith, StepsServer}
+use Rattle.osc_handle.specs.Reserved.{AreReserved, WantsSave}
+use Rattle.osc_handle.specs.declared.kept_server_handle.KeptServerHandle.{KeptServerHandle}
 use Rattle.osc_context_handle.specs.ContextBytes.{client_in, server_in}
 use Rattle.osc_context_handle.specs.declared.context_handle.ContextHandle.{ContextHandle}
 use Rattle.osc_handle.proofs.Tables.{life_there}

@@ -1,7 +1,6 @@
 -- A peer in bytes as it asks. p are the bytes before a call, q those after it, a is the history of its client, b that history once it passed over numbers, old are its
 -- numbers, parts what its client is made of.
-use Rattle.std.proofs.Common.{◌≡◌, ◌∙◌, ◌-◌, ◌<◌, ◌^◌, ◌≤◌, sym, ap, subst, refl, arith, ℕ, Bool, true, List, [], Option, Some}
-use Rattle.osc_context.specs.SecurityContext.{SecurityContext}
+use Rattle.std.proofs.Common.{◌≡◌, ◌∙◌, ◌-◌, ◌<◌, ◌^◌, ◌≤◌, sym, ap, subst, refl, arith, ℕ, Bool, true, List, [], Option, Some, None}
 use Rattle.osc_context.specs.declared.partial_iv.Piv.{Piv}
 use Rattle.osc_context.specs.Views.{number_of}
 use Rattle.std.specs.Prelude.{IfNone, IfSome}
@@ -13,17 +12,21 @@ use Rattle.osc_laws.specs.ClientLaws.{AllClientAnswers}
 use Rattle.osc_client.specs.declared.client_outcome.RequestError.{RequestError}
 use Rattle.osc_life.specs.ServerHistory as served
 use Rattle.osc_context_handle.specs.ContextBytes.{client_in}
-use Rattle.osc_handle.proofs.ClientHistories.{next_is}
 use Rattle.osc_kept_ends.specs.KeptAsking.{draws, uses}
 use Rattle.osc_kept_ends.specs.Numbering.{Own, Use, after, upcoming, Steps}
 use Rattle.osc_kept_ends.specs.Peering.{ClientPasses}
 use Rattle.osc_kept_ends.proofs.Drawing.{in_hand, upcoming_stays}
-use Rattle.osc_kept_handle.proofs.NumberSteps.{drawn_by, upcoming_within, used}
-use Rattle.osc_kept_handle.specs.Reserved.{AreReserved, WantsSave}
+use Rattle.osc_handle.proofs.NumberSteps.{drawn_by, upcoming_within, used}
+use Rattle.osc_handle.specs.Reserved.{AreReserved, WantsSave}
 use Rattle.osc_peer_handle.proofs.AnswerSteps.{steps_rise}
 use Rattle.osc_peer_handle.proofs.Passing.{slot_bytes_at}
 use Rattle.osc_peer_handle.specs.PeerBytes.{AsksBehind, HasNumbers, IsPeer, ServesBehind, StepsAsking, next_in}
 use Rattle.osc_peer_handle.specs.declared.peer_handle.PeerHandle.{PeerHandle}
+
+-- a number below the limit is the next one, and the limit is where there is none
+next_is : (o : Option Piv) (n : ℕ) → n ≤ 2 ^ 40 → IfSome o (λ number. number_of number ≡ n) → IfNone o (2 ^ 40 ≤ n) → next_of o ≡ n
+next_is None n most given limit = omega (arith, most, limit)
+next_is (Some number) n most given limit = given
 
 -- what the client is made of, by the bytes and these requests
 abbrev pub parts_of_peer : PeerHandle → List Asked → ClientParts
@@ -194,14 +197,6 @@ pub forgot : (p : PeerHandle) (room : ℕ) (old : Own) (a b : History) (token : 
     → PartsAgree (parts_of_peer p later) (Then b (Forget token) (Forgot was)) → TokensDiffer later → StepsAsking p room a (Forget token) (Forgot was) old p later
 forgot p room old a b token was requests later w passes before row agrees differ =
     steps_asking p room old old a b (Forget token) (Forgot was) requests later (parts_of_peer p later) w passes (next_of_passed p requests room old a b w before) row agrees refl differ w.has.next_is w.has.numbers (old, refl, (tt, refl))
-
--- the bytes go on with the values that they say
-pub goes_on : (p : PeerHandle) (parts : ClientParts) (s : SecurityContext) (number : Option Piv) → s ≡ client_in p.server.server.slot.context → next_in p ≤ 2 ^ 40
-    → IfSome number (λ n. number_of n ≡ next_in p) → IfNone number (2 ^ 40 ≤ next_in p)
-    → parts ≡ record { context = s; life_ms = p.life_ms; clock = p.clock; next = next_of number; pending = [] }
-    → parts ≡ record { context = client_in p.server.server.slot.context; life_ms = p.life_ms; clock = p.clock; next = next_in p; pending = [] }
-goes_on p parts s number same most given limit is =
-    is ∙ (λ i. record { context = same i; life_ms = p.life_ms; clock = p.clock; next = next_is number (next_in p) most given limit i; pending = [] })
 
 -- a client with these values is made of what the bytes and the requests say
 pub made_of : (p : PeerHandle) (parts : ClientParts) (requests : List Asked)

@@ -13,25 +13,18 @@ use Rattle.osc_context_handle.specs.ContextBytes.{client_in, server_in}
 use Rattle.osc_context_handle.specs.declared.context_handle.ContextHandle.{ContextHandle}
 use Rattle.osc_handle.specs.ServerBytes.{AddsIn}
 use Rattle.osc_handle.specs.SingleServerBytes.{server_of_one}
-use Rattle.osc_handle.specs.SlotBytes.{HasNoDoubt, IsSlotBytes}
+use Rattle.osc_handle.specs.SlotBytes.{IsSlotBytes}
 use Rattle.osc_kept_ends.specs.Numbering.{Own, Load, Reserve, after, nothing_drawn, upcoming}
 use Rattle.osc_kept_ends.specs.Peering.{IsPeerStart}
-use Rattle.osc_kept_handle.proofs.NumberSteps.{can_reserve, comes_next, loaded, reserved_more}
-use Rattle.osc_kept_handle.proofs.ServerSteps.{serves_with}
-use Rattle.osc_kept_handle.specs.KeptServerBytes.{ServesWith}
-use Rattle.osc_kept_handle.specs.Reserved.{AreReserved, WantsSave}
+use Rattle.osc_handle.proofs.NumberSteps.{can_reserve, comes_next, loaded, reserved_more}
+use Rattle.osc_handle.proofs.ServerSteps.{serves_with}
+use Rattle.osc_handle.specs.KeptServerBytes.{ServesWith}
+use Rattle.osc_handle.specs.Reserved.{AreReserved, WantsSave}
 use Rattle.osc_peer_handle.proofs.AnswerSteps.{exchanged_in, life_of, not_behind}
 use Rattle.osc_peer_handle.specs.PeerBytes.{AsksBehind, HasNumbers, IsSavedAs, ServesBehind, next_in}
 use Rattle.osc_peer_handle.specs.declared.peer_handle.PeerHandle.{PeerHandle}
 
 -- ---- a start
-
--- bytes have room for a start at what was saved
-pub no_doubt : (start : Start) (sender received : ℕ) → IsPeerStart 0 start sender received → HasNoDoubt start
-no_doubt (starts.Fresh first) sender received is = tt
-no_doubt (starts.Restarted first) sender received is = tt
-no_doubt (starts.Received first highest) sender received is = tt
-no_doubt (starts.Reserved first highest kept) sender received is = absurd (is.3 refl)
 
 first_own : (context : SecurityContext) (start : Start) (size : WindowSize) (sender received : ℕ) → IsPeerStart 0 start sender received → next_own (born context start size) ≡ sender
 first_own context (starts.Fresh first) size sender received is = let same = is.0 in omega (arith, same)

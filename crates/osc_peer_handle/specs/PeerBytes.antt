@@ -30,8 +30,8 @@ use Rattle.osc_kept_ends.specs.KeptAsking as asking
 use Rattle.osc_kept_ends.specs.KeptServing as serving
 use Rattle.osc_kept_ends.specs.Numbering.{Own, Goes, Reserve, Steps, upcoming}
 use Rattle.osc_kept_ends.specs.Peering.{ClientPasses, ServerPasses}
-use Rattle.osc_kept_handle.specs.KeptServerBytes.{IsKeptServer}
-use Rattle.osc_kept_handle.specs.Reserved.{AreReserved, WantsSave}
+use Rattle.osc_handle.specs.KeptServerBytes.{IsKeptServer}
+use Rattle.osc_handle.specs.Reserved.{AreReserved, WantsSave}
 use Rattle.osc_peer_handle.specs.declared.peer_handle.PeerHandle.{PeerHandle}
 
 -- the next Sender Sequence Number of both roles (RFC 8613, 7.2.1)

@@ -14,8 +14,8 @@ ghost use Rattle.osc_handle.specs.TicketBytes.{IsTicket, ticket_in};
 ghost use Rattle.osc_kept_ends.specs.EchoNumber.{echo_of};
 ghost use Rattle.osc_kept_ends.specs.Numbering.{Own, upcoming};
 ghost use Rattle.osc_kept_ends.specs.Peering.{DeliversBelow, TakesBelow};
-ghost use Rattle.osc_kept_handle.specs.KeptServerBytes.{entry_of_kept_reply};
-ghost use Rattle.osc_kept_handle.specs.declared.kept_refusal.KeptReplyRefusal.TheVariants as replies;
+ghost use Rattle.osc_handle.specs.KeptServerBytes.{entry_of_kept_reply};
+ghost use Rattle.osc_handle.specs.declared.kept_refusal.KeptReplyRefusal.TheVariants as replies;
 ghost use Rattle.osc_peer_handle.specs.PeerBytes.{DecidesAnswering, DeliversFrom, HasToSave, IsPeer, IsSamePeer, IsTicketOf, KeepsFirst, ServesBehind, StepsAnswering, TakesAnswering, inside_of, next_in};
 ghost use Rattle.osc_peer_handle.specs.declared.peer_refusal.PeerRefusal.TheVariants as refusals;
 
@@ -24,8 +24,7 @@ use crate::peer_handle::PeerHandle;
 use crate::peer_refusal::PeerRefusal;
 use osc_coap::Message;
 use osc_endpoint::{Decided, Decision, Fresh, ReplyError, Taken};
-use osc_handle::TicketHandle;
-use osc_kept_handle::{KeptRefusal, KeptReplyRefusal};
+use osc_handle::{KeptRefusal, KeptReplyRefusal, TicketHandle};
 
 impl PeerHandle {
     /// Returns the received number to save before this is delivered, if there is one.

@@ -7,8 +7,8 @@ ghost use Rattle.osc_client.specs.Agrees.{TokensDiffer};
 ghost use Rattle.osc_client.specs.ClientDeciding.{CanShow};
 ghost use Rattle.osc_client.specs.ClientHistory as asked;
 ghost use Rattle.osc_kept_ends.specs.Numbering.{Own};
-ghost use Rattle.osc_kept_handle.specs.KeptClientBytes.{entry_of_kept_request};
-ghost use Rattle.osc_kept_handle.specs.declared.kept_refusal.KeptRequestRefusal.TheVariants as refusals;
+ghost use Rattle.osc_handle.specs.PendingBytes.{entry_of_kept_request};
+ghost use Rattle.osc_handle.specs.declared.kept_refusal.KeptRequestRefusal.TheVariants as refusals;
 ghost use Rattle.osc_client.specs.declared.client_outcome.RequestError.TheVariants.{KeeperFailed};
 ghost use Rattle.osc_peer_handle.specs.PeerBytes.{AsksBehind, DecidesAsking, HasToSave, IsPeer, IsSamePeer, StepsAsking, TakesAsking, next_in};
 
@@ -17,12 +17,12 @@ use crate::peer_handle::PeerHandle;
 use osc_client::siblings::{Waiting, forget_in};
 use osc_coap::Message;
 use osc_endpoint::{ClientDecision, ClientOutcome};
-use osc_kept_handle::KeptRequestRefusal;
+use osc_handle::KeptRequestRefusal;
 
 impl PeerHandle {
-    /// Seals a request with the next number, as `KeptClientHandle::request` does, writes it to the front of `out`, and returns how many bytes
-    /// it wrote. Its token is pending in this table from then on. If a number has to be saved first, it returns that number, and nothing
-    /// changes, not even the clock. After a refusal by a `Client`, only the clock has moved.
+    /// Seals a request with the next number, writes it to the front of `out`, and returns how many bytes it wrote. Its token is pending in this
+    /// table from then on. If a number has to be saved first, it returns that number, and nothing changes, not even the clock. After a refusal by
+    /// a `Client`, only the clock has moved.
     pub fn request<W: Waiting>(
         &mut self,
         pending: &mut W,
@@ -66,8 +66,8 @@ impl PeerHandle {
         }
     }
 
-    /// Decides the answer to a datagram that may be a response to a request of this table, as `KeptClientHandle::decide` does; this is the
-    /// first half of `hear`. Needs no number. Returns `None` if the bytes can't have been written by a call.
+    /// Decides the answer to a datagram that may be a response to a request of this table; this is the first half of `hear`. Needs no number.
+    /// Returns `None` if the bytes can't have been written by a call.
     pub fn decide_response<W: Waiting>(
         &mut self,
         pending: &mut W,

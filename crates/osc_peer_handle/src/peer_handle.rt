@@ -22,9 +22,8 @@ use osc_client::siblings::ClientState;
 use osc_context::Piv;
 use osc_context_handle::ContextHandle;
 use osc_endpoint::{Start, Ticket};
-use osc_handle::{SingleServerHandle, TicketHandle};
-use osc_kept_handle::KeptServerHandle;
-use osc_kept_handle::siblings::{next_limit, save_first};
+use osc_handle::siblings::{next_limit, save_first};
+use osc_handle::{KeptServerHandle, SingleServerHandle, TicketHandle};
 use osc_window::WindowSize;
 
 /// No number is this large (RFC 8613, 7.2.1).

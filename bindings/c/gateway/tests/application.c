@@ -1,10 +1,10 @@
 /* A plain CoAP server behind the gateway, which answers each request with a 0, a space and the request's payload. It looks whether a payload
    comes a second time, as another request, until SIGTERM; then it says what it saw.
 
-       application
+       application [echo]
 
-   Its first line is its port. Of a hundred requests it passes over the first copy of one, as if it had been lost, and answers ten by a separate
-   response. The status is 1 where a payload came twice. */
+   With `echo` each answer has the option Echo. Its first line is its port. Of a hundred requests it passes over the first copy of one, as if it
+   had been lost, and answers ten by a separate response. The status is 1 where a payload came twice. */
 #include "../../oscore.h"
 #include "../bytes.h"
 #include <arpa/inet.h>
@@ -12,22 +12,24 @@
 #include <signal.h>
 #include <stdio.h>
 #include <stdlib.h>
+#include <string.h>
 #include <sys/socket.h>
 #include <unistd.h>
 
-enum { DATAGRAM = 1500, SEEN = 1 << 17, RECENT = 4096, CHANGED = 68, CON = 0, ACK = 2, HEAD = 4 };
+enum { DATAGRAM = 1500, ANSWER_MOST = 600, SEEN = 1 << 17, RECENT = 4096, CHANGED = 68, CON = 0, ACK = 2, HEAD = 4, LOCATION_PATH = 8, ECHO = 252 };
 
 /* What was answered to a message, for when it comes again. */
 typedef struct answer {
     uint64_t hash;
     size_t len;
-    uint8_t bytes[256];
+    uint8_t bytes[ANSWER_MOST];
 } answer;
 
 typedef struct application {
     int udp;
     struct sockaddr_in from;
     socklen_t from_len;
+    bool echoes;
     uint64_t seen[SEEN], requests, again, twice;
     answer recent[RECENT];
 } application;
@@ -58,6 +60,10 @@ static const uint8_t *payload_of(const uint8_t *bytes, size_t len) {
     return marker ? marker + 1 : bytes + len;
 }
 
+/* Before Echo stands an option whose length takes two bytes more, and whose value looks like a payload's marker. Echo's delta takes one more. */
+static uint8_t place[300];
+static const oscore_option ECHOING[] = {{LOCATION_PATH, place, sizeof place}, {ECHO, place, 4}};
+
 static void obey(application *a, const uint8_t *bytes, size_t len, answer *kept) {
     const uint8_t *payload = payload_of(bytes, len);
     size_t payload_len = (size_t)(bytes + len - payload), token_len = bytes[0] & 15, at = HEAD + token_len, detail;
@@ -69,8 +75,8 @@ static void obey(application *a, const uint8_t *bytes, size_t len, answer *kept)
     uint16_t message_id = (uint16_t)(separate ? a->requests : (uint64_t)(bytes[2] << 8 | bytes[3]));
     const uint8_t acknowledged[HEAD] = {0x60, 0, bytes[2], bytes[3]};
     if (separate) say(a, acknowledged, sizeof acknowledged);
-    if (oscore_write_message(separate ? CON : ACK, CHANGED, message_id, bytes + HEAD, token_len, NULL, 0, text, payload_len + 2, kept->bytes,
-                             sizeof kept->bytes, &kept->len, &detail))
+    if (oscore_write_message(separate ? CON : ACK, CHANGED, message_id, bytes + HEAD, token_len, ECHOING, a->echoes ? 2 : 0, text, payload_len + 2,
+                             kept->bytes, sizeof kept->bytes, &kept->len, &detail))
         kept->len = 0;
     if (kept->len > 0) say(a, kept->bytes, kept->len);
 }
@@ -89,8 +95,10 @@ static void take(application *a, const uint8_t *bytes, size_t len) {
     if (!passed_over) obey(a, bytes, len, kept);
 }
 
-int main(void) {
+int main(int count, char **words) {
     static application a;
+    a.echoes = count == 2 && !strcmp(words[1], "echo");
+    memset(place, 0xff, sizeof place);
     const struct sigaction handled = {.sa_handler = end};
     struct sockaddr_in own = {.sin_family = AF_INET, .sin_addr.s_addr = htonl(INADDR_LOOPBACK)};
     socklen_t own_len = sizeof own;

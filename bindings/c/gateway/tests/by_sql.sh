@@ -76,6 +76,8 @@ $(printf '%0140d' 0) - 53 54 - fresh 0|the secret
 00 - 53 54 $(printf '%066d' 0) fresh 0|the ID context
 00 - 53 54 - new 0|the state, which is fresh or restarted
 00 - 53 54 - fresh -1|the next number
+00 - 53 54 - restarted 1099511627776|the next number
+00 - 53 54 - fresh 1|the next number, which is 0 of a fresh context
 00 - 53 54 - fresh 0 slow|a word behind the next number
 00 - 53 54 - fresh 0 blocks blocks blocks blocks|the number of words
 aabbccddeeff - 53 54 - restarted 5000 tables blocks

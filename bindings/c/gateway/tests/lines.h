@@ -10,6 +10,7 @@
 typedef struct context_line {
     uint8_t secret[64], salt[64], server[7], client[7], id_context[32];
     size_t secret_len, salt_len, server_len, client_len, id_context_len;
+    bool observe;
 } context_line;
 
 static inline size_t unhex(const char *text, uint8_t *to) {
@@ -20,8 +21,9 @@ static inline size_t unhex(const char *text, uint8_t *to) {
 }
 
 static inline bool read_context(FILE *from, context_line *to) {
-    char secret[130], salt[130], server[20], client[20], id_context[70];
-    if (fscanf(from, "%129s %129s %19s %19s %69s %*s %*s", secret, salt, server, client, id_context) != 5) return false;
+    char secret[130], salt[130], server[20], client[20], id_context[70], words[40] = "";
+    if (fscanf(from, "%129s %129s %19s %19s %69s %*s %*s%39[^\n]", secret, salt, server, client, id_context, words) < 5) return false;
+    to->observe = strstr(words, "observe") != NULL;
     to->secret_len = unhex(secret, to->secret);
     to->salt_len = unhex(salt, to->salt);
     to->server_len = unhex(server, to->server);
@@ -34,7 +36,7 @@ static inline bool read_context(FILE *from, context_line *to) {
 static inline oscore_status derive_end(const context_line *of, bool client, oscore_context *to) {
     return oscore_derive(to, of->secret, of->secret_len, of->salt, of->salt_len, of->id_context_len > 0, of->id_context, of->id_context_len,
                          client ? of->client : of->server, client ? of->client_len : of->server_len, client ? of->server : of->client,
-                         client ? of->server_len : of->client_len, false, false, false);
+                         client ? of->server_len : of->client_len, false, false, of->observe);
 }
 
 static inline FILE *open_lines(const char *file) {

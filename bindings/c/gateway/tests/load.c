@@ -4,8 +4,10 @@
 
    requests=N, or seconds=S with no loss; outstanding=64; next=0, each client's first number; of a hundred datagrams lose=0 are lost, both
    ways, double=0 come twice, late=0 come late, and behind replay=0 one of before comes again; of a hundred requests own=0 ask for a reply
-   with a Partial IV of its own, long=0 have a text of 100 bytes, and non=0 are NON; keep=FILE keeps what was sent, again=FILE sends that
-   first; results=FILE says what each context came to; seed=1.
+   with a Partial IV of its own, long=0 have a text of 100 bytes, non=0 are NON, and observe=0 register an observation, which the built-in
+   application refuses; keep=FILE keeps what was sent, again=FILE sends that first; results=FILE says what each context came to; seed=1.
+
+   Each client is a peer, whose records are saved nowhere: no other life begins behind them.
 
    The status is 1 where a reply is wrong: its text isn't that of its request, or it says of two requests that each was, say, the third. */
 #include "lines.h"
@@ -17,8 +19,16 @@
 #include <unistd.h>
 
 enum { SLOTS = 512, LATE_ROOM = 128, OLD_ROOM = 2048, TRIES = 7, WAIT_MS = 500, DATAGRAM = 256, TEXT_ROOM = 128, LONG_TEXT = 100 };
-enum { CON = 0, NON = 1, PUT = 3, CHANGED = 68, URI_PATH = 11, ECHO = 252, UNAUTHORIZED = 129, OPTIONS = 8 };
-enum { REQUESTS, SECONDS_OF_LOAD, OUTSTANDING, NEXT, LOSE, DOUBLE, LATE, REPLAY, OWN, LONG, NON_SHARE, SEED, NUMBERS };
+enum { CON = 0, NON = 1, GET = 1, PUT = 3, CHANGED = 68, NOT_ALLOWED = 133, OBSERVE = 6, URI_PATH = 11, ECHO = 252, UNAUTHORIZED = 129 };
+enum { PLACES = 8, OPTIONS = 8, PENDING_MS = 600000 };
+enum { REQUESTS, SECONDS_OF_LOAD, OUTSTANDING, NEXT, LOSE, DOUBLE, LATE, REPLAY, OWN, LONG, NON_SHARE, OBSERVE_SHARE, SEED, NUMBERS };
+
+/* A peer that asks, and its requests that wait. */
+typedef struct client {
+    oscore_peer peer;
+    oscore_pending pending[PLACES];
+    oscore_size pending_count;
+} client;
 
 typedef struct sent {
     uint8_t bytes[DATAGRAM];
@@ -27,7 +37,7 @@ typedef struct sent {
 
 /* A request that waits for its reply. */
 typedef struct slot {
-    bool used;
+    bool used, observes;
     uint32_t client;
     uint8_t token[8];
     uint64_t number, last_ms, first_us;
@@ -49,7 +59,7 @@ typedef struct load {
     FILE *kept;
     int udp;
     size_t clients;
-    oscore_client *client;
+    client *client;
     tally *tally;
     slot slots[SLOTS];
     sent late[LATE_ROOM], old[OLD_ROOM];
@@ -58,7 +68,7 @@ typedef struct load {
 } load;
 
 static const char *const NAMES[NUMBERS] = {"requests", "seconds", "outstanding", "next", "lose", "double", "late", "replay", "own", "long", "non",
-                                           "seed"};
+                                           "observe", "seed"};
 
 static _Noreturn void stop(const char *why) {
     fprintf(stderr, "load: %s\n", why);
@@ -96,24 +106,41 @@ static void spoil_and_send(load *l, slot *of) {
     if (chance(l, REPLAY)) put_out(l, &l->old[drawn(l) % (l->old_count < OLD_ROOM ? l->old_count : OLD_ROOM)]);
 }
 
+static oscore_status request(client *by, const uint8_t *plain, size_t len, sent *to) {
+    oscore_peer_record record = OSCORE_ZERO;
+    oscore_status status;
+    size_t detail;
+    do status = oscore_peer_request(&by->peer, by->pending, PLACES, &by->pending_count, now_us() / 1000, plain, len, to->bytes, DATAGRAM, &to->len,
+                                    &record, &detail);
+    while (status == OSCORE_SAVE_FIRST && oscore_peer_saved(&by->peer, &record) == OSCORE_DONE);
+    return status;
+}
+
+/* Writes the plain message of a slot's request, and says how long it is. */
+static size_t write_plain(load *l, const slot *of, const char *text, const oscore_option *echo, uint8_t plain[DATAGRAM]) {
+    oscore_option options[3] = OSCORE_ZERO;
+    size_t count = 0, len, detail;
+    if (of->observes) options[count++].number = OBSERVE;
+    options[count++] = (oscore_option){URI_PATH, (const uint8_t *)"m", 1};
+    if (echo) options[count++] = *echo;
+    if (oscore_write_message(chance(l, NON_SHARE) ? NON : CON, of->observes ? GET : PUT, (uint16_t)l->serial, of->token, sizeof of->token, options,
+                             count, (const uint8_t *)text, of->observes ? 0 : strlen(text), plain, DATAGRAM, &len, &detail))
+        stop("not written");
+    return len;
+}
+
 /* Seals a request in a free slot; false where its client has eight pending. */
-static bool ask(load *l, slot *of, uint32_t client, const char *text, const oscore_option *echo) {
-    oscore_option options[2] = {{URI_PATH, (const uint8_t *)"m", 1}, {0, NULL, 0}};
+static bool ask(load *l, slot *of, uint32_t by, const char *text, const oscore_option *echo) {
     uint8_t plain[DATAGRAM];
-    size_t plain_len, detail;
     cursor at = {of->token};
     put_number(&at, (uint64_t)(of - l->slots), 2);
     put_number(&at, ++l->serial, 6);
-    if (echo) options[1] = *echo;
-    if (oscore_write_message(chance(l, NON_SHARE) ? NON : CON, PUT, (uint16_t)l->serial, of->token, sizeof of->token, options, echo ? 2 : 1,
-                             (const uint8_t *)text, strlen(text), plain, sizeof plain, &plain_len, &detail))
-        stop("not written");
-    of->number = l->client[client].next;
-    if (oscore_client_request(&l->client[client], now_us() / 1000, plain, plain_len, of->datagram.bytes, DATAGRAM, &of->datagram.len, &detail))
-        return false;
+    size_t plain_len = write_plain(l, of, text, echo, plain);
+    of->number = l->client[by].peer.server.context.next;
+    if (request(&l->client[by], plain, plain_len, &of->datagram) != OSCORE_DONE) return false;
     if (of->text != text) memcpy(of->text, text, strlen(text) + 1);
     of->used = true;
-    of->client = client;
+    of->client = by;
     of->tries = 1;
     spoil_and_send(l, of);
     return true;
@@ -121,23 +148,31 @@ static bool ask(load *l, slot *of, uint32_t client, const char *text, const osco
 
 static bool ask_new(load *l, slot *of) {
     char text[TEXT_ROOM];
-    uint32_t client = (uint32_t)(drawn(l) % l->clients);
+    uint32_t by = (uint32_t)(drawn(l) % l->clients);
     of->first_us = now_us();
+    of->observes = chance(l, OBSERVE_SHARE);
     int width = chance(l, LONG) ? LONG_TEXT : 1;
     int len = snprintf(text, sizeof text, "%s%0*llu", chance(l, OWN) ? "own" : "", width, (unsigned long long)l->serial + 1);
-    if (len < 0 || (size_t)len >= sizeof text || !ask(l, of, client, text, NULL)) return false;
+    if (len < 0 || (size_t)len >= sizeof text || !ask(l, of, by, text, NULL)) return false;
     l->begun++;
     return true;
 }
 
-/* A reply says a count, a space, and the request's text; 0 where the application doesn't count. */
-static void look(load *l, slot *of, const oscore_opened *reply) {
-    unsigned long long count = 0;
+/* A reply says a count, a space, and the request's text; the count is 0 where the application doesn't count. One to a registration says nothing. */
+static bool read_reply(const slot *of, const oscore_opened *reply, unsigned long long *count) {
     size_t digits = 0, text_len = strlen(of->text);
+    *count = 0;
+    if (of->observes) return reply->code == NOT_ALLOWED && reply->payload_len == 0;
     for (; digits < reply->payload_len && reply->payload[digits] >= '0' && reply->payload[digits] <= '9'; digits++)
-        count = count * 10 + (unsigned long long)(reply->payload[digits] - '0');
-    bool good = reply->code == CHANGED && digits > 0 && reply->payload_len == digits + 1 + text_len && reply->payload[digits] == ' '
+        *count = *count * 10 + (unsigned long long)(reply->payload[digits] - '0');
+    return reply->code == CHANGED && digits > 0 && reply->payload_len == digits + 1 + text_len && reply->payload[digits] == ' '
         && !memcmp(reply->payload + digits + 1, of->text, text_len);
+}
+
+/* No two replies say one count. */
+static void look(load *l, slot *of, const oscore_opened *reply) {
+    unsigned long long count;
+    bool good = read_reply(of, reply, &count);
     tally *tally = &l->tally[of->client];
     if (count > 0 && count <= 64) {
         good = good && !(tally->counts >> (count - 1) & 1);
@@ -164,15 +199,17 @@ static slot *slot_of(load *l, const uint8_t *bytes, size_t len) {
 static void take(load *l, uint8_t *bytes, size_t len) {
     oscore_option options[OPTIONS] = OSCORE_ZERO;
     oscore_opened reply = OSCORE_ZERO;
-    uint64_t request;
+    uint64_t number;
     size_t detail;
     slot *of = slot_of(l, bytes, len);
     if (!of || chance(l, LOSE)) return;
-    if (oscore_client_take(&l->client[of->client], now_us() / 1000, bytes, len, options, OPTIONS, &reply, &request, &detail) != OSCORE_DONE) {
+    client *by = &l->client[of->client];
+    if (oscore_peer_hear(&by->peer, by->pending, PLACES, &by->pending_count, now_us() / 1000, bytes, len, options, OPTIONS, &reply, &number,
+                         &detail)) {
         l->passed_over++;
         return;
     }
-    if (request != of->number) stop("the reply to another request");
+    if (number != of->number) stop("the reply to another request");
     of->used = false;
     const oscore_option *echo = NULL;
     for (size_t i = 0; i < reply.option_count; i++)
@@ -195,7 +232,8 @@ static void retransmit(load *l) {
         if (of->tries++ < TRIES) {
             spoil_and_send(l, of);
         } else {
-            if (oscore_client_forget(&l->client[of->client], of->token, 8)) stop("not pending");
+            client *by = &l->client[of->client];
+            if (oscore_peer_forget(&by->peer, by->pending, PLACES, &by->pending_count, of->token, 8)) stop("not pending");
             of->used = false;
             l->tally[of->client].lost++;
             l->lost++;
@@ -271,27 +309,39 @@ static void write_results(const load *l) {
     if (fclose(to)) stop("no results");
 }
 
+/* Begins a client at a number. What it received before doesn't matter, since it only asks. */
+static oscore_status begin_client(client *to, const context_line *line, uint64_t next) {
+    oscore_context context = OSCORE_ZERO;
+    oscore_peer_record behind = {.generation = 1, .sender = next};
+    memset(to, 0, sizeof *to);
+    oscore_status status = derive_end(line, true, &context);
+    if (status == OSCORE_DONE) status = oscore_peer_name(&context, &behind.name);
+    if (status != OSCORE_DONE) return status;
+    return next > 0 ? oscore_peer_begin_again(&to->peer, &context, &behind, 1, PENDING_MS)
+                    : oscore_peer_begin_first(&to->peer, &context, 1, PENDING_MS);
+}
+
+static void begin_tally(tally *to, const context_line *line) {
+    *to = (tally){.key_len = 0};
+    cursor at = {to->key};
+    put_number(&at, line->client_len, 1);
+    put_bytes(&at, line->client, line->client_len);
+    if (line->id_context_len > 0) put_number(&at, line->id_context_len, 1), put_bytes(&at, line->id_context, line->id_context_len);
+    to->key_len = (size_t)(at.at - to->key);
+}
+
 static void begin_clients(load *l, const char *file) {
     FILE *lines = open_lines(file);
     context_line line;
-    size_t room = 0;
-    while (read_context(lines, &line)) {
+    for (size_t room = 0; read_context(lines, &line); l->clients++) {
         if (l->clients == room) {
             room = room ? 2 * room : 1024;
             l->client = realloc(l->client, room * sizeof *l->client);
             l->tally = realloc(l->tally, room * sizeof *l->tally);
             if (!l->client || !l->tally) stop("no memory");
         }
-        oscore_context context = OSCORE_ZERO;
-        memset(&l->client[l->clients], 0, sizeof *l->client);
-        if (derive_end(&line, true, &context) || oscore_client_begin(&l->client[l->clients], &context, l->number[NEXT], 600000)) stop("no client");
-        tally *of = &l->tally[l->clients++];
-        *of = (tally){.key_len = 0};
-        cursor at = {of->key};
-        put_number(&at, line.client_len, 1);
-        put_bytes(&at, line.client, line.client_len);
-        if (line.id_context_len > 0) put_number(&at, line.id_context_len, 1), put_bytes(&at, line.id_context, line.id_context_len);
-        of->key_len = (size_t)(at.at - of->key);
+        if (begin_client(&l->client[l->clients], &line, l->number[NEXT])) stop("no client");
+        begin_tally(&l->tally[l->clients], &line);
     }
     if (fclose(lines) || l->clients == 0) stop("no lines");
 }

@@ -1,7 +1,7 @@
 /* The gateway's parts alone: that a row comes back as it was written, with names of all lengths and replies of any; that no row has more than
-   256 bytes; that a server whose bytes go through a row at each event answers what one does that is left alone; that spoilt bytes are refused,
-   or read as a row, and nothing else; how keys are ordered; that fingerprints tell Sender Keys apart; and what the bound on unprotected replies
-   and the era say. Built with the sanitizers. */
+   256 bytes; how a life begins; that a peer whose bytes go through a row at each event answers what one does that is left alone; that spoilt bytes
+   are refused, or read as the row that is written so; how keys are ordered; that fingerprints tell Sender Keys apart; and what the bound on
+   unprotected replies and the era say. Built with the sanitizers. */
 #include "../counts.h"
 #include "../era.h"
 #include "../row.h"
@@ -30,16 +30,19 @@ static oscore_context make_context(size_t own_len, size_t their_len, size_t id_l
     return context;
 }
 
-static bool same_handle(const oscore_server1 *a, const oscore_server1 *b) {
-    const oscore_server_context *x = &a->context, *y = &b->context;
-    return a->clock == b->clock && a->unanswered.highest == b->unanswered.highest && a->unanswered.mask == b->unanswered.mask
-        && !memcmp(&x->context, &y->context, sizeof x->context) && x->places == y->places && x->window_places == y->window_places
-        && x->gate == y->gate && !memcmp(x->echo, y->echo, 8) && x->at == y->at && x->spent_mask == y->spent_mask && x->next == y->next
-        && x->life == y->life;
+static bool same_peer(const oscore_peer *a, const oscore_peer *b) {
+    return a->server.clock == b->server.clock && !memcmp(&a->server.unanswered, &b->server.unanswered, sizeof a->server.unanswered)
+        && !memcmp(&a->server.context.context, &b->server.context.context, sizeof(oscore_context))
+        && a->server.context.places == b->server.context.places && a->server.context.window_places == b->server.context.window_places
+        && a->server.context.gate == b->server.context.gate && !memcmp(a->server.context.echo, b->server.context.echo, 8)
+        && a->server.context.at == b->server.context.at && a->server.context.spent_mask == b->server.context.spent_mask
+        && a->server.context.next == b->server.context.next && a->server.context.life == b->server.context.life
+        && a->reserved == b->reserved && a->received == b->received && a->life_ms == b->life_ms && a->clock == b->clock && a->name == b->name
+        && a->life == b->life && a->generation == b->generation;
 }
 
 static bool same_row(const row *a, const row *b) {
-    return same_handle(&a->handle, &b->handle) && a->era == b->era && a->effect == b->effect && a->asked == b->asked && a->number == b->number
+    return same_peer(&a->peer, &b->peer) && a->era == b->era && a->effect == b->effect && a->asked == b->asked && a->number == b->number
         && a->hash == b->hash && a->reply_len == b->reply_len && !memcmp(a->reply, b->reply, a->reply_len);
 }
 
@@ -55,141 +58,260 @@ static void through(row *of, const row_key *key) {
     *of = back;
 }
 
-static void names_and_replies(void) {
+/* A reply lies in the state where it has room there, which is so of each one of 32 bytes. */
+static bool is_inside(const row *of, const row_key *key) {
+    static row_bytes bytes;
+    row_write(of, key, &bytes);
+    CHECK(of->reply_len > 32 || bytes.reply_len == 0);
+    return bytes.reply_len == 0;
+}
+
+static void one_row(size_t own, size_t their, size_t id, size_t counted[2]) {
     static row made;
     row_key key;
-    size_t inside = 0, beside = 0;
+    oscore_context context = make_context(own, their, id, false);
+    memset(&made, 0, sizeof made);
+    CHECK(!(drawn() % 2 ? life_begin_first(&made.peer, &context) : life_begin_again(&made.peer, &context, 1 + drawn(), drawn())));
+    row_key_of_context(&key, &context);
+    made.era = drawn(), made.effect = drawn();
+    row_asked(&made, drawn(), drawn());
+    through(&made, &key);
+    for (size_t len = 0; len <= DATAGRAM_MOST; len += len < 100 ? 1 : 100) {
+        for (size_t i = 0; i < len; i++) made.reply[i] = (uint8_t)drawn();
+        row_answered(&made, made.number, made.hash, made.reply, len);
+        through(&made, &key);
+        bool inside = is_inside(&made, &key);
+        CHECK(own != 1 || their != 4 || id > 0 || inside == (len <= 77));
+        counted[inside]++;
+    }
+}
+
+static void names_and_replies(void) {
+    size_t counted[2] = {0, 0};
     for (size_t own = 0; own <= 7; own++)
         for (size_t their = 0; their <= 7; their++)
             for (size_t id = 0; id <= 32; id += their == own ? 1 : 8) {
                 if (own + their == 0) continue;
-                oscore_context context = make_context(own, their, id, false);
-                memset(&made, 0, sizeof made);
-                CHECK(!oscore_server1_begin(&made.handle, &context, drawn() % 2, drawn() % 1000, 64));
-                row_key_of_context(&key, &context);
-                made.era = drawn(), made.effect = drawn();
-                row_asked(&made, drawn(), drawn());
-                through(&made, &key);
-                for (size_t len = 0; len <= DATAGRAM_MOST; len += len < 100 ? 1 : 100) {
-                    for (size_t i = 0; i < len; i++) made.reply[i] = (uint8_t)drawn();
-                    row_answered(&made, made.number, made.hash, made.reply, len);
-                    through(&made, &key);
-                    static row_bytes bytes;
-                    row_write(&made, &key, &bytes);
-                    inside += len > 0 && bytes.reply_len == 0, beside += bytes.reply_len > 0;
-                    CHECK(len > 32 || bytes.reply_len == 0);
-                }
+                one_row(own, their, id, counted);
             }
-    CHECK(inside > 0 && beside > 0);
+    CHECK(counted[0] > 0 && counted[1] > 0);
 }
 
-/* The features byte stands behind the format, the numbers and the keys. Each bit alone comes back as the one field. A row of before has
-   no bit of Observe and none of tables, and reads without both: in constant time, whether or not bit 0 asked for that. */
+/* A first life delivers at once. A later one challenges first, at whatever number it begins, and none of its numbers was used before. Each has
+   its first record, by which all numbers count as received. */
+static void lives(void) {
+    static const uint64_t NEXT[] = {0, 1, 5000, NUMBERS - 1};
+    oscore_context context = make_context(1, 4, 8, false);
+    oscore_peer peer = OSCORE_ZERO;
+    CHECK(!life_begin_first(&peer, &context));
+    CHECK(peer.server.context.gate == 2 && peer.server.context.next == 0 && peer.life == 1 && peer.generation == 1);
+    CHECK(peer.reserved > 0 && peer.received == NUMBERS);
+    for (size_t i = 0; i < sizeof NEXT / sizeof NEXT[0]; i++) {
+        CHECK(!life_begin_again(&peer, &context, 7, NEXT[i]));
+        CHECK(peer.server.context.gate == 0 && peer.server.context.next == (i > 0 ? NEXT[i] : 1) && peer.life == 8 && peer.generation == 8);
+        CHECK(peer.reserved > peer.server.context.next && peer.received == NUMBERS);
+    }
+    CHECK(life_begin_again(&peer, &context, 7, NUMBERS) == OSCORE_SEQUENCE_EXHAUSTED);
+    CHECK(life_begin_again(&peer, &context, 0, 5) == OSCORE_OLD_RECORD);
+}
+
+/* Each number comes back where it is as great as it can be. */
+static void widest(void) {
+    static row made;
+    row_key key;
+    oscore_context context = make_context(7, 7, 32, false);
+    CHECK(!life_begin_first(&made.peer, &context));
+    row_key_of_context(&key, &context);
+    made.peer.server.clock = made.peer.server.context.at = MOMENT_MOST;
+    made.peer.server.context.gate = 1;
+    for (size_t i = 3; i < 8; i++) made.peer.server.context.echo[i] = (uint8_t)(250 + i);
+    made.peer.server.context.next = made.peer.reserved = made.peer.generation = made.peer.life = NUMBERS;
+    made.peer.server.unanswered.highest = NUMBERS - 1;
+    made.peer.server.unanswered.mask = made.peer.server.context.spent_mask = made.peer.name = made.effect = UINT64_MAX;
+    made.era = ERA_MOST;
+    row_asked(&made, NUMBERS - 1, UINT64_MAX);
+    through(&made, &key);
+}
+
+/* Where bytes stand in the state. */
+enum { GATE_AT = 7, AT_AT = 13, NEXT_AT = 27, HIGHEST_AT = 33, RESERVED_AT = 47, LIFE_AT = 61, GENERATION_AT = 67, FEATURES_AT = 118, ASKED_AT = 133,
+    NUMBER_AT = 134 };
+
+/* Each bit of the features comes back as the one field. */
 static void features(void) {
-    enum { FEATURES = 1 + 67 + 45 };
-    static row made, read;
+    static row made;
     static row_bytes bytes;
     row_key key;
     oscore_context context = make_context(1, 4, 8, false);
     row_key_of_context(&key, &context);
-    for (uint8_t bits = 0; bits < 16; bits += 2) {
-        context.blocks = (bits & 2) != 0, context.observe = (bits & 4) != 0, context.tables = (bits & 8) != 0;
+    for (uint8_t bits = 0; bits < 8; bits++) {
+        context.tables = bits & 1, context.blocks = bits >> 1 & 1, context.observe = bits >> 2;
         memset(&made, 0, sizeof made);
-        CHECK(!oscore_server1_begin(&made.handle, &context, false, 0, 64));
+        CHECK(!life_begin_first(&made.peer, &context));
         row_write(&made, &key, &bytes);
-        CHECK(bytes.state[FEATURES] == bits);
-        for (uint8_t before = 0; before < 2; before++) {
-            bytes.state[FEATURES] = (uint8_t)((bits & 2) | before);
-            CHECK(row_read(&read, &key, &bytes));
-            const oscore_context *back = &read.handle.context.context;
-            CHECK(back->blocks == context.blocks && back->observe == 0 && back->tables == 0);
-        }
+        CHECK(bytes.state[FEATURES_AT] == bits);
         through(&made, &key);
-        CHECK(made.handle.context.context.observe == context.observe && made.handle.context.context.tables == context.tables);
     }
 }
 
-/* A client, a server whose bytes go through a row, and one that is left alone. */
+/* A peer that asks, one that answers and whose bytes go through a row, and one that answers and is left alone. */
 typedef struct history {
     row kept;
     row_key key;
-    oscore_server1 alone;
-    oscore_client client;
+    oscore_peer alone, client;
+    oscore_pending pending[1];
+    oscore_size pending_count;
     uint8_t old[64][128], echo[8];
-    size_t old_len[64], delivered, challenged, refused;
-    bool has_echo;
+    size_t old_len[64], delivered, challenged, refused, begun, saved, stale;
+    bool has_echo, has_ticket;
+    oscore_ticket ticket[2]; /* of the last delivery */
 } history;
+
+static void ask(history *h, uint64_t i, uint8_t sealed[128], size_t *len) {
+    uint8_t plain[40], token[] = {(uint8_t)i, (uint8_t)(i >> 8)};
+    const oscore_option echo = {252, h->echo, 8};
+    oscore_peer_record record = OSCORE_ZERO;
+    oscore_status status;
+    size_t plain_len, detail;
+    CHECK(!oscore_write_message(drawn() % 2, 3, (uint16_t)i, token, 2, &echo, h->has_echo ? 1 : 0, (const uint8_t *)"a", 1, plain, sizeof plain,
+                                &plain_len, &detail));
+    do status = oscore_peer_request(&h->client, h->pending, 1, &h->pending_count, NOW * i, plain, plain_len, sealed, 128, len, &record, &detail);
+    while (life_goes_on(&h->client, status, &record));
+    CHECK(!status && !oscore_peer_forget(&h->client, h->pending, 1, &h->pending_count, token, 2));
+    h->has_echo = false;
+}
 
 /* A new request, or one of before; now and then with a bit flipped. */
 static size_t draw_request(history *h, uint64_t i, uint8_t sealed[128]) {
-    size_t at = drawn() % 64, plain_len, len = h->old_len[at], detail;
-    if (drawn() % 3 || len == 0) {
-        uint8_t plain[40], token[] = {(uint8_t)i, (uint8_t)(i >> 8)};
-        const oscore_option echo = {252, h->echo, 8};
-        CHECK(!oscore_write_message(drawn() % 2, 3, (uint16_t)i, token, 2, &echo, h->has_echo ? 1 : 0, (const uint8_t *)"a", 1, plain, sizeof plain,
-                                    &plain_len, &detail));
-        CHECK(!oscore_client_request(&h->client, NOW * i, plain, plain_len, h->old[at], 128, &len, &detail));
-        CHECK(!oscore_client_forget(&h->client, token, 2));
-        h->old_len[at] = len;
-        h->has_echo = false;
-    }
+    size_t at = drawn() % 64;
+    if (drawn() % 3 || h->old_len[at] == 0) ask(h, i, h->old[at], &h->old_len[at]);
+    size_t len = h->old_len[at];
     memcpy(sealed, h->old[at], len);
     if (drawn() % 10 == 0) sealed[drawn() % len] ^= (uint8_t)(1 << drawn() % 8);
     return len;
 }
 
-static void reply_both(history *h, const oscore_ticket ticket[2]) {
+/* What a call made, and how often a record was saved for it. */
+typedef struct made {
+    oscore_status status;
+    uint8_t out[128];
+    size_t out_len, saved;
+} made;
+
+static made reply_by(oscore_peer *peer, const oscore_ticket *ticket, bool own) {
     const uint8_t reply[] = {0x60, 68, 0, 0};
-    uint8_t out[2][128];
-    size_t out_len[2], detail;
-    bool own = drawn() % 4 == 0;
-    CHECK(!oscore_server1_reply(&h->alone, &ticket[0], own, 6, reply, sizeof reply, out[0], 128, &out_len[0], &detail));
-    CHECK(!oscore_server1_reply(&h->kept.handle, &ticket[1], own, 6, reply, sizeof reply, out[1], 128, &out_len[1], &detail));
-    CHECK(out_len[0] == out_len[1] && !memcmp(out[0], out[1], out_len[0]));
+    made to = OSCORE_ZERO;
+    oscore_peer_record record = OSCORE_ZERO;
+    size_t detail;
+    do to.status = oscore_peer_reply(peer, ticket, own, 6, reply, sizeof reply, to.out, sizeof to.out, &to.out_len, &record, &detail);
+    while (life_goes_on(peer, to.status, &record) && ++to.saved);
+    return to;
+}
+
+static made take_by(oscore_peer *peer, uint64_t now, const uint8_t *datagram, size_t len, oscore_ticket *ticket) {
+    uint8_t bytes[128];
+    oscore_option options[4] = OSCORE_ZERO;
+    oscore_opened opened = OSCORE_ZERO;
+    made to = OSCORE_ZERO;
+    oscore_peer_record record = OSCORE_ZERO;
+    size_t detail;
+    memcpy(bytes, datagram, len);
+    do to.status = oscore_peer_take(peer, now, 5, bytes, len, options, 4, &opened, ticket, to.out, &to.out_len, &record, &detail);
+    while (life_goes_on(peer, to.status, &record) && ++to.saved);
+    return to;
+}
+
+static void are_alike(history *h, const made *one, const made *two) {
+    CHECK(one->status == two->status && one->saved == two->saved && one->out_len == two->out_len && !memcmp(one->out, two->out, one->out_len));
+    CHECK(same_peer(&h->alone, &h->kept.peer));
+    h->saved += one->saved;
     through(&h->kept, &h->key);
+}
+
+/* Begins another life, in which the tickets of the one before are stale. */
+static void begin_anew(history *h) {
+    const oscore_context context = h->alone.server.context.context;
+    uint64_t next = h->alone.server.context.next + drawn() % 9;
+    CHECK(!life_begin_again(&h->alone, &context, h->alone.generation, next));
+    CHECK(!life_begin_again(&h->kept.peer, &context, h->kept.peer.generation, next));
+    h->begun++;
+    through(&h->kept, &h->key);
+    if (!h->has_ticket) return;
+    made one = reply_by(&h->alone, &h->ticket[0], true), two = reply_by(&h->kept.peer, &h->ticket[1], true);
+    CHECK(one.status == OSCORE_STALE_TICKET);
+    are_alike(h, &one, &two);
+    h->stale++;
 }
 
 static void one_event(history *h, uint64_t i) {
-    uint8_t datagram[2][128], out[2][128], fresh[8] = {(uint8_t)drawn(), (uint8_t)i};
-    size_t len = draw_request(h, i, datagram[0]), detail, out_len[2];
-    oscore_option options[4] = OSCORE_ZERO;
-    oscore_opened opened = OSCORE_ZERO;
-    oscore_ticket ticket[2] = OSCORE_ZERO;
-    memcpy(datagram[1], datagram[0], len);
-    if (drawn() % 100 == 0) {
-        uint64_t next = h->alone.context.next + drawn() % 9;
-        CHECK(!oscore_server1_restart(&h->alone, next) && !oscore_server1_restart(&h->kept.handle, next));
-    }
+    uint8_t datagram[128];
+    size_t len = draw_request(h, i, datagram);
+    if (drawn() % 100 == 0) begin_anew(h);
     through(&h->kept, &h->key);
-    oscore_status one = oscore_server1_take(&h->alone, i, fresh, 5, datagram[0], len, options, 4, &opened, &ticket[0], out[0], &out_len[0], &detail);
-    oscore_status two = oscore_server1_take(&h->kept.handle, i, fresh, 5, datagram[1], len, options, 4, &opened, &ticket[1], out[1], &out_len[1], &detail);
-    CHECK(one == two && out_len[0] == out_len[1] && !memcmp(out[0], out[1], out_len[0]) && same_handle(&h->alone, &h->kept.handle));
-    through(&h->kept, &h->key);
-    h->delivered += one == OSCORE_DONE;
-    h->challenged += one == OSCORE_CHALLENGE;
-    h->refused += one != OSCORE_DONE && one != OSCORE_CHALLENGE;
-    if (one == OSCORE_CHALLENGE) memcpy(h->echo, h->alone.context.echo, 8), h->has_echo = true;
-    if (one == OSCORE_DONE) reply_both(h, ticket);
+    made one = take_by(&h->alone, i, datagram, len, &h->ticket[0]), two = take_by(&h->kept.peer, i, datagram, len, &h->ticket[1]);
+    are_alike(h, &one, &two);
+    h->delivered += one.status == OSCORE_DONE;
+    h->challenged += one.status == OSCORE_CHALLENGE;
+    h->refused += one.status != OSCORE_DONE && one.status != OSCORE_CHALLENGE;
+    if (one.status == OSCORE_CHALLENGE) memcpy(h->echo, h->alone.server.context.echo, 8), h->has_echo = true;
+    if (one.status != OSCORE_DONE) return;
+    h->has_ticket = true;
+    bool own = drawn() % 4 == 0;
+    one = reply_by(&h->alone, &h->ticket[0], own), two = reply_by(&h->kept.peer, &h->ticket[1], own);
+    CHECK(!one.status);
+    are_alike(h, &one, &two);
 }
 
-/* The two answer the same, and are the same, whatever comes. */
+/* The two answer the same, and are the same, whatever comes. A record is saved at the begin of each life, and for each 64 numbers, and for no
+   request. */
 static void one_history(void) {
     static history h;
     oscore_context own = make_context(1, 4, 8, false), their = make_context(1, 4, 8, true);
-    CHECK(!oscore_server1_begin(&h.kept.handle, &own, false, 0, 64) && !oscore_client_begin(&h.client, &their, 0, 1));
-    h.alone = h.kept.handle;
+    CHECK(!life_begin_first(&h.kept.peer, &own) && !oscore_peer_begin_first(&h.client, &their, 1, 1));
+    h.alone = h.kept.peer;
     row_key_of_context(&h.key, &own);
     for (uint64_t i = 0; i < ROUNDS; i++) one_event(&h, i);
-    CHECK(h.delivered > 100 && h.challenged > 20 && h.refused > 100);
+    CHECK(h.delivered > 100 && h.challenged > 20 && h.refused > 100 && h.stale > 5);
+    CHECK(h.alone.generation == 1 + h.begun + h.saved && h.saved > 0 && h.saved <= h.alone.server.context.next / 64);
+}
+
+/* A row that no gateway wrote, by one place of its bytes: format, gate, the highest number, the next one, that of the last request that waits, how
+   far numbers are reserved, life and generation, features, the Sender ID's length, whether there is a last request, and its number. */
+static void refused_bytes(void) {
+    static const struct { size_t at, len; uint64_t good, bad; } ROWS[] = {
+        {0, 1, 2, 1}, {0, 1, 2, 3}, {GATE_AT, 1, 2, 4}, {AT_AT, 6, NUMBERS - 1, NUMBERS}, {NEXT_AT, 6, 64, 65}, {HIGHEST_AT, 6, NUMBERS - 1, NUMBERS},
+        {RESERVED_AT, 6, NUMBERS, NUMBERS + 1}, {LIFE_AT, 6, 1, 0}, {LIFE_AT, 6, 1, 2}, {GENERATION_AT, 6, NUMBERS, NUMBERS + 1},
+        {FEATURES_AT, 1, 7, 8}, {FEATURES_AT + 1, 1, 1, 8}, {ASKED_AT, 1, 1, 2}, {NUMBER_AT, 6, NUMBERS - 1, NUMBERS},
+    };
+    static row made, read;
+    static row_bytes bytes, spoilt;
+    row_key key;
+    oscore_context context = make_context(1, 4, 8, false);
+    CHECK(!life_begin_first(&made.peer, &context));
+    made.peer.server.context.gate = 3;
+    row_key_of_context(&key, &context);
+    row_write(&made, &key, &bytes);
+    for (size_t i = 0; i < sizeof ROWS / sizeof ROWS[0]; i++)
+        for (int bad = 0; bad < 2; bad++) {
+            spoilt = bytes;
+            cursor at = {spoilt.state + ROWS[i].at};
+            put_number(&at, bad ? ROWS[i].bad : ROWS[i].good, ROWS[i].len);
+            bool is_read = row_read(&read, &key, &spoilt);
+            if (is_read == bad) printf("the row %zu with %s\n", i, bad ? "what is bad" : "what is good");
+            CHECK(is_read == !bad);
+        }
+    const row_key other = {{1, 's'}, 2}, same_ids = {{1, 'S'}, 2};
+    CHECK(row_read(&read, &other, &bytes) && !row_read(&read, &same_ids, &bytes));
 }
 
 static void spoilt_bytes(void) {
     static row made, read;
-    static row_bytes bytes, spoilt;
+    static row_bytes bytes, spoilt, again;
     row_key key;
+    oscore_ticket ticket = OSCORE_ZERO;
     oscore_context context = make_context(7, 7, 32, false);
     size_t accepted = 0;
-    CHECK(!oscore_server1_begin(&made.handle, &context, false, 0, 64));
+    CHECK(!life_begin_first(&made.peer, &context));
     row_key_of_context(&key, &context);
     row_asked(&made, 1, 2);
     row_answered(&made, 1, 2, made.reply, 30);
@@ -204,8 +326,11 @@ static void spoilt_bytes(void) {
         if (drawn() % 8 == 0) other.len = (uint8_t)(drawn() % (KEY_MOST + 1));
         if (!row_read(&read, &other, &spoilt)) continue;
         accepted++;
-        row_write(&read, &other, &spoilt);
-        CHECK(other.len + VERSION_LEN + FINGERPRINT_LEN + spoilt.state_len <= ROW_MOST);
+        row_write(&read, &other, &again);
+        CHECK(other.len + VERSION_LEN + FINGERPRINT_LEN + again.state_len <= ROW_MOST);
+        CHECK(again.state_len == spoilt.state_len && !memcmp(again.state, spoilt.state, again.state_len));
+        CHECK(again.reply_len == spoilt.reply_len && !memcmp(again.reply, spoilt.reply, again.reply_len));
+        CHECK(take_by(&read.peer, 1, spoilt.state, 0, &ticket).status == OSCORE_SHORT);
     }
     CHECK(accepted > 0 && accepted < SPOILT);
 }
@@ -233,16 +358,16 @@ static void bound(void) {
     counts *made = counts_make();
     CHECK(made);
     struct sockaddr_in at[2] = {{.sin_family = AF_INET, .sin_port = 1}, {.sin_family = AF_INET, .sin_port = 1}};
-    peer peers[2];
-    memset(peers, 0, sizeof peers);
+    address hosts[2];
+    memset(hosts, 0, sizeof hosts);
     for (int i = 0; i < 2; i++) {
         at[i].sin_addr.s_addr = htonl(0x7f000001u + (uint32_t)i);
-        memcpy(&peers[i].address, &at[i], sizeof at[i]);
+        memcpy(&hosts[i].bytes, &at[i], sizeof at[i]);
     }
-    CHECK(!counts_allow(made, &peers[0], 0, 8));
+    CHECK(!counts_allow(made, &hosts[0], 0, 8));
     for (uint64_t second = 8; second < 11; second++)
-        for (int i = 0; i < 100; i++) CHECK(counts_allow(made, &peers[0], 10, second) == (i < 10));
-    CHECK(counts_allow(made, &peers[1], 10, 10));
+        for (int i = 0; i < 100; i++) CHECK(counts_allow(made, &hosts[0], 10, second) == (i < 10));
+    CHECK(counts_allow(made, &hosts[1], 10, 10));
     CHECK(!counts_end(made));
 }
 
@@ -251,23 +376,47 @@ static void eras(void) {
     CHECK(era_at(moment) == 1060 && era_at(5) == 0 && era_begin(1060) == 1060 * 256);
     CHECK(own_number_allowed(era_begin(1060) - 1, moment) && !own_number_allowed(era_begin(1060), moment) && !own_number_allowed(0, 5));
     CHECK(era_begin(ERA_MOST) < 1ull << 40);
+}
+
+/* A row's new life begins above all numbers that were used before the era, in the row and out of it. */
+static void renewals(void) {
     static row made;
     oscore_context context = make_context(1, 2, 0, false);
-    CHECK(!oscore_server1_begin(&made.handle, &context, false, 7, 64));
+    CHECK(!life_begin_first(&made.peer, &context));
     row_asked(&made, 1, 2);
-    CHECK(!row_renew(&made, 3) && made.era == 3 && made.handle.context.next == 768 && made.handle.context.gate == 0 && !made.asked);
-    made.handle.context.next = 5000;
-    CHECK(!row_renew(&made, 4) && made.handle.context.next == 5000);
+    CHECK(!row_renew(&made, 3) && made.era == 3 && made.peer.server.context.next == 768 && made.peer.server.context.gate == 0 && !made.asked);
+    CHECK(made.peer.life == 2 && made.peer.generation == 2 && !memcmp(&made.peer.server.context.context, &context, sizeof context));
+    made.peer.server.context.next = made.peer.reserved = 5000;
+    CHECK(!row_renew(&made, 4) && made.peer.server.context.next == 5000 && made.peer.life == 3);
+    made.peer.server.context.next = made.peer.reserved = NUMBERS;
+    CHECK(row_renew(&made, 5) == OSCORE_SEQUENCE_EXHAUSTED && made.era == 4);
+}
+
+/* Moments have room in a row. */
+static void moments(void) {
+    const struct { time_t seconds; uint64_t ms; } ROWS[] = {
+        {-1, 0}, {0, 7}, {5, 5007}, {(time_t)(MOMENT_MOST / 1000) - 1, (MOMENT_MOST / 1000 - 1) * 1000 + 7},
+        {(time_t)(MOMENT_MOST / 1000), MOMENT_MOST}, {INT64_MAX, MOMENT_MOST},
+    };
+    for (size_t i = 0; i < sizeof ROWS / sizeof ROWS[0]; i++) {
+        const struct timespec moment = {.tv_sec = ROWS[i].seconds, .tv_nsec = 7999999};
+        CHECK(ms_of(&moment) == ROWS[i].ms && ms_of(&moment) < 1ull << 48);
+    }
 }
 
 int main(void) {
     names_and_replies();
+    widest();
+    lives();
     features();
     one_history();
+    refused_bytes();
     spoilt_bytes();
     order_of_keys();
     fingerprints();
     bound();
     eras();
+    renewals();
+    moments();
     return 0;
 }

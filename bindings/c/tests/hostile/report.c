@@ -3,7 +3,7 @@
 #include <stdio.h>
 
 /* How many differences are told, and how many bytes of each. */
-enum { MOST_TOLD = 20, MOST_BYTES = 200, STATUSES = OSCORE_OLD_RECORD + 1 };
+enum { MOST_TOLD = 20, MOST_BYTES = 200, STATUSES = OSCORE_NOT_PENDING + 1 };
 
 static const char *const CALL_NAMES[CALLS] = {"oscore_peer_find", "oscore_peer_take", "oscore_peer_reply", "oscore_peer_notify",
                                               "oscore_peer_begin_again, to serve", "oscore_peer_hear", "oscore_peer_request",

@@ -1,5 +1,5 @@
 use Rattle.std.proofs.Common.{◌≡◌, false, refl, rules, true}
-use Rattle.osc_c.specs.ClientCalls.RefusesNumber.{bad_handle, bad_number}
+use Rattle.osc_c.specs.Asking.RefusesNumber.{bad_handle, bad_number}
 use Rattle.osc_c.specs.declared.status.Status.TheVariants.{BadHandle, BadNumber}
 use Rattle.osc_c.proofs.peer.oscore_peer_begin_first.Goals as goal
 

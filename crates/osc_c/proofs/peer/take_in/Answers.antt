@@ -4,7 +4,7 @@ use Rattle.osc_life.specs.ServerHistory.{Datagram, Deliver, TicketValues, Took}
 use Rattle.osc_life.specs.Views.{values_of}
 use Rattle.osc_observe.specs.Views.{received_of}
 use Rattle.osc_kept_ends.specs.EchoNumber.{echo_of}
-use Rattle.osc_kept_handle.proofs.NumberSteps.{no_error}
+use Rattle.osc_handle.proofs.NumberSteps.{no_error}
 use Rattle.osc_peer_handle.specs.PeerBytes.{StepsAnswering, next_in}
 use Rattle.osc_peer_handle.specs.declared.peer_handle.PeerHandle.{PeerHandle}
 use Rattle.osc_peer_handle.specs.declared.peer_refusal.PeerRefusal.{PeerRefusal}

@@ -4,10 +4,10 @@ use Rattle.osc_context.specs.Reserving.{next_limit}
 use Rattle.osc_life.specs.ServerHistory.{Notify}
 use Rattle.osc_life.specs.declared.server_error.ReplyError.{ReplyError}
 use Rattle.osc_handle.specs.TicketBytes.{ticket_in}
-use Rattle.osc_kept_handle.proofs.NumberSteps.{no_error}
-use Rattle.osc_kept_handle.specs.KeptServerBytes.{entry_of_kept_reply}
-use Rattle.osc_kept_handle.specs.declared.kept_refusal.KeptReplyRefusal.{KeptReplyRefusal}
-use Rattle.osc_kept_handle.specs.declared.kept_refusal.KeptReplyRefusal.TheVariants.{BadHandle, Refused, SaveFirst}
+use Rattle.osc_handle.proofs.NumberSteps.{no_error}
+use Rattle.osc_handle.specs.KeptServerBytes.{entry_of_kept_reply}
+use Rattle.osc_handle.specs.declared.kept_refusal.KeptReplyRefusal.{KeptReplyRefusal}
+use Rattle.osc_handle.specs.declared.kept_refusal.KeptReplyRefusal.TheVariants.{BadHandle, Refused, SaveFirst}
 use Rattle.osc_peer_handle.specs.PeerBytes.{StepsAnswering, inside_of}
 use Rattle.osc_peer_handle.specs.declared.peer_handle.PeerHandle.{PeerHandle}
 use Rattle.osc_c.specs.PeerCalls.{AsksToSave}

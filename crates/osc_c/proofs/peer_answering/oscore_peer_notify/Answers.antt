@@ -1,12 +1,13 @@
-use Rattle.std.proofs.Common.{◌∙◌, ap, length, refl, subst, take}
+use Rattle.std.proofs.Common.{◌∙◌, ap, length, refl, subst, sym, take}
 use Rattle.osc_coap.specs.Datagram.{Parts}
 use Rattle.osc_life.specs.ServerHistory.{Notify, Replied}
 use Rattle.osc_handle.specs.TicketBytes.{ticket_in}
 use Rattle.osc_peer_handle.specs.PeerBytes.{StepsAnswering, inside_of}
-use Rattle.osc_c.specs.ServerCalls.{ReadsReplying}
+use Rattle.osc_c.specs.Answering.{ReadsReplying}
 use Rattle.osc_c.specs.Statuses.{code}
 use Rattle.osc_c.proofs.PeerRead.{answered_once, peer_notifying_read}
 use Rattle.osc_c.proofs.PeerServing.{peer_notify_faulty}
+use Rattle.osc_c.proofs.Room.{peer_notify_has_room}
 use Rattle.osc_c.proofs.peer_answering.oscore_peer_notify.Goals as goal
 
 pub returns-in-Ok-clause-foreign : goal.returns-in-Ok-clause-foreign
@@ -46,3 +47,8 @@ returns-in-Ok-clause-answers c = λ q of ticket named h g o entry w catches none
 pub returns-in-Err-clause-answers : goal.returns-in-Err-clause-answers
 returns-in-Err-clause-answers c = peer_notifying_read c.one_server_answer.ensures c.one_datagram.ensures.one c.one_datagram.ensures.never_both c.args.peer.now c.notify_in.new.kept c.args.ticket.now c.args.plain.now (length c.args.out.now) c.notify_in.new.peer
     c.in-Err.refusal.status c.code.result c.in-Err.refusal.detail (take c.args.out_len.now c.notify_in.new.out) c.in-Err.ensures.refused c.code.ensures
+
+pub returns-in-Err-clause-enough : goal.returns-in-Err-clause-enough
+returns-in-Err-clause-enough c = λ h o w enough is.
+    peer_notify_has_room c.room_laws.ensures.length c.room_laws.ensures.order c.room_laws.ensures.most c.args.peer.now c.notify_in.new.kept c.args.ticket.now c.args.plain.now (length c.args.out.now) c.notify_in.new.peer
+    c.in-Err.refusal.status c.in-Err.refusal.detail c.in-Err.ensures.refused c.in-Err.ensures.foreign h o w enough (sym c.code.ensures ∙ is)

@@ -5,10 +5,10 @@ use Rattle.osc_life.specs.LifeAnswer.{asks_own}
 use Rattle.osc_life.specs.ServerHistory.{Reply}
 use Rattle.osc_life.specs.declared.server_error.ReplyError.{ReplyError}
 use Rattle.osc_handle.specs.TicketBytes.{ticket_in}
-use Rattle.osc_kept_handle.proofs.NumberSteps.{no_error}
-use Rattle.osc_kept_handle.specs.KeptServerBytes.{entry_of_kept_reply}
-use Rattle.osc_kept_handle.specs.declared.kept_refusal.KeptReplyRefusal.{KeptReplyRefusal}
-use Rattle.osc_kept_handle.specs.declared.kept_refusal.KeptReplyRefusal.TheVariants.{BadHandle, Refused, SaveFirst, TicketSpent}
+use Rattle.osc_handle.proofs.NumberSteps.{no_error}
+use Rattle.osc_handle.specs.KeptServerBytes.{entry_of_kept_reply}
+use Rattle.osc_handle.specs.declared.kept_refusal.KeptReplyRefusal.{KeptReplyRefusal}
+use Rattle.osc_handle.specs.declared.kept_refusal.KeptReplyRefusal.TheVariants.{BadHandle, Refused, SaveFirst, TicketSpent}
 use Rattle.osc_peer_handle.specs.PeerBytes.{StepsAnswering, inside_of}
 use Rattle.osc_peer_handle.specs.declared.peer_handle.PeerHandle.{PeerHandle}
 use Rattle.osc_c.specs.PeerCalls.{AsksToSave}

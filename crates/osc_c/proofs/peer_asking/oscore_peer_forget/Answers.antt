@@ -1,6 +1,6 @@
 use Rattle.std.proofs.Common.{◌≡◌, Bool, refl, rules, subst, true, false}
 use Rattle.osc_client.specs.ClientHistory.{Forget, Forgot}
-use Rattle.osc_c.specs.ClientCalls.{ReadsForgetting}
+use Rattle.osc_c.specs.Asking.{ReadsForgetting}
 use Rattle.osc_c.specs.PeerAskingCalls.{StepsAmong}
 use Rattle.osc_c.specs.PeerAskingCalls.RefusesPeerForgetting.{bad_handle, not_pending}
 use Rattle.osc_c.specs.declared.status.Status.TheVariants.{BadHandle, NotPending}

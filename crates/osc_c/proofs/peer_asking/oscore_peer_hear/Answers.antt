@@ -2,10 +2,10 @@ use Rattle.std.proofs.Common.{sym, subst}
 use Rattle.osc_context.specs.Views.{number_of}
 use Rattle.osc_client.specs.ClientHistory.{Datagram, Took}
 use Rattle.osc_observe.specs.Views.{received_of}
-use Rattle.osc_c.specs.ClientCalls.{ReadsTaking, heard_as}
+use Rattle.osc_c.specs.Asking.{ReadsTaking, heard_as}
 use Rattle.osc_c.specs.PeerAskingCalls.{StepsAmong}
+use Rattle.osc_c.proofs.PeerAsking.{heard_read, shows_too}
 use Rattle.osc_c.proofs.PeerRead.{heard_once, peer_hearing_read}
-use Rattle.osc_c.proofs.Taking.{heard_read, shows_too}
 use Rattle.osc_c.proofs.peer_asking.oscore_peer_hear.Goals as goal
 
 pub returns-in-Ok-clause-opened : goal.returns-in-Ok-clause-opened

@@ -1,11 +1,12 @@
-use Rattle.std.proofs.Common.{◌∙◌, ap, length, refl, subst, take}
+use Rattle.std.proofs.Common.{◌∙◌, ap, length, refl, subst, sym, take}
 use Rattle.osc_coap.specs.Datagram.{Parts}
 use Rattle.osc_client.specs.ClientHistory.{Request, Sent}
-use Rattle.osc_c.specs.ClientCalls.{ReadsAsking}
+use Rattle.osc_c.specs.Asking.{ReadsAsking}
 use Rattle.osc_c.specs.PeerAskingCalls.{StepsAmong}
 use Rattle.osc_c.specs.Statuses.{code}
 use Rattle.osc_c.proofs.PeerAsking.{peer_request_faulty}
 use Rattle.osc_c.proofs.PeerRead.{heard_once, peer_asking_read}
+use Rattle.osc_c.proofs.Room.{peer_request_has_room}
 use Rattle.osc_c.proofs.peer_asking.oscore_peer_request.Goals as goal
 
 pub returns-in-Ok-clause-save_first : goal.returns-in-Ok-clause-save_first
@@ -40,3 +41,8 @@ returns-in-Err-clause-malformed c = peer_request_faulty c.one_datagram.ensures.o
 
 pub returns-in-Err-clause-spared : goal.returns-in-Err-clause-spared
 returns-in-Err-clause-spared c = λ other. c.in-Err.ensures.spared (λ is. other (c.code.ensures ∙ ap code is))
+
+pub returns-in-Err-clause-enough : goal.returns-in-Err-clause-enough
+returns-in-Err-clause-enough c = λ a o w enough is.
+    peer_request_has_room c.room_laws.ensures.length c.room_laws.ensures.order c.room_laws.ensures.most c.args.peer.now c.args.pending_count.now c.args.pending.now c.request_in.new.kept c.args.now c.args.plain.now
+    (length c.args.out.now) c.request_in.new.peer c.request_in.new.pending_count c.request_in.new.pending c.in-Err.refusal.status c.in-Err.refusal.detail c.in-Err.ensures.refused a o w enough (sym c.code.ensures ∙ is)

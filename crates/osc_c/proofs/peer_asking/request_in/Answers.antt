@@ -3,10 +3,10 @@ use Rattle.osc_coap.specs.Views.{parts_of}
 use Rattle.osc_context.specs.Reserving.{next_limit}
 use Rattle.osc_client.specs.ClientHistory.{Request}
 use Rattle.osc_client.specs.declared.client_outcome.RequestError.{RequestError}
-use Rattle.osc_kept_handle.proofs.NumberSteps.{no_error}
-use Rattle.osc_kept_handle.specs.KeptClientBytes.{entry_of_kept_request}
-use Rattle.osc_kept_handle.specs.declared.kept_refusal.KeptRequestRefusal.{KeptRequestRefusal}
-use Rattle.osc_kept_handle.specs.declared.kept_refusal.KeptRequestRefusal.TheVariants.{Refused, SaveFirst}
+use Rattle.osc_handle.proofs.NumberSteps.{no_error}
+use Rattle.osc_handle.specs.PendingBytes.{entry_of_kept_request}
+use Rattle.osc_handle.specs.declared.kept_refusal.KeptRequestRefusal.{KeptRequestRefusal}
+use Rattle.osc_handle.specs.declared.kept_refusal.KeptRequestRefusal.TheVariants.{Refused, SaveFirst}
 use Rattle.osc_peer_handle.specs.declared.peer_handle.PeerHandle.{PeerHandle}
 use Rattle.osc_c.specs.PeerAskingCalls.{StepsAmong}
 use Rattle.osc_c.specs.PeerAskingCalls.RefusesPeerAsking.{malformed, refused, save_first}

@@ -2,9 +2,8 @@ use Rattle.std.proofs.Common.{◌≡◌, ◌<◌, sym, subst, arith, rules, leng
 use Rattle.std.proofs.lemmas.Option.{slice_get-get_or}
 use Rattle.osc_client.specs.Agrees.{TokensDiffer}
 use Rattle.osc_client.specs.ClientAnswer.{IsAmong}
-use Rattle.osc_handle.specs.ClientBytes.{asked_at}
-use Rattle.osc_handle.proofs.ClientPlaces.{apart_more, each_read, met}
-use Rattle.osc_handle.proofs.Tables.{in_front}
+use Rattle.osc_handle.specs.PendingBytes.{asked_at}
+use Rattle.osc_handle.proofs.PendingPlaces.{apart_more, each_read, in_front, met}
 use Rattle.osc_handle.proofs.places.are_pending.Goals as goal
 
 pub loop-index-init : goal.loop-index-init

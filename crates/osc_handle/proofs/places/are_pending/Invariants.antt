@@ -1,7 +1,7 @@
 use Rattle.std.proofs.Common.{◌≡◌, ◌<◌, ℕ, Some, map, take}
 use Rattle.std.specs.Prelude.{slice_get}
 use Rattle.osc_client.specs.Agrees.{TokensDiffer}
-use Rattle.osc_handle.specs.ClientBytes.{IsPending, asked_at}
+use Rattle.osc_handle.specs.PendingBytes.{IsPending, asked_at}
 use Rattle.osc_handle.specs.declared.pending_handle.PendingHandle.{PendingHandle}
 use Rattle.osc_handle.proofs.places.are_pending.Given as goal
 

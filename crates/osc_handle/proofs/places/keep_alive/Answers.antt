@@ -1,7 +1,6 @@
 use Rattle.std.proofs.Common.{◌<◌, ◌+◌, ◌∙◌, sym, arith, length}
 use Rattle.std.proofs.lemmas.Option.{slice_get-get_or}
-use Rattle.osc_handle.proofs.ClientPlaces.{one_dropped, one_kept, same_keeping}
-use Rattle.osc_handle.proofs.Tables.{in_front}
+use Rattle.osc_handle.proofs.PendingPlaces.{in_front, one_dropped, one_kept, same_keeping}
 use Rattle.osc_handle.proofs.places.keep_alive.Goals as goal
 use Rattle.osc_handle.proofs.places.keep_alive.Goals.{then-is_alive, else-is_alive}
 

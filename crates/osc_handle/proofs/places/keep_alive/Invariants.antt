@@ -1,4 +1,4 @@
-use Rattle.osc_handle.proofs.ClientPlaces.{Keeping}
+use Rattle.osc_handle.proofs.PendingPlaces.{Keeping}
 use Rattle.osc_handle.proofs.places.keep_alive.Given as goal
 
 abbrev pub invariant-loop-place : goal.invariant-loop-place

@@ -1,5 +1,5 @@
 use Rattle.std.proofs.Common.{◌≡◌, ◌≢◌, ◌∙◌, sym, rules}
-use Rattle.osc_handle.proofs.ClientPlaces.{found_at, none_among, unlike_more}
+use Rattle.osc_handle.proofs.PendingPlaces.{found_at, none_among, unlike_more}
 use Rattle.osc_handle.proofs.places.place_of.Goals as goal
 
 pub returns-then-eq-clause-found : goal.returns-then-eq-clause-found

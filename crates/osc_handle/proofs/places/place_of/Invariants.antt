@@ -1,7 +1,7 @@
 use Rattle.std.proofs.Common.{◌≡◌, ℕ, ◌<◌, Some}
 use Rattle.std.specs.Prelude.{map, slice_get}
 use Rattle.osc_client.specs.ClientHistory.{Asked}
-use Rattle.osc_handle.specs.ClientBytes.{asked_at}
+use Rattle.osc_handle.specs.PendingBytes.{asked_at}
 use Rattle.osc_handle.proofs.places.place_of.Given as goal
 
 abbrev pub invariant-loop-place : goal.invariant-loop-place

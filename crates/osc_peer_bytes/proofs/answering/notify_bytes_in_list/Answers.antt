@@ -3,7 +3,7 @@ use Rattle.std.proofs.lemmas.Option.{IfSome_then}
 use Rattle.osc_coap.specs.Views.{parts_of}
 use Rattle.osc_life.specs.ServerHistory.{Notify}
 use Rattle.osc_handle.specs.TicketBytes.{ticket_in}
-use Rattle.osc_kept_handle.specs.KeptServerBytes.{entry_of_kept_reply}
+use Rattle.osc_handle.specs.KeptServerBytes.{entry_of_kept_reply}
 use Rattle.osc_peers.specs.Peers.{back}
 use Rattle.osc_peers.specs.Roles.{turned}
 use Rattle.osc_peer_bytes.proofs.Calls.{answers_after, notify_under}

@@ -4,7 +4,7 @@ use Rattle.osc_coap.specs.Views.{parts_of}
 use Rattle.osc_life.specs.LifeAnswer.{asks_own}
 use Rattle.osc_life.specs.ServerHistory.{Reply}
 use Rattle.osc_handle.specs.TicketBytes.{ticket_in}
-use Rattle.osc_kept_handle.specs.KeptServerBytes.{entry_of_kept_reply}
+use Rattle.osc_handle.specs.KeptServerBytes.{entry_of_kept_reply}
 use Rattle.osc_peers.specs.Peers.{back}
 use Rattle.osc_peers.specs.Roles.{turned}
 use Rattle.osc_peer_bytes.proofs.Calls.{answers_after, reply_trusts, reply_under}

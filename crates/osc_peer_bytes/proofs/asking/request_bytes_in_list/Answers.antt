@@ -2,7 +2,7 @@ use Rattle.std.proofs.Common.{length}
 use Rattle.std.proofs.lemmas.Option.{IfSome_then}
 use Rattle.osc_coap.specs.Views.{parts_of}
 use Rattle.osc_client.specs.ClientHistory.{Request}
-use Rattle.osc_kept_handle.specs.KeptClientBytes.{entry_of_kept_request}
+use Rattle.osc_handle.specs.PendingBytes.{entry_of_kept_request}
 use Rattle.osc_peer_bytes.proofs.Calls.{asks_after}
 use Rattle.osc_peer_bytes.proofs.asking.request_bytes_in_list.Goals as goal
 

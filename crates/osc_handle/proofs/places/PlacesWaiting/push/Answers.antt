@@ -1,7 +1,6 @@
 use Rattle.std.proofs.Common.{◌∙◌, arith}
 use Rattle.std.proofs.lemmas.List.{length-set}
-use Rattle.osc_handle.proofs.ClientPlaces.{each_placed, one_fits}
-use Rattle.osc_handle.proofs.Tables.{front_has, in_front}
+use Rattle.osc_handle.proofs.PendingPlaces.{each_placed, front_has, in_front, one_fits}
 use Rattle.osc_handle.proofs.places.PlacesWaiting.push.Goals as goal
 
 pub returns-clause-table : goal.returns-clause-table

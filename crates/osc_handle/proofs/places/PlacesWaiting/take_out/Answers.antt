@@ -1,7 +1,7 @@
 use Rattle.std.proofs.Common.{◌-◌, ◌∙◌, ap, sym, arith, take}
 use Rattle.std.specs.Prelude.{map, slice_get}
-use Rattle.osc_handle.specs.ClientBytes.{asked_at}
-use Rattle.osc_handle.proofs.ClientPlaces.{each_left, taken_out, within_front}
+use Rattle.osc_handle.specs.PendingBytes.{asked_at}
+use Rattle.osc_handle.proofs.PendingPlaces.{each_left, taken_out, within_front}
 use Rattle.osc_handle.proofs.places.PlacesWaiting.take_out.Goals as goal
 
 pub returns-clause-table : goal.returns-clause-table

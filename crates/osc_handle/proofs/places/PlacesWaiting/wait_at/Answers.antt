@@ -1,6 +1,6 @@
 use Rattle.std.proofs.Common.{◌<◌, arith, length, length}
 use Rattle.std.proofs.lemmas.List.{length-set}
-use Rattle.osc_handle.proofs.ClientPlaces.{each_set, waits_at, within_front}
+use Rattle.osc_handle.proofs.PendingPlaces.{each_set, waits_at, within_front}
 use Rattle.osc_handle.proofs.places.PlacesWaiting.wait_at.Goals as goal
 
 pub returns-clause-table : goal.returns-clause-table

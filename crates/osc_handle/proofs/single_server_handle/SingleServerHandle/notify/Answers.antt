@@ -2,7 +2,7 @@ use Rattle.std.proofs.Common.{◌≡◌, ap, arith, sym, length}
 use Rattle.osc_coap.specs.Views.{parts_of}
 use Rattle.osc_life.specs.ServerHistory.{life}
 use Rattle.osc_life.specs.Views.{reply_entry}
-use Rattle.osc_handle.proofs.ClientHistories.{on_err}
+use Rattle.osc_handle.proofs.Singles.{on_err}
 use Rattle.osc_handle.proofs.Servers.{is_absent, is_there, notify_as, notify_stale, notify_unobserved, present_used, serves_notified}
 use Rattle.osc_handle.proofs.Singles.{changes_first, life_at_first}
 use Rattle.osc_handle.specs.SingleServerBytes.{server_of_one, table_of}

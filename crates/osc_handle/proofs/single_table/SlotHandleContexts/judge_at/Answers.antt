@@ -35,7 +35,7 @@ returns-clause-decided c = λ slots lives there agrees.
     c.judge_new-decided.ensures.decided c.judge_new-decided.ensures.context (λ size.
     c.keep.ensures.kept c.slot_with-slot.result c.slot_with-slot.ensures.made c.judge_new-decided.ensures.context size (c.judge_new-decided.ensures.doubt ∙ c.slot_with-slot.ensures.made.doubt)) in
     let used = named_used (table_of b) c.args.request c.args.datagram.now c.requires.named in
-    (j.0, subst (λ (xs : List SlotHandle). IsTableIn (record { count = 1; slots = xs }) j.0) (set_one b c.keep.new.self i used) j.1, j.2, j.3)
+    (j.0, subst (λ (xs : List SlotHandle). IsTableIn xs j.0) (set_one b c.keep.new.self i used) j.1, j.2, j.3)
 
 pub returns-clause-leaves : goal.returns-clause-leaves
 returns-clause-leaves c = λ slots there.

@@ -1,6 +1,6 @@
 use Rattle.std.proofs.Common.{◌∙◌, ap, inr, refl, subst, sym, take, Err}
-use Rattle.osc_kept_handle.specs.declared.kept_refusal.KeptRefusal.{KeptRefusal}
-use Rattle.osc_kept_handle.specs.declared.kept_refusal.KeptRefusal.TheVariants as kept
+use Rattle.osc_handle.specs.declared.kept_refusal.KeptRefusal.{KeptRefusal}
+use Rattle.osc_handle.specs.declared.kept_refusal.KeptRefusal.TheVariants as kept
 use Rattle.osc_peer_handle.specs.PeerBytes.{DecidesAnswering, DeliversFrom, KeepsFirst}
 use Rattle.osc_peer_handle.proofs.AnswerSteps.{caught_up, decides_answering, keeps_first, no_error, opened_from, has_to_save, same_keep, same_save, wants_after, wants_before}
 use Rattle.osc_peer_handle.proofs.peer_handle.PeerHandle.decide.Goals as goal

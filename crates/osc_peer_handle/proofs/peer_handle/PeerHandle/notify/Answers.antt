@@ -4,7 +4,7 @@ use Rattle.std.proofs.lemmas.Option.{IfSome_then}
 use Rattle.osc_coap.specs.Views.{parts_of}
 use Rattle.osc_life.specs.ServerHistory.{Notify}
 use Rattle.osc_handle.specs.TicketBytes.{ticket_in}
-use Rattle.osc_kept_handle.specs.KeptServerBytes.{entry_of_kept_reply}
+use Rattle.osc_handle.specs.KeptServerBytes.{entry_of_kept_reply}
 use Rattle.osc_peer_handle.specs.PeerBytes.{StepsAnswering}
 use Rattle.osc_peer_handle.proofs.AnswerSteps.{caught_up, has_to_save, inside_whole, notified_context, steps_answering}
 use Rattle.osc_peer_handle.proofs.peer_handle.PeerHandle.notify.Goals as goal

@@ -7,8 +7,8 @@ use Rattle.osc_life.specs.ServerHistory.{Reply}
 use Rattle.osc_handle.specs.ServerBytes.{IsSpent}
 use Rattle.osc_handle.specs.TicketBytes.{ticket_in}
 use Rattle.osc_kept_ends.specs.Numbering.{upcoming}
-use Rattle.osc_kept_handle.specs.KeptServerBytes.{entry_of_kept_reply}
-use Rattle.osc_kept_handle.specs.Reserved.{WantsSave}
+use Rattle.osc_handle.specs.KeptServerBytes.{entry_of_kept_reply}
+use Rattle.osc_handle.specs.Reserved.{WantsSave}
 use Rattle.osc_peer_handle.specs.PeerBytes.{StepsAnswering}
 use Rattle.osc_peer_handle.proofs.AnswerSteps.{caught_up, has_to_save, inside_whole, replied_context, spent_after, spent_before, steps_answering}
 use Rattle.osc_peer_handle.proofs.peer_handle.PeerHandle.reply.Goals as goal

@@ -1,5 +1,0 @@
-pub mod NumberSteps
-pub mod ServerSteps
-pub mod ClientSteps
-pub mod GivenTickets
-pub mod BytesInWorld
