@@ -10,7 +10,7 @@
 #define OSCORE_LIBRARY_VERSION 100
 #define OSCORE_LIBRARY_VERSION_STRING "0.1.0"
 /* Which layout: another number where a status, a struct or a call changed that was there, so that a program has to be compiled anew. */
-#define OSCORE_LAYOUT 4
+#define OSCORE_LAYOUT 5
 
 /* What a struct or an array of structs is begun with, as `oscore_context context = OSCORE_ZERO;`: zero, without a warning. */
 #ifdef __cplusplus
@@ -22,7 +22,8 @@ extern "C" {
 #define OSCORE_ASSERT(holds, why) _Static_assert(holds, why)
 #endif
 
-/* Who drops a status doesn't know whether anything was done. A definition of your own may stand before this header. */
+/* Stands before each call that returns a status: the compiler warns where one is dropped, since who drops it doesn't know whether anything
+   was done. A definition of your own may stand before this header. */
 #ifndef OSCORE_MUST_USE
 #if defined(__GNUC__) || defined(__clang__)
 #define OSCORE_MUST_USE __attribute__((warn_unused_result))
@@ -34,11 +35,7 @@ extern "C" {
 /* More bytes of stack than any call takes (README.md), with 4,000 to spare, which `oscore_wipe_stack` sets to 0 and so needs. A definition
    of your own may stand before this header. */
 #ifndef OSCORE_STACK
-#if UINTPTR_MAX == UINT64_MAX
 #define OSCORE_STACK 10240
-#else
-#define OSCORE_STACK 11264
-#endif
 #endif
 
 /* One layout for pointers of 8 and of 4 bytes. A length, an index and what `detail` says have 8 bytes; a pointer stands in a slot of 8, of
@@ -84,9 +81,9 @@ OSCORE_ASSERT(sizeof(bool) == 1, "a bool has 1 byte");
    What no call can see is left to the caller: a pointer leads to as many bytes as the length beside it says, or to a whole struct, and
    stays so until the call returns; until then nobody else writes there, no thread, no signal handler and no device, since a call checks a
    datagram and then reads it a second time; what a call writes (`out`, `datagram`, `options`, `opened`, `head`, `index`,
-   `ticket`, `out_len`, `record`, `detail`, `name`, `sizes`, `peer`, `pending`) overlaps nothing else that it is given; a struct is set to
-   zero before it is given for the first time; a `bool` is 0 or 1. A pointer may be NULL where the length beside it is 0, and nowhere
-   else. */
+   `ticket`, `out_len`, `record`, `detail`, `name`, `sizes`, `peer`, `pending`, `pending_count`, `request`, `state`, `clock`) overlaps nothing else that it is given; a struct is set to
+   zero before it is given for the first time; a `bool` is 0 or 1. A pointer may be NULL where the length beside it is 0; `detail`, and
+   `request` of `oscore_peer_hear`, where you don't want to know; and nothing else. */
 
 /* What a call answers: 0 where it is done, else the first refusal whose condition holds, in the order of this list. OSCORE_SAVE_FIRST alone,
    and OSCORE_LIVES_EXHAUSTED in its place, come elsewhere from `oscore_peer_take`, which says where. A call that refuses writes `detail`: the
@@ -94,55 +91,56 @@ OSCORE_ASSERT(sizeof(bool) == 1, "a bool has 1 byte");
    `options`, `opened`, `head`, `index`, `ticket`, `request`, `record` and the peer as they were; where a call does more, it says so. */
 typedef enum oscore_status {
     OSCORE_DONE = 0,
-    OSCORE_BAD_HANDLE = 1,         /* no call wrote such a handle: as a length that is too large, or two identifiers that are one */
-    OSCORE_BAD_NUMBER = 2,         /* a number is 2^40 or more, a kind above 3, a window has neither 1, 32 nor 64 places, a record isn't the
-                                      next one to save, or parameters have what this header doesn't know */
-    OSCORE_OLD_RECORD = 3,         /* the record is another context's, or none behind which a peer can begin */
-    OSCORE_SECRET_LENGTH = 4,      /* the Master Secret has no byte, or more than 64 */
-    OSCORE_SALT_LENGTH = 5,        /* the Master Salt has more than 64 bytes */
-    OSCORE_ID_TOO_LONG = 6,        /* an identifier has more than 7 bytes */
-    OSCORE_SAME_IDS = 7,           /* both ends have one identifier */
-    OSCORE_ID_CONTEXT_LENGTH = 8,  /* the ID Context has no byte, or more than 32 */
-    OSCORE_DATAGRAM_TOO_LONG = 9,  /* from here to OSCORE_EMPTY_PAYLOAD: no CoAP message, and `detail` is the place */
-    OSCORE_SHORT = 10,             /* fewer than 4 bytes */
-    OSCORE_VERSION = 11,           /* not version 1 */
-    OSCORE_TOKEN_LENGTH = 12,      /* a token of more than 8 bytes */
-    OSCORE_EMPTY_WITH_REST = 13,   /* code 0.00, and bytes behind the message ID or a token */
-    OSCORE_TOKEN_CUT = 14,         /* it ends inside the token */
-    OSCORE_NIBBLE15 = 15,          /* an option's delta or length is 15 */
-    OSCORE_OPTION_CUT = 16,        /* it ends inside an option */
-    OSCORE_NUMBER_TOO_LARGE = 17,  /* an option's number is above 65,535 */
-    OSCORE_EMPTY_PAYLOAD = 18,     /* a payload marker, and no payload */
-    OSCORE_OPTION_ORDER = 19,      /* an option's number is below that of the one before it; `detail` is its index */
-    OSCORE_VALUE_TOO_LONG = 20,    /* an option's value has more than 65,804 bytes; `detail` is its index */
-    OSCORE_STALE_TICKET = 21,      /* the ticket is another peer's, or of another life of this one */
-    OSCORE_SAVE_FIRST = 22,        /* a record has to be saved first: the call wrote it to `record` */
-    OSCORE_LIVES_EXHAUSTED = 23,   /* the same, but the peer's records were saved 2^64 - 1 times */
-    OSCORE_TICKET_SPENT = 24,      /* the ticket's request has its answer, lies too far back, or was never delivered */
-    OSCORE_NOT_OBSERVING = 25,     /* the ticket's request registers no observation, so nothing notifies it */
-    OSCORE_NOT_THAT_KIND = 26,     /* the message is no request, or no response, by its kind and code */
-    OSCORE_UNKNOWN_TOKEN = 27,     /* no request with the token of the response is pending */
-    OSCORE_NO_OSCORE = 28,         /* no OSCORE option: the message isn't protected */
-    OSCORE_UNDECODABLE = 29,       /* several OSCORE options, one that can't be used, no payload, or an option for proxies */
-    OSCORE_NO_CONTEXT = 30,        /* the request names no context of the peer, or of the peers */
-    OSCORE_WRONG_CONTEXT = 31,     /* the request names another context by its kid or kid context */
-    OSCORE_REPLAY = 32,            /* the request's number isn't new, or too old to tell */
-    OSCORE_OLD = 33,               /* a later response to the same registration came before this one */
-    OSCORE_TAG = 34,               /* the payload protects nothing under this context and this number */
-    OSCORE_INNER = 35,             /* it protects what may not stand inside a message */
-    OSCORE_CHALLENGE = 36,         /* a new life, and the request lacks the Echo value that the reply asks for */
-    OSCORE_UNSUPPORTED = 37,       /* an option that isn't sealed, as Proxy-Uri; `detail` is its number */
-    OSCORE_NOT_NOTIFICATION = 38,  /* the message isn't of class 2, or has no Observe */
-    OSCORE_TOKEN_IN_USE = 39,      /* a request with this token is pending */
-    OSCORE_PENDING_FULL = 40,      /* as many requests are pending as there are places */
-    OSCORE_SEQUENCE_EXHAUSTED = 41, /* no Sender Sequence Number below 2^40 is left */
-    OSCORE_TOO_LONG = 42,          /* the sealed message would have more than 65,535 bytes */
-    OSCORE_NO_ROOM = 43,           /* the buffer is shorter than the message */
-    OSCORE_NOT_PENDING = 44,       /* no request with this token is pending */
+    OSCORE_BUSY = 1,               /* another call of this peer runs, in another thread, or below a signal handler or an interrupt */
+    OSCORE_BAD_HANDLE = 2,         /* no call wrote such a handle: as a length that is too large, or two identifiers that are one */
+    OSCORE_BAD_NUMBER = 3,         /* a number is 2^40 or more, a kind above 3, a window has neither 1, 32 nor 64 places, a record isn't the
+                                      next one to save, or parameters or a state have what this header doesn't know */
+    OSCORE_OLD_RECORD = 4,         /* the record or the state is another context's, or the record none behind which a peer can begin */
+    OSCORE_SECRET_LENGTH = 5,      /* the Master Secret has no byte, or more than 64 */
+    OSCORE_SALT_LENGTH = 6,        /* the Master Salt has more than 64 bytes */
+    OSCORE_ID_TOO_LONG = 7,        /* an identifier has more than 7 bytes */
+    OSCORE_SAME_IDS = 8,           /* both ends have one identifier */
+    OSCORE_ID_CONTEXT_LENGTH = 9,  /* the ID Context has no byte, or more than 32 */
+    OSCORE_DATAGRAM_TOO_LONG = 10, /* from here to OSCORE_EMPTY_PAYLOAD: no CoAP message, and `detail` is the place */
+    OSCORE_SHORT = 11,             /* fewer than 4 bytes */
+    OSCORE_VERSION = 12,           /* not version 1 */
+    OSCORE_TOKEN_LENGTH = 13,      /* a token of more than 8 bytes */
+    OSCORE_EMPTY_WITH_REST = 14,   /* code 0.00, and bytes behind the message ID or a token */
+    OSCORE_TOKEN_CUT = 15,         /* it ends inside the token */
+    OSCORE_NIBBLE15 = 16,          /* an option's delta or length is 15 */
+    OSCORE_OPTION_CUT = 17,        /* it ends inside an option */
+    OSCORE_NUMBER_TOO_LARGE = 18,  /* an option's number is above 65,535 */
+    OSCORE_EMPTY_PAYLOAD = 19,     /* a payload marker, and no payload */
+    OSCORE_OPTION_ORDER = 20,      /* an option's number is below that of the one before it; `detail` is its index */
+    OSCORE_VALUE_TOO_LONG = 21,    /* an option's value has more than 65,804 bytes; `detail` is its index */
+    OSCORE_STALE_TICKET = 22,      /* the ticket is another peer's, or of another life of this one */
+    OSCORE_SAVE_FIRST = 23,        /* a record has to be saved first: the call wrote it to `record` */
+    OSCORE_LIVES_EXHAUSTED = 24,   /* the same, but the peer's records were saved 2^64 - 1 times */
+    OSCORE_TICKET_SPENT = 25,      /* the ticket's request has its answer, lies too far back, or was never delivered */
+    OSCORE_NOT_OBSERVING = 26,     /* the ticket's request registers no observation, so nothing notifies it */
+    OSCORE_NOT_THAT_KIND = 27,     /* the message is no request, or no response, by its kind and code */
+    OSCORE_UNKNOWN_TOKEN = 28,     /* no request with the token of the response is pending */
+    OSCORE_NO_OSCORE = 29,         /* no OSCORE option: the message isn't protected */
+    OSCORE_UNDECODABLE = 30,       /* several OSCORE options, one that can't be used, no payload, or an option for proxies */
+    OSCORE_NO_CONTEXT = 31,        /* the request names no context of the peer, or of the peers */
+    OSCORE_WRONG_CONTEXT = 32,     /* the request names another context by its kid or kid context */
+    OSCORE_REPLAY = 33,            /* the request's number isn't new, or too old to tell */
+    OSCORE_OLD = 34,               /* a later response to the same registration came before this one */
+    OSCORE_TAG = 35,               /* the payload protects nothing under this context and this number */
+    OSCORE_INNER = 36,             /* it protects what may not stand inside a message */
+    OSCORE_CHALLENGE = 37,         /* a new life, and the request lacks the Echo value that the reply asks for */
+    OSCORE_UNSUPPORTED = 38,       /* an option that isn't sealed, as Proxy-Uri; `detail` is its number */
+    OSCORE_NOT_NOTIFICATION = 39,  /* the message isn't of class 2, or has no Observe */
+    OSCORE_TOKEN_IN_USE = 40,      /* a request with this token is pending */
+    OSCORE_PENDING_FULL = 41,      /* as many requests are pending as there are places */
+    OSCORE_SEQUENCE_EXHAUSTED = 42, /* no Sender Sequence Number below 2^40 is left */
+    OSCORE_TOO_LONG = 43,          /* the sealed message would have more than 65,535 bytes */
+    OSCORE_NO_ROOM = 44,           /* the buffer is shorter than the message */
+    OSCORE_NOT_PENDING = 45,       /* no request with this token is pending */
     OSCORE_STATUS_WIDTH = 0x7fffffff /* no call answers this: it gives the type its 4 bytes under -fshort-enums too */
 } oscore_status;
 
-/* What calls return has the bytes of a uint32_t. */
+/* A status has the bytes of a uint32_t. */
 OSCORE_ASSERT(sizeof(oscore_status) == 4, "a status has 4 bytes");
 
 /* So many bytes of `out` are enough to seal a plain datagram of so many bytes, whatever its options are, and the context, and the number:
@@ -293,6 +291,7 @@ typedef struct oscore_peer {
     OSCORE_SLOT uint64_t name;       /* the context's name, which its records and tickets have: made of its keys, and telling nothing of them */
     OSCORE_SLOT uint64_t life;       /* the generation of the first record of this life, one above that behind which it began; its tickets have it */
     OSCORE_SLOT uint64_t generation; /* of the record that was saved last */
+    uint32_t busy;                   /* 1 while a call of the peer runs, else 0 */
 } oscore_peer;
 
 /* What outlives a peer. It holds no key. Its integrity is the caller's: as an attacker who can put back an older record has won, keep it
@@ -304,7 +303,7 @@ typedef struct oscore_peer_record {
     OSCORE_SLOT uint64_t received;   /* the first number that no delivered request has */
 } oscore_peer_record;
 
-/* The library's layout. What differs, by a compiler or by an option as -fpack-struct, fails here and not at a lock. */
+/* The library's layout. What differs, by a compiler or by an option as -fpack-struct, fails where this header is compiled, and not at a lock. */
 #define OSCORE_AT(type, member, place) OSCORE_ASSERT(offsetof(type, member) == (place), "the layout of " #type)
 #define OSCORE_HAS(type, size) OSCORE_ASSERT(sizeof(type) == (size), "the layout of " #type)
 OSCORE_HAS(oscore_context, 97); OSCORE_AT(oscore_context, sender, 0); OSCORE_AT(oscore_context, sender_len, 7);
@@ -346,23 +345,94 @@ OSCORE_HAS(oscore_ticket, 40); OSCORE_AT(oscore_ticket, context, 0); OSCORE_AT(o
 OSCORE_HAS(oscore_pending, 40); OSCORE_AT(oscore_pending, number, 0); OSCORE_AT(oscore_pending, moment, 8);
     OSCORE_AT(oscore_pending, from, 16); OSCORE_AT(oscore_pending, token, 24); OSCORE_AT(oscore_pending, token_len, 32);
     OSCORE_AT(oscore_pending, observes, 33);
-OSCORE_HAS(oscore_peer, 224); OSCORE_AT(oscore_peer, server, 0); OSCORE_AT(oscore_peer, reserved, 168); OSCORE_AT(oscore_peer, received, 176);
+OSCORE_HAS(oscore_peer, 232); OSCORE_AT(oscore_peer, server, 0); OSCORE_AT(oscore_peer, reserved, 168); OSCORE_AT(oscore_peer, received, 176);
     OSCORE_AT(oscore_peer, life_ms, 184); OSCORE_AT(oscore_peer, clock, 192); OSCORE_AT(oscore_peer, name, 200); OSCORE_AT(oscore_peer, life, 208);
-    OSCORE_AT(oscore_peer, generation, 216);
+    OSCORE_AT(oscore_peer, generation, 216); OSCORE_AT(oscore_peer, busy, 224);
 OSCORE_HAS(oscore_peer_record, 32); OSCORE_AT(oscore_peer_record, name, 0); OSCORE_AT(oscore_peer_record, generation, 8);
     OSCORE_AT(oscore_peer_record, sender, 16); OSCORE_AT(oscore_peer_record, received, 24);
 #undef OSCORE_AT
 #undef OSCORE_HAS
 
-/* The sizes of the structs above, in bytes, as the library has them. */
+/* What `oscore_sizes` writes. */
 typedef struct oscore_struct_sizes {
     OSCORE_SLOT oscore_size context, option, opened, request_head, ticket, peer, peer_record, pending;
 } oscore_struct_sizes;
 
+/* Writes the sizes of these structs, in bytes, as the library has them. */
+#define oscore_sizes oscore_sizes_v5
 void oscore_sizes(oscore_struct_sizes *sizes);
 
 /* Writes the name of a status, as "TokenCut", ended by a byte 0; "Unknown" for a number that is no status's. */
+#define oscore_status_name oscore_status_name_v5
 void oscore_status_name(uint32_t status, char name[24]);
+
+/* Beside the calls that are declared under their own names, the library exports the others without what this header does for them. The names
+   of all carry the layout with which a call was changed last, so an object that was compiled with another doesn't link. To another language
+   they are the library: it hands in all pointers, and sees to it that a peer is in one call at a time. */
+oscore_status oscore_write_message_v5(uint8_t kind, uint8_t code, uint16_t message_id, const uint8_t *token, oscore_size token_len,
+                                      const oscore_option *options, oscore_size option_count, const uint8_t *payload, oscore_size payload_len,
+                                      uint8_t *out, oscore_size out_room, oscore_size *out_len, oscore_size *detail);
+oscore_status oscore_head_v5(const uint8_t *datagram, oscore_size datagram_len, oscore_request_head *head, oscore_size *detail);
+oscore_status oscore_seal_request_v5(const oscore_context *context, uint64_t number, const uint8_t *plain, oscore_size plain_len, uint8_t *out,
+                                     oscore_size out_room, oscore_size *out_len, oscore_size *detail);
+oscore_status oscore_seal_response_v5(const oscore_context *context, uint64_t request, bool has_own, uint64_t own, const uint8_t *plain,
+                                      oscore_size plain_len, uint8_t *out, oscore_size out_room, oscore_size *out_len, oscore_size *detail);
+oscore_status oscore_open_request_v5(const oscore_context *context, uint8_t *datagram, oscore_size datagram_len, oscore_option *options,
+                                     oscore_size options_room, oscore_opened *opened, oscore_size *detail);
+oscore_status oscore_open_response_v5(const oscore_context *context, uint64_t request, uint8_t *datagram, oscore_size datagram_len,
+                                      oscore_option *options, oscore_size options_room, oscore_opened *opened, oscore_size *detail);
+oscore_status oscore_peer_begin_first_v5(oscore_peer *peer, const oscore_context *context, uint8_t window_places, uint64_t life_ms);
+oscore_status oscore_peer_begin_again_v5(oscore_peer *peer, const oscore_context *context, const oscore_peer_record *record, uint8_t window_places,
+                                         uint64_t life_ms);
+oscore_status oscore_peer_saved_v5(oscore_peer *peer, const oscore_peer_record *record);
+oscore_status oscore_peer_take_v5(oscore_peer *peer, uint64_t now, uint16_t mid, uint8_t *datagram, oscore_size datagram_len, oscore_option *options,
+                                  oscore_size options_room, oscore_opened *opened, oscore_ticket *ticket, uint8_t out[64], oscore_size *out_len,
+                                  oscore_peer_record *record, oscore_size *detail);
+oscore_status oscore_peer_find_v5(const oscore_peer *peers, oscore_size peer_count, const uint8_t *datagram, oscore_size datagram_len,
+                                  oscore_size *index, oscore_size *detail);
+oscore_status oscore_peer_reply_v5(oscore_peer *peer, const oscore_ticket *ticket, bool own, uint16_t mid, const uint8_t *plain,
+                                   oscore_size plain_len, uint8_t *out, oscore_size out_room, oscore_size *out_len, oscore_peer_record *record,
+                                   oscore_size *detail);
+oscore_status oscore_peer_notify_v5(oscore_peer *peer, const oscore_ticket *ticket, const uint8_t *plain, oscore_size plain_len, uint8_t *out,
+                                    oscore_size out_room, oscore_size *out_len, oscore_peer_record *record, oscore_size *detail);
+oscore_status oscore_peer_request_v5(oscore_peer *peer, oscore_pending *pending, oscore_size pending_room, oscore_size *pending_count, uint64_t now,
+                                     const uint8_t *plain, oscore_size plain_len, uint8_t *out, oscore_size out_room, oscore_size *out_len,
+                                     oscore_peer_record *record, oscore_size *detail);
+oscore_status oscore_peer_hear_v5(oscore_peer *peer, oscore_pending *pending, oscore_size pending_room, oscore_size *pending_count, uint64_t now,
+                                  uint8_t *datagram, oscore_size datagram_len, oscore_option *options, oscore_size options_room,
+                                  oscore_opened *opened, uint64_t *request, oscore_size *detail);
+oscore_status oscore_peer_forget_v5(oscore_peer *peer, oscore_pending *pending, oscore_size pending_room, oscore_size *pending_count,
+                                    const uint8_t *token, oscore_size token_len);
+
+/* A call of a peer takes the peer by OSCORE_ENTER, which tells whether no other call had it, and gives it back by OSCORE_LEAVE: so two threads
+   never use one number, nor does an interrupt that comes within a call. Where the compiler has no atomic exchange, as for a Cortex-M0,
+   interrupts are off for a few instructions; where neither is known, signal handlers and interrupts are seen, and threads may not be. Definitions
+   of your own may stand before this header. */
+#ifndef OSCORE_ENTER
+#if defined(__GCC_ATOMIC_INT_LOCK_FREE) && __GCC_ATOMIC_INT_LOCK_FREE == 2
+#define OSCORE_ENTER(busy) (__atomic_exchange_n(busy, 1, __ATOMIC_ACQUIRE) == 0)
+#define OSCORE_LEAVE(busy) __atomic_store_n(busy, 0, __ATOMIC_RELEASE)
+#else
+static inline bool oscore_enter(volatile uint32_t *busy) {
+#if defined(__GNUC__) && defined(__ARM_ARCH_PROFILE) && __ARM_ARCH_PROFILE == 'M'
+    uint32_t masked;
+    __asm__ __volatile__("mrs %0, primask\n\tcpsid i" : "=r"(masked) : : "memory");
+#endif
+    bool entered = *busy == 0;
+    *busy = 1;
+#if defined(__GNUC__) && defined(__ARM_ARCH_PROFILE) && __ARM_ARCH_PROFILE == 'M'
+    __asm__ __volatile__("msr primask, %0" : : "r"(masked) : "memory");
+#endif
+    return entered;
+}
+
+static inline void oscore_leave(volatile uint32_t *busy) {
+    *busy = 0;
+}
+#define OSCORE_ENTER(busy) oscore_enter(busy)
+#define OSCORE_LEAVE(busy) oscore_leave(busy)
+#endif
+#endif
 
 /* Derives a context from a Master Secret (1 to 64 bytes), a Master Salt (0 to 64), an ID Context (1 to 32) where `has_id_context`
    says that there is one, the identifier of this end and that of the other (0 to 7 bytes each). Its keys are used with AES by a cipher
@@ -376,6 +446,7 @@ void oscore_status_name(uint32_t status, char name[24]);
    which Observe is empty inside, and `oscore_peer_hear` opens them. Observe stands in no other response, so `oscore_peer_reply` and
    `oscore_seal_response` seal none with it, and `oscore_open_response` opens none. Without `observe` no message with Observe is sealed,
    and none opens. Both ends must choose the same of `blocks` and of `observe`. */
+#define oscore_derive oscore_derive_v5
 OSCORE_MUST_USE oscore_status oscore_derive(oscore_context *out, const uint8_t *secret, oscore_size secret_len,
                                             const uint8_t *salt, oscore_size salt_len, bool has_id_context,
                                             const uint8_t *id_context, oscore_size id_context_len, const uint8_t *sender,
@@ -402,38 +473,63 @@ OSCORE_MUST_USE static inline oscore_status oscore_derive_from(oscore_context *o
    0 with a token, an option or a payload (OSCORE_EMPTY_WITH_REST); the first option whose number is below that of the one before it
    (OSCORE_OPTION_ORDER); the first whose value is longer than an option can say (OSCORE_VALUE_TOO_LONG); and a message that is longer
    than `out`, or than 65,535 bytes (OSCORE_NO_ROOM). No refusal writes to `out`. */
-OSCORE_MUST_USE oscore_status oscore_write_message(uint8_t kind, uint8_t code, uint16_t message_id, const uint8_t *token,
-                                                   oscore_size token_len, const oscore_option *options, oscore_size option_count,
-                                                   const uint8_t *payload, oscore_size payload_len, uint8_t *out,
-                                                   oscore_size out_room, oscore_size *out_len, oscore_size *detail);
+OSCORE_MUST_USE static inline oscore_status oscore_write_message(uint8_t kind, uint8_t code, uint16_t message_id, const uint8_t *token,
+                                                                 oscore_size token_len, const oscore_option *options, oscore_size option_count,
+                                                                 const uint8_t *payload, oscore_size payload_len, uint8_t *out, oscore_size out_room,
+                                                                 oscore_size *out_len, oscore_size *detail) {
+    OSCORE_SLOT oscore_size unwanted;
+    if (!detail) detail = &unwanted;
+    return oscore_write_message_v5(kind, code, message_id, token, token_len, options, option_count, payload, payload_len, out, out_room, out_len,
+                                   detail);
+}
 
 /* Reads which context a request names. */
-OSCORE_MUST_USE oscore_status oscore_head(const uint8_t *datagram, oscore_size datagram_len, oscore_request_head *head,
-                                          oscore_size *detail);
+OSCORE_MUST_USE static inline oscore_status oscore_head(const uint8_t *datagram, oscore_size datagram_len, oscore_request_head *head,
+                                                        oscore_size *detail) {
+    OSCORE_SLOT oscore_size unwanted;
+    if (!detail) detail = &unwanted;
+    return oscore_head_v5(datagram, datagram_len, head, detail);
+}
 
 /* Seals a request, as the client, under a number below 2^40 that this context never sealed under before. `plain` is the datagram of
    the message that is to be sealed; the sealed one is the first `out_len` bytes of `out`. */
-OSCORE_MUST_USE oscore_status oscore_seal_request(const oscore_context *context, uint64_t number, const uint8_t *plain,
-                                                  oscore_size plain_len, uint8_t *out, oscore_size out_room, oscore_size *out_len,
-                                                  oscore_size *detail);
+OSCORE_MUST_USE static inline oscore_status oscore_seal_request(const oscore_context *context, uint64_t number, const uint8_t *plain,
+                                                                oscore_size plain_len, uint8_t *out, oscore_size out_room, oscore_size *out_len,
+                                                                oscore_size *detail) {
+    OSCORE_SLOT oscore_size unwanted;
+    if (!detail) detail = &unwanted;
+    return oscore_seal_request_v5(context, number, plain, plain_len, out, out_room, out_len, detail);
+}
 
 /* Seals the response to the request that had the number `request`, as the server: with a Partial IV of its own, which this
    context never sealed under before, or under the request's nonce, at most once for each request. */
-OSCORE_MUST_USE oscore_status oscore_seal_response(const oscore_context *context, uint64_t request, bool has_own, uint64_t own,
-                                                   const uint8_t *plain, oscore_size plain_len, uint8_t *out,
-                                                   oscore_size out_room, oscore_size *out_len, oscore_size *detail);
+OSCORE_MUST_USE static inline oscore_status oscore_seal_response(const oscore_context *context, uint64_t request, bool has_own, uint64_t own,
+                                                                 const uint8_t *plain, oscore_size plain_len, uint8_t *out, oscore_size out_room,
+                                                                 oscore_size *out_len, oscore_size *detail) {
+    OSCORE_SLOT oscore_size unwanted;
+    if (!detail) detail = &unwanted;
+    return oscore_seal_response_v5(context, request, has_own, own, plain, plain_len, out, out_room, out_len, detail);
+}
 
 /* Opens a request, as the server, inside its datagram. Whether its number is new is the caller's to see. Refused with OSCORE_INNER,
    the datagram holds the plaintext, and the old tag behind it; refused otherwise, it is as it was. */
-OSCORE_MUST_USE oscore_status oscore_open_request(const oscore_context *context, uint8_t *datagram, oscore_size datagram_len,
-                                                  oscore_option *options, oscore_size options_room, oscore_opened *opened,
-                                                  oscore_size *detail);
+OSCORE_MUST_USE static inline oscore_status oscore_open_request(const oscore_context *context, uint8_t *datagram, oscore_size datagram_len,
+                                                                oscore_option *options, oscore_size options_room, oscore_opened *opened,
+                                                                oscore_size *detail) {
+    OSCORE_SLOT oscore_size unwanted;
+    if (!detail) detail = &unwanted;
+    return oscore_open_request_v5(context, datagram, datagram_len, options, options_room, opened, detail);
+}
 
 /* Opens the response to the request that had the number `request`, as the client, inside its datagram. What a refusal leaves is
    said at `oscore_open_request`. */
-OSCORE_MUST_USE oscore_status oscore_open_response(const oscore_context *context, uint64_t request, uint8_t *datagram,
-                                                   oscore_size datagram_len, oscore_option *options, oscore_size options_room,
-                                                   oscore_opened *opened, oscore_size *detail);
+OSCORE_MUST_USE static inline oscore_status oscore_open_response(const oscore_context *context, uint64_t request, uint8_t *datagram,
+                                                                 oscore_size datagram_len, oscore_option *options, oscore_size options_room,
+                                                                 oscore_opened *opened, oscore_size *detail) {
+    OSCORE_SLOT oscore_size unwanted;
+    if (!detail) detail = &unwanted;
+    return oscore_open_response_v5(context, request, datagram, datagram_len, options, options_room, opened, detail);
+}
 
 /* A peer. A call that needs a number that isn't saved answers OSCORE_SAVE_FIRST, writes the record to save, and leaves all else as it was: the
    peer, its clock, the datagram, `out`, the rest. Then
@@ -442,13 +538,19 @@ OSCORE_MUST_USE oscore_status oscore_open_response(const oscore_context *context
        tell the peer by `oscore_peer_saved`;
        make the same call again.
 
-   In this order. Each life saves one record before anything else, whatever comes first. After that a record is saved for each request that
-   is to be delivered, and for each 64 requests of its own, challenges, notifications and replies with a Partial IV of their own. `record`
+   In this order. Each life saves one record before anything else, whatever comes first. After that a record is saved for each request that is to be
+   delivered and whose number isn't below the `received` that was saved, and for each 64 requests of its own, challenges, notifications and
+   replies with a Partial IV of their own. So one datagram may take two saves. `record`
    is written at OSCORE_SAVE_FIRST alone. OSCORE_LIVES_EXHAUSTED comes in the place of OSCORE_SAVE_FIRST where the record would be the
-   2^64th. */
+   2^64th.
+
+   A peer is in one call at a time. One that comes while another runs, from a thread or from what interrupted it, is OSCORE_BUSY: make it again
+   later. A call that never returned, as behind a longjmp, leaves its peer busy: set it to zero, and begin it again. `oscore_peer_find`
+   and `oscore_peer_fits` only read, and don't see to this: no call of one of these peers may run meanwhile. */
 
 /* Writes the name of a context, which its peers, their records and their tickets have. A store is opened by it (oscore_store.h), before a
    peer is begun. OSCORE_BAD_HANDLE leaves the name. */
+#define oscore_peer_name oscore_peer_name_v5
 OSCORE_MUST_USE oscore_status oscore_peer_name(const oscore_context *context, uint64_t *name);
 
 /* Begins a peer of a context that was never used, neither by this end nor by another library: at its provisioning, once. A record that
@@ -458,21 +560,36 @@ OSCORE_MUST_USE oscore_status oscore_peer_name(const oscore_context *context, ui
    the context's sender: seal nothing by `context` beside it, and begin no second peer with its Sender Key, which would use the same nonces.
    Contexts with the same Master Secret differ in Sender ID, Master Salt or ID Context (RFC 8613, 3.3). OSCORE_BAD_HANDLE or
    OSCORE_BAD_NUMBER leave the peer. */
-OSCORE_MUST_USE oscore_status oscore_peer_begin_first(oscore_peer *peer, const oscore_context *context, uint8_t window_places,
-                                                      uint64_t life_ms);
+OSCORE_MUST_USE static inline oscore_status oscore_peer_begin_first(oscore_peer *peer, const oscore_context *context, uint8_t window_places,
+                                                                    uint64_t life_ms) {
+    if (!OSCORE_ENTER(&peer->busy)) return OSCORE_BUSY;
+    oscore_status status = oscore_peer_begin_first_v5(peer, context, window_places, life_ms);
+    OSCORE_LEAVE(&peer->busy);
+    return status;
+}
 
 /* Begins a peer behind the record that was saved last. It delivers requests above the received number without a challenge; where none was
    delivered yet, the first one is challenged, but for a record with the numbers 0 and 0, whose context was never used: its peer begins as
    at `oscore_peer_begin_first`. OSCORE_BAD_HANDLE, OSCORE_BAD_NUMBER (the window), OSCORE_OLD_RECORD, or
    OSCORE_SEQUENCE_EXHAUSTED where no Sender Sequence Number is left: the peer stays. */
-OSCORE_MUST_USE oscore_status oscore_peer_begin_again(oscore_peer *peer, const oscore_context *context, const oscore_peer_record *record,
-                                                      uint8_t window_places, uint64_t life_ms);
+OSCORE_MUST_USE static inline oscore_status oscore_peer_begin_again(oscore_peer *peer, const oscore_context *context,
+                                                                    const oscore_peer_record *record, uint8_t window_places, uint64_t life_ms) {
+    if (!OSCORE_ENTER(&peer->busy)) return OSCORE_BUSY;
+    oscore_status status = oscore_peer_begin_again_v5(peer, context, record, window_places, life_ms);
+    OSCORE_LEAVE(&peer->busy);
+    return status;
+}
 
 /* Says that this record is saved: one to save next, as the last OSCORE_SAVE_FIRST wrote it. It has the peer's name and the next
    generation; `sender` is as the peer's `reserved`, or where no number is left below that, the next number to reserve up to; `received`
    isn't below the peer's. So a greater `received`, up to 2^40, may stand in it: requests below that need no save of their own, and a life
    that begins behind the record delivers none of them. Another record is OSCORE_BAD_NUMBER, and the peer stays. */
-OSCORE_MUST_USE oscore_status oscore_peer_saved(oscore_peer *peer, const oscore_peer_record *record);
+OSCORE_MUST_USE static inline oscore_status oscore_peer_saved(oscore_peer *peer, const oscore_peer_record *record) {
+    if (!OSCORE_ENTER(&peer->busy)) return OSCORE_BUSY;
+    oscore_status status = oscore_peer_saved_v5(peer, record);
+    OSCORE_LEAVE(&peer->busy);
+    return status;
+}
 
 /* Says that this record is saved, though it is saved nowhere: for tests, and for a context that lives no longer than the program. If the
    context is ever used again, nonces are used twice, and requests are obeyed twice. It first raises `received` to 2^40, so that no request
@@ -498,18 +615,34 @@ OSCORE_MUST_USE static inline oscore_status oscore_peer_saved_nowhere(oscore_pee
    UDP keeps the reply to each delivered request, by sender and message ID, for 247 seconds. If the request comes again, a CON gets that
    reply again, a NON gets nothing, and this isn't called (RFC 7252, 4.5 and 4.8.2). Any other request that comes again is handed in
    again. An empty message, as an acknowledgment, a reset or a ping, is OSCORE_NOT_THAT_KIND. */
-OSCORE_MUST_USE oscore_status oscore_peer_take(oscore_peer *peer, uint64_t now, uint16_t mid, uint8_t *datagram, oscore_size datagram_len,
-                                               oscore_option *options, oscore_size options_room, oscore_opened *opened,
-                                               oscore_ticket *ticket, uint8_t out[64], oscore_size *out_len, oscore_peer_record *record,
-                                               oscore_size *detail);
+OSCORE_MUST_USE static inline oscore_status oscore_peer_take(oscore_peer *peer, uint64_t now, uint16_t mid, uint8_t *datagram,
+                                                             oscore_size datagram_len, oscore_option *options, oscore_size options_room,
+                                                             oscore_opened *opened, oscore_ticket *ticket, uint8_t out[64], oscore_size *out_len,
+                                                             oscore_peer_record *record, oscore_size *detail) {
+    OSCORE_SLOT oscore_size unwanted;
+    if (!detail) detail = &unwanted;
+    if (!OSCORE_ENTER(&peer->busy)) {
+        *detail = 0;
+        *out_len = 0;
+        return OSCORE_BUSY;
+    }
+    oscore_status status = oscore_peer_take_v5(peer, now, mid, datagram, datagram_len, options, options_room, opened, ticket, out, out_len,
+                                               record, detail);
+    OSCORE_LEAVE(&peer->busy);
+    return status;
+}
 
 /* Writes the index of the first of several peers whose context a request names, by its kid and its kid context: a device with many
    contexts has an array of peers. It reads only, and passes over peers that were never begun. One of the datagram's faults,
    OSCORE_NOT_THAT_KIND, OSCORE_NO_OSCORE, OSCORE_UNDECODABLE, or OSCORE_NO_CONTEXT where it names none of theirs, leave the index. What goes
    back to the sender then, as a 4.01, is what `oscore_peer_take` of any of them writes. Which of them a response is for no byte of it says
    but its token: give it to `oscore_peer_hear` of each that asks. */
-OSCORE_MUST_USE oscore_status oscore_peer_find(const oscore_peer *peers, oscore_size peer_count, const uint8_t *datagram,
-                                               oscore_size datagram_len, oscore_size *index, oscore_size *detail);
+OSCORE_MUST_USE static inline oscore_status oscore_peer_find(const oscore_peer *peers, oscore_size peer_count, const uint8_t *datagram,
+                                                             oscore_size datagram_len, oscore_size *index, oscore_size *detail) {
+    OSCORE_SLOT oscore_size unwanted;
+    if (!detail) detail = &unwanted;
+    return oscore_peer_find_v5(peers, peer_count, datagram, datagram_len, index, detail);
+}
 
 /* Whether a peer of this context may be begun beside these peers: none of them has its Sender Key, since both would use the same nonces, and
    none has both its Recipient ID and its ID Context, since `oscore_peer_find` could find but one of them. It passes over peers that were
@@ -536,9 +669,19 @@ static inline bool oscore_peer_fits(const oscore_peer *peers, size_t peer_count,
    request. A refusal spends nothing.
    The answer to a registration has a Partial IV of its own whatever `own` says. It has no Observe, and so it is the last: the client then
    waits for nothing more. */
-OSCORE_MUST_USE oscore_status oscore_peer_reply(oscore_peer *peer, const oscore_ticket *ticket, bool own, uint16_t mid, const uint8_t *plain,
-                                                oscore_size plain_len, uint8_t *out, oscore_size out_room, oscore_size *out_len,
-                                                oscore_peer_record *record, oscore_size *detail);
+OSCORE_MUST_USE static inline oscore_status oscore_peer_reply(oscore_peer *peer, const oscore_ticket *ticket, bool own, uint16_t mid,
+                                                              const uint8_t *plain, oscore_size plain_len, uint8_t *out, oscore_size out_room,
+                                                              oscore_size *out_len, oscore_peer_record *record, oscore_size *detail) {
+    OSCORE_SLOT oscore_size unwanted;
+    if (!detail) detail = &unwanted;
+    if (!OSCORE_ENTER(&peer->busy)) {
+        *detail = 0;
+        return OSCORE_BUSY;
+    }
+    oscore_status status = oscore_peer_reply_v5(peer, ticket, own, mid, plain, plain_len, out, out_room, out_len, record, detail);
+    OSCORE_LEAVE(&peer->busy);
+    return status;
+}
 
 /* Seals a notification to the registration of a ticket, with a new Partial IV of its own (RFC 7641, 3.2; RFC 8613, 8.3.1). It needs a number
    always. Of `plain`, which is a datagram, all is used but the token, which is the ticket's: kind and message ID too, so the first is an
@@ -549,9 +692,19 @@ OSCORE_MUST_USE oscore_status oscore_peer_reply(oscore_peer *peer, const oscore_
    long as it has something to notify, and drops it where a request of the same context with the same token and options has Observe 1,
    where one registers with the same token (the new ticket takes its place), and where a notification is answered by a reset. A ticket may
    be notified by however many requests came since, in the life that gave it. A refusal spends nothing. */
-OSCORE_MUST_USE oscore_status oscore_peer_notify(oscore_peer *peer, const oscore_ticket *ticket, const uint8_t *plain, oscore_size plain_len,
-                                                 uint8_t *out, oscore_size out_room, oscore_size *out_len, oscore_peer_record *record,
-                                                 oscore_size *detail);
+OSCORE_MUST_USE static inline oscore_status oscore_peer_notify(oscore_peer *peer, const oscore_ticket *ticket, const uint8_t *plain,
+                                                               oscore_size plain_len, uint8_t *out, oscore_size out_room, oscore_size *out_len,
+                                                               oscore_peer_record *record, oscore_size *detail) {
+    OSCORE_SLOT oscore_size unwanted;
+    if (!detail) detail = &unwanted;
+    if (!OSCORE_ENTER(&peer->busy)) {
+        *detail = 0;
+        return OSCORE_BUSY;
+    }
+    oscore_status status = oscore_peer_notify_v5(peer, ticket, plain, plain_len, out, out_room, out_len, record, detail);
+    OSCORE_LEAVE(&peer->busy);
+    return status;
+}
 
 /* What a peer asks. Its requests that wait for their responses lie in an array of yours, of as many places as you give it: the first
    `*pending_count` of its `pending_room` places hold one each, oldest first. Begin with a count of 0 and zeroed places when you begin the
@@ -564,10 +717,21 @@ OSCORE_MUST_USE oscore_status oscore_peer_notify(oscore_peer *peer, const oscore
    after it is pending until the time has come there. A refusal from OSCORE_NOT_THAT_KIND on moves the clock, which ends what was pending
    for too long. To send a request again (RFC 7252, 4.2), send the same bytes: what is sealed anew is another request, and is obeyed once
    more. To cancel an observation, or to register anew, under its token, call `oscore_peer_forget` first. */
-OSCORE_MUST_USE oscore_status oscore_peer_request(oscore_peer *peer, oscore_pending *pending, oscore_size pending_room,
-                                                  oscore_size *pending_count, uint64_t now, const uint8_t *plain, oscore_size plain_len,
-                                                  uint8_t *out, oscore_size out_room, oscore_size *out_len, oscore_peer_record *record,
-                                                  oscore_size *detail);
+OSCORE_MUST_USE static inline oscore_status oscore_peer_request(oscore_peer *peer, oscore_pending *pending, oscore_size pending_room,
+                                                                oscore_size *pending_count, uint64_t now, const uint8_t *plain, oscore_size plain_len,
+                                                                uint8_t *out, oscore_size out_room, oscore_size *out_len, oscore_peer_record *record,
+                                                                oscore_size *detail) {
+    OSCORE_SLOT oscore_size unwanted;
+    if (!detail) detail = &unwanted;
+    if (!OSCORE_ENTER(&peer->busy)) {
+        *detail = 0;
+        return OSCORE_BUSY;
+    }
+    oscore_status status = oscore_peer_request_v5(peer, pending, pending_room, pending_count, now, plain, plain_len, out, out_room, out_len,
+                                                  record, detail);
+    OSCORE_LEAVE(&peer->busy);
+    return status;
+}
 
 /* Answers a datagram that may be a response to one of these requests, where it lies. It needs no number, so a peer that asks and answers
    gives it each datagram first: a request is OSCORE_NOT_THAT_KIND here, as it came, and goes to `oscore_peer_take`.
@@ -585,14 +749,94 @@ OSCORE_MUST_USE oscore_status oscore_peer_request(oscore_peer *peer, oscore_pend
    sent again, or that it isn't answered (RST), so that it can be forgotten.
    Behind 0 and OSCORE_INNER the datagram holds what was inside, and the old tag behind it; else it is as it came. (What it holds is
    tested, and proved of the call behind this one.) */
-OSCORE_MUST_USE oscore_status oscore_peer_hear(oscore_peer *peer, oscore_pending *pending, oscore_size pending_room,
-                                               oscore_size *pending_count, uint64_t now, uint8_t *datagram, oscore_size datagram_len,
-                                               oscore_option *options, oscore_size options_room, oscore_opened *opened, uint64_t *request,
-                                               oscore_size *detail);
+OSCORE_MUST_USE static inline oscore_status oscore_peer_hear(oscore_peer *peer, oscore_pending *pending, oscore_size pending_room,
+                                                             oscore_size *pending_count, uint64_t now, uint8_t *datagram, oscore_size datagram_len,
+                                                             oscore_option *options, oscore_size options_room, oscore_opened *opened,
+                                                             uint64_t *request, oscore_size *detail) {
+    OSCORE_SLOT oscore_size unwanted;
+    OSCORE_SLOT uint64_t unwanted_number;
+    if (!detail) detail = &unwanted;
+    if (!request) request = &unwanted_number;
+    if (!OSCORE_ENTER(&peer->busy)) {
+        *detail = 0;
+        return OSCORE_BUSY;
+    }
+    oscore_status status = oscore_peer_hear_v5(peer, pending, pending_room, pending_count, now, datagram, datagram_len, options, options_room,
+                                               opened, request, detail);
+    OSCORE_LEAVE(&peer->busy);
+    return status;
+}
 
 /* Waits no more for the response to the request of a token; OSCORE_NOT_PENDING where there is none. */
-OSCORE_MUST_USE oscore_status oscore_peer_forget(oscore_peer *peer, oscore_pending *pending, oscore_size pending_room,
-                                                 oscore_size *pending_count, const uint8_t *token, oscore_size token_len);
+OSCORE_MUST_USE static inline oscore_status oscore_peer_forget(oscore_peer *peer, oscore_pending *pending, oscore_size pending_room,
+                                                               oscore_size *pending_count, const uint8_t *token, oscore_size token_len) {
+    if (!OSCORE_ENTER(&peer->busy)) return OSCORE_BUSY;
+    oscore_status status = oscore_peer_forget_v5(peer, pending, pending_room, pending_count, token, token_len);
+    OSCORE_LEAVE(&peer->busy);
+    return status;
+}
+
+/* So many bytes are all that a peer knows beside its context: no key is among them. Their meaning stays, whatever structs a later library has.
+   Byte 0 is 1 for this meaning. Byte 1 has the window's places, byte 2 those of the open window, byte 3 its gate; bytes 4 to 7 are 0, and
+   bytes 8 to 15 are the Echo value. Then come 14 numbers of 8 bytes, low byte first: of the peer's context `at`, `spent_mask`, `next` and
+   `life`; the clock of what answers, both numbers of `unanswered`, and the members of the peer from `reserved` to `generation`. What waits in
+   your places isn't among them. */
+#define OSCORE_PEER_STATE 128
+
+static inline uint64_t *oscore_peer_number(oscore_peer *peer, size_t which) {
+    /* The numbers of a state, in their order. */
+    oscore_server_context *own = &peer->server.context;
+    uint64_t *numbers[14] = {&own->at, &own->spent_mask, &own->next, &own->life, &peer->server.clock, &peer->server.unanswered.highest,
+                             &peer->server.unanswered.mask, &peer->reserved, &peer->received, &peer->life_ms, &peer->clock, &peer->name,
+                             &peer->life, &peer->generation};
+    return numbers[which];
+}
+
+/* Writes the state of a peer, for whoever keeps peers in a store of his own, or switches memory off. Who reads it goes on with this peer: so
+   read it once, and use no more the peer that it was written of, or else nonces are used twice. Behind a save or a use of the peer it is old.
+   Where the last record alone outlives the peer, `oscore_peer_begin_again` is the way. OSCORE_BUSY, or OSCORE_BAD_HANDLE, leave `state`. */
+OSCORE_MUST_USE static inline oscore_status oscore_peer_state_write(oscore_peer *peer, uint8_t state[OSCORE_PEER_STATE]) {
+    const oscore_peer_record none = OSCORE_ZERO;
+    const oscore_server_context *own = &peer->server.context;
+    if (!OSCORE_ENTER(&peer->busy)) return OSCORE_BUSY;
+    /* A record of zeros is never the next one, so this changes nothing, and says what the bytes are. */
+    bool is_peer = oscore_peer_saved_v5(peer, &none) != OSCORE_BAD_HANDLE;
+    if (is_peer) {
+        for (size_t i = 0; i < 16; i++) state[i] = 0;
+        state[0] = 1, state[1] = own->places, state[2] = own->window_places, state[3] = own->gate;
+        for (size_t i = 0; i < sizeof own->echo; i++) state[8 + i] = own->echo[i];
+        for (size_t i = 16; i < OSCORE_PEER_STATE; i++) state[i] = (uint8_t)(*oscore_peer_number(peer, i / 8 - 2) >> 8 * (i % 8));
+    }
+    OSCORE_LEAVE(&peer->busy);
+    return is_peer ? OSCORE_DONE : OSCORE_BAD_HANDLE;
+}
+
+/* Reads a state: the peer is as the one was of which it was written. Refused is, in this order: a bad context (OSCORE_BAD_HANDLE); bytes that
+   `oscore_peer_state_write` never writes, as of a later library (OSCORE_BAD_NUMBER); the state of another context's peer
+   (OSCORE_OLD_RECORD). A refusal leaves the peer. */
+OSCORE_MUST_USE static inline oscore_status oscore_peer_state_read(oscore_peer *peer, const oscore_context *context,
+                                                                   const uint8_t state[OSCORE_PEER_STATE]) {
+    const oscore_peer_record none = OSCORE_ZERO;
+    oscore_peer read = OSCORE_ZERO;
+    oscore_server_context *own = &read.server.context;
+    OSCORE_SLOT uint64_t name = 0;
+    if (!OSCORE_ENTER(&peer->busy)) return OSCORE_BUSY;
+    oscore_status status = oscore_peer_name(context, &name);
+    if (status == OSCORE_DONE) {
+        own->context = *context, own->places = state[1], own->window_places = state[2], own->gate = state[3];
+        for (size_t i = 0; i < sizeof own->echo; i++) own->echo[i] = state[8 + i];
+        for (size_t i = 16; i < OSCORE_PEER_STATE; i++) *oscore_peer_number(&read, i / 8 - 2) |= (uint64_t)state[i] << 8 * (i % 8);
+        if (state[0] != 1 || (state[4] | state[5] | state[6] | state[7]) != 0 || oscore_peer_saved_v5(&read, &none) == OSCORE_BAD_HANDLE)
+            status = OSCORE_BAD_NUMBER;
+        else if (read.name != name) status = OSCORE_OLD_RECORD;
+    }
+    if (status == OSCORE_DONE) {
+        peer->server = read.server, peer->reserved = read.reserved, peer->received = read.received, peer->life_ms = read.life_ms;
+        peer->clock = read.clock, peer->name = read.name, peer->life = read.life, peer->generation = read.generation;
+    }
+    OSCORE_LEAVE(&peer->busy);
+    return status;
+}
 
 /* Milliseconds of a tick that counts them in 32 bits and begins anew at 0 after 49 days: zero begins it. */
 typedef struct oscore_clock {
@@ -609,7 +853,8 @@ static inline uint64_t oscore_clock_at(oscore_clock *clock, uint32_t tick) {
 }
 
 /* The library wipes nothing: what a call was given is the caller's, and below the caller's stack pointer lies what the call left there,
-   keys among it (README.md, Wiping). The rest of this header wipes, and is code of the caller's program. */
+   keys among it (README.md, Wiping). `oscore_wipe` and `oscore_wipe_stack` do, and are code of the caller's program. */
+
 #if defined(__GNUC__) || defined(__clang__)
 #define OSCORE_BARRIER(bytes) __asm__ __volatile__("" : : "r"(bytes) : "memory")
 #else
@@ -635,7 +880,7 @@ static inline void oscore_wipe(void *bytes, size_t len) {
 #endif
 #endif
 
-/* The stack is wiped where a compiler has a way to say that a function is never made a part of its caller. */
+/* `oscore_wipe_stack` is there where a compiler has a way to say that a function is never made a part of its caller: for GCC and Clang. */
 #if defined(__GNUC__) || defined(__clang__)
 /* For `oscore_wipe_stack` alone. Its array lies where a call's stack lay. */
 #if OSCORE_WIPES_REGISTERS

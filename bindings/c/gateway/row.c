@@ -19,7 +19,7 @@ enum { FIXED_LEN = 1 + ROLE_LEN + RECORD_LEN + KEYS_LEN + 1 + ERA_LEN + 8 + 1 + 
 
 /* With the longest names there is room for a reply of some bytes. */
 OSCORE_ASSERT(FIXED_LEN + 7 + KEY_MOST + 32 <= STATE_MOST, "a row has more bytes than 256");
-OSCORE_ASSERT(sizeof(oscore_peer) == 224, "a peer has a field that row.c doesn't know");
+OSCORE_ASSERT(sizeof(oscore_peer) == 232, "a peer has a field that row.c doesn't know");
 
 bool row_key_of(row_key *key, const oscore_request_head *head) {
     if (head->kid_len > KID_MOST || head->kid_context_len > KID_CONTEXT_MOST) return false;

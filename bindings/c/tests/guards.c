@@ -45,130 +45,130 @@ static void lies_at_an_edge(const char *call, const char *name, const void *at, 
     exit(1);
 }
 
-WRAP(sizes, void, (oscore_struct_sizes *sizes)) {
+WRAP(sizes_v5, void, (oscore_struct_sizes *sizes)) {
     STRUCT(sizes);
-    __real_oscore_sizes(sizes);
+    __real_oscore_sizes_v5(sizes);
 }
 
-WRAP(status_name, void, (uint32_t status, char name[24])) {
+WRAP(status_name_v5, void, (uint32_t status, char name[24])) {
     SOME(name, 24);
-    __real_oscore_status_name(status, name);
+    __real_oscore_status_name_v5(status, name);
 }
 
-WRAP(derive, oscore_status, (oscore_context *out, const uint8_t *secret, oscore_size secret_len, const uint8_t *salt, oscore_size salt_len,
+WRAP(derive_v5, oscore_status, (oscore_context *out, const uint8_t *secret, oscore_size secret_len, const uint8_t *salt, oscore_size salt_len,
                              bool has_id_context, const uint8_t *id_context, oscore_size id_context_len, const uint8_t *sender,
                              oscore_size sender_len, const uint8_t *recipient, oscore_size recipient_len, bool tables, bool blocks,
                              bool observe)) {
     STRUCT(out), BYTES(secret), BYTES(salt), BYTES(id_context), BYTES(sender), BYTES(recipient);
-    return __real_oscore_derive(out, secret, secret_len, salt, salt_len, has_id_context, id_context, id_context_len, sender, sender_len,
+    return __real_oscore_derive_v5(out, secret, secret_len, salt, salt_len, has_id_context, id_context, id_context_len, sender, sender_len,
                                 recipient, recipient_len, tables, blocks, observe);
 }
 
-WRAP(write_message, oscore_status, (uint8_t kind, uint8_t code, uint16_t message_id, const uint8_t *token, oscore_size token_len,
+WRAP(write_message_v5, oscore_status, (uint8_t kind, uint8_t code, uint16_t message_id, const uint8_t *token, oscore_size token_len,
                                     const oscore_option *options, oscore_size option_count, const uint8_t *payload, oscore_size payload_len,
                                     uint8_t *out, oscore_size out_room, oscore_size *out_len, oscore_size *detail)) {
     BYTES(token), SOME(options, option_count * sizeof *options), BYTES(payload), SOME(out, out_room), STRUCT(out_len), STRUCT(detail);
     for (oscore_size i = 0; i < option_count; i++) SOME(options[i].value, options[i].value_len);
-    return __real_oscore_write_message(kind, code, message_id, token, token_len, options, option_count, payload, payload_len, out, out_room,
+    return __real_oscore_write_message_v5(kind, code, message_id, token, token_len, options, option_count, payload, payload_len, out, out_room,
                                        out_len, detail);
 }
 
-WRAP(head, oscore_status, (const uint8_t *datagram, oscore_size datagram_len, oscore_request_head *head, oscore_size *detail)) {
+WRAP(head_v5, oscore_status, (const uint8_t *datagram, oscore_size datagram_len, oscore_request_head *head, oscore_size *detail)) {
     BYTES(datagram), STRUCT(head), STRUCT(detail);
-    return __real_oscore_head(datagram, datagram_len, head, detail);
+    return __real_oscore_head_v5(datagram, datagram_len, head, detail);
 }
 
-WRAP(seal_request, oscore_status, (const oscore_context *context, uint64_t number, const uint8_t *plain, oscore_size plain_len, uint8_t *out,
+WRAP(seal_request_v5, oscore_status, (const oscore_context *context, uint64_t number, const uint8_t *plain, oscore_size plain_len, uint8_t *out,
                                    oscore_size out_room, oscore_size *out_len, oscore_size *detail)) {
     STRUCT(context), BYTES(plain), SOME(out, out_room), STRUCT(out_len), STRUCT(detail);
-    return __real_oscore_seal_request(context, number, plain, plain_len, out, out_room, out_len, detail);
+    return __real_oscore_seal_request_v5(context, number, plain, plain_len, out, out_room, out_len, detail);
 }
 
-WRAP(seal_response, oscore_status, (const oscore_context *context, uint64_t request, bool has_own, uint64_t own, const uint8_t *plain,
+WRAP(seal_response_v5, oscore_status, (const oscore_context *context, uint64_t request, bool has_own, uint64_t own, const uint8_t *plain,
                                     oscore_size plain_len, uint8_t *out, oscore_size out_room, oscore_size *out_len, oscore_size *detail)) {
     STRUCT(context), BYTES(plain), SOME(out, out_room), STRUCT(out_len), STRUCT(detail);
-    return __real_oscore_seal_response(context, request, has_own, own, plain, plain_len, out, out_room, out_len, detail);
+    return __real_oscore_seal_response_v5(context, request, has_own, own, plain, plain_len, out, out_room, out_len, detail);
 }
 
-WRAP(open_request, oscore_status, (const oscore_context *context, uint8_t *datagram, oscore_size datagram_len, oscore_option *options,
+WRAP(open_request_v5, oscore_status, (const oscore_context *context, uint8_t *datagram, oscore_size datagram_len, oscore_option *options,
                                    oscore_size options_room, oscore_opened *opened, oscore_size *detail)) {
     STRUCT(context), BYTES(datagram), SOME(options, options_room * sizeof *options), STRUCT(opened), STRUCT(detail);
-    return __real_oscore_open_request(context, datagram, datagram_len, options, options_room, opened, detail);
+    return __real_oscore_open_request_v5(context, datagram, datagram_len, options, options_room, opened, detail);
 }
 
-WRAP(open_response, oscore_status, (const oscore_context *context, uint64_t request, uint8_t *datagram, oscore_size datagram_len,
+WRAP(open_response_v5, oscore_status, (const oscore_context *context, uint64_t request, uint8_t *datagram, oscore_size datagram_len,
                                     oscore_option *options, oscore_size options_room, oscore_opened *opened, oscore_size *detail)) {
     STRUCT(context), BYTES(datagram), SOME(options, options_room * sizeof *options), STRUCT(opened), STRUCT(detail);
-    return __real_oscore_open_response(context, request, datagram, datagram_len, options, options_room, opened, detail);
+    return __real_oscore_open_response_v5(context, request, datagram, datagram_len, options, options_room, opened, detail);
 }
 
-WRAP(peer_name, oscore_status, (const oscore_context *context, uint64_t *name)) {
+WRAP(peer_name_v5, oscore_status, (const oscore_context *context, uint64_t *name)) {
     STRUCT(context), STRUCT(name);
-    return __real_oscore_peer_name(context, name);
+    return __real_oscore_peer_name_v5(context, name);
 }
 
-WRAP(peer_find, oscore_status, (const oscore_peer *peers, oscore_size peer_count, const uint8_t *datagram, oscore_size datagram_len, oscore_size *index,
+WRAP(peer_find_v5, oscore_status, (const oscore_peer *peers, oscore_size peer_count, const uint8_t *datagram, oscore_size datagram_len, oscore_size *index,
                                 oscore_size *detail)) {
     SOME(peers, peer_count * sizeof *peers), BYTES(datagram), STRUCT(index), STRUCT(detail);
-    return __real_oscore_peer_find(peers, peer_count, datagram, datagram_len, index, detail);
+    return __real_oscore_peer_find_v5(peers, peer_count, datagram, datagram_len, index, detail);
 }
 
-WRAP(peer_begin_first, oscore_status, (oscore_peer *peer, const oscore_context *context, uint8_t window_places, uint64_t life_ms)) {
+WRAP(peer_begin_first_v5, oscore_status, (oscore_peer *peer, const oscore_context *context, uint8_t window_places, uint64_t life_ms)) {
     STRUCT(peer), STRUCT(context);
-    return __real_oscore_peer_begin_first(peer, context, window_places, life_ms);
+    return __real_oscore_peer_begin_first_v5(peer, context, window_places, life_ms);
 }
 
-WRAP(peer_begin_again, oscore_status, (oscore_peer *peer, const oscore_context *context, const oscore_peer_record *record, uint8_t window_places,
+WRAP(peer_begin_again_v5, oscore_status, (oscore_peer *peer, const oscore_context *context, const oscore_peer_record *record, uint8_t window_places,
                                        uint64_t life_ms)) {
     STRUCT(peer), STRUCT(context), STRUCT(record);
-    return __real_oscore_peer_begin_again(peer, context, record, window_places, life_ms);
+    return __real_oscore_peer_begin_again_v5(peer, context, record, window_places, life_ms);
 }
 
-WRAP(peer_saved, oscore_status, (oscore_peer *peer, const oscore_peer_record *record)) {
+WRAP(peer_saved_v5, oscore_status, (oscore_peer *peer, const oscore_peer_record *record)) {
     STRUCT(peer), STRUCT(record);
-    return __real_oscore_peer_saved(peer, record);
+    return __real_oscore_peer_saved_v5(peer, record);
 }
 
-WRAP(peer_take, oscore_status, (oscore_peer *peer, uint64_t now, uint16_t mid, uint8_t *datagram, oscore_size datagram_len, oscore_option *options,
+WRAP(peer_take_v5, oscore_status, (oscore_peer *peer, uint64_t now, uint16_t mid, uint8_t *datagram, oscore_size datagram_len, oscore_option *options,
                                 oscore_size options_room, oscore_opened *opened, oscore_ticket *ticket, uint8_t out[64], oscore_size *out_len,
                                 oscore_peer_record *record, oscore_size *detail)) {
     STRUCT(peer), BYTES(datagram), SOME(options, options_room * sizeof *options), STRUCT(opened), STRUCT(ticket), SOME(out, 64),
         STRUCT(out_len), STRUCT(record), STRUCT(detail);
-    return __real_oscore_peer_take(peer, now, mid, datagram, datagram_len, options, options_room, opened, ticket, out, out_len, record,
+    return __real_oscore_peer_take_v5(peer, now, mid, datagram, datagram_len, options, options_room, opened, ticket, out, out_len, record,
                                    detail);
 }
 
-WRAP(peer_reply, oscore_status, (oscore_peer *peer, const oscore_ticket *ticket, bool own, uint16_t mid, const uint8_t *plain, oscore_size plain_len,
+WRAP(peer_reply_v5, oscore_status, (oscore_peer *peer, const oscore_ticket *ticket, bool own, uint16_t mid, const uint8_t *plain, oscore_size plain_len,
                                  uint8_t *out, oscore_size out_room, oscore_size *out_len, oscore_peer_record *record, oscore_size *detail)) {
     STRUCT(peer), STRUCT(ticket), BYTES(plain), SOME(out, out_room), STRUCT(out_len), STRUCT(record), STRUCT(detail);
-    return __real_oscore_peer_reply(peer, ticket, own, mid, plain, plain_len, out, out_room, out_len, record, detail);
+    return __real_oscore_peer_reply_v5(peer, ticket, own, mid, plain, plain_len, out, out_room, out_len, record, detail);
 }
 
-WRAP(peer_notify, oscore_status, (oscore_peer *peer, const oscore_ticket *ticket, const uint8_t *plain, oscore_size plain_len, uint8_t *out,
+WRAP(peer_notify_v5, oscore_status, (oscore_peer *peer, const oscore_ticket *ticket, const uint8_t *plain, oscore_size plain_len, uint8_t *out,
                                   oscore_size out_room, oscore_size *out_len, oscore_peer_record *record, oscore_size *detail)) {
     STRUCT(peer), STRUCT(ticket), BYTES(plain), SOME(out, out_room), STRUCT(out_len), STRUCT(record), STRUCT(detail);
-    return __real_oscore_peer_notify(peer, ticket, plain, plain_len, out, out_room, out_len, record, detail);
+    return __real_oscore_peer_notify_v5(peer, ticket, plain, plain_len, out, out_room, out_len, record, detail);
 }
 
-WRAP(peer_request, oscore_status, (oscore_peer *peer, oscore_pending *pending, oscore_size pending_room, oscore_size *pending_count, uint64_t now,
+WRAP(peer_request_v5, oscore_status, (oscore_peer *peer, oscore_pending *pending, oscore_size pending_room, oscore_size *pending_count, uint64_t now,
                                    const uint8_t *plain, oscore_size plain_len, uint8_t *out, oscore_size out_room, oscore_size *out_len,
                                    oscore_peer_record *record, oscore_size *detail)) {
     STRUCT(peer), SOME(pending, pending_room * sizeof *pending), STRUCT(pending_count), BYTES(plain), SOME(out, out_room), STRUCT(out_len),
         STRUCT(record), STRUCT(detail);
-    return __real_oscore_peer_request(peer, pending, pending_room, pending_count, now, plain, plain_len, out, out_room, out_len, record, detail);
+    return __real_oscore_peer_request_v5(peer, pending, pending_room, pending_count, now, plain, plain_len, out, out_room, out_len, record, detail);
 }
 
-WRAP(peer_hear, oscore_status, (oscore_peer *peer, oscore_pending *pending, oscore_size pending_room, oscore_size *pending_count, uint64_t now,
+WRAP(peer_hear_v5, oscore_status, (oscore_peer *peer, oscore_pending *pending, oscore_size pending_room, oscore_size *pending_count, uint64_t now,
                                 uint8_t *datagram, oscore_size datagram_len, oscore_option *options, oscore_size options_room,
                                 oscore_opened *opened, uint64_t *request, oscore_size *detail)) {
     STRUCT(peer), SOME(pending, pending_room * sizeof *pending), STRUCT(pending_count), BYTES(datagram),
         SOME(options, options_room * sizeof *options), STRUCT(opened), STRUCT(request), STRUCT(detail);
-    return __real_oscore_peer_hear(peer, pending, pending_room, pending_count, now, datagram, datagram_len, options, options_room, opened, request,
+    return __real_oscore_peer_hear_v5(peer, pending, pending_room, pending_count, now, datagram, datagram_len, options, options_room, opened, request,
                                    detail);
 }
 
-WRAP(peer_forget, oscore_status, (oscore_peer *peer, oscore_pending *pending, oscore_size pending_room, oscore_size *pending_count,
+WRAP(peer_forget_v5, oscore_status, (oscore_peer *peer, oscore_pending *pending, oscore_size pending_room, oscore_size *pending_count,
                                   const uint8_t *token, oscore_size token_len)) {
     STRUCT(peer), SOME(pending, pending_room * sizeof *pending), STRUCT(pending_count), BYTES(token);
-    return __real_oscore_peer_forget(peer, pending, pending_room, pending_count, token, token_len);
+    return __real_oscore_peer_forget_v5(peer, pending, pending_room, pending_count, token, token_len);
 }

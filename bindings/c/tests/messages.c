@@ -304,7 +304,7 @@ static void refuses_messages(void) {
 }
 
 static void names_statuses(void) {
-    static const char *NAMES[] = {"Done", "BadHandle", "BadNumber", "OldRecord", "SecretLength", "SaltLength", "IdTooLong", "SameIds", "IdContextLength",
+    static const char *NAMES[] = {"Done", "Busy", "BadHandle", "BadNumber", "OldRecord", "SecretLength", "SaltLength", "IdTooLong", "SameIds", "IdContextLength",
         "DatagramTooLong", "Short", "Version", "TokenLength", "EmptyWithRest", "TokenCut", "Nibble15", "OptionCut", "NumberTooLarge",
         "EmptyPayload", "OptionOrder", "ValueTooLong", "StaleTicket", "SaveFirst", "LivesExhausted", "TicketSpent", "NotObserving",
         "NotThatKind", "UnknownToken", "NoOscore", "Undecodable", "NoContext", "WrongContext", "Replay", "Old", "Tag", "Inner", "Challenge",

@@ -465,7 +465,7 @@ static void spoils_peers(void) {
     for (int i = 0; i < rounds; i++) {
         begin_again(2, BATCH, i % 3 ? 20 : 0);
         CHECK(take_text(SEALED) == OSCORE_SAVE_FIRST && !oscore_peer_saved(peer, given(peer->name, 3, 2 * BATCH, i % 2 ? 21 : 20)));
-        ((uint8_t *)peer)[(oscore_size)rand() % sizeof *peer] = (uint8_t)rand();
+        ((uint8_t *)peer)[(oscore_size)rand() % offsetof(oscore_peer, busy)] = (uint8_t)rand();
         bool is_none = !can_be_peer(peer);
         uint32_t status = take_text(SEALED);
         CHECK((status == OSCORE_BAD_HANDLE) == is_none && (is_none || can_be_peer(peer)) && (status || peer->received > 20));

@@ -445,7 +445,7 @@ static void spoils_peers(void) {
     for (int i = 0; i < rounds; i++) {
         begin(20, 2);
         CHECK(!ask(NOW, REQUEST, 0, 64));
-        ((uint8_t *)peer)[(oscore_size)rand() % sizeof *peer] = (uint8_t)rand();
+        ((uint8_t *)peer)[(oscore_size)rand() % offsetof(oscore_peer, busy)] = (uint8_t)rand();
         bool none = !can_be_peer(peer);
         uint32_t status = i % 3 == 0 ? ask_with(NOW, 7) : i % 3 == 1 ? hear(NOW, ANSWERS[0]) : forget(7);
         CHECK(none == (status == OSCORE_BAD_HANDLE) && (none ? same_peer() && same_places() : can_be_peer(peer)));

@@ -11,7 +11,7 @@ static inline bool same_peers(const oscore_peer *p, const oscore_peer *q) {
     return p->server.clock == q->server.clock && !memcmp(&p->server.unanswered, &q->server.unanswered, sizeof p->server.unanswered)
         && !memcmp(x, y, offsetof(oscore_server_context, echo) + sizeof x->echo) && x->at == y->at && x->spent_mask == y->spent_mask
         && x->next == y->next && x->life == y->life
-        && !memcmp(&p->reserved, &q->reserved, sizeof *p - offsetof(oscore_peer, reserved));
+        && !memcmp(&p->reserved, &q->reserved, offsetof(oscore_peer, busy) + sizeof p->busy - offsetof(oscore_peer, reserved));
 }
 
 static inline bool is_window(uint8_t places) {

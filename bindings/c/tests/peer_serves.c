@@ -83,7 +83,7 @@ static bool is_left(uint32_t status, oscore_size len, const uint8_t *before) {
 
 /* What a save changes alone, and what a peer asks with, is as it was. */
 static bool is_kept(const oscore_peer *before) {
-    return !memcmp(&peer->reserved, &before->reserved, sizeof *peer - offsetof(oscore_peer, reserved)) && serving->life == before->server.context.life;
+    return !memcmp(&peer->reserved, &before->reserved, offsetof(oscore_peer, busy) - offsetof(oscore_peer, reserved)) && serving->life == before->server.context.life;
 }
 
 /* Hands in a datagram. Behind the reply nothing is written; and where nothing is delivered, nothing is shown. */
@@ -427,7 +427,7 @@ static void spoils_peers(void) {
     for (int i = 0; i < rounds; i++) {
         *peer = wholes[i % 2];
         oscore_peer_record next = {peer->name, peer->generation + 1, peer->reserved, NUMBERS};
-        ((uint8_t *)peer)[(oscore_size)rand() % sizeof *peer] = (uint8_t)rand();
+        ((uint8_t *)peer)[(oscore_size)rand() % offsetof(oscore_peer, busy)] = (uint8_t)rand();
         bool is_none = !can_be_peer(peer);
         oscore_peer before = *peer;
         int call = rand() % 4;

@@ -15,6 +15,7 @@ use osc_protect::{
     decrypt_response, encrypt_again, head_of_request, inspect_request, inspect_response,
     open_request, open_response, seal_request, seal_response,
 };
+use osc_room::room_for;
 
 /// What a buffer to seal into is filled with.
 const FILLED_WITH: u8 = 0xaa;
@@ -101,6 +102,12 @@ pub(crate) fn checked_response(fields: &Fields<'_>, answer: &mut Answer) {
     if let Some(plain) = fields.message(0) {
         told(check_response(&plain, features), answer);
     }
+}
+
+/// Prints how much room is enough for a sealed message, by the length of its plain datagram.
+pub(crate) fn room(fields: &Fields<'_>, answer: &mut Answer) {
+    let features = fields.features(1);
+    answer.print(room_for(fields.index(0), features.observe));
 }
 
 /// Shows what sealing returned, and what became of the bytes after it.

@@ -106,7 +106,7 @@ fn of_blocks(verb: &str, fields: &Fields<'_>, contexts: &[NamedContext<'_>], ans
     }
 }
 
-/// Makes a call of osc_protect that needs no context, or a call that needs one.
+/// Makes a call of osc_protect or osc_room that needs no context, or a call that needs one.
 fn of_protection(
     verb: &str,
     fields: &Fields<'_>,
@@ -118,6 +118,7 @@ fn of_protection(
         "response-head" => protection::response_head(fields, answer),
         "check-request" => protection::checked_request(fields, answer),
         "check-response" => protection::checked_response(fields, answer),
+        "room-for" => protection::room(fields, answer),
         _ => under_a_context(verb, fields, contexts, answer),
     }
 }

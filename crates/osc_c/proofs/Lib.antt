@@ -3,7 +3,6 @@ mod LeftBytes
 mod Names
 mod OptionLists
 mod Unwritten
-mod Growth
 mod Room
 mod PeerServing
 mod PeerAsking

@@ -1,8 +1,7 @@
 -- To be believed: why a call of C does nothing, row by row in the order in which the reasons are checked. IsHandle says that the
 -- handle's bytes are ones that a call may have written, AreNumbers that all numbers are below 2^40; f is a protection, i a number
--- that it knows, allowed says that the context allows Observe, plain is the datagram of a plain message, room the length of the buffer, d a datagram to
--- open.
-use Rattle.std.specs.Prelude.{◌≡◌, ℕ, ◌+◌, ◌<◌, ◌≤◌, ◌^◌, Bool, true, List, length, if◌then◌else◌}
+-- that it knows, plain is the datagram of a plain message, room the length of the buffer, d a datagram to open.
+use Rattle.std.specs.Prelude.{◌≡◌, ℕ, ◌<◌, ◌^◌, Bool, true, List}
 use Rattle.osc_coap.specs.Datagram.{Parts, IsDatagram}
 use Rattle.osc_coap.specs.Fault.{HasFault}
 use Rattle.osc_coap.specs.declared.format_error.Fault.{Fault}
@@ -23,14 +22,6 @@ IsOwnPartialIv has_own own = has_own ≡ true → own < 2 ^ 40
 pub record AreNumbers (asked : ℕ) (has_own : Bool) (number : ℕ) : Type 0 where
   pub request : asked < 2 ^ 40
   pub own : IsOwnPartialIv has_own number
-
--- how many bytes Observe takes outside at most, where it is allowed: a byte, and a value of at most 3 (RFC 7252, 3.1; RFC 7641, 2; RFC 8613, 4.1.3.5)
-abbrev pub observe_room : Bool → ℕ
-observe_room allowed = if allowed then 4 else 0
-
--- the buffer has 59 bytes more than the plain message, and those that Observe takes outside (RFC 7252, 3.1; RFC 8613, 4.1 and 6.1)
-abbrev pub HasRoomFor : Bool → List ℕ → ℕ → Type 0
-HasRoomFor allowed plain room = length plain + (59 + observe_room allowed) ≤ room
 
 -- why a plain message isn't sealed, with its detail (RFC 8613, 8.1 and 8.3)
 pub data RefusesSealing {I : Type 0} (IsHandle AreNumbers : Type 0) (f : Protection I) (i : I) (plain : List ℕ) (room : ℕ) (status : Status) (detail : ℕ) : Type 0 where

@@ -6,17 +6,17 @@ use Rattle.osc_protect.specs.Protection.{requests}
 use Rattle.osc_protect.specs.Refusals.{Names}
 use Rattle.osc_protect.specs.declared.head_error.HeadError.{HeadError}
 use Rattle.osc_context_handle.specs.ContextBytes.{IsContext, server_in}
-use Rattle.osc_peer_handle.specs.declared.peer_handle.PeerHandle.{PeerHandle}
+use Rattle.osc_c.specs.declared.guarded_peer.GuardedPeer.{GuardedPeer}
 use Rattle.osc_c.specs.Statuses.{head_detail, head_status}
 use Rattle.osc_c.specs.declared.status.Status.{Status}
 use Rattle.osc_c.specs.declared.status.Status.TheVariants.{NoContext}
 
 -- there is a peer at this index, whose context's bytes a call may have written, and this holds of that context (own rule)
-abbrev pub HoldsAt : List PeerHandle → ℕ → (SecurityContext → Type 0) → Type 0
-HoldsAt ps i P = (p : PeerHandle) × (slice_get ps i ≡ Some p) × IsContext p.server.server.slot.context × P (server_in p.server.server.slot.context)
+abbrev pub HoldsAt : List GuardedPeer → ℕ → (SecurityContext → Type 0) → Type 0
+HoldsAt ps i P = (p : GuardedPeer) × (slice_get ps i ≡ Some p) × IsContext p.inside.server.server.slot.context × P (server_in p.inside.server.server.slot.context)
 
 -- it holds at this index, and at none before it (own rule)
-abbrev pub HoldsFirstAt : List PeerHandle → ℕ → (SecurityContext → Type 0) → Type 0
+abbrev pub HoldsFirstAt : List GuardedPeer → ℕ → (SecurityContext → Type 0) → Type 0
 HoldsFirstAt ps i P = HoldsAt ps i P × ((j : ℕ) → j < i → HoldsAt ps j P → ⊥)
 
 -- the context's requests have this kid, and this kid context or none (RFC 8613, 8.2)
@@ -28,6 +28,6 @@ abbrev pub named_by : Head → ℕ → SecurityContext → Type 0
 named_by h n s = Names (requests s) h n
 
 -- why no peer is found: the datagram has no head of a request, or that names none of their contexts (RFC 8613, 8.2)
-pub data RefusesFinding (ps : List PeerHandle) (d : List ℕ) (status : Status) (detail : ℕ) : Type 0 where
+pub data RefusesFinding (ps : List GuardedPeer) (d : List ℕ) (status : Status) (detail : ℕ) : Type 0 where
   no_head : (e : HeadError) → HasNoRequestHead d e → status ≡ head_status e → detail ≡ head_detail e → RefusesFinding ps d status detail
   no_context : (h : Head) → HasRequestHead d h → ((i n : ℕ) → HoldsAt ps i (named_by h n) → ⊥) → status ≡ NoContext → detail ≡ 0 → RefusesFinding ps d status detail

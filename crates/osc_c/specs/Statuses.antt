@@ -13,56 +13,56 @@ use Rattle.osc_protect.specs.declared.unprotect_error.UnprotectError.TheVariants
 use Rattle.osc_c.specs.declared.status.Status.{Status}
 use Rattle.osc_c.specs.declared.status.Status.TheVariants.{BadHandle, BadNumber, OldRecord, SecretLength, SaltLength, IdTooLong, SameIds, IdContextLength, DatagramTooLong, Short, Version, TokenLength, EmptyWithRest, TokenCut, Nibble15, OptionCut, NumberTooLarge, EmptyPayload, OptionOrder, ValueTooLong, StaleTicket, SaveFirst, LivesExhausted, TicketSpent, NotObserving, NotThatKind, UnknownToken, NoOscore, Undecodable, NoContext, WrongContext, Replay, Old, Tag, Inner, Challenge, Unsupported, NotNotification, TokenInUse, PendingFull, SequenceExhausted, TooLong, NoRoom, NotPending}
 
--- the number of a status, as C reads it; a call that is done has 0 (own rule)
+-- the number of a status, as C reads it; a call that is done has 0, and 1 is Busy, which no call of the library answers (own rule)
 abbrev pub code : Status → ℕ
-code BadHandle = 1
-code BadNumber = 2
-code OldRecord = 3
-code SecretLength = 4
-code SaltLength = 5
-code IdTooLong = 6
-code SameIds = 7
-code IdContextLength = 8
-code DatagramTooLong = 9
-code Short = 10
-code Version = 11
-code TokenLength = 12
-code EmptyWithRest = 13
-code TokenCut = 14
-code Nibble15 = 15
-code OptionCut = 16
-code NumberTooLarge = 17
-code EmptyPayload = 18
-code OptionOrder = 19
-code ValueTooLong = 20
-code StaleTicket = 21
-code SaveFirst = 22
-code LivesExhausted = 23
-code TicketSpent = 24
-code NotObserving = 25
-code NotThatKind = 26
-code UnknownToken = 27
-code NoOscore = 28
-code Undecodable = 29
-code NoContext = 30
-code WrongContext = 31
-code Replay = 32
-code Old = 33
-code Tag = 34
-code Inner = 35
-code Challenge = 36
-code Unsupported = 37
-code NotNotification = 38
-code TokenInUse = 39
-code PendingFull = 40
-code SequenceExhausted = 41
-code TooLong = 42
-code NoRoom = 43
-code NotPending = 44
+code BadHandle = 2
+code BadNumber = 3
+code OldRecord = 4
+code SecretLength = 5
+code SaltLength = 6
+code IdTooLong = 7
+code SameIds = 8
+code IdContextLength = 9
+code DatagramTooLong = 10
+code Short = 11
+code Version = 12
+code TokenLength = 13
+code EmptyWithRest = 14
+code TokenCut = 15
+code Nibble15 = 16
+code OptionCut = 17
+code NumberTooLarge = 18
+code EmptyPayload = 19
+code OptionOrder = 20
+code ValueTooLong = 21
+code StaleTicket = 22
+code SaveFirst = 23
+code LivesExhausted = 24
+code TicketSpent = 25
+code NotObserving = 26
+code NotThatKind = 27
+code UnknownToken = 28
+code NoOscore = 29
+code Undecodable = 30
+code NoContext = 31
+code WrongContext = 32
+code Replay = 33
+code Old = 34
+code Tag = 35
+code Inner = 36
+code Challenge = 37
+code Unsupported = 38
+code NotNotification = 39
+code TokenInUse = 40
+code PendingFull = 41
+code SequenceExhausted = 42
+code TooLong = 43
+code NoRoom = 44
+code NotPending = 45
 
 -- the names of the statuses in the order of their numbers, from 0 (own rule)
 abbrev pub status_names : List (List ℕ)
-status_names = codes "Done" ∷ codes "BadHandle" ∷ codes "BadNumber" ∷ codes "OldRecord" ∷ codes "SecretLength" ∷ codes "SaltLength" ∷ codes "IdTooLong" ∷ codes "SameIds" ∷ codes "IdContextLength" ∷ codes "DatagramTooLong" ∷ codes "Short" ∷ codes "Version" ∷ codes "TokenLength" ∷ codes "EmptyWithRest" ∷ codes "TokenCut" ∷ codes "Nibble15" ∷ codes "OptionCut" ∷ codes "NumberTooLarge" ∷ codes "EmptyPayload" ∷ codes "OptionOrder" ∷ codes "ValueTooLong" ∷ codes "StaleTicket" ∷ codes "SaveFirst" ∷ codes "LivesExhausted" ∷ codes "TicketSpent" ∷ codes "NotObserving" ∷ codes "NotThatKind" ∷ codes "UnknownToken" ∷ codes "NoOscore" ∷ codes "Undecodable" ∷ codes "NoContext" ∷ codes "WrongContext" ∷ codes "Replay" ∷ codes "Old" ∷ codes "Tag" ∷ codes "Inner" ∷ codes "Challenge" ∷ codes "Unsupported" ∷ codes "NotNotification" ∷ codes "TokenInUse" ∷ codes "PendingFull" ∷ codes "SequenceExhausted" ∷ codes "TooLong" ∷ codes "NoRoom" ∷ codes "NotPending" ∷ []
+status_names = codes "Done" ∷ codes "Busy" ∷ codes "BadHandle" ∷ codes "BadNumber" ∷ codes "OldRecord" ∷ codes "SecretLength" ∷ codes "SaltLength" ∷ codes "IdTooLong" ∷ codes "SameIds" ∷ codes "IdContextLength" ∷ codes "DatagramTooLong" ∷ codes "Short" ∷ codes "Version" ∷ codes "TokenLength" ∷ codes "EmptyWithRest" ∷ codes "TokenCut" ∷ codes "Nibble15" ∷ codes "OptionCut" ∷ codes "NumberTooLarge" ∷ codes "EmptyPayload" ∷ codes "OptionOrder" ∷ codes "ValueTooLong" ∷ codes "StaleTicket" ∷ codes "SaveFirst" ∷ codes "LivesExhausted" ∷ codes "TicketSpent" ∷ codes "NotObserving" ∷ codes "NotThatKind" ∷ codes "UnknownToken" ∷ codes "NoOscore" ∷ codes "Undecodable" ∷ codes "NoContext" ∷ codes "WrongContext" ∷ codes "Replay" ∷ codes "Old" ∷ codes "Tag" ∷ codes "Inner" ∷ codes "Challenge" ∷ codes "Unsupported" ∷ codes "NotNotification" ∷ codes "TokenInUse" ∷ codes "PendingFull" ∷ codes "SequenceExhausted" ∷ codes "TooLong" ∷ codes "NoRoom" ∷ codes "NotPending" ∷ []
 
 -- the name if there is one, or else Unknown (own rule)
 abbrev pub name_or_unknown : Option (List ℕ) → List ℕ

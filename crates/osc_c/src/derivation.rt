@@ -17,7 +17,7 @@ use osc_handle::ContextHandle;
 /// With `blocks` the options of block-wise transfer pass inside the protection, and with `observe` Observe does; both ends must have
 /// the same of each.
 #[unsafe(no_mangle)]
-pub extern "C" fn oscore_derive(
+pub extern "C" fn oscore_derive_v5(
     out: &mut ContextHandle,
     secret: &[u8],
     salt: &[u8],

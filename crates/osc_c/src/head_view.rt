@@ -44,7 +44,7 @@ fn show_head<'b>(head: &RequestHead<'b>, view: &mut HeadView<'b>)
 /// Reads what a protected request shows to a reader without the key (RFC 8613, 8.2): its kid and kid context tell which context it
 /// names. A refusal is one of the datagram's faults with its place, NotThatKind, NoOscore or Undecodable, in this order.
 #[unsafe(no_mangle)]
-pub extern "C" fn oscore_head<'b>(
+pub extern "C" fn oscore_head_v5<'b>(
     datagram: &'b [u8],
     view: &mut HeadView<'b>,
     detail: &mut usize,

@@ -4,6 +4,7 @@
 #![tactic(auto)]
 
 mod derivation;
+mod guarded_peer;
 mod head_view;
 mod opened_view;
 mod opening;
@@ -12,7 +13,6 @@ mod peer_answering;
 mod peer_asking;
 mod peer_finding;
 mod refusals;
-mod rooms;
 mod sealing;
 mod sizes;
 mod status;

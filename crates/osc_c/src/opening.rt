@@ -59,7 +59,7 @@ fn open_request_in<'b>(context: &ContextHandle, datagram: &'b mut [u8]) -> Left<
 /// after it. Any refusal before Inner leaves the datagram unchanged: `open_request_in` says so, and from there on this call has the datagram
 /// for reading alone.
 #[unsafe(no_mangle)]
-pub extern "C" fn oscore_open_request<'b>(
+pub extern "C" fn oscore_open_request_v5<'b>(
     context: &ContextHandle,
     datagram: &'b mut [u8],
     options: &mut [OptionView<'b>],
@@ -128,9 +128,9 @@ fn open_response_in<'b>(
 }
 
 /// Opens a response to the request with this number in its datagram (RFC 8613, 8.4), as the context's client. Everything else is as
-/// in `oscore_open_request`, but BadNumber comes after BadHandle, and WrongContext never comes.
+/// in `oscore_open_request_v5`, but BadNumber comes after BadHandle, and WrongContext never comes.
 #[unsafe(no_mangle)]
-pub extern "C" fn oscore_open_response<'b>(
+pub extern "C" fn oscore_open_response_v5<'b>(
     context: &ContextHandle,
     request: u64,
     datagram: &'b mut [u8],

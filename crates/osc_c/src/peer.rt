@@ -60,7 +60,7 @@ pub(crate) fn save_next(
 
 /// Writes the name of a context, which its peers, their records and their tickets have. A refusal is BadHandle, and changes nothing.
 #[unsafe(no_mangle)]
-pub extern "C" fn oscore_peer_name(context: &ContextHandle, name: &mut u64) -> u32
+pub extern "C" fn oscore_peer_name_v5(context: &ContextHandle, name: &mut u64) -> u32
     ensures named { result ≡ 0 → name.new ≡ name_in context.now }
     ensures accepts { IsContext context.now → result ≡ 0 }
     ensures refuses { (IsContext context.now → ⊥) → result ≡ code BadHandle }
@@ -76,7 +76,7 @@ pub extern "C" fn oscore_peer_name(context: &ContextHandle, name: &mut u64) -> u
 /// Begins a peer of a context that was never used, with nothing pending: at its provisioning, once. Its window has 1, 32 or 64 places, and each
 /// of its own requests is pending for `life_ms` milliseconds. A refusal is BadHandle or BadNumber, in this order, and changes nothing.
 #[unsafe(no_mangle)]
-pub extern "C" fn oscore_peer_begin_first(
+pub extern "C" fn oscore_peer_begin_first_v5(
     peer: &mut PeerHandle,
     context: &ContextHandle,
     window_places: u8,
@@ -107,7 +107,7 @@ pub extern "C" fn oscore_peer_begin_first(
 /// Begins a peer of a context behind the record that was saved last, with nothing pending; the window and `life_ms` are as above. A refusal is
 /// BadHandle, BadNumber, OldRecord or SequenceExhausted, in this order, and changes nothing.
 #[unsafe(no_mangle)]
-pub extern "C" fn oscore_peer_begin_again(
+pub extern "C" fn oscore_peer_begin_again_v5(
     peer: &mut PeerHandle,
     context: &ContextHandle,
     kept: &RecordHandle,
@@ -147,7 +147,7 @@ pub extern "C" fn oscore_peer_begin_again(
 /// is the one that was saved or the next to save, and its received number isn't lower than the one that was saved, and at most 2^40. So is the
 /// record that the last SaveFirst wrote. A refusal is BadHandle or, for another record, BadNumber, in this order, and changes nothing.
 #[unsafe(no_mangle)]
-pub extern "C" fn oscore_peer_saved(peer: &mut PeerHandle, kept: &RecordHandle) -> u32
+pub extern "C" fn oscore_peer_saved_v5(peer: &mut PeerHandle, kept: &RecordHandle) -> u32
     ensures saved { result ≡ 0 → (o : Own) → HasNumbers peer.old o → (new : Own) × IsSavedAs kept.now.sender o new
         × ((h : History) → ServesBehind peer.old o h → ServesBehind peer.new new h)
         × ((requests : List asked.Asked) (room : ℕ) (a : asked.History) → AsksBehind peer.old requests room o a → AsksBehind peer.new requests room new a) }
@@ -214,13 +214,13 @@ fn take_in<'b>(
 /// Takes a datagram in place (RFC 8613, 8.2). It returns 0 if a request is delivered, with its ticket, which names the peer's context and its
 /// life. The first `out_len` bytes of `out`, if there are any, are the reply that goes back to the sender, whether or not a request is
 /// delivered. `mid` is a Message ID for a reply to a request that isn't confirmable; the Echo value of a challenge is the number with which it
-/// is sealed. At SaveFirst, `kept` is a record: save it durably, pass it to `oscore_peer_saved`, and pass in the same datagram again; until
+/// is sealed. At SaveFirst, `kept` is a record: save it durably, pass it to `oscore_peer_saved_v5`, and pass in the same datagram again; until
 /// then nothing changes, and there is no reply. A refusal is BadHandle, SaveFirst, one of the datagram's faults with its place, NotThatKind,
 /// NoOscore, Undecodable, NoContext, Replay, Tag, Inner, Challenge or SequenceExhausted, or SaveFirst once more for a request that is to be
 /// delivered, in this order; where a record has to be saved that would be the 2^64th, it is LivesExhausted. All but BadHandle, SaveFirst and
 /// LivesExhausted move the clock.
 #[unsafe(no_mangle)]
-pub extern "C" fn oscore_peer_take<'b>(
+pub extern "C" fn oscore_peer_take_v5<'b>(
     peer: &mut PeerHandle,
     now: u64,
     mid: u16,

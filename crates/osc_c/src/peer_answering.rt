@@ -12,7 +12,7 @@ ghost use Rattle.osc_handle.specs.ServerBytes.{IsSpent};
 ghost use Rattle.osc_handle.specs.TicketBytes.{IsTicket, ticket_in};
 ghost use Rattle.osc_kept_ends.specs.Numbering.{Own, upcoming};
 ghost use Rattle.osc_peer_handle.specs.PeerBytes.{CatchesUp, HasToSave, IsPeer, IsSamePeer, IsTicketOf, ServesBehind, StepsAnswering, inside_of};
-ghost use Rattle.osc_c.specs.Calls.{HasRoomFor};
+ghost use Rattle.osc_room.specs.Room.{HasRoomFor};
 ghost use Rattle.osc_c.specs.PeerCalls.{RefusesPeerNotifying, RefusesPeerReplying, next_record};
 ghost use Rattle.osc_c.specs.Answering.{ReadsReplying};
 ghost use Rattle.osc_c.specs.Statuses.{code, format_status};
@@ -21,12 +21,12 @@ ghost use Rattle.osc_c.specs.declared.status.Status.TheVariants.{BadHandle, Live
 
 use crate::peer::save_next;
 use crate::refusals::replying_refusal;
-use crate::rooms::room_laws;
 use crate::status::{DONE, Refusal, Status};
 use osc_coap::{one_datagram, parse};
 use osc_handle::{KeptReplyRefusal, TicketHandle};
 use osc_laws::one_server_answer;
 use osc_peer_handle::{PeerHandle, RecordHandle};
+use osc_room::enough_room;
 
 /// Seals a plain reply, which is passed in as a datagram.
 fn reply_in(
@@ -82,7 +82,7 @@ fn reply_in(
 /// faults with its place, StaleTicket where the ticket names another context or another life, SaveFirst, StaleTicket, TicketSpent, NotThatKind,
 /// Unsupported with the lowest number of such an option, SequenceExhausted, TooLong or NoRoom, in this order, and changes nothing.
 #[unsafe(no_mangle)]
-pub extern "C" fn oscore_peer_reply(
+pub extern "C" fn oscore_peer_reply_v5(
     peer: &mut PeerHandle,
     ticket: &TicketHandle,
     own: bool,
@@ -119,7 +119,7 @@ pub extern "C" fn oscore_peer_reply(
 {
     // For the proof alone.
     one_server_answer();
-    room_laws();
+    enough_room();
     one_datagram();
     match reply_in(peer, ticket, own, mid, plain, out, kept) {
         Ok(len) => {
@@ -183,7 +183,7 @@ fn notify_in(
 /// StaleTicket, NotObserving, NotThatKind, Unsupported with the lowest number of such an option, NotNotification, SequenceExhausted, TooLong
 /// or NoRoom, in this order, and changes nothing.
 #[unsafe(no_mangle)]
-pub extern "C" fn oscore_peer_notify(
+pub extern "C" fn oscore_peer_notify_v5(
     peer: &mut PeerHandle,
     ticket: &TicketHandle,
     plain: &[u8],
@@ -215,7 +215,7 @@ pub extern "C" fn oscore_peer_notify(
 {
     // For the proof alone.
     one_server_answer();
-    room_laws();
+    enough_room();
     one_datagram();
     match notify_in(peer, ticket, plain, out, kept) {
         Ok(len) => {

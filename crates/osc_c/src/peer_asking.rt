@@ -20,7 +20,7 @@ ghost use Rattle.osc_handle.specs.declared.kept_refusal.KeptRequestRefusal.TheVa
 ghost use Rattle.osc_peer_handle.specs.PeerBytes.{CatchesUpAsking, HasToSave, IsPeer, IsSamePeer, next_in};
 ghost use Rattle.osc_context_handle.specs.ContextBytes.{client_in};
 ghost use Rattle.osc_c.specs.Asking.{ReadsAsking, ReadsForgetting, ReadsTaking, heard_as};
-ghost use Rattle.osc_c.specs.Calls.{HasRoomFor};
+ghost use Rattle.osc_room.specs.Room.{HasRoomFor};
 ghost use Rattle.osc_c.specs.Opened.{option_in, Shows};
 ghost use Rattle.osc_c.specs.PeerAskingCalls.{AsksAmong, RefusesPeerAsking, RefusesPeerForgetting, RefusesPeerHearing, StepsAmong, TakesAmong};
 ghost use Rattle.osc_c.specs.PeerCalls.{next_record};
@@ -31,7 +31,6 @@ ghost use Rattle.osc_c.specs.declared.status.Status.TheVariants.{BadHandle, Live
 use crate::opened_view::{OpenedView, OptionView, show};
 use crate::peer::save_next;
 use crate::refusals::{asking_refusal, hearing};
-use crate::rooms::room_laws;
 use crate::status::{DONE, Refusal, Status};
 use osc_coap::{Message, one_datagram, parse};
 use osc_context::Piv;
@@ -40,6 +39,7 @@ use osc_handle::{KeptRequestRefusal, PendingHandle, Places, are_pending};
 use osc_laws::one_client_answer;
 use osc_peer_handle::{PeerHandle, RecordHandle};
 use osc_protect::Opened;
+use osc_room::enough_room;
 
 /// Calls `PeerHandle::request` with these places.
 fn request_among(
@@ -118,11 +118,11 @@ fn request_in(
 
 /// Seals a request with the peer's next number (RFC 8613, 8.1). `plain` is its datagram. The first `out_len` bytes of `out` are the sealed
 /// datagram. The first `pending_count` of the places hold the requests that wait for their responses, and this one is put behind them. It needs
-/// a number, and at SaveFirst `kept` is the record to save, as at `oscore_peer_take`. A refusal is BadHandle, one of the datagram's faults with
+/// a number, and at SaveFirst `kept` is the record to save, as at `oscore_peer_take_v5`. A refusal is BadHandle, one of the datagram's faults with
 /// its place, SaveFirst, NotThatKind, Unsupported with the lowest number of such an option, TokenInUse, PendingFull, SequenceExhausted, TooLong
 /// or NoRoom, in this order; from NotThatKind on it moves the clock, and the others change nothing.
 #[unsafe(no_mangle)]
-pub extern "C" fn oscore_peer_request(
+pub extern "C" fn oscore_peer_request_v5(
     peer: &mut PeerHandle,
     pending: &mut [PendingHandle],
     pending_count: &mut usize,
@@ -157,7 +157,7 @@ pub extern "C" fn oscore_peer_request(
 {
     // For the proof alone.
     one_client_answer();
-    room_laws();
+    enough_room();
     one_datagram();
     match request_in(peer, pending, pending_count, now, plain, out, kept) {
         Ok(len) => {
@@ -229,7 +229,7 @@ fn hear_in<'b>(
 /// A refusal is BadHandle, one of the datagram's faults with its place, NotThatKind, UnknownToken, NoOscore, Undecodable, Old, Tag or Inner, in
 /// this order; all but BadHandle move the clock.
 #[unsafe(no_mangle)]
-pub extern "C" fn oscore_peer_hear<'b>(
+pub extern "C" fn oscore_peer_hear_v5<'b>(
     peer: &mut PeerHandle,
     pending: &mut [PendingHandle],
     pending_count: &mut usize,
@@ -299,7 +299,7 @@ fn forget_among(
 
 /// Stops waiting for the response to the one of these requests with this token. A refusal is BadHandle or NotPending, in this order.
 #[unsafe(no_mangle)]
-pub extern "C" fn oscore_peer_forget(
+pub extern "C" fn oscore_peer_forget_v5(
     peer: &mut PeerHandle,
     pending: &mut [PendingHandle],
     pending_count: &mut usize,

@@ -8,17 +8,17 @@ ghost use Rattle.osc_c.specs.PeerFinding.{HoldsAt, HoldsFirstAt, RefusesFinding,
 ghost use Rattle.osc_c.specs.Statuses.{code, head_detail, head_status};
 ghost use Rattle.osc_c.specs.declared.status.Status.{Status as StatusOf};
 
+use crate::guarded_peer::GuardedPeer;
 use crate::status::{DONE, Refusal, Status};
-use osc_peer_handle::PeerHandle;
 use osc_protect::head_of_request;
 
 /// Returns the index of the first of these peers whose context's requests have this kid, and this kid context or none.
-fn index_of(peers: &[PeerHandle], kid: &[u8], kid_context: Option<&[u8]>) -> Option<usize>
+fn index_of(peers: &[GuardedPeer], kid: &[u8], kid_context: Option<&[u8]>) -> Option<usize>
     ensures found { IfSome result (λ i. HoldsFirstAt peers.now i (answering kid.now (shown kid_context.entry))) }
     ensures none { IfNone result ((i : ℕ) → HoldsAt peers.now i (answering kid.now (shown kid_context.entry)) → ⊥) }
 {
     for index in 0..peers.len() {
-        let context = &peers[index].server.server.slot.context;
+        let context = &peers[index].inside.server.server.slot.context;
         if context.is_whole() && context.answers_to(kid, kid_context) {
             return Some(index);
         }
@@ -30,8 +30,8 @@ fn index_of(peers: &[PeerHandle], kid: &[u8], kid_context: Option<&[u8]>) -> Opt
 /// peers whose context no call can have written, as one that was never begun. A refusal is one of the datagram's faults with its place,
 /// NotThatKind, NoOscore, Undecodable or NoContext, in this order, and changes nothing.
 #[unsafe(no_mangle)]
-pub extern "C" fn oscore_peer_find(
-    peers: &[PeerHandle],
+pub extern "C" fn oscore_peer_find_v5(
+    peers: &[GuardedPeer],
     datagram: &[u8],
     index: &mut usize,
     detail: &mut usize,

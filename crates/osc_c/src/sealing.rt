@@ -7,19 +7,20 @@ ghost use Rattle.osc_coap.specs.Datagram.{Parts, IsDatagram};
 ghost use Rattle.osc_protect.specs.Protection.{requests, responses};
 ghost use Rattle.osc_protect.specs.SealRefusals.{FitsToSeal};
 ghost use Rattle.osc_protect.specs.Sealed.{SealsRequest, SealsResponse};
-ghost use Rattle.osc_c.specs.Calls.{AreNumbers, HasRoomFor, IsOwnPartialIv, RefusesSealing};
+ghost use Rattle.osc_c.specs.Calls.{AreNumbers, IsOwnPartialIv, RefusesSealing};
 ghost use Rattle.osc_c.specs.Opened.{number_given};
 ghost use Rattle.osc_context_handle.specs.ContextBytes.{client_in, server_in, IsContext};
 ghost use Rattle.osc_c.specs.Statuses.{code};
 ghost use Rattle.osc_c.specs.declared.status.Status.{Status as StatusOf};
 ghost use Rattle.osc_c.specs.declared.status.Status.TheVariants.{NoRoom};
+ghost use Rattle.osc_room.specs.Room.{HasRoomFor};
 
-use crate::rooms::room_laws;
 use crate::status::{DONE, Refusal, Status};
 use osc_coap::{one_datagram, parse};
 use osc_context::Piv;
 use osc_handle::ContextHandle;
 use osc_protect::{RequestRef, seal_request, seal_response};
+use osc_room::enough_room;
 
 /// Seals a plain request, which is passed in as a datagram.
 fn seal_request_in(
@@ -62,7 +63,7 @@ fn seal_request_in(
 /// Unsupported with the lowest number of such an option, TooLong or NoRoom, in this order. A buffer that has 59 bytes more than `plain` has
 /// room; if the context allows Observe and `plain` has it, Observe stands inside and outside, and takes its own bytes more.
 #[unsafe(no_mangle)]
-pub extern "C" fn oscore_seal_request(
+pub extern "C" fn oscore_seal_request_v5(
     context: &ContextHandle,
     number: u64,
     plain: &[u8],
@@ -84,7 +85,7 @@ pub extern "C" fn oscore_seal_request(
     ensures unchanged { result ≢ 0 → (out.new ≡ out.old) × (out_len.new ≡ out_len.old) }
 {
     // For the proof alone.
-    room_laws();
+    enough_room();
     match seal_request_in(context, number, plain, out) {
         Ok(len) => {
             *out_len = len;
@@ -155,9 +156,9 @@ fn seal_response_in(
 
 /// Seals a response (RFC 8613, 8.3) to the request with this number, as the context's server, with its own Partial IV or under the
 /// Partial IV of the request. `plain` is its datagram. The first `out_len` bytes of `out` are the sealed datagram. The refusals are
-/// those of `oscore_seal_request`.
+/// those of `oscore_seal_request_v5`.
 #[unsafe(no_mangle)]
-pub extern "C" fn oscore_seal_response(
+pub extern "C" fn oscore_seal_response_v5(
     context: &ContextHandle,
     request: u64,
     has_own: bool,
@@ -183,7 +184,7 @@ pub extern "C" fn oscore_seal_response(
     ensures unchanged { result ≢ 0 → (out.new ≡ out.old) × (out_len.new ≡ out_len.old) }
 {
     // For the proof alone.
-    room_laws();
+    enough_room();
     match seal_response_in(context, request, has_own, own, plain, out) {
         Ok(len) => {
             *out_len = len;

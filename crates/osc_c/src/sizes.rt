@@ -2,10 +2,11 @@
 
 ghost use Rattle.std.specs.Prelude.{◌≡◌};
 
+use crate::guarded_peer::GuardedPeer;
 use crate::head_view::HeadView;
 use crate::opened_view::{OpenedView, OptionView};
 use osc_handle::{ContextHandle, PendingHandle, TicketHandle};
-use osc_peer_handle::{PeerHandle, RecordHandle};
+use osc_peer_handle::RecordHandle;
 
 /// The sizes of the structs of `oscore.h` in bytes, as the library has them.
 #[repr(C)]
@@ -23,8 +24,8 @@ pub struct Sizes {
 
 /// Writes the sizes, so that a caller can compare them with the sizes that its compiler has.
 #[unsafe(no_mangle)]
-pub extern "C" fn oscore_sizes(sizes: &mut Sizes)
-    ensures { sizes.new ≡ record { context = 97; option = 24; opened = 104; request_head = 64; ticket = 40; peer = 224; peer_record = 32; pending = 40 } }
+pub extern "C" fn oscore_sizes_v5(sizes: &mut Sizes)
+    ensures { sizes.new ≡ record { context = 97; option = 24; opened = 104; request_head = 64; ticket = 40; peer = 232; peer_record = 32; pending = 40 } }
 {
     *sizes = Sizes {
         context: size_of::<ContextHandle>(),
@@ -32,7 +33,7 @@ pub extern "C" fn oscore_sizes(sizes: &mut Sizes)
         opened: size_of::<OpenedView<'_>>(),
         request_head: size_of::<HeadView<'_>>(),
         ticket: size_of::<TicketHandle>(),
-        peer: size_of::<PeerHandle>(),
+        peer: size_of::<GuardedPeer>(),
         peer_record: size_of::<RecordHandle>(),
         pending: size_of::<PendingHandle>(),
     };

@@ -10,9 +10,10 @@ use osc_protect::{HeadError, ProtectError, UnprotectError};
 /// What a call that is done returns.
 pub(crate) const DONE: u32 = 0;
 
-/// The names of the statuses, in the order of their numbers from 0.
-const NAMES: [&[u8]; 45] = [
+/// The names of the statuses, in the order of their numbers from 0. Busy is what C's header answers, where another call of the peer runs.
+const NAMES: [&[u8]; 46] = [
     b"Done",
+    b"Busy",
     b"BadHandle",
     b"BadNumber",
     b"OldRecord",
@@ -60,62 +61,63 @@ const NAMES: [&[u8]; 45] = [
 ];
 
 /// Why a call does nothing: the first refusal whose condition holds, in this order, but for SaveFirst and LivesExhausted at a datagram: a
-/// number of the peer's own is asked for right after BadHandle, and a received one last. A call that is done returns 0.
+/// number of the peer's own is asked for right after BadHandle, and a received one last. A call that is done returns 0, and 1 comes from C's
+/// header alone.
 #[derive(Clone, Copy, PartialEq, Eq)]
 pub(crate) enum Status {
     /// The bytes of the handle can't have been written by a call.
-    BadHandle = 1,
+    BadHandle = 2,
     /// A number is 2^40 or more, or isn't one that the call takes.
-    BadNumber = 2,
+    BadNumber = 3,
     /// A record is of another context, or no save can have written it.
-    OldRecord = 3,
-    SecretLength = 4,
-    SaltLength = 5,
-    IdTooLong = 6,
-    SameIds = 7,
-    IdContextLength = 8,
-    DatagramTooLong = 9,
-    Short = 10,
-    Version = 11,
-    TokenLength = 12,
-    EmptyWithRest = 13,
-    TokenCut = 14,
-    Nibble15 = 15,
-    OptionCut = 16,
-    NumberTooLarge = 17,
-    EmptyPayload = 18,
-    OptionOrder = 19,
-    ValueTooLong = 20,
+    OldRecord = 4,
+    SecretLength = 5,
+    SaltLength = 6,
+    IdTooLong = 7,
+    SameIds = 8,
+    IdContextLength = 9,
+    DatagramTooLong = 10,
+    Short = 11,
+    Version = 12,
+    TokenLength = 13,
+    EmptyWithRest = 14,
+    TokenCut = 15,
+    Nibble15 = 16,
+    OptionCut = 17,
+    NumberTooLarge = 18,
+    EmptyPayload = 19,
+    OptionOrder = 20,
+    ValueTooLong = 21,
     /// A ticket is another peer's, or of another life.
-    StaleTicket = 21,
+    StaleTicket = 22,
     /// A record has to be saved first.
-    SaveFirst = 22,
+    SaveFirst = 23,
     /// A record would have to be saved first, and a count of 64 bits is at its end.
-    LivesExhausted = 23,
-    TicketSpent = 24,
+    LivesExhausted = 24,
+    TicketSpent = 25,
     /// The request of a ticket registers no observation.
-    NotObserving = 25,
-    NotThatKind = 26,
-    UnknownToken = 27,
-    NoOscore = 28,
-    Undecodable = 29,
-    NoContext = 30,
-    WrongContext = 31,
-    Replay = 32,
+    NotObserving = 26,
+    NotThatKind = 27,
+    UnknownToken = 28,
+    NoOscore = 29,
+    Undecodable = 30,
+    NoContext = 31,
+    WrongContext = 32,
+    Replay = 33,
     /// A later response to the same registration was delivered.
-    Old = 33,
-    Tag = 34,
-    Inner = 35,
-    Challenge = 36,
-    Unsupported = 37,
+    Old = 34,
+    Tag = 35,
+    Inner = 36,
+    Challenge = 37,
+    Unsupported = 38,
     /// A message that is to notify isn't of class 2, or has no Observe.
-    NotNotification = 38,
-    TokenInUse = 39,
-    PendingFull = 40,
-    SequenceExhausted = 41,
-    TooLong = 42,
-    NoRoom = 43,
-    NotPending = 44,
+    NotNotification = 39,
+    TokenInUse = 40,
+    PendingFull = 41,
+    SequenceExhausted = 42,
+    TooLong = 43,
+    NoRoom = 44,
+    NotPending = 45,
 }
 
 impl Status {
@@ -254,7 +256,7 @@ fn name_of(status: u32) -> &'static [u8]
 /// Writes the name of a status as text that ends in a 0 byte: `Done` for 0, the name of the refusal for each other status, and
 /// `Unknown` for a number that isn't a status.
 #[unsafe(no_mangle)]
-pub extern "C" fn oscore_status_name(status: u32, name: &mut [u8; 24])
+pub extern "C" fn oscore_status_name_v5(status: u32, name: &mut [u8; 24])
     ensures front { take (length (status_name status)) name.new ≡ status_name status }
     ensures ended { slice_get name.new (length (status_name status)) ≡ Some 0 }
 {

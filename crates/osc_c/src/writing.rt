@@ -213,7 +213,7 @@ fn write_judged(
 /// a message of code 0.00 with anything in it, OptionOrder or ValueTooLong with the index of the first such option, or NoRoom, in
 /// this order. None of them writes a byte.
 #[unsafe(no_mangle)]
-pub extern "C" fn oscore_write_message(
+pub extern "C" fn oscore_write_message_v5(
     kind: u8,
     code: u8,
     message_id: u16,

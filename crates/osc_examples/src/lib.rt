@@ -20,6 +20,7 @@ pub mod observing;
 pub mod peer_handle;
 pub mod protect;
 pub mod record;
+pub mod room;
 pub mod serving;
 pub mod staging;
 pub mod text;

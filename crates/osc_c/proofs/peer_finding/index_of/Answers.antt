@@ -4,7 +4,7 @@ use Rattle.std.proofs.lemmas.Bool.{cases_eq}
 use Rattle.std.proofs.lemmas.Option.{get_or_from_slice_get, slice_get_within}
 use Rattle.osc_protect.specs.Views.{shown}
 use Rattle.osc_context_handle.specs.ContextBytes.{IsContext, server_in}
-use Rattle.osc_peer_handle.specs.declared.peer_handle.PeerHandle.{PeerHandle}
+use Rattle.osc_c.specs.declared.guarded_peer.GuardedPeer.{GuardedPeer}
 use Rattle.osc_c.specs.PeerFinding.{answering}
 use Rattle.osc_c.proofs.peer_finding.index_of.Goals as goal
 use Rattle.osc_c.proofs.peer_finding.index_of.Goals.{else-is_whole-via-then-is_whole+else-answers_to, else-is_whole-via-else-is_whole}
@@ -17,8 +17,8 @@ loop-index-preserved c = λ i less held. elim (cases_eq i c.loop-index.index) [
       let read = get_or_from_slice_get ps c.loop-index.index p _ (subst (λ k. slice_get ps k ≡ Some p) same at) in
       elim c.else-is_whole.branch [
         | else-is_whole-via-then-is_whole+else-answers_to w ↦
-            w.if-answers_to.ensures.no refl (subst (λ (x : PeerHandle). answering c.args.kid.now (shown c.args.kid_context) (server_in x.server.server.slot.context)) (sym read) answers)
-        | else-is_whole-via-else-is_whole w ↦ w.if-is_whole.ensures.no refl (subst (λ (x : PeerHandle). IsContext x.server.server.slot.context) (sym read) whole)
+            w.if-answers_to.ensures.no refl (subst (λ (x : GuardedPeer). answering c.args.kid.now (shown c.args.kid_context) (server_in x.inside.server.server.slot.context)) (sym read) answers)
+        | else-is_whole-via-else-is_whole w ↦ w.if-is_whole.ensures.no refl (subst (λ (x : GuardedPeer). IsContext x.inside.server.server.slot.context) (sym read) whole)
       ]
   | inr other ↦ c.loop-index.invariant i (omega (arith, less, other)) held
 ]

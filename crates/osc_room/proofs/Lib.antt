@@ -1,0 +1,2 @@
+mod Growth
+mod Enough

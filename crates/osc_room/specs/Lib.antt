@@ -1,0 +1,3 @@
+-- to be believed, in reading order
+pub mod Room
+pub mod Laws
