@@ -78,11 +78,11 @@ OSCORE_ASSERT(sizeof(bool) == 1, "a bool has 1 byte");
 /* All memory is the caller's. Nothing is allocated, nothing is global, nothing is called back; no call waits. Whatever the bytes of a
    handle or of a datagram are, a call is safe, ends, and refuses by name what it can't use.
 
-   What no call can see is left to the caller: a pointer leads to as many bytes as the length beside it says, or to a whole struct, and
-   stays so until the call returns; until then nobody else writes there, no thread, no signal handler and no device, since a call checks a
-   datagram and then reads it a second time; what a call writes (`out`, `datagram`, `options`, `opened`, `head`, `index`,
-   `ticket`, `out_len`, `record`, `detail`, `name`, `sizes`, `peer`, `pending`, `pending_count`, `request`, `state`, `clock`) overlaps nothing else that it is given; a struct is set to
-   zero before it is given for the first time; a `bool` is 0 or 1. A pointer may be NULL where the length beside it is 0; `detail`, and
+   What no call can see is left to the caller: a pointer leads to as many bytes as the length beside it says, or to a whole struct, and stays so
+   until the call returns; until then nobody else writes there, no thread, no signal handler and no device, since a call checks a datagram and
+   then reads it a second time; what a call writes (`out`, `datagram`, `options`, `opened`, `head`, `index`, `ticket`, `out_len`, `record`,
+   `detail`, `name`, `sizes`, `peer`, `pending`, `pending_count`, `request`, `state`, `clock`) overlaps nothing else that it is given; a struct is
+   set to zero before it is given for the first time; a `bool` is 0 or 1. A pointer may be NULL where the length beside it is 0; `detail`, and
    `request` of `oscore_peer_hear`, where you don't want to know; and nothing else. */
 
 /* What a call answers: 0 where it is done, else the first refusal whose condition holds, in the order of this list. OSCORE_SAVE_FIRST alone,
@@ -606,7 +606,7 @@ OSCORE_MUST_USE static inline oscore_status oscore_peer_saved_nowhere(oscore_pee
    context that isn't the peer's gets a 4.01. The Echo value of a challenge is the number with which it is sealed.
    OSCORE_SAVE_FIRST comes right after OSCORE_BAD_HANDLE where a Sender Sequence Number may be needed, and else last, once it is known
    that the request is to be delivered: then the datagram is as it came, and is handed in again. `out_len` is 0 at both.
-   These two and OSCORE_LIVES_EXHAUSTED leave the peer as it was, the others move its clock; OSCORE_INNER spends the request's number too
+   These two, OSCORE_BUSY and OSCORE_LIVES_EXHAUSTED leave the peer as it was, the others move its clock; OSCORE_INNER spends the request's number too
    where the context's window is open, but not in a context that waits for an Echo value; OSCORE_CHALLENGE spends a Sender Sequence
    Number. From OSCORE_INNER on, the datagram's payload isn't what came.
    The clock is the latest `now`: an earlier one counts as that. So a moment from far ahead stays, and until the time has come there the
@@ -737,8 +737,8 @@ OSCORE_MUST_USE static inline oscore_status oscore_peer_request(oscore_peer *pee
    gives it each datagram first: a request is OSCORE_NOT_THAT_KIND here, as it came, and goes to `oscore_peer_take`.
    0: a response to a pending request, which is pending no more, and `request` is its number; that, `opened` and `options` are written at 0
    alone. Where `opened->is_notification` is true, it is a notification of the registration `request`, which stays pending, and later ones
-   come in the same way; each is delivered once at most, and none after a later one, which is OSCORE_OLD. OSCORE_BAD_HANDLE leaves the peer
-   as it was, the others move its clock.
+   come in the same way; each is delivered once at most, and none after a later one, which is OSCORE_OLD. OSCORE_BUSY and OSCORE_BAD_HANDLE
+   leave the peer as it was, the others move its clock.
    Each other refusal says that this datagram isn't the response, and nothing of the one that may still come: the request stays pending,
    and the caller keeps waiting, until 0, the end of `life_ms`, `oscore_peer_forget` or a new life. Anyone may have sent what is refused,
    and anyone can send an error without protection; OSCORE_INNER alone says that it was sealed with the other end's Sender Key.

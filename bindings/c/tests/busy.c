@@ -70,7 +70,8 @@ static oscore_status request(given *of, const void *at) {
 }
 
 static oscore_status hear(given *of, const void *at) {
-    return oscore_peer_hear(&peer, pending, 4, &pending_count, 0, (uint8_t *)at, sizeof CONTENT, of->options, 4, &of->opened, &of->number, &of->detail);
+    return oscore_peer_hear(&peer, pending, 4, &pending_count, 0, (uint8_t *)at, sizeof CONTENT, of->options, 4, &of->opened, &of->number,
+                            &of->detail);
 }
 
 static oscore_status forget(given *of, const void *at) {

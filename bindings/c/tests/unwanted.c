@@ -88,7 +88,8 @@ static void messages(void) {
 
 /* ---- peers */
 
-#define TAKE(len) oscore_peer_take(&lock.peer, 0, 7, lock.datagram, len, options, 4, &opened, &lock.ticket, lock.out, &lock.out_len, &lock.record, detail)
+#define TAKE(len) \
+    oscore_peer_take(&lock.peer, 0, 7, lock.datagram, len, options, 4, &opened, &lock.ticket, lock.out, &lock.out_len, &lock.record, detail)
 #define ASK(len) oscore_peer_request(&key.peer, key.pending, 2, &key.pending_count, 0, REGISTER, len, key.out, 128, &key.out_len, &key.record, detail)
 #define HEAR(request, len) \
     oscore_peer_hear(&key.peer, key.pending, 2, &key.pending_count, 0, key.datagram, len, options, 4, &opened, request, detail)
