@@ -86,14 +86,19 @@ static void goes_on(oscore_status wanted) {
     CHECK(!oscore_peer_state_write(peer, state) && !oscore_peer_state_read(reader, context, state) && same_peers(reader, peer));
     has_no_key();
     oscore_peer *both[2] = {peer, reader};
+    uint64_t generation[2] = {0, 0};
     for (int i = 0; i < 2; i++) {
         CHECK(take(both[i], out[i], &out_len[i]) == wanted);
+        if (wanted == OSCORE_SAVE_FIRST) generation[i] = record.generation, record.generation = 0;
         if (wanted == OSCORE_DONE || wanted == OSCORE_REPLAY)
             CHECK(oscore_peer_reply(both[i], &ticket, false, 7, ANSWER, 4, reply[i], 64, &reply_len[i], &record, NULL)
                   == (wanted == OSCORE_DONE ? OSCORE_DONE : OSCORE_TICKET_SPENT));
     }
     CHECK(out_len[0] == out_len[1] && !memcmp(out[0], out[1], 64) && reply_len[0] == reply_len[1] && !memcmp(reply[0], reply[1], 64));
     CHECK(same_peers(reader, peer));
+    /* Both ask for one record, which a store takes once. */
+    if (wanted == OSCORE_SAVE_FIRST) CHECK(generation[0] == peer->generation + 1 && generation[1] == generation[0]);
+    record.generation = generation[0];
 }
 
 /* At each step of a peer: begun, saved, with its number saved, with the request delivered and answered. Then behind a challenge. */
