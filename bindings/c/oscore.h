@@ -10,7 +10,7 @@
 #define OSCORE_LIBRARY_VERSION 100
 #define OSCORE_LIBRARY_VERSION_STRING "0.1.0"
 /* Which layout: another number where a status, a struct or a call changed that was there, so that a program has to be compiled anew. */
-#define OSCORE_LAYOUT 5
+#define OSCORE_LAYOUT 6
 
 /* What a struct or an array of structs is begun with, as `oscore_context context = OSCORE_ZERO;`: zero, without a warning. */
 #ifdef __cplusplus
@@ -116,7 +116,7 @@ typedef enum oscore_status {
     OSCORE_STALE_TICKET = 22,      /* the ticket is another peer's, or of another life of this one */
     OSCORE_SAVE_FIRST = 23,        /* a record has to be saved first: the call wrote it to `record` */
     OSCORE_LIVES_EXHAUSTED = 24,   /* the same, but the peer's records were saved 2^64 - 1 times */
-    OSCORE_TICKET_SPENT = 25,      /* the ticket's request has its answer, lies too far back, or was never delivered */
+    OSCORE_TICKET_SPENT = 25,      /* the ticket's request has its answer, lies too far back for this one, or was never delivered */
     OSCORE_NOT_OBSERVING = 26,     /* the ticket's request registers no observation, so nothing notifies it */
     OSCORE_NOT_THAT_KIND = 27,     /* the message is no request, or no response, by its kind and code */
     OSCORE_UNKNOWN_TOKEN = 28,     /* no request with the token of the response is pending */
@@ -256,7 +256,8 @@ typedef struct oscore_server_role {
 } oscore_server_role;
 
 /* The right to answer one request that was delivered, and to notify it where it registers an observation. It may be copied, and a copy
-   gives no second answer. It holds no secret. */
+   gives no second answer, but for one from before the answer to a request that lies far back: see `oscore_peer_reply`. It holds no
+   secret. */
 typedef struct oscore_ticket {
     OSCORE_SLOT oscore_size context; /* the name of the peer's context */
     OSCORE_SLOT uint64_t life;       /* of the peer */
@@ -265,6 +266,7 @@ typedef struct oscore_ticket {
     uint16_t message_id;
     uint8_t token[8], token_len;
     uint8_t observes; /* 1 where the request registers an observation, else 0 */
+    uint8_t answered; /* 1 once this ticket gave the answer, else 0 */
 } oscore_ticket;
 
 /* A request of a peer that waits for its response. It holds no secret. */
@@ -342,6 +344,7 @@ OSCORE_HAS(oscore_server_role, 168); OSCORE_AT(oscore_server_role, clock, 0); OS
 OSCORE_HAS(oscore_ticket, 40); OSCORE_AT(oscore_ticket, context, 0); OSCORE_AT(oscore_ticket, life, 8);
     OSCORE_AT(oscore_ticket, number, 16); OSCORE_AT(oscore_ticket, kind, 24); OSCORE_AT(oscore_ticket, message_id, 26);
     OSCORE_AT(oscore_ticket, token, 28); OSCORE_AT(oscore_ticket, token_len, 36); OSCORE_AT(oscore_ticket, observes, 37);
+    OSCORE_AT(oscore_ticket, answered, 38);
 OSCORE_HAS(oscore_pending, 40); OSCORE_AT(oscore_pending, number, 0); OSCORE_AT(oscore_pending, moment, 8);
     OSCORE_AT(oscore_pending, from, 16); OSCORE_AT(oscore_pending, token, 24); OSCORE_AT(oscore_pending, token_len, 32);
     OSCORE_AT(oscore_pending, observes, 33);
@@ -385,15 +388,15 @@ oscore_status oscore_peer_begin_first_v5(oscore_peer *peer, const oscore_context
 oscore_status oscore_peer_begin_again_v5(oscore_peer *peer, const oscore_context *context, const oscore_peer_record *record, uint8_t window_places,
                                          uint64_t life_ms);
 oscore_status oscore_peer_saved_v5(oscore_peer *peer, const oscore_peer_record *record);
-oscore_status oscore_peer_take_v5(oscore_peer *peer, uint64_t now, uint16_t mid, uint8_t *datagram, oscore_size datagram_len, oscore_option *options,
+oscore_status oscore_peer_take_v6(oscore_peer *peer, uint64_t now, uint16_t mid, uint8_t *datagram, oscore_size datagram_len, oscore_option *options,
                                   oscore_size options_room, oscore_opened *opened, oscore_ticket *ticket, uint8_t out[64], oscore_size *out_len,
                                   oscore_peer_record *record, oscore_size *detail);
 oscore_status oscore_peer_find_v5(const oscore_peer *peers, oscore_size peer_count, const uint8_t *datagram, oscore_size datagram_len,
                                   oscore_size *index, oscore_size *detail);
-oscore_status oscore_peer_reply_v5(oscore_peer *peer, const oscore_ticket *ticket, bool own, uint16_t mid, const uint8_t *plain,
+oscore_status oscore_peer_reply_v6(oscore_peer *peer, const oscore_ticket *ticket, bool own, uint16_t mid, const uint8_t *plain,
                                    oscore_size plain_len, uint8_t *out, oscore_size out_room, oscore_size *out_len, oscore_peer_record *record,
                                    oscore_size *detail);
-oscore_status oscore_peer_notify_v5(oscore_peer *peer, const oscore_ticket *ticket, const uint8_t *plain, oscore_size plain_len, uint8_t *out,
+oscore_status oscore_peer_notify_v6(oscore_peer *peer, const oscore_ticket *ticket, const uint8_t *plain, oscore_size plain_len, uint8_t *out,
                                     oscore_size out_room, oscore_size *out_len, oscore_peer_record *record, oscore_size *detail);
 oscore_status oscore_peer_request_v5(oscore_peer *peer, oscore_pending *pending, oscore_size pending_room, oscore_size *pending_count, uint64_t now,
                                      const uint8_t *plain, oscore_size plain_len, uint8_t *out, oscore_size out_room, oscore_size *out_len,
@@ -626,8 +629,9 @@ OSCORE_MUST_USE static inline oscore_status oscore_peer_take(oscore_peer *peer, 
         *out_len = 0;
         return OSCORE_BUSY;
     }
-    oscore_status status = oscore_peer_take_v5(peer, now, mid, datagram, datagram_len, options, options_room, opened, ticket, out, out_len,
+    oscore_status status = oscore_peer_take_v6(peer, now, mid, datagram, datagram_len, options, options_room, opened, ticket, out, out_len,
                                                record, detail);
+    if (status == OSCORE_DONE) ticket->answered = 0;
     OSCORE_LEAVE(&peer->busy);
     return status;
 }
@@ -665,11 +669,14 @@ static inline bool oscore_peer_fits(const oscore_peer *peers, size_t peer_count,
 /* Seals the answer to the request of a ticket: with a Partial IV of its own where `own` says so, else under the request's nonce, which
    needs no number. Of `plain`, which is a datagram, the code, the options and the payload are used; kind, message ID and token are those
    that the request asks for, and `mid` is the message ID where the request wasn't confirmable. A request is answered once:
-   OSCORE_TICKET_SPENT where it has its answer, or where a request was delivered whose number is at least 64 above that of the ticket's
-   request. A refusal spends nothing.
+   OSCORE_TICKET_SPENT where it has its answer. A refusal spends nothing.
    The answer to a registration has a Partial IV of its own whatever `own` says. It has no Observe, and so it is the last: the client then
-   waits for nothing more. */
-OSCORE_MUST_USE static inline oscore_status oscore_peer_reply(oscore_peer *peer, const oscore_ticket *ticket, bool own, uint16_t mid,
+   waits for nothing more.
+   A request lies far back once one was delivered whose number is at least 64 above. Then the peer remembers it no more: an answer under
+   its nonce is OSCORE_TICKET_SPENT, and one with a Partial IV of its own is sealed. This call marks the ticket with which it seals, and
+   `oscore_peer_notify` and it refuse that with OSCORE_TICKET_SPENT, right behind OSCORE_BUSY. So keep one ticket, and not copies of it: by
+   one from before, or by a forged one, a request that lies far back is answered once more. No nonce is used twice then. */
+OSCORE_MUST_USE static inline oscore_status oscore_peer_reply(oscore_peer *peer, oscore_ticket *ticket, bool own, uint16_t mid,
                                                               const uint8_t *plain, oscore_size plain_len, uint8_t *out, oscore_size out_room,
                                                               oscore_size *out_len, oscore_peer_record *record, oscore_size *detail) {
     OSCORE_SLOT oscore_size unwanted;
@@ -678,7 +685,12 @@ OSCORE_MUST_USE static inline oscore_status oscore_peer_reply(oscore_peer *peer,
         *detail = 0;
         return OSCORE_BUSY;
     }
-    oscore_status status = oscore_peer_reply_v5(peer, ticket, own, mid, plain, plain_len, out, out_room, out_len, record, detail);
+    oscore_status status = OSCORE_TICKET_SPENT;
+    if (ticket->answered)
+        *detail = 0;
+    else
+        status = oscore_peer_reply_v6(peer, ticket, own, mid, plain, plain_len, out, out_room, out_len, record, detail);
+    if (status == OSCORE_DONE) ticket->answered = 1;
     OSCORE_LEAVE(&peer->busy);
     return status;
 }
@@ -691,7 +703,8 @@ OSCORE_MUST_USE static inline oscore_status oscore_peer_reply(oscore_peer *peer,
    The ticket stays, and so does the request's right to an answer. The library counts no observations: the program keeps the ticket as
    long as it has something to notify, and drops it where a request of the same context with the same token and options has Observe 1,
    where one registers with the same token (the new ticket takes its place), and where a notification is answered by a reset. A ticket may
-   be notified by however many requests came since, in the life that gave it. A refusal spends nothing. */
+   be notified by however many requests came since, in the life that gave it, until it gave the answer: then it is
+   OSCORE_TICKET_SPENT. A refusal spends nothing. */
 OSCORE_MUST_USE static inline oscore_status oscore_peer_notify(oscore_peer *peer, const oscore_ticket *ticket, const uint8_t *plain,
                                                                oscore_size plain_len, uint8_t *out, oscore_size out_room, oscore_size *out_len,
                                                                oscore_peer_record *record, oscore_size *detail) {
@@ -701,7 +714,11 @@ OSCORE_MUST_USE static inline oscore_status oscore_peer_notify(oscore_peer *peer
         *detail = 0;
         return OSCORE_BUSY;
     }
-    oscore_status status = oscore_peer_notify_v5(peer, ticket, plain, plain_len, out, out_room, out_len, record, detail);
+    oscore_status status = OSCORE_TICKET_SPENT;
+    if (ticket->answered)
+        *detail = 0;
+    else
+        status = oscore_peer_notify_v6(peer, ticket, plain, plain_len, out, out_room, out_len, record, detail);
     OSCORE_LEAVE(&peer->busy);
     return status;
 }

@@ -58,7 +58,7 @@ static oscore_ticket take(uint8_t *request, size_t len) {
     return ticket;
 }
 
-static size_t answer(const oscore_ticket *ticket, size_t response_len, uint8_t response[MOST]) {
+static size_t answer(oscore_ticket *ticket, size_t response_len, uint8_t response[MOST]) {
     oscore_peer_record record;
     oscore_status status;
     size_t len, detail;

@@ -103,7 +103,7 @@ static bool saves(oscore_peer *peer, oscore_peer_record *record, oscore_status s
 }
 
 /* Answers the length of the reply. */
-static size_t reply_to(oscore_peer *peer, const oscore_ticket *ticket, uint16_t mid, const uint8_t *plain, size_t plain_len, uint8_t *out,
+static size_t reply_to(oscore_peer *peer, oscore_ticket *ticket, uint16_t mid, const uint8_t *plain, size_t plain_len, uint8_t *out,
                        size_t room) {
     static bool own;
     oscore_peer_record record;

@@ -135,9 +135,8 @@ static size_t seal_notification(uint8_t kind, uint16_t message_id, uint8_t out[O
     return out_len;
 }
 
-/* Seals the one reply to a request, which has no Observe. Of a registration it is the last, and there is none where by now a request was
-   delivered whose number is 64 above: then the length is 0. */
-static size_t seal_reply(const oscore_ticket *ticket, uint8_t code, const char *what, uint8_t out[OSCORE_ROOM(MOST_PLAIN)]) {
+/* Seals the one reply to a request, which has no Observe. Of a registration it is the last. */
+static size_t seal_reply(oscore_ticket *ticket, uint8_t code, const char *what, uint8_t out[OSCORE_ROOM(MOST_PLAIN)]) {
     uint8_t plain[MOST_PLAIN];
     char temperature[16];
     size_t out_len, detail, len = plain_message(ACK, code, 0, false, plain, temperature);
@@ -145,10 +144,10 @@ static size_t seal_reply(const oscore_ticket *ticket, uint8_t code, const char *
     while ((status = oscore_peer_reply(&peer, ticket, false, next_id, plain, len, out, OSCORE_ROOM(MOST_PLAIN), &out_len, &record,
                                        &detail)) == OSCORE_SAVE_FIRST)
         save_first();
-    if (status && status != OSCORE_TICKET_SPENT) stop("not sealed");
+    if (status) stop("not sealed");
     next_id++;
     say(status, what, temperature);
-    return status ? 0 : out_len;
+    return out_len;
 }
 
 /* Sends a confirmable notification, and waits for its acknowledgment from now on. */
@@ -232,7 +231,7 @@ static uint8_t judge(const oscore_opened *request, const oscore_option *options,
 }
 
 /* Registers, cancels, or only answers. Who registers takes the place of whoever observed before. */
-static void answer(const oscore_opened *request, const oscore_option *options, const oscore_ticket *ticket) {
+static void answer(const oscore_opened *request, const oscore_option *options, oscore_ticket *ticket) {
     const oscore_ticket *held = &observation.ticket;
     bool cancels = false;
     bool ours = observation.on && held->token_len == ticket->token_len && !memcmp(held->token, ticket->token, ticket->token_len);

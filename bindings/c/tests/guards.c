@@ -129,25 +129,25 @@ WRAP(peer_saved_v5, oscore_status, (oscore_peer *peer, const oscore_peer_record 
     return __real_oscore_peer_saved_v5(peer, record);
 }
 
-WRAP(peer_take_v5, oscore_status, (oscore_peer *peer, uint64_t now, uint16_t mid, uint8_t *datagram, oscore_size datagram_len, oscore_option *options,
+WRAP(peer_take_v6, oscore_status, (oscore_peer *peer, uint64_t now, uint16_t mid, uint8_t *datagram, oscore_size datagram_len, oscore_option *options,
                                 oscore_size options_room, oscore_opened *opened, oscore_ticket *ticket, uint8_t out[64], oscore_size *out_len,
                                 oscore_peer_record *record, oscore_size *detail)) {
     STRUCT(peer), BYTES(datagram), SOME(options, options_room * sizeof *options), STRUCT(opened), STRUCT(ticket), SOME(out, 64),
         STRUCT(out_len), STRUCT(record), STRUCT(detail);
-    return __real_oscore_peer_take_v5(peer, now, mid, datagram, datagram_len, options, options_room, opened, ticket, out, out_len, record,
+    return __real_oscore_peer_take_v6(peer, now, mid, datagram, datagram_len, options, options_room, opened, ticket, out, out_len, record,
                                    detail);
 }
 
-WRAP(peer_reply_v5, oscore_status, (oscore_peer *peer, const oscore_ticket *ticket, bool own, uint16_t mid, const uint8_t *plain, oscore_size plain_len,
+WRAP(peer_reply_v6, oscore_status, (oscore_peer *peer, const oscore_ticket *ticket, bool own, uint16_t mid, const uint8_t *plain, oscore_size plain_len,
                                  uint8_t *out, oscore_size out_room, oscore_size *out_len, oscore_peer_record *record, oscore_size *detail)) {
     STRUCT(peer), STRUCT(ticket), BYTES(plain), SOME(out, out_room), STRUCT(out_len), STRUCT(record), STRUCT(detail);
-    return __real_oscore_peer_reply_v5(peer, ticket, own, mid, plain, plain_len, out, out_room, out_len, record, detail);
+    return __real_oscore_peer_reply_v6(peer, ticket, own, mid, plain, plain_len, out, out_room, out_len, record, detail);
 }
 
-WRAP(peer_notify_v5, oscore_status, (oscore_peer *peer, const oscore_ticket *ticket, const uint8_t *plain, oscore_size plain_len, uint8_t *out,
+WRAP(peer_notify_v6, oscore_status, (oscore_peer *peer, const oscore_ticket *ticket, const uint8_t *plain, oscore_size plain_len, uint8_t *out,
                                   oscore_size out_room, oscore_size *out_len, oscore_peer_record *record, oscore_size *detail)) {
     STRUCT(peer), STRUCT(ticket), BYTES(plain), SOME(out, out_room), STRUCT(out_len), STRUCT(record), STRUCT(detail);
-    return __real_oscore_peer_notify_v5(peer, ticket, plain, plain_len, out, out_room, out_len, record, detail);
+    return __real_oscore_peer_notify_v6(peer, ticket, plain, plain_len, out, out_room, out_len, record, detail);
 }
 
 WRAP(peer_request_v5, oscore_status, (oscore_peer *peer, oscore_pending *pending, oscore_size pending_room, oscore_size *pending_count, uint64_t now,

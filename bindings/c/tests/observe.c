@@ -1,7 +1,7 @@
 /* An observation between two peers (RFC 7641; RFC 8613, 4.1.3.5 and 8.3.1), by tables and in constant time: a registration, four notifications of
    which one is lost, one late and one comes twice, its end, and a new life of either peer, byte for byte as a model of the test's author's
-   makes them; each status of the calls; for how long either end goes on; the room that Observe takes. Records are saved when they are
-   asked for. All that is handed in lies against a guard page. Built with the sanitizers by .ci/run, and run under valgrind's memcheck. */
+   makes them; each status of the calls; for how long either end goes on; a network that loses three datagrams of ten; the room that Observe
+   takes. Records are saved when they are asked for. All that is handed in lies against a guard page. Built with the sanitizers by .ci/run, and run under valgrind's memcheck. */
 #include "guarded.h"
 #include "peer_bytes.h"
 
@@ -119,15 +119,16 @@ static oscore_status notify(const oscore_ticket *of, const char *text) {
     return notify_in(of, text, 64);
 }
 
-static oscore_status reply(const oscore_ticket *of, const char *text) {
+static oscore_status reply(oscore_ticket *of, const char *text) {
     uint8_t bytes[64];
     oscore_size len = hex(text, bytes);
     oscore_status status;
     uint8_t *plain = guarded_copy(PLAIN, bytes, len);
-    of = guarded_copy(USED, of, sizeof *of);
+    oscore_ticket *used = guarded_copy(USED, of, sizeof *of);
     out = guarded_room(OUT, OSCORE_ROOM(len));
-    do status = oscore_peer_reply(serving, of, false, 3, plain, len, out, OSCORE_ROOM(len), out_len, record, detail);
+    do status = oscore_peer_reply(serving, used, false, 3, plain, len, out, OSCORE_ROOM(len), out_len, record, detail);
     while (saved_first(serving, status));
+    *of = *used;
     return status;
 }
 
@@ -192,9 +193,10 @@ static oscore_ticket registered(void) {
     begin();
     CHECK(!ask(0, REGISTRATION) && is(out, *out_len, SEALED));
     CHECK(pending[0].observes == 1 && pending[0].from == 0);
+    ticket->answered = 1;
     CHECK(!serve(SEALED) && opened->code == 1 && opened->number == 20 && !opened->is_notification && *reply_len == 0);
     CHECK(options[0].number == 6 && options[0].value_len == 0 && options[1].number == 11 && opened->option_count == 2);
-    CHECK(ticket->observes == 1 && ticket->number == 20);
+    CHECK(ticket->observes == 1 && ticket->number == 20 && ticket->answered == 0);
     return *ticket;
 }
 
@@ -227,8 +229,11 @@ static void observes(void) {
     CHECK(hear(42, NOTIFICATIONS[3], 0) == OSCORE_UNKNOWN_TOKEN);
     CHECK(notify(&observing, GONE) == OSCORE_NOT_NOTIFICATION);
     CHECK(!reply(&observing, GONE) && is(out, *out_len, SEALED_GONE) && serving->server.context.next == 5);
-    CHECK(reply(&observing, GONE) == OSCORE_TICKET_SPENT && !notify(&observing, STATES[1]));
+    /* The last answer was given: neither a second one nor a notification comes behind it. */
+    CHECK(reply(&observing, GONE) == OSCORE_TICKET_SPENT && notify(&observing, STATES[1]) == OSCORE_TICKET_SPENT && *detail == 0);
+    CHECK(serving->server.context.next == 5);
     /* Another life notifies nobody. */
+    observing.answered = 0;
     begin_behind(serving, derive(false), BATCH, 22);
     CHECK(notify(&observing, STATES[1]) == OSCORE_STALE_TICKET);
 }
@@ -269,18 +274,24 @@ static void comes_to_its_last_number(void) {
     CHECK(reply(ticket, LAST_STATE) == OSCORE_SEQUENCE_EXHAUSTED && *detail == 0);
 }
 
-/* 64 requests later the registration can't be answered any more, and is notified still. */
+/* However many requests later the registration is notified still, and has its last answer, once. */
 static void lasts_where_it_is_served(void) {
     oscore_ticket observing = registered();
-    for (unsigned i = 0; i < 64; i++) {
+    for (unsigned i = 0; i < 100; i++) {
         CHECK(!ask(0, "410101024b"));
         uint8_t sealed[64];
         oscore_size len = *out_len;
         memcpy(sealed, out, len);
         CHECK(!serve_bytes(sealed, len) && ticket->number == 21 + i && ticket->observes == 0 && forget(0x4b));
     }
-    CHECK(reply(&observing, LAST_STATE) == OSCORE_TICKET_SPENT);
-    CHECK(!notify(&observing, STATES[0]) && is(out, *out_len, NOTIFICATIONS[0]));
+    CHECK(!notify(&observing, STATES[0]) && is(out, *out_len, NOTIFICATIONS[0]) && !hear(0, NOTIFICATIONS[0], 0) && is_notified(0, "20.1"));
+    CHECK(!reply(&observing, GONE) && serving->server.context.next == 2 && observing.answered == 1);
+    uint8_t last[64];
+    oscore_size len = *out_len;
+    memcpy(last, out, len);
+    CHECK(!hear_bytes(0, last, len) && !opened->is_notification && opened->number == 1 && opened->code == 0x84 && *number == 20);
+    CHECK(hear_bytes(0, last, len) == OSCORE_UNKNOWN_TOKEN && *pending_count == 0);
+    CHECK(reply(&observing, GONE) == OSCORE_TICKET_SPENT && notify(&observing, STATES[0]) == OSCORE_TICKET_SPENT && serving->server.context.next == 2);
 }
 
 /* A registration that was notified waits for longer than any other request. */
@@ -342,6 +353,82 @@ static void hears_no_notification(void) {
     CHECK(hear(1, NOTIFICATIONS[0], 0) == OSCORE_INNER && *pending_count == 1 && pending[0].from == 0);
 }
 
+/* ---- a network that loses three datagrams of ten */
+
+struct sent {
+    uint8_t bytes[64];
+    oscore_size len;
+};
+
+/* What was sealed last. */
+static struct sent sealed(void) {
+    struct sent sent = {.len = *out_len};
+    memcpy(sent.bytes, out, sent.len);
+    return sent;
+}
+
+static bool is_lost(void) {
+    return rand() % 10 < 3;
+}
+
+/* The request that was sealed last is sent until its first response is heard (RFC 7252, 4.2). It is delivered once, and where it comes again,
+   the same response is sent (4.5): a notification, or the answer. */
+static oscore_ticket comes_through(bool notifies) {
+    struct sent request = sealed(), response = {.len = 0};
+    oscore_ticket got = OSCORE_ZERO;
+    for (;;) {
+        if (is_lost()) continue;
+        CHECK(serve_bytes(request.bytes, request.len) == (response.len > 0 ? OSCORE_REPLAY : OSCORE_DONE));
+        if (response.len == 0) {
+            got = *ticket;
+            CHECK(!(notifies ? notify(&got, STATES[0]) : reply(&got, LAST_STATE)));
+            response = sealed();
+        }
+        if (is_lost()) continue;
+        CHECK(!hear_bytes(0, response.bytes, response.len) && opened->is_notification == notifies);
+        CHECK(hear_bytes(0, response.bytes, response.len) == (notifies ? OSCORE_OLD : OSCORE_UNKNOWN_TOKEN));
+        return got;
+    }
+}
+
+/* Of so many notifications those are heard that aren't lost, each once, in order. */
+static void notifies_through(const oscore_ticket *observing, unsigned count) {
+    unsigned heard = 0;
+    uint64_t last = opened->number;
+    for (unsigned i = 0; i < count; i++) {
+        CHECK(!notify(observing, STATES[1 + i % 3]));
+        struct sent notification = sealed();
+        if (is_lost()) continue;
+        CHECK(!hear_bytes(0, notification.bytes, notification.len) && opened->is_notification && opened->number > last);
+        CHECK(hear_bytes(0, notification.bytes, notification.len) == OSCORE_OLD);
+        last = opened->number, heard++;
+    }
+    CHECK(heard > count / 2 && heard < count);
+}
+
+/* A registration, fifty notifications, a hundred requests beside it, the end by the server, the same token again, and the end by the client. */
+static void goes_through_losses(void) {
+    srand(1);
+    begin();
+    CHECK(!ask(0, REGISTRATION));
+    oscore_ticket observing = comes_through(true);
+    CHECK(observing.number == 20);
+    notifies_through(&observing, 50);
+    for (unsigned i = 0; i < 100; i++) {
+        CHECK(!ask(0, "410101024b") && comes_through(false).number == 21 + i && *pending_count == 1);
+    }
+    CHECK(!reply(&observing, GONE));
+    struct sent end = sealed();
+    while (is_lost()) continue;
+    CHECK(!hear_bytes(0, end.bytes, end.len) && !opened->is_notification && opened->code == 0x84 && *number == 20 && *pending_count == 0);
+    CHECK(hear_bytes(0, end.bytes, end.len) == OSCORE_UNKNOWN_TOKEN && reply(&observing, GONE) == OSCORE_TICKET_SPENT);
+    CHECK(notify(&observing, STATES[0]) == OSCORE_TICKET_SPENT);
+    CHECK(!ask(0, REGISTRATION) && comes_through(true).number == 121 && *pending_count == 1 && forget(0x4a));
+    CHECK(!ask(0, CANCELLATION));
+    oscore_ticket cancelled = comes_through(false);
+    CHECK(cancelled.number == 122 && !cancelled.observes && *pending_count == 0);
+}
+
 /* ---- the room that it takes */
 
 /* All the room that the header says: Observe of 3 bytes stands outside and inside; behind Uri-Port an option 19 has a delta of 12 in the plain
@@ -382,9 +469,10 @@ int main(void) {
             refuses_waits();
             allows_nothing_else();
             hears_no_notification();
+            goes_through_losses();
             fills_the_room();
         }
     }
-    puts("observe: a registration, four notifications, its end and new lives; each status; how long both peers go on; by two ciphers");
+    puts("observe: a registration, four notifications, its end and new lives; each status; how long both peers go on; through losses; by two ciphers");
     return 0;
 }

@@ -126,7 +126,7 @@ static uint32_t take_sealed(const char *plain, uint64_t number, uint64_t now) {
 }
 
 /* Answers the request of a ticket by a plain message, in so much room: what isn't written of it stays. */
-static uint32_t reply_in(const oscore_ticket *of, bool by_own, const char *text, oscore_size filled, oscore_size room) {
+static uint32_t reply_in(oscore_ticket *of, bool by_own, const char *text, oscore_size filled, oscore_size room) {
     uint8_t bytes[64];
     oscore_size len = hex(text, bytes);
     uint8_t *plain = guarded_room(PLAIN, len + filled);
@@ -134,14 +134,15 @@ static uint32_t reply_in(const oscore_ticket *of, bool by_own, const char *text,
     memset(plain + len, 'x', filled);
     oscore_peer before = *peer;
     out = guarded(OUT, room);
-    of = guarded_copy(ANSWERED, of, sizeof *of);
-    uint32_t status = oscore_peer_reply(peer, of, by_own, MID, plain, len + filled, out, room, out_len, record, detail);
+    oscore_ticket *used = guarded_copy(ANSWERED, of, sizeof *of);
+    uint32_t status = oscore_peer_reply(peer, used, by_own, MID, plain, len + filled, out, room, out_len, record, detail);
     for (oscore_size i = status ? 0 : *out_len; i < room; i++) CHECK(!out[i]);
     CHECK(is_kept(&before) && (status || *out_len <= OSCORE_ROOM(len + filled)));
+    *of = *used;
     return status;
 }
 
-static uint32_t answer(const oscore_ticket *of, bool by_own) {
+static uint32_t answer(oscore_ticket *of, bool by_own) {
     return reply_in(of, by_own, ANSWER, 0, 64);
 }
 
@@ -369,20 +370,29 @@ static void spends_tickets(void) {
     CHECK(!take_sealed(REQUEST, 20, NOW));
     oscore_ticket copy = *ticket, altered = *ticket, forged = *ticket;
     altered.kind = 1, altered.message_id++, altered.token[0]++, altered.token_len = 8;
-    CHECK(!answer(&copy, false));
+    CHECK(!answer(&copy, false) && copy.answered == 1 && ticket->answered == 0);
     CHECK(answer(&copy, false) == OSCORE_TICKET_SPENT && answer(ticket, true) == OSCORE_TICKET_SPENT
-        && answer(&altered, true) == OSCORE_TICKET_SPENT);
+        && answer(&altered, true) == OSCORE_TICKET_SPENT && ticket->answered == 0);
     CHECK(!take_sealed(REQUEST, 21, NOW));
     oscore_ticket far = *ticket;
     CHECK(!take_sealed(REQUEST, 22, NOW));
     oscore_ticket near = *ticket;
     CHECK(!take_sealed(REQUEST, 85, NOW) && answer(&far, false) == OSCORE_TICKET_SPENT && !answer(&near, false) && !answer(ticket, false));
+    CHECK(serving->next == 0);
+    /* A request that lies far back has its answer under a number of that alone: once by a ticket, once more by a copy from before. */
+    oscore_ticket far_copy = far;
+    CHECK(!answer(&far, true) && serving->next == 1 && far.answered == 1 && answer(&far, true) == OSCORE_TICKET_SPENT && *detail == 0);
+    CHECK(far_copy.answered == 0 && answer(&far_copy, false) == OSCORE_TICKET_SPENT && !answer(&far_copy, true) && serving->next == 2);
+    uint64_t next = 2;
     for (uint64_t number = 0; number < 200; number++) {
-        forged.number = number;
-        CHECK(answer(&forged, false) == OSCORE_TICKET_SPENT && answer(&forged, true) == OSCORE_TICKET_SPENT);
+        forged.number = number, forged.answered = 0;
+        CHECK(answer(&forged, false) == OSCORE_TICKET_SPENT);
+        CHECK(answer(&forged, true) == (number + 64 <= 85 ? OSCORE_DONE : OSCORE_TICKET_SPENT));
+        next += number + 64 <= 85;
+        CHECK(serving->next == next && forged.answered == (number + 64 <= 85));
     }
-    forged.number = NUMBERS - 1;
-    CHECK(answer(&forged, true) == OSCORE_TICKET_SPENT && serving->next == 0);
+    forged.number = NUMBERS - 1, forged.answered = 0;
+    CHECK(answer(&forged, true) == OSCORE_TICKET_SPENT && serving->next == next);
     forged.number = NUMBERS;
     CHECK(answer(&forged, true) == OSCORE_BAD_HANDLE);
 }
@@ -431,7 +441,8 @@ static void spoils_peers(void) {
         bool is_none = !can_be_peer(peer);
         oscore_peer before = *peer;
         int call = rand() % 4;
-        uint32_t status = call == 0 ? take_text(SEALED) : call == 1 ? take_sealed(REQUEST, 21, NOW) : call == 2 ? answer(&good, true)
+        oscore_ticket used = good;
+        uint32_t status = call == 0 ? take_text(SEALED) : call == 1 ? take_sealed(REQUEST, 21, NOW) : call == 2 ? answer(&used, true)
             : (uint32_t)oscore_peer_saved(peer, guarded_copy(GIVEN, &next, sizeof next));
         CHECK(is_none == (status == OSCORE_BAD_HANDLE) && (!is_none || same_peers(peer, &before)) && (is_none || can_be_peer(peer)));
         CHECK(call > 1 || status || opened->number < peer->received);
@@ -450,9 +461,9 @@ static void spoils_tickets(void) {
         *peer = whole;
         ((uint8_t *)&spoilt)[(oscore_size)rand() % sizeof spoilt] = (uint8_t)rand();
         bool is_none = spoilt.kind > 3 || spoilt.number >= NUMBERS || spoilt.token_len > 8 || spoilt.observes > 1;
-        bool stale = spoilt.context != good.context || spoilt.life != good.life, spent = spoilt.number != 20;
+        bool stale = spoilt.context != good.context || spoilt.life != good.life, spent = spoilt.number != 20, answered = spoilt.answered;
         uint32_t status = answer(&spoilt, i % 2);
-        CHECK(status == (is_none ? OSCORE_BAD_HANDLE : stale ? OSCORE_STALE_TICKET : spent ? OSCORE_TICKET_SPENT : OSCORE_DONE));
+        CHECK(status == (answered ? OSCORE_TICKET_SPENT : is_none ? OSCORE_BAD_HANDLE : stale ? OSCORE_STALE_TICKET : spent ? OSCORE_TICKET_SPENT : OSCORE_DONE));
         CHECK(!status || same_peers(peer, &whole));
         if (!status) CHECK(answer(&good, true) == OSCORE_TICKET_SPENT);
     }

@@ -110,7 +110,7 @@ impl ServerEnd for AnsweringPeer {
         }
     }
 
-    /// A second reply shows that the ticket is spent.
+    /// A second reply, under the request's nonce, shows that the ticket is spent.
     fn reply(&mut self, ticket: Ticket, reply: &Reply<'_>, out: &mut [u8]) -> Replied {
         let of = self.peer.ticket(&ticket);
         let Reply { own, mid, plain } = reply;
@@ -118,7 +118,7 @@ impl ServerEnd for AnsweringPeer {
         match PeerHandle::reply(&mut self.peer, &of, *own, *mid, plain, out) {
             Ok(len) => {
                 save_ahead(&mut self.peer);
-                match PeerHandle::reply(&mut self.peer, &of, *own, *mid, plain, &mut []) {
+                match PeerHandle::reply(&mut self.peer, &of, false, *mid, plain, &mut []) {
                     Err(KeptReplyRefusal::TicketSpent) => (Ok(len), None),
                     _ => (Err(Refusal::Bad), None),
                 }

@@ -123,7 +123,7 @@ peer_serving_read one p q kept now mid d reply status result detail ticket (serv
 
 pub peer_replying_read : OneServerAnswer → DatagramIsOneMessage → DatagramHasNoFault → (p : PeerHandle) (kept : RecordHandle) (t : TicketHandle) (own : Bool) (mid : ℕ) (plain : List ℕ) (room : ℕ) (q : PeerHandle) (status : Status) (result detail : ℕ) (text : List ℕ)
     → RefusesPeerReplying p kept t own mid plain room q status detail → result ≡ code status → (m : Parts) → IsDatagram m plain → IsTicket t → IsTicketOf p t → (h g : server.History) (o : Own) (entry : server.Entry) → ServesBehind p o h → CatchesUp h g o
-    → (IsSpent h (ticket_in (inside_of p t)) → ⊥) → result ≢ code SaveFirst → result ≢ code LivesExhausted
+    → (IsSpent h (ticket_in (inside_of p t)) (asks_own (ticket_in (inside_of p t)) own) → ⊥) → result ≢ code SaveFirst → result ≢ code LivesExhausted
     → ServerAnswer g (server.Reply (ticket_in (inside_of p t)) (asks_own (ticket_in (inside_of p t)) own) mid m room) entry → serves.ReadsReplying entry result detail text
 peer_replying_read one message no_fault p kept t own mid plain room q status result detail text (reply_handle bad is zero) says m of ticket named h g o entry w catches alive none never y = absurd (bad w.has.whole ticket)
 peer_replying_read one message no_fault p kept t own mid plain room q status result detail text (reply_malformed a b fault place has is at) says m of ticket named h g o entry w catches alive none never y = absurd (no_fault m plain fault place of has)

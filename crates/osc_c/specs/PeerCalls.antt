@@ -76,7 +76,7 @@ pub data RefusesPeerReplying (p : PeerHandle) (kept : RecordHandle) (t : TicketH
       → RefusesPeerReplying p kept t own mid plain room new status detail
   save_first : IsPeer p → IsTicket t → (q : Parts) → IsDatagram q plain → AsksToSave p (next_limit p.server.reserved) p.received kept status → detail ≡ 0
       → ((h : History) (o : Own) → ServesBehind p o h → HasToSave (asks_own (ticket_in (inside_of p t)) own) (upcoming o) p) → RefusesPeerReplying p kept t own mid plain room new status detail
-  spent : IsPeer p → IsTicket t → (q : Parts) → IsDatagram q plain → ((h : History) (o : Own) → ServesBehind p o h → IsSpent h (ticket_in (inside_of p t)))
+  spent : IsPeer p → IsTicket t → (q : Parts) → IsDatagram q plain → ((h : History) (o : Own) → ServesBehind p o h → IsSpent h (ticket_in (inside_of p t)) (asks_own (ticket_in (inside_of p t)) own))
       → status ≡ TicketSpent → detail ≡ 0 → RefusesPeerReplying p kept t own mid plain room new status detail
   refused : IsPeer p → IsTicket t → (q : Parts) → IsDatagram q plain → (e : ReplyError) → IsReplyStatus e status detail
       → (IsTicketOf p t → (h : History) (old : Own) → ServesBehind p old h

@@ -220,7 +220,7 @@ fn take_in<'b>(
 /// delivered, in this order; where a record has to be saved that would be the 2^64th, it is LivesExhausted. All but BadHandle, SaveFirst and
 /// LivesExhausted move the clock.
 #[unsafe(no_mangle)]
-pub extern "C" fn oscore_peer_take_v5<'b>(
+pub extern "C" fn oscore_peer_take_v6<'b>(
     peer: &mut PeerHandle,
     now: u64,
     mid: u16,

@@ -47,7 +47,7 @@ fn reply_in(
         → HasToSave (asks_own (ticket_in (inside_of peer.old ticket.now)) own) (upcoming o) peer.old → peer.old.generation + 1 < 2 ^ 64
         → IsErrAnd result (λ r. (r.status ≡ SaveFirst) × (kept.new ≡ next_record peer.old (next_limit peer.old.server.reserved) peer.old.received)) }
     ensures once { (q : Parts) → IsDatagram q plain.now → IsTicket ticket.now → IsTicketOf peer.old ticket.now → (h : History) (o : Own) → ServesBehind peer.old o h
-        → IsSpent h (ticket_in (inside_of peer.old ticket.now)) → (HasToSave (asks_own (ticket_in (inside_of peer.old ticket.now)) own) (upcoming o) peer.old → ⊥) → IsErrAnd result (λ r. r.status ≡ TicketSpent) }
+        → IsSpent h (ticket_in (inside_of peer.old ticket.now)) (asks_own (ticket_in (inside_of peer.old ticket.now)) own) → (HasToSave (asks_own (ticket_in (inside_of peer.old ticket.now)) own) (upcoming o) peer.old → ⊥) → IsErrAnd result (λ r. r.status ≡ TicketSpent) }
     ensures left { IfOk result (λ n. kept.new ≡ kept.old) }
     ensures spared { IfErr result (λ r. r.status ≢ SaveFirst → kept.new ≡ kept.old) }
     ensures stays { IsSamePeer peer.old peer.new }
@@ -82,7 +82,7 @@ fn reply_in(
 /// faults with its place, StaleTicket where the ticket names another context or another life, SaveFirst, StaleTicket, TicketSpent, NotThatKind,
 /// Unsupported with the lowest number of such an option, SequenceExhausted, TooLong or NoRoom, in this order, and changes nothing.
 #[unsafe(no_mangle)]
-pub extern "C" fn oscore_peer_reply_v5(
+pub extern "C" fn oscore_peer_reply_v6(
     peer: &mut PeerHandle,
     ticket: &TicketHandle,
     own: bool,
@@ -105,9 +105,9 @@ pub extern "C" fn oscore_peer_reply_v5(
         → HasToSave (asks_own (ticket_in (inside_of peer.old ticket.now)) own) (upcoming o) peer.old → peer.old.generation + 1 < 2 ^ 64
         → (result ≡ code SaveFirst) × (kept.new ≡ next_record peer.old (next_limit peer.old.server.reserved) peer.old.received) }
     ensures once { (q : Parts) → IsDatagram q plain.now → IsTicket ticket.now → IsTicketOf peer.old ticket.now → (h : History) (o : Own) → ServesBehind peer.old o h
-        → IsSpent h (ticket_in (inside_of peer.old ticket.now)) → (HasToSave (asks_own (ticket_in (inside_of peer.old ticket.now)) own) (upcoming o) peer.old → ⊥) → result ≡ code TicketSpent }
+        → IsSpent h (ticket_in (inside_of peer.old ticket.now)) (asks_own (ticket_in (inside_of peer.old ticket.now)) own) → (HasToSave (asks_own (ticket_in (inside_of peer.old ticket.now)) own) (upcoming o) peer.old → ⊥) → result ≡ code TicketSpent }
     ensures answers { (q : Parts) → IsDatagram q plain.now → IsTicket ticket.now → IsTicketOf peer.old ticket.now → (h g : History) (o : Own) (entry : Entry)
-        → ServesBehind peer.old o h → CatchesUp h g o → (IsSpent h (ticket_in (inside_of peer.old ticket.now)) → ⊥) → result ≢ code SaveFirst → result ≢ code LivesExhausted
+        → ServesBehind peer.old o h → CatchesUp h g o → (IsSpent h (ticket_in (inside_of peer.old ticket.now)) (asks_own (ticket_in (inside_of peer.old ticket.now)) own) → ⊥) → result ≢ code SaveFirst → result ≢ code LivesExhausted
         → ServerAnswer g (Reply (ticket_in (inside_of peer.old ticket.now)) (asks_own (ticket_in (inside_of peer.old ticket.now)) own) mid q (length out.old)) entry
         → ReadsReplying entry result detail.new (take out_len.new out.new) }
     ensures spared { result ≢ code SaveFirst → kept.new ≡ kept.old }
@@ -183,7 +183,7 @@ fn notify_in(
 /// StaleTicket, NotObserving, NotThatKind, Unsupported with the lowest number of such an option, NotNotification, SequenceExhausted, TooLong
 /// or NoRoom, in this order, and changes nothing.
 #[unsafe(no_mangle)]
-pub extern "C" fn oscore_peer_notify_v5(
+pub extern "C" fn oscore_peer_notify_v6(
     peer: &mut PeerHandle,
     ticket: &TicketHandle,
     plain: &[u8],

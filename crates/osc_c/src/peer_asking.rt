@@ -118,7 +118,7 @@ fn request_in(
 
 /// Seals a request with the peer's next number (RFC 8613, 8.1). `plain` is its datagram. The first `out_len` bytes of `out` are the sealed
 /// datagram. The first `pending_count` of the places hold the requests that wait for their responses, and this one is put behind them. It needs
-/// a number, and at SaveFirst `kept` is the record to save, as at `oscore_peer_take_v5`. A refusal is BadHandle, one of the datagram's faults with
+/// a number, and at SaveFirst `kept` is the record to save, as at `oscore_peer_take_v6`. A refusal is BadHandle, one of the datagram's faults with
 /// its place, SaveFirst, NotThatKind, Unsupported with the lowest number of such an option, TokenInUse, PendingFull, SequenceExhausted, TooLong
 /// or NoRoom, in this order; from NotThatKind on it moves the clock, and the others change nothing.
 #[unsafe(no_mangle)]

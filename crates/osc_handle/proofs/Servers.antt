@@ -1,6 +1,6 @@
 -- A server in bytes after each call. s and t are the bytes before and after, h is the history.
-use Rattle.std.proofs.Common.{◌≡◌, ◌≢◌, ◌∙◌, ◌<◌, ◌≤◌, sym, ap, subst, refl, arith, ℕ, zero, suc, Bool, true, false, not, ◌&&◌, ◌==◌, List, [], ◌∷◌, Option, Some, None, Result, Ok, Err, length, take, slice_set, if◌then◌else◌}
-use Rattle.std.specs.Prelude.{OnErr, slice_get}
+use Rattle.std.proofs.Common.{◌≡◌, ◌≢◌, ◌∙◌, ◌<◌, ◌≤◌, sym, ap, subst, refl, arith, ℕ, zero, suc, Bool, true, false, not, ◌&&◌, ◌||◌, ◌+◌, ◌==◌, List, [], ◌∷◌, Option, Some, None, Result, Ok, Err, length, take, slice_set, if◌then◌else◌}
+use Rattle.std.specs.Prelude.{OnErr, nat_le, slice_get}
 use Rattle.std.specs.Option.{option_map}
 use Rattle.std.proofs.lemmas.Bool.{both_ways, cond-false, eq-eqb, eqb-true, ne_eqb}
 use Rattle.std.proofs.lemmas.Option.{none-some, slice_get_within}
@@ -23,7 +23,7 @@ use Rattle.osc_endpoint.specs.ServerAnswer.{IsContext, IsPresent, IsTaken, Reply
 use Rattle.osc_life.specs.LifeAnswer.{LifeNotify, LifeReply, as_notification}
 use Rattle.osc_life.specs.ServerHistory as server
 use Rattle.osc_life.specs.Views.{reply_entry}
-use Rattle.osc_laws.specs.Waiting.{AnswersWaiting, waits}
+use Rattle.osc_laws.specs.Waiting.{AnswersDue, is_due, lies_far_back, waits}
 use Rattle.osc_life.specs.declared.decision.Decided.{Decided}
 use Rattle.osc_life.specs.declared.server_error.ReplyError.{ReplyError}
 use Rattle.osc_life.specs.declared.server_error.ReplyError.TheVariants as replies
@@ -77,7 +77,7 @@ serves_begun context start size b u slot bytes is begins bare low =
         agrees = agrees_added (server_of 0 []) (server_of 0 (Some slot ∷ [])) server.Begin c start size slot 0 none free refl refl refl begins;
         remembers = remembers_begun u c start size bare low;
         answers = (tt, row);
-        waiting = tt;
+        due = tt;
         senders = (tt, λ same. none-some same.1 same.2);
       },
     )
@@ -90,16 +90,17 @@ record Leaves (h g : server.History) : Type 0 where
   pub added : server.added g ≡ server.added h
   pub lives : (i : ℕ) → server.life g i ≡ server.life h i
   pub waiting : (i c n : ℕ) → waits g i c n ≡ waits h i c n
+  pub back : (i c n : ℕ) → lies_far_back g i c n ≡ lies_far_back h i c n
 
 same_places : (slots : List (Option Slot)) (lives after : ℕ → Option Life) → ((i : ℕ) → after i ≡ lives i) → TableAgrees slots lives → TableAgrees slots after
 same_places slots lives after same h = record { at = λ i. subst (λ o. PlaceAgrees (slice_get slots i) o) (sym (same i)) (h.at i) }
 
-same_remembered : (u : UnansweredHandle) (o : Option Life) (w x : ℕ → ℕ → Bool) → ((c n : ℕ) → x c n ≡ w c n) → RemembersAt u o w → RemembersAt u o x
-same_remembered u None w x same r = tt
-same_remembered u (Some of) w x same r = record { held = λ n. r.held n ∙ sym (same of.count n); reach = r.reach }
+same_remembered : (u : UnansweredHandle) (o : Option Life) (w x b y : ℕ → ℕ → Bool) → ((c n : ℕ) → x c n ≡ w c n) → ((c n : ℕ) → y c n ≡ b c n) → RemembersAt u o w b → RemembersAt u o x y
+same_remembered u None w x b y same back r = tt
+same_remembered u (Some of) w x b y same back r = record { held = λ n. r.held n ∙ sym (same of.count n); far = λ n. r.far n ∙ sym (back of.count n); reach = r.reach }
 
-serves_still : (s : ServerParts) (h g : server.History) → Leaves h g → AllAnswers g → AnswersWaiting g → SendersDiffer g → Serves s h → Serves s g
-serves_still s h g same answers waiting senders serves =
+serves_still : (s : ServerParts) (h g : server.History) → Leaves h g → AllAnswers g → AnswersDue g → SendersDiffer g → Serves s h → Serves s g
+serves_still s h g same answers due senders serves =
     record {
       slots = serves.slots;
       table = serves.table;
@@ -110,10 +111,12 @@ serves_still s h g same answers waiting senders serves =
         one_each = contexts_differ g answers;
       };
       remembers = record {
-        at = λ i u e. subst (λ o. RemembersAt u o (waits g i)) (sym (same.lives i)) (same_remembered u (server.life h i) (waits h i) (waits g i) (same.waiting i) (serves.remembers.at i u e));
+        at = λ i u e.
+            subst (λ o. RemembersAt u o (waits g i) (lies_far_back g i)) (sym (same.lives i))
+            (same_remembered u (server.life h i) (waits h i) (waits g i) (lies_far_back h i) (lies_far_back g i) (same.waiting i) (same.back i) (serves.remembers.at i u e));
       };
       answers = answers;
-      waiting = waiting;
+      due = due;
       senders = senders;
     }
 
@@ -127,7 +130,7 @@ serves_same s contexts h same serves =
       agrees = serves.agrees;
       remembers = serves.remembers;
       answers = serves.answers;
-      waiting = serves.waiting;
+      due = serves.due;
       senders = serves.senders;
     }
 
@@ -149,7 +152,7 @@ serves_took s t h now fresh d new reply decided clock contexts serves decides cl
         agrees = subst (λ n. Agrees (server_of n after) (server.Then h (server.Datagram now fresh.echo fresh.mid d) (server.Took to.answer reply))) (sym clock_is) to.agrees;
         remembers = remembers_took s.unanswered t.unanswered h now fresh.mid fresh.echo d new decided.decision to.answer reply to.row to.decides notes serves.remembers;
         answers = (serves.answers, to.row);
-        waiting = serves.waiting;
+        due = serves.due;
         senders = serves.senders;
       };
     }
@@ -191,17 +194,19 @@ used_of t i life (Some b) there e = slice_get_within t i b there
 pub present_used : (t : List SlotHandle) (i life : ℕ) → is_present_in t i life ≡ true → i < length t
 present_used t i life e = used_of t i life (slice_get t i) refl e
 
--- what waits for an answer, by its bit
-pub bit_says : (s : ServerParts) (h : server.History) (t : server.TicketValues) (of : Life) (u : UnansweredHandle) → Serves s h → IsPresent h t of → slice_get s.unanswered t.context ≡ Some u
-    → holds u t.number ≡ waits h t.context t.life t.number
-bit_says s h t of u serves present there =
-    let r : RemembersLife u of (waits h t.context of.count) = subst (λ o. RemembersAt u o (waits h t.context)) present.0 (serves.remembers.at t.context u there) in
-    r.held t.number ∙ ap (λ c. waits h t.context c t.number) (sym present.1)
+-- which replies are due, by what is remembered
+pub due_says : (s : ServerParts) (h : server.History) (t : server.TicketValues) (own : Bool) (of : Life) (u : UnansweredHandle) → Serves s h → IsPresent h t of → slice_get s.unanswered t.context ≡ Some u
+    → (holds u t.number || (own && nat_le (t.number + 64) u.highest)) ≡ is_due h t own
+due_says s h t own of u serves present there =
+    let r : RemembersLife u of (waits h t.context of.count) (lies_far_back h t.context of.count) =
+    subst (λ o. RemembersAt u o (waits h t.context) (lies_far_back h t.context)) present.0 (serves.remembers.at t.context u there) in
+    ap (λ b. b || (own && nat_le (t.number + 64) u.highest)) (r.held t.number)
+    ∙ (ap (λ b. waits h t.context of.count t.number || (own && b)) (r.far t.number) ∙ ap (λ c. waits h t.context c t.number || (own && lies_far_back h t.context c t.number)) (sym present.1))
 
 pub serves_stale : (s : ServerParts) (h : server.History) (t : server.TicketValues) (own : Bool) (mid room : ℕ) (plain : Parts) → Serves s h → ((of : Life) → IsPresent h t of → ⊥)
     → RepliesIn h t own mid plain room (server.NotReplied replies.StaleTicket) s
 serves_stale s h t own mid room plain serves none =
-    (none, serves_still s h _ (record { clock = refl; added = refl; lives = λ i. refl; waiting = λ i c n. refl }) (serves.answers, none) serves.waiting serves.senders serves)
+    (none, serves_still s h _ (record { clock = refl; added = refl; lives = λ i. refl; waiting = λ i c n. refl; back = λ i c n. refl }) (serves.answers, none) serves.due serves.senders serves)
 
 -- the request of a ticket is answered as its parts say
 pub reply_as : (of : Life) (own : Bool) (mid room : ℕ) (plain : Parts) (entry : server.Entry) (n number : ℕ) (k kind : Kind) (m message_id : ℕ) (bytes token : List ℕ)
@@ -216,6 +221,10 @@ reply_as of own mid room plain entry n number k kind m message_id bytes token a 
 pub asked_as : (h : server.History) (t : server.TicketValues) (own asked : Bool) (mid room : ℕ) (plain : Parts) (entry : server.Entry) (s : ServerParts) → asked ≡ own → RepliesIn h t asked mid plain room entry s
     → RepliesIn h t own mid plain room entry s
 asked_as h t own asked mid room plain entry s e r = subst (λ o. RepliesIn h t o mid plain room entry s) e r
+
+-- the same of whether it is due
+pub asked_due : (h : server.History) (t : server.TicketValues) (asked : Bool) {own : Bool} (b : Bool) → asked ≡ own → is_due h t asked ≡ b → is_due h t own ≡ b
+asked_due h t asked b e due = subst (λ o. is_due h t o ≡ b) e due
 
 -- a refusal of the ticket's life
 refused_row : (h : server.History) (t : server.TicketValues) (own : Bool) (p : Parts) (room : ℕ) (of : Life) (e : ReplyError) → IsPresent h t of → LifeReply of t.number own p room (server.NotReplied e)
@@ -234,7 +243,7 @@ pub serves_not_replied : (s : ServerParts) (h : server.History) (t : server.Tick
     → LifeReply of t.number own (as_reply t.kind t.message_id t.token mid plain) room (server.NotReplied e) → RepliesIn h t own mid plain room (server.NotReplied e) s
 serves_not_replied s h t own mid room plain of e serves present reply =
     let row = refused_row h t own (as_reply t.kind t.message_id t.token mid plain) room of e present reply in
-    (row, serves_still s h _ (record { clock = refl; added = refl; lives = λ i. refl; waiting = λ i c n. refl }) (serves.answers, row) serves.waiting serves.senders serves)
+    (row, serves_still s h _ (record { clock = refl; added = refl; lives = λ i. refl; waiting = λ i c n. refl; back = λ i c n. refl }) (serves.answers, row) serves.due serves.senders serves)
 
 and_true : (x y : Bool) → y ≡ true → (x && y) ≡ x
 and_true true true e = refl
@@ -253,12 +262,12 @@ mark_other : (t : server.TicketValues) (own : Bool) (j : ℕ) → j ≢ t.contex
 mark_other t own j other = cond-false (own && (j == t.context)) (Some Answered) None (and_false own (j == t.context) (ne_eqb j t.context other))
 
 pub serves_replied : (s t : ServerParts) (h : server.History) (ticket : server.TicketValues) (own : Bool) (mid room : ℕ) (plain : Parts) (bytes : List ℕ) (of : Life) (u v : UnansweredHandle) (n : ℕ)
-    → (serves : Serves s h) → IsPresent h ticket of → slice_get s.unanswered ticket.context ≡ Some u → holds u ticket.number ≡ true
+    → (serves : Serves s h) → IsPresent h ticket of → slice_get s.unanswered ticket.context ≡ Some u → is_due h ticket own ≡ true
     → LifeReply of ticket.number own (as_reply ticket.kind ticket.message_id ticket.token mid plain) room (server.Replied bytes)
     → ChangesAt serves.slots (server.life h) ticket.context (marked (reply_mark (Ok n) own) of) t.contexts
     → ((m : ℕ) → holds v m ≡ (not (m == ticket.number) && holds u m)) → v.highest ≡ u.highest → t.clock ≡ s.clock → t.unanswered ≡ slice_set s.unanswered ticket.context v
     → RepliesIn h ticket own mid plain room (server.Replied bytes) t
-serves_replied s t h ticket own mid room plain bytes of u v n serves present there has reply changes removes low clock numbers =
+serves_replied s t h ticket own mid room plain bytes of u v n serves present there due reply changes removes low clock numbers =
     let g = server.Then h (server.Reply ticket own mid plain room) (server.Replied bytes) in
     let row : ServerAnswer h (server.Reply ticket own mid plain room) (server.Replied bytes) = (of, present, reply) in
     let agrees = changes.agrees (λ i. option_map (marked (server.reply_mark_at i ticket own)) (server.life h i))
@@ -271,7 +280,7 @@ serves_replied s t h ticket own mid room plain bytes of u v n serves present the
         agrees = agrees_replied (server_of s.clock serves.slots) (server_of t.clock changes.new) h ticket own mid room plain bytes serves.agrees clock changes.len agrees;
         remembers = subst (λ us. Remembers us g) (sym numbers) (remembers_replied s.unanswered h ticket own mid room plain bytes u v of there present.0 present.1 removes low serves.remembers);
         answers = (serves.answers, row);
-        waiting = (serves.waiting, sym (bit_says s h ticket of u serves present there) ∙ has);
+        due = (serves.due, due);
         senders = serves.senders;
       },
     )
@@ -281,13 +290,13 @@ serves_replied s t h ticket own mid room plain bytes of u v n serves present the
 pub notify_stale : (s : ServerParts) (h : server.History) (t : server.TicketValues) (room : ℕ) (plain : Parts) → Serves s h → ((of : Life) → IsPresent h t of → ⊥)
     → NotifiesIn h t plain room (server.NotReplied replies.StaleTicket) s
 notify_stale s h t room plain serves none =
-    (none, serves_still s h _ (record { clock = refl; added = refl; lives = λ i. refl; waiting = λ i c n. refl }) (serves.answers, none) serves.waiting serves.senders serves)
+    (none, serves_still s h _ (record { clock = refl; added = refl; lives = λ i. refl; waiting = λ i c n. refl; back = λ i c n. refl }) (serves.answers, none) serves.due serves.senders serves)
 
 pub notify_unobserved : (s : ServerParts) (h : server.History) (t : server.TicketValues) (room : ℕ) (plain : Parts) (of : Life) → Serves s h → IsPresent h t of → t.observes ≡ false
     → NotifiesIn h t plain room (server.NotReplied replies.NotObserving) s
 notify_unobserved s h t room plain of serves present not_so =
     let row : ServerAnswer h (server.Notify t plain room) (server.NotReplied replies.NotObserving) = (of, present, not_so) in
-    (row, serves_still s h _ (record { clock = refl; added = refl; lives = λ i. refl; waiting = λ i c n. refl }) (serves.answers, row) serves.waiting serves.senders serves)
+    (row, serves_still s h _ (record { clock = refl; added = refl; lives = λ i. refl; waiting = λ i c n. refl; back = λ i c n. refl }) (serves.answers, row) serves.due serves.senders serves)
 
 -- the request of a ticket is notified as its parts say
 pub notify_as : (of : Life) (room : ℕ) (plain : Parts) (entry : server.Entry) (n number : ℕ) (bytes token : List ℕ) → n ≡ number → bytes ≡ token
@@ -315,7 +324,7 @@ pub serves_notified : (s : ServerParts) (contexts : List SlotHandle) (h : server
     → NotifiesIn h t plain room (reply_entry r out) (record { clock = s.clock; contexts = contexts; unanswered = s.unanswered })
 serves_notified s contexts h t room plain out (Err e) of serves present so notified changes same =
     let row = unsent_row h t plain room of e present so notified in
-    (row, serves_same s contexts _ same (serves_still s h _ (record { clock = refl; added = refl; lives = λ i. refl; waiting = λ i c n. refl }) (serves.answers, row) serves.waiting serves.senders serves))
+    (row, serves_same s contexts _ same (serves_still s h _ (record { clock = refl; added = refl; lives = λ i. refl; waiting = λ i c n. refl; back = λ i c n. refl }) (serves.answers, row) serves.due serves.senders serves))
 serves_notified s contexts h t room plain out (Ok n) of serves present so notified changes same =
     let bytes = take n out in
     let row : ServerAnswer h (server.Notify t plain room) (server.Replied bytes) = (so, (of, present, notified)) in
@@ -329,7 +338,7 @@ serves_notified s contexts h t room plain out (Ok n) of serves present so notifi
         agrees = agrees_notified (server_of s.clock serves.slots) (server_of s.clock changes.new) h t room plain (Ok n) out serves.agrees refl changes.len agrees;
         remembers = remembers_notified s.unanswered h t room plain bytes serves.remembers;
         answers = (serves.answers, row);
-        waiting = serves.waiting;
+        due = serves.due;
         senders = serves.senders;
       },
     )

@@ -1,5 +1,5 @@
 -- How the code is seen: that the bytes of a server are as its history says. s are the bytes, h is the history.
-use Rattle.std.specs.Prelude.{◌≡◌, ℕ, ◌<◌, Bool, false, List, Option, Some, None, Result, Ok, Err, slice_get, take}
+use Rattle.std.specs.Prelude.{◌≡◌, ℕ, ◌+◌, ◌<◌, Bool, false, nat_le, List, Option, Some, None, Result, Ok, Err, slice_get, take}
 use Rattle.std.specs.List.{All}
 use Rattle.osc_coap.specs.Datagram.{Parts}
 use Rattle.osc_context.specs.SecurityContext.{SecurityContext}
@@ -11,7 +11,7 @@ use Rattle.osc_life.specs.Life.{Life, spent}
 use Rattle.osc_laws.specs.Senders.{SendersDiffer}
 use Rattle.osc_endpoint.specs.ServerAnswer.{IsPresent, ServerAnswer}
 use Rattle.osc_life.specs.ServerHistory.{Add, Answer, Datagram, Entry, History, NotReplied, Notify, Replied, Reply, Then, TicketValues, Took, life}
-use Rattle.osc_laws.specs.Waiting.{AnswersWaiting, waits}
+use Rattle.osc_laws.specs.Waiting.{AnswersDue, is_due, lies_far_back, waits}
 use Rattle.osc_life.specs.declared.decision.Decision.{Decision}
 use Rattle.osc_life.specs.declared.slot.Slot.{Slot}
 use Rattle.osc_life.specs.declared.start.Fresh.{Fresh}
@@ -23,29 +23,30 @@ use Rattle.osc_handle.specs.declared.reply_refusal.ReplyRefusal.TheVariants.{Bad
 use Rattle.osc_handle.specs.ServerParts.{ServerParts}
 use Rattle.osc_handle.specs.declared.unanswered_handle.UnansweredHandle.{UnansweredHandle}
 
--- the bytes hold exactly the numbers that are waiting in this life, and none above those that were spent in it (RFC 8613, 8.3)
-pub record RemembersLife (u : UnansweredHandle) (of : Life) (waiting : ℕ → Bool) : Type 0 where
+-- the bytes hold exactly the numbers that are waiting in this life, and none above those that were spent in it; the highest one tells which requests lie far back (RFC 8613, 8.3)
+pub record RemembersLife (u : UnansweredHandle) (of : Life) (waiting back : ℕ → Bool) : Type 0 where
   pub held : (n : ℕ) → holds u n ≡ waiting n
+  pub far : (n : ℕ) → nat_le (n + 64) u.highest ≡ back n
   pub reach : (bound : ℕ) → 0 < bound → All (λ m. m < bound) (spent of.open_at_birth of.marks) → u.highest < bound
 
--- the same for the present life of a context, if there is one; waiting takes the number of the lives before it (RFC 8613, 8.3)
-abbrev pub RemembersAt : UnansweredHandle → Option Life → (ℕ → ℕ → Bool) → Type 0
-RemembersAt u None waiting = Unit {0}
-RemembersAt u (Some of) waiting = RemembersLife u of (waiting of.count)
+-- the same for the present life of a context, if there is one; waiting and back take the number of the lives before it (RFC 8613, 8.3)
+abbrev pub RemembersAt : UnansweredHandle → Option Life → (ℕ → ℕ → Bool) → (ℕ → ℕ → Bool) → Type 0
+RemembersAt u None waiting back = Unit {0}
+RemembersAt u (Some of) waiting back = RemembersLife u of (waiting of.count) (back of.count)
 
 -- and for each context (RFC 8613, 8.3)
 pub record Remembers (us : List UnansweredHandle) (h : History) : Type 0 where
-  pub at : (i : ℕ) (u : UnansweredHandle) → slice_get us i ≡ Some u → RemembersAt u (life h i) (waits h i)
+  pub at : (i : ℕ) (u : UnansweredHandle) → slice_get us i ≡ Some u → RemembersAt u (life h i) (waits h i) (lies_far_back h i)
 
--- the bytes stand for a server that is as its history says; each entry of the history was the answer, each reply was one to a request that waited for
--- it, and no context was added if another had its Sender Key (RFC 8613, 3.1, 3.3 and 8.3)
+-- the bytes stand for a server that is as its history says; each entry of the history was the answer, each reply was due, and no
+-- context was added if another had its Sender Key (RFC 8613, 3.1, 3.3 and 8.3)
 pub record Serves (s : ServerParts) (h : History) : Type 0 where
   pub slots : List (Option Slot)
   pub table : IsTableIn s.contexts slots
   pub agrees : Agrees (server_of s.clock slots) h
   pub remembers : Remembers s.unanswered h
   pub answers : AllAnswers h
-  pub waiting : AnswersWaiting h
+  pub due : AnswersDue h
   pub senders : SendersDiffer h
 
 -- after the history, the entry is the answer to the addition, and the bytes are as both say (RFC 8613, B.1)
@@ -59,9 +60,9 @@ pub record DecidesIn (h : History) (now : ℕ) (fresh : Fresh) (d : List ℕ) (d
   pub decides : Decides decision new answer
   pub serves : Serves s (Then h (Datagram now fresh.echo fresh.mid d) (Took answer reply))
 
--- the ticket is of the present life of its context, and its request isn't waiting for an answer (RFC 8613, 8.3)
-abbrev pub IsSpent : History → TicketValues → Type 0
-IsSpent h t = (of : Life) × IsPresent h t of × (waits h t.context t.life t.number ≡ false)
+-- the ticket is of the present life of its context, and no such reply to its request is due (RFC 8613, 8.3)
+abbrev pub IsSpent : History → TicketValues → Bool → Type 0
+IsSpent h t own = (of : Life) × IsPresent h t of × (is_due h t own ≡ false)
 
 -- the entry of a reply, whose text is at the front of the buffer; a spent ticket or bad bytes aren't an event of a server (how the code is seen)
 abbrev pub entry_of_reply : Result ℕ ReplyRefusal → List ℕ → Option Entry

@@ -119,8 +119,8 @@ impl KeptServerHandle {
             × ((h : History) (o : Own) → ServesWith self.old o h → WantsSave (asks_own (ticket_in ticket.now) own) (upcoming o) self.old.reserved) }
         ensures refuses { (h : History) (o : Own) → ServesWith self.old o h → IsTicket ticket.now → WantsSave (asks_own (ticket_in ticket.now) own) (upcoming o) self.old.reserved
             → result ≡ Err (replies.SaveFirst (next_limit self.old.reserved)) }
-        ensures spent { result ≡ Err replies.TicketSpent → (h : History) (o : Own) → ServesWith self.old o h → IsSpent h (ticket_in ticket.now) }
-        ensures once { IsTicket ticket.now → (h : History) (o : Own) → ServesWith self.old o h → IsSpent h (ticket_in ticket.now)
+        ensures spent { result ≡ Err replies.TicketSpent → (h : History) (o : Own) → ServesWith self.old o h → IsSpent h (ticket_in ticket.now) (asks_own (ticket_in ticket.now) own) }
+        ensures once { IsTicket ticket.now → (h : History) (o : Own) → ServesWith self.old o h → IsSpent h (ticket_in ticket.now) (asks_own (ticket_in ticket.now) own)
             → (WantsSave (asks_own (ticket_in ticket.now) own) (upcoming o) self.old.reserved → ⊥) → result ≡ Err replies.TicketSpent }
         ensures bad { result ≡ Err replies.BadHandle → IsKeptServer self.old → IsTicket ticket.now → ⊥ }
         ensures accepted { result ≢ Err replies.BadHandle → IsKeptServer self.old × IsTicket ticket.now }

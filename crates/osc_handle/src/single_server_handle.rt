@@ -142,8 +142,8 @@ impl SingleServerHandle {
         ensures accepted { result ≢ Err BadHandle → IsSlotBytes self.old.slot × IsTicket ticket.now }
         ensures answered { (h : History) → Serves (server_of_one self.old) h
             → IfSome (entry_of_reply result out.new) (λ entry. RepliesIn h (ticket_in ticket.now) (asks_own (ticket_in ticket.now) own) mid (parts_of plain.now) (length out.old) entry (server_of_one self.new)) }
-        ensures spent { result ≡ Err TicketSpent → (h : History) → Serves (server_of_one self.old) h → IsSpent h (ticket_in ticket.now) }
-        ensures once { IsSlotBytes self.old.slot → IsTicket ticket.now → (h : History) → Serves (server_of_one self.old) h → IsSpent h (ticket_in ticket.now)
+        ensures spent { result ≡ Err TicketSpent → (h : History) → Serves (server_of_one self.old) h → IsSpent h (ticket_in ticket.now) (asks_own (ticket_in ticket.now) own) }
+        ensures once { IsSlotBytes self.old.slot → IsTicket ticket.now → (h : History) → Serves (server_of_one self.old) h → IsSpent h (ticket_in ticket.now) (asks_own (ticket_in ticket.now) own)
             → result ≡ Err TicketSpent }
         ensures bytes { IsSlotBytes self.old.slot → IsSlotBytes self.new.slot }
         ensures within { IfOk result (λ n. n ≤ length out.new) }
@@ -160,10 +160,10 @@ impl SingleServerHandle {
         if !self.gave(ticket) {
             return Err(ReplyRefusal::Refused(ReplyError::StaleTicket));
         }
-        if !self.unanswered.has(ticket.number) {
+        let own = ticket.asks_own(own);
+        if !self.unanswered.is_due(ticket.number, own) {
             return Err(ReplyRefusal::TicketSpent);
         }
-        let own = ticket.asks_own(own);
         match self.slot.reply_alone(number, &asker, own, mid, plain, out) {
             Ok(len) => {
                 self.unanswered.remove(ticket.number);

@@ -38,6 +38,15 @@ impl UnansweredHandle {
             && self.mask >> (self.highest - number) & 1 == 1
     }
 
+    /// Returns whether a reply to the request with this number is due: the number is one of these; or it lies 64 or more below the highest one,
+    /// and the reply has a Partial IV of its own, so that no nonce is used twice even if it isn't the first.
+    #[must_use]
+    pub fn is_due(&self, number: u64, own: bool) -> bool
+        ensures { result ≡ (holds self.now number || (own && nat_le (number + 64) self.now.highest)) }
+    {
+        self.has(number) || own && number < self.highest && self.highest - number >= 64
+    }
+
     /// Adds the number of a request that was delivered, and forgets the numbers that are 64 or more below it.
     #[tactic(auto, using(crate::proofs::Bits::added_above, crate::proofs::Bits::added_inside))]
     pub fn add(&mut self, number: u64)

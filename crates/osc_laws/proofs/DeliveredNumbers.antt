@@ -1,11 +1,14 @@
 -- That in one life of a context no number is delivered twice.
-use Rattle.std.proofs.Common.{◌≡◌, ◌≢◌, ℕ, ◌+◌, ◌≤◌, ◌∙◌, sym, ap, subst, refl, arith, Bool, true, Option, Some, None, List, [], ◌∷◌, All, inl, inr, if◌then◌else◌}
+use Rattle.std.proofs.Common.{◌≡◌, ◌≢◌, ℕ, ◌+◌, ◌<◌, ◌≤◌, ◌∙◌, sym, ap, subst, refl, arith, Bool, true, Option, Some, None, List, [], ◌∷◌, All, inl, inr, if◌then◌else◌}
 use Rattle.std.specs.Prelude.{◌==◌, max}
 use Rattle.std.specs.List.{AllByRecursion}
 use Rattle.std.specs.Option.{option_map}
 use Rattle.std.proofs.lemmas.Bool.{cases_Bool, cond-false, cond_both, eq-eqb, eqb-true, ne_eqb}
-use Rattle.std.proofs.lemmas.List.Elements.{All-head, All-nil, All-tail}
+use Rattle.std.proofs.lemmas.List.Elements.{All-head, All-nil, All-tail, All-weaker}
+use Rattle.std.proofs.lemmas.Bool.Decides.{leb_tells}
 use Rattle.osc_coap.specs.Inner.{InnerParts}
+use Rattle.osc_window.proofs.Agreements.{places_most}
+use Rattle.osc_window.specs.Views.{places_of}
 use Rattle.osc_laws.specs.Laws.{AllAnswers, AreApart, DeliveredOnce, Pairwise, delivered}
 use Rattle.osc_life.specs.Life.{Admits, Answered, Challenged, Delivered, Life, Mark, PassedOver, Spoiled, born, is_open, marked, opened, renewed, spent}
 use Rattle.osc_observe.specs.Received.{Received}
@@ -40,6 +43,22 @@ unspent : (of : Life) (clock n : ℕ) (m : InnerParts) → Admits of clock n m �
 unspent of clock n m admits = elim (cases_Bool (is_open of)) [
   | inl is ↦ (admits.0.0 is).unspent
   | inr shut ↦ subst (All (λ k. k ≢ n)) (sym (closed_bare of.open_at_birth of.marks shut).spent_is) (All-nil (λ k. k ≢ n))
+]
+
+-- a number that is admitted is less than 64 below those that are spent
+pub admitted_near : (of : Life) (clock n : ℕ) (m : InnerParts) → Admits of clock n m → All (λ k. k < n + 64) (spent of.open_at_birth of.marks)
+admitted_near of clock n m admits = elim (cases_Bool (is_open of)) [
+  | inl is ↦
+      let most = places_most of.size in
+      All-weaker (λ k. k < n + places_of of.size) (λ k. k < n + 64) (λ k less. omega (arith, less, most)) (spent of.open_at_birth of.marks) (admits.0.0 is).within
+  | inr shut ↦ subst (All (λ k. k < n + 64)) (sym (closed_bare of.open_at_birth of.marks shut).spent_is) (All-nil (λ k. k < n + 64))
+]
+
+-- one of numbers below a bound is below it
+among_below : (bound n : ℕ) (ms : List ℕ) → All (λ k. k < bound) ms → IsAmong ms n → n < bound
+among_below bound n ms below among = elim (leb_tells bound n) [
+  | inl past ↦ absurd (among (All-weaker (λ k. k < bound) (λ k. k ≢ n) (λ k less e. omega (arith, less, e, past.1)) ms below))
+  | inr less ↦ less.1
 ]
 
 -- ---- tickets of spent numbers
@@ -117,10 +136,19 @@ apart_from h of clock m ticket t there count admits before context_is life_is nu
     let now : IsSpentIn (Some of) t = subst (λ o. IsSpentIn o t) (ap (life h) (sym context_is) ∙ there) before in
     now.1 (sym life_is ∙ count) (subst (λ n. All (λ k. k ≢ n) (spent of.open_at_birth of.marks)) number_is (unspent of clock ticket.number m admits))
 
--- the ticket's number is spent in the later history, and isn't one of those before
+-- what was delivered before is less than 64 above a number that is admitted
+near_to : (h : History) (of : Life) (clock : ℕ) (m : InnerParts) (ticket t : TicketValues)
+    → life h ticket.context ≡ Some of → ticket.life ≡ of.count → Admits of clock ticket.number m → IsSpentIn (life h t.context) t → ticket.context ≡ t.context → ticket.life ≡ t.life
+    → t.number < ticket.number + 64
+near_to h of clock m ticket t there count admits before context_is life_is =
+    let now : IsSpentIn (Some of) t = subst (λ o. IsSpentIn o t) (ap (life h) (sym context_is) ∙ there) before in
+    among_below (ticket.number + 64) t.number (spent of.open_at_birth of.marks) (admitted_near of clock ticket.number m admits) (now.1 (sym life_is ∙ count))
+
+-- the ticket's number is spent in the later history, isn't one of those before, and is less than 64 below them
 pub record IsFirst (h g : History) (ticket : TicketValues) : Type 0 where
   pub spent_then : IsSpentIn (life g ticket.context) ticket
   pub apart : (t : TicketValues) → IsSpentIn (life h t.context) t → AreApart ticket t
+  pub near : (t : TicketValues) → IsSpentIn (life h t.context) t → ticket.context ≡ t.context → ticket.life ≡ t.life → t.number < ticket.number + 64
 
 restart_takes_none : (o : Option Life) (answer : Answer) (reply : List ℕ) → LifeRestart o (Took answer reply) → ⊥
 restart_takes_none None answer reply row = row
@@ -140,6 +168,7 @@ first_delivery h (Datagram now echo mid d) received ticket reply ((i, n, of, req
     record {
       spent_then = spent_now (life h ticket.context) of (ticket.context == ticket.context) ticket there (eq-eqb ticket.context ticket.context refl) count;
       apart = λ t. apart_from h of moment received.message ticket t there count (subst (λ k. Admits of moment k received.message) (sym number) admits);
+      near = λ t. near_to h of moment received.message ticket t there count (subst (λ k. Admits of moment k received.message) (sym number) admits);
     }
 first_delivery h (Add s start size) received ticket reply row = absurd row.1
 first_delivery h (Reply t own mid plain room) received ticket reply row = absurd row.2

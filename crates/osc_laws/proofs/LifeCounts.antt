@@ -14,11 +14,11 @@ use Rattle.osc_life.specs.declared.server_error.SkipError.{SkipError}
 use Rattle.osc_life.specs.declared.start.Start.{Start}
 use Rattle.osc_life.specs.declared.start.Start.TheVariants as starts
 use Rattle.osc_laws.specs.AnswerLaws.{SealedHeads}
-use Rattle.osc_laws.specs.Laws.{Text, HasOwnNumber, texts, text_in, answered, passed_over}
+use Rattle.osc_laws.specs.Laws.{Text, HasOwnNumber, texts, text_in, passed_over}
 use Rattle.osc_life.specs.Life.{HasOwn, Mark, Delivered, Spoiled, Challenged, Answered, PassedOver, Life, own_count, next_own, marked, born, renewed}
 use Rattle.osc_endpoint.specs.ServerAnswer.{IsContext, ServerAnswer}
 use Rattle.osc_life.specs.LifeAnswer.{LifeRestart, LifeSkip}
-use Rattle.osc_life.specs.ServerHistory.{History, Then, Event, Entry, TicketValues, Add, Datagram, Reply, Notify, Restart, Skip, Advance, BadInner, Challenge, Deliver, Added, NotAdded, Took, Replied, NotReplied, Restarted, NotRestarted, Skipped, NotSkipped, Advanced, added, life}
+use Rattle.osc_life.specs.ServerHistory.{History, Begin, Then, Event, Entry, TicketValues, Add, Datagram, Reply, Notify, Restart, Skip, Advance, BadInner, Challenge, Deliver, Added, NotAdded, Took, Replied, NotReplied, Restarted, NotRestarted, Skipped, NotSkipped, Advanced, added, life}
 
 -- of a life: its context, how many were before it, its first Sender Sequence Number, how many are behind that, and how many of those were passed over
 pub record Kept : Type 0 where
@@ -39,7 +39,13 @@ used_one k = record { context = k.context; count = k.count; first = k.first; use
 abbrev pub skipped : ℕ → Kept → Kept
 skipped n k = record { context = k.context; count = k.count; first = k.first; used = k.used + n; passed = k.passed + n }
 
--- of a history: how many contexts were added, their lives, what was sealed, and the tickets of all accepted replies
+-- the tickets of all accepted replies without a Partial IV of their own
+abbrev pub answered_plainly : History → List TicketValues
+answered_plainly Begin = []
+answered_plainly (Then h (Reply ticket own mid plain room) (Replied bytes)) = if own then answered_plainly h else ticket ∷ answered_plainly h
+answered_plainly (Then h event entry) = answered_plainly h
+
+-- of a history: how many contexts were added, their lives, what was sealed, and those tickets
 pub record Image : Type 0 where
   pub added : ℕ
   pub lives : ℕ → Option Kept
@@ -47,7 +53,7 @@ pub record Image : Type 0 where
   pub answered : List TicketValues
 
 abbrev pub image : History → Image
-image h = record { added = added h; lives = λ i. option_map kept (life h i); texts = texts h; answered = answered h }
+image h = record { added = added h; lives = λ i. option_map kept (life h i); texts = texts h; answered = answered_plainly h }
 
 -- ---- what an answer makes of it
 
@@ -109,8 +115,7 @@ pub record SealsNumbered (a b : Image) : Type 0 where
   pub added : b.added ≡ a.added
   pub changes : Changes a b index (used_one old)
   pub texts : b.texts ≡ text ∷ a.texts
-  pub more : List TicketValues
-  pub answered : b.answered ≡ more ++ a.answered
+  pub answered : b.answered ≡ a.answered
 
 -- a reply without a Partial IV of its own, by a ticket of the present life
 pub record SealsPlain (a b : Image) : Type 0 where
@@ -295,7 +300,6 @@ steps shows h (Datagram now echo mid d) (Took (Challenge i n given issued) reply
       added = refl;
       changes = λ k. kept_here (k == i) (Challenged given issued) (life h k) of (λ e. ap (life h) (eqb-true k i e) ∙ is) tt;
       texts = text_at h i n true of reply is;
-      more = [];
       answered = refl;
     })
 steps shows h (Datagram now echo mid d) (Took (BadInner i n) reply) row =
@@ -321,7 +325,6 @@ steps shows h (Reply ticket true mid plain room) (Replied bytes) (of, (is, prese
       added = refl;
       changes = λ k. kept_here (k == ticket.context) Answered (life h k) of (λ e. ap (life h) (eqb-true k ticket.context e) ∙ is) tt;
       texts = text_at h ticket.context ticket.number true of bytes is;
-      more = ticket ∷ [];
       answered = refl;
     })
 steps shows h (Reply ticket false mid plain room) (Replied bytes) (of, (is, present), row) =
@@ -354,7 +357,6 @@ steps shows h (Notify ticket plain room) (Replied bytes) (observes, (of, (is, pr
       added = refl;
       changes = λ k. kept_here (k == ticket.context) Answered (life h k) of (λ e. ap (life h) (eqb-true k ticket.context e) ∙ is) tt;
       texts = text_at h ticket.context ticket.number true of bytes is;
-      more = [];
       answered = refl;
     })
 steps shows h (Notify ticket plain room) (NotReplied e) row = same (image h)

@@ -1,6 +1,6 @@
 -- The nonces of what a server seals: two in one life of a context differ. a is what a history shows, b what it shows one answer later, t and u
 -- texts, x and y their own Partial IVs, n and m the numbers of their requests, s a security context, ws tickets.
-use Rattle.std.proofs.Common.{◌≡◌, ◌≢◌, ℕ, ◌+◌, ◌<◌, ◌≤◌, ◌^◌, ◌∙◌, sym, ap, subst, refl, arith, Bool, false, Option, Some, None, IfSome, List, [], ◌∷◌, ◌++◌, is_some, ◌==◌, ◌&&◌, ◌⊎◌, inl, inr}
+use Rattle.std.proofs.Common.{◌≡◌, ◌≢◌, ℕ, ◌+◌, ◌<◌, ◌≤◌, ◌^◌, ◌∙◌, sym, ap, subst, refl, arith, Bool, true, false, Option, Some, None, IfSome, List, [], ◌∷◌, ◌++◌, is_some, ◌==◌, ◌&&◌, ◌⊎◌, inl, inr}
 use Rattle.std.proofs.lemmas.Bool.{cases_Bool, eq-eqb}
 use Rattle.std.proofs.lemmas.Option.{none-some, same_Some}
 use Rattle.std.specs.List.{AllByRecursion}
@@ -12,10 +12,10 @@ use Rattle.osc_laws.specs.Laws.{AllAnswers, AreApart, DeliveredOnce, HaveTwoNonc
 use Rattle.osc_life.specs.Life.{Life}
 use Rattle.osc_endpoint.specs.ServerAnswer.{IsContext}
 use Rattle.osc_life.specs.LifeAnswer.{LifeRestart, LifeSkip}
-use Rattle.osc_life.specs.ServerHistory.{History, Begin, Then, Add, Datagram, Reply, Notify, Restart, Skip, Advance, Deliver, Took, Answer, TicketValues, life}
-use Rattle.osc_laws.proofs.LifeCounts.{Kept, Image, image, SealsNumbered, SealsPlain, Steps, Stays, Adds, Restarts, Skips, Numbers, Replies, steps}
+use Rattle.osc_life.specs.ServerHistory.{History, Begin, Then, Add, Datagram, Reply, Notify, Restart, Skip, Advance, Deliver, Took, Replied, Answer, TicketValues, life}
+use Rattle.osc_laws.proofs.LifeCounts.{Kept, Image, answered_plainly, image, SealsNumbered, SealsPlain, Steps, Stays, Adds, Restarts, Skips, Numbers, Replies, steps}
 use Rattle.osc_laws.proofs.OwnNumbers.{IsCounted, IsOfLife, all_weaker, counted, is_own, passed_over, taken_up}
-use Rattle.osc_laws.proofs.Tickets.{all_answered, all_behind, pairs_behind, tickets_once}
+use Rattle.osc_laws.proofs.Tickets.{all_answered, tickets_once}
 
 -- ---- nonces of one context
 
@@ -94,10 +94,6 @@ abbrev HasTicket : Text → List TicketValues → Type 0
 HasTicket u [] = ⊥
 HasTicket u (w ∷ ws) = IsReplyTo u w ⊎ HasTicket u ws
 
-more_tickets : (u : Text) (more ws : List TicketValues) → HasTicket u ws → HasTicket u (more ++ ws)
-more_tickets u [] ws has = has
-more_tickets u (w ∷ more) ws has = inr (more_tickets u more ws has)
-
 ticket_of : (P : TicketValues → Type 0) (u : Text) (ws : List TicketValues) → AllByRecursion P ws → HasTicket u ws → (w : TicketValues) × P w × IsReplyTo u w
 ticket_of P u [] all has = absurd has
 ticket_of P u (w ∷ ws) all (inl is) = (w, all.0, is)
@@ -110,9 +106,6 @@ IsFor w = w.number < 2 ^ 40
 -- tickets of one request each, with numbers that a nonce has room for
 abbrev AreFine : List TicketValues → Type 0
 AreFine ws = Pairwise AreApart ws × AllByRecursion IsFor ws
-
-fine_behind : (more ws : List TicketValues) → AreFine (more ++ ws) → AreFine ws
-fine_behind more ws fine = (pairs_behind AreApart more ws fine.0, all_behind IsFor more ws fine.1)
 
 -- ---- what holds of each history
 
@@ -173,14 +166,14 @@ same_sound a b texts_are answered_are before fine =
     }
 
 -- earlier texts are to tickets still
-grown : (a b : Image) (more : List TicketValues) → b.answered ≡ more ++ a.answered → AllByRecursion (IsSound a.answered) a.texts → AllByRecursion (IsSound b.answered) a.texts
-grown a b more is =
+grown : (a b : Image) (ticket : TicketValues) → b.answered ≡ ticket ∷ a.answered → AllByRecursion (IsSound a.answered) a.texts → AllByRecursion (IsSound b.answered) a.texts
+grown a b ticket is =
     all_weaker (IsSound a.answered) (IsSound b.answered)
-    (λ u k. record { in_range = k.in_range; by_ticket = λ none. subst (HasTicket u) (sym is) (more_tickets u more a.answered (k.by_ticket none)) }) a.texts
+    (λ u k. record { in_range = k.in_range; by_ticket = λ none. subst (HasTicket u) (sym is) (inr (k.by_ticket none)) }) a.texts
 
 numbered_sound : OneNonce → (a b : Image) → IsCounted a → SealsNumbered a b → (AreFine a.answered → AreSound a) → AreFine b.answered → AreSound b
 numbered_sound one a b c s before fine =
-    let old = before (fine_behind s.more a.answered (subst AreFine s.answered fine)) in
+    let old = before (subst AreFine s.answered fine) in
     let counts = c.numbered s.index s.old s.was in
     let below = all_below s.index s.old.count s.old.first (s.old.first + s.old.used) a.texts counts.0 in
     let IsOld : Text → Type 0 = λ u. IsSound a.answered u × IsBelow s.index s.old.count (s.old.first + s.old.used) u in
@@ -191,7 +184,7 @@ numbered_sound one a b c s before fine =
     let sound : IsSound b.answered s.text =
     record { in_range = subst (λ (o : Option ℕ). IsInRange o s.text.request) (sym s.own.own) s.less; by_ticket = λ none. absurd (none-some (s.old.first + s.old.used) (sym none ∙ s.own.own)) } in
     record {
-      each = subst (AllByRecursion (IsSound b.answered)) (sym s.texts) (sound, grown a b s.more s.answered old.each);
+      each = subst (AllByRecursion (IsSound b.answered)) (sym s.texts) (sound, subst (λ (ws : List TicketValues). AllByRecursion (IsSound ws) a.texts) (sym s.answered) old.each);
       pairs = subst (Pairwise HaveTwoNonces) (sym s.texts) (apart, old.pairs);
     }
 
@@ -209,7 +202,7 @@ plain_sound one a b c s before fine =
       by_ticket = λ none. subst (HasTicket s.text) (sym s.answered) (inl is);
     } in
     record {
-      each = subst (AllByRecursion (IsSound b.answered)) (sym s.texts) (sound, grown a b (s.ticket ∷ []) s.answered old.each);
+      each = subst (AllByRecursion (IsSound b.answered)) (sym s.texts) (sound, grown a b s.ticket s.answered old.each);
       pairs = subst (Pairwise HaveTwoNonces) (sym s.texts) (apart, old.pairs);
     }
 
@@ -221,13 +214,13 @@ sound_on one a b c (Skips s) = same_sound a b s.texts s.answered
 sound_on one a b c (Numbers s) = numbered_sound one a b c s
 sound_on one a b c (Replies s) = plain_sound one a b c s
 
-all_sound : OneNonce → SealedHeads → (h : History) → AllAnswers h → AreFine (answered h) → AreSound (image h)
+all_sound : OneNonce → SealedHeads → (h : History) → AllAnswers h → AreFine (answered_plainly h) → AreSound (image h)
 all_sound one shows Begin a fine = record { each = tt; pairs = tt }
 all_sound one shows (Then h event entry) a fine =
     sound_on one (image h) (image (Then h event entry)) (counted shows h a.0) (steps shows h event entry a.1) (all_sound one shows h a.0) fine
 
--- no two texts of one life of a context share a nonce, where no request was answered twice
-pub texts_apart : OneNonce → SealedHeads → (h : History) → AllAnswers h → Pairwise AreApart (answered h) → AllByRecursion IsFor (answered h) → Pairwise HaveTwoNonces (texts h)
+-- no two texts of one life of a context share a nonce, where no request was answered twice without a Partial IV of the reply's own
+pub texts_apart : OneNonce → SealedHeads → (h : History) → AllAnswers h → Pairwise AreApart (answered_plainly h) → AllByRecursion IsFor (answered_plainly h) → Pairwise HaveTwoNonces (texts h)
 texts_apart one shows h a apart fine = (all_sound one shows h a (apart, fine)).pairs
 
 -- ---- numbers that were delivered
@@ -252,7 +245,20 @@ all_for range (Then h (Skip i count) (Took (Deliver received ticket) reply)) a =
 all_for range (Then h (Advance now) (Took (Deliver received ticket) reply)) a = absurd a.1
 all_for range (Then h event entry) a = all_for range h a.0
 
+-- a fact of all tickets that were answered is one of those that were answered so
+pub all_plainly : (P : TicketValues → Type 0) (h : History) → AllByRecursion P (answered h) → AllByRecursion P (answered_plainly h)
+all_plainly P Begin all = tt
+all_plainly P (Then h (Reply ticket true mid plain room) (Replied bytes)) all = all_plainly P h all.1
+all_plainly P (Then h (Reply ticket false mid plain room) (Replied bytes)) all = (all.0, all_plainly P h all.1)
+all_plainly P (Then h event entry) all = all_plainly P h all
+
+pairs_plainly : (h : History) → Pairwise AreApart (answered h) → Pairwise AreApart (answered_plainly h)
+pairs_plainly Begin pairs = tt
+pairs_plainly (Then h (Reply ticket true mid plain room) (Replied bytes)) pairs = pairs_plainly h pairs.1
+pairs_plainly (Then h (Reply ticket false mid plain room) (Replied bytes)) pairs = (all_plainly (AreApart ticket) h pairs.0, pairs_plainly h pairs.1)
+pairs_plainly (Then h event entry) pairs = pairs_plainly h pairs
+
 -- nor where each reply takes a ticket
 pub no_shared_nonce : OneNonce → ValueNumberInRange → SealedHeads → DeliveredOnce → ServerNoncesOnce
 no_shared_nonce one range shows once h a takes =
-    texts_apart one shows h a (tickets_once once h a takes) (all_answered IsFor h takes.0 takes.1 (all_for range h a))
+    texts_apart one shows h a (pairs_plainly h (tickets_once once h a takes)) (all_plainly IsFor h (all_answered IsFor h takes.0 takes.1 (all_for range h a)))

@@ -6,7 +6,7 @@ use Rattle.osc_laws.specs.Laws.{AllAnswers, Pairwise, Text, nonce_of_text, texts
 use Rattle.osc_endpoint.specs.Senders.{HasSameSender}
 use Rattle.osc_endpoint.specs.Tickets.{TakesTickets}
 use Rattle.osc_life.specs.ServerHistory.{History, Begin, Then, Add, Added}
-use Rattle.osc_laws.specs.Waiting.{AnswersWaiting}
+use Rattle.osc_laws.specs.Waiting.{AnswersDue}
 
 -- no context was added with the Sender Key of one that was there (RFC 8613, 3.3)
 abbrev pub SendersDiffer : History → Type 0
@@ -22,6 +22,6 @@ HaveTwoKeysOrNonces t u = (t.context ≡ u.context → t.life ≡ u.life) → t.
 abbrev pub ServerKeysOrNoncesOnce : Type 0
 ServerKeysOrNoncesOnce = (h : History) → AllAnswers h → SendersDiffer h → TakesTickets h → Pairwise HaveTwoKeysOrNonces (texts h)
 
--- it also holds if each reply is to a request that waits for its answer (RFC 8613, 5.2)
+-- it also holds if each reply was due, whatever ticket it was by (RFC 8613, 5.2)
 abbrev pub WaitingKeysOrNoncesOnce : Type 0
-WaitingKeysOrNoncesOnce = (h : History) → AllAnswers h → SendersDiffer h → AnswersWaiting h → Pairwise HaveTwoKeysOrNonces (texts h)
+WaitingKeysOrNoncesOnce = (h : History) → AllAnswers h → SendersDiffer h → AnswersDue h → Pairwise HaveTwoKeysOrNonces (texts h)

@@ -1,6 +1,7 @@
 -- To be believed: which requests a server still has to answer, whatever ticket its caller shows: tickets may be copied or altered. h is a
 -- history, i the index of a context, c how many lives the context had before a given one, n the number of a request.
-use Rattle.std.specs.Prelude.{◌≡◌, ℕ, ◌+◌, ◌≤◌, ◌==◌, ◌&&◌, Bool, true, false, not, nat_le, Some, if◌then◌else◌}
+use Rattle.std.specs.Prelude.{◌≡◌, ℕ, ◌+◌, ◌≤◌, ◌==◌, ◌&&◌, ◌||◌, Bool, true, false, not, nat_le, Some, if◌then◌else◌}
+use Rattle.std.specs.List.{AllByRecursion}
 use Rattle.osc_laws.specs.Laws.{AllAnswers, AreApart, HaveTwoNonces, Pairwise, answered, texts}
 use Rattle.osc_life.specs.Life.{Life}
 use Rattle.osc_life.specs.ServerHistory.{History, Begin, Then, TicketValues, Datagram, Reply, Deliver, Took, Replied, life}
@@ -20,19 +21,35 @@ waits (Then h (Datagram now echo mid d) (Took (Deliver received ticket) reply)) 
 waits (Then h (Reply ticket own mid plain room) (Replied bytes)) i c n = if is_to i c n ticket then false else waits h i c n
 waits (Then h event entry) i c n = waits h i c n
 
--- each accepted reply is to a request that waits for its answer (RFC 8613, 8.3)
-abbrev pub AnswersWaiting : History → Type 0
-AnswersWaiting Begin = Unit {0}
-AnswersWaiting (Then h (Reply ticket own mid plain room) (Replied bytes)) = AnswersWaiting h × (waits h ticket.context ticket.life ticket.number ≡ true)
-AnswersWaiting (Then h event entry) = AnswersWaiting h
+-- the request lies far back: a request of the same life was delivered whose number is higher by 64 or more (own rule: 64)
+abbrev pub lies_far_back : History → ℕ → ℕ → ℕ → Bool
+lies_far_back Begin i c n = false
+lies_far_back (Then h (Datagram now echo mid d) (Took (Deliver received ticket) reply)) i c n = is_far_above i c n ticket || lies_far_back h i c n
+lies_far_back (Then h event entry) i c n = lies_far_back h i c n
 
--- if so, each request is answered at most once (RFC 8613, 8.3)
+-- a reply to the ticket's request is due: the request waits for its answer; or it lies far back, and the reply has a Partial IV of its own (RFC 8613, 8.3)
+abbrev pub is_due : History → TicketValues → Bool → Bool
+is_due h t own = waits h t.context t.life t.number || (own && lies_far_back h t.context t.life t.number)
+
+-- each accepted reply was due (RFC 8613, 8.3)
+abbrev pub AnswersDue : History → Type 0
+AnswersDue Begin = Unit {0}
+AnswersDue (Then h (Reply ticket own mid plain room) (Replied bytes)) = AnswersDue h × (is_due h ticket own ≡ true)
+AnswersDue (Then h event entry) = AnswersDue h
+
+-- each accepted reply to a request that waits is the first to it: so it is the only one as long as the request doesn't lie far back (RFC 8613, 8.3)
+abbrev pub AreFirst : History → Type 0
+AreFirst Begin = Unit {0}
+AreFirst (Then h (Reply ticket own mid plain room) (Replied bytes)) = AreFirst h × (waits h ticket.context ticket.life ticket.number ≡ true → AllByRecursion (AreApart ticket) (answered h))
+AreFirst (Then h event entry) = AreFirst h
+
+-- if each reply was due, this holds of them (RFC 8613, 8.3)
 abbrev pub AnsweredOnce : Type 0
-AnsweredOnce = (h : History) → AllAnswers h → AnswersWaiting h → Pairwise AreApart (answered h)
+AnsweredOnce = (h : History) → AllAnswers h → AnswersDue h → AreFirst h
 
--- if so, no two texts that the server seals in one life under one context share a nonce (RFC 8613, 5.2)
+-- then no two texts that the server seals in one life under one context share a nonce (RFC 8613, 5.2)
 abbrev pub WaitingNoncesOnce : Type 0
-WaitingNoncesOnce = (h : History) → AllAnswers h → AnswersWaiting h → Pairwise HaveTwoNonces (texts h)
+WaitingNoncesOnce = (h : History) → AllAnswers h → AnswersDue h → Pairwise HaveTwoNonces (texts h)
 
 -- a request that waits is of a life that its context has or had (RFC 8613, B.1)
 abbrev pub WaitingHasLife : Type 0

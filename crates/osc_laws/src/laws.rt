@@ -77,9 +77,9 @@ pub fn nonces_once()
     protections_show_heads();
 }
 
-/// States what holds even if tickets may be copied or altered, as long as each accepted reply is to a request that waits for its answer.
-/// Each request is answered at most once, notifications aside, and no two texts that a server seals in one life under one context share a
-/// nonce (RFC 8613, 5.2 and 8.3).
+/// States what holds even if tickets may be copied or altered, as long as each accepted reply is due: its request waits for the answer, or
+/// lies far back, and the reply has a Partial IV of its own. Each request that doesn't lie far back is answered at most once,
+/// notifications aside, and no two texts that a server seals in one life under one context share a nonce (RFC 8613, 5.2 and 8.3).
 pub fn answered_once()
     ensures once { AnsweredOnce }
     ensures nonces { WaitingNoncesOnce }

@@ -11,7 +11,8 @@ use Rattle.osc_client.specs.ClientHistory as client
 use Rattle.osc_endpoint.specs.ServerAnswer.{ServerAnswer}
 use Rattle.osc_laws.specs.Laws.{AreApart, answered}
 use Rattle.osc_laws.specs.Laws.{delivered as all_delivered}
-use Rattle.osc_laws.specs.Waiting.{AnsweredOnce}
+use Rattle.osc_laws.proofs.Waiting.{due_parts}
+use Rattle.osc_laws.specs.Waiting.{AnsweredOnce, lies_far_back, waits}
 use Rattle.osc_life.specs.ServerHistory as server
 use Rattle.osc_life.specs.declared.start.Start.{Start}
 use Rattle.osc_life.specs.declared.start.Start.TheVariants as starts
@@ -83,15 +84,20 @@ asks_after law s w p q requests later room runs event entry counted plain step t
 
 -- ---- tickets
 
--- an accepted reply takes a ticket that is left, however often that was copied
+-- an accepted reply takes a ticket that is left, however often that was copied, unless its request lies far back and another reply took it
 pub reply_trusts : AnsweredOnce → (n : ℕ) (s : SecurityContext) (w : World) (h g : server.History) (t : server.TicketValues) (own : Bool) (mid : ℕ) (plain : Parts) (room : ℕ) (entry : server.Entry)
-    (z : ServerParts) → AtEach (Answers n s) w → server_history s w ≡ Some h → Has t (all_delivered h) → ServerPasses h g → Serves z (server.Then g (server.Reply t own mid plain room) entry)
+    (z : ServerParts) → AtEach (Answers n s) w → server_history s w ≡ Some h → Has t (all_delivered h)
+    → (lies_far_back h t.context t.life t.number ≡ true → AllByRecursion (AreApart t) (answered h)) → ServerPasses h g → Serves z (server.Then g (server.Reply t own mid plain room) entry)
     → ServerTrusts s w h (server.Reply t own mid plain room) entry
-reply_trusts once n s w h g t own mid plain room (server.Replied bytes) z answers known has passes serves =
+reply_trusts once n s w h g t own mid plain room (server.Replied bytes) z answers known has unused passes serves =
     let left = had_tickets n s w h answers known in
-    let apart = once (server.Then g (server.Reply t own mid plain room) (server.Replied bytes)) serves.answers serves.waiting in
-    held h left.0 t left.1 has (subst (λ x. AllByRecursion (AreApart t) (answered x)) passes.is apart.0)
-reply_trusts once n s w h g t own mid plain room entry z answers known has passes serves = tt
+    let first = once (server.Then g (server.Reply t own mid plain room) (server.Replied bytes)) serves.answers serves.due in
+    let apart : AllByRecursion (AreApart t) (answered h) = elim (due_parts (waits g t.context t.life t.number) own (lies_far_back g t.context t.life t.number) serves.due.1) [
+      | inl waiting ↦ subst (λ x. AllByRecursion (AreApart t) (answered x)) passes.is (first.1 waiting)
+      | inr late ↦ unused (subst (λ x. lies_far_back x t.context t.life t.number ≡ true) passes.is late.1)
+    ] in
+    held h left.0 t left.1 has apart
+reply_trusts once n s w h g t own mid plain room entry z answers known has unused passes serves = tt
 
 -- neither a reply nor a notification is a delivery
 pub reply_under : (g : server.History) (t : server.TicketValues) (own : Bool) (mid : ℕ) (plain : Parts) (room : ℕ) (entry : server.Entry) (floor : ℕ)

@@ -1,6 +1,7 @@
 -- To be believed: the calls of a peer in bytes within the list of what happens at two devices (RFC 8613, 3.1, 7.4, 8.1 to 8.4 and B.1). w is the list before, v the
 -- list after, s the context as the device asks under it, p and q are the bytes before and after, requests are its pending requests, room is how many there is room for.
-use Rattle.std.specs.Prelude.{◌≡◌, ◌≤◌, ℕ, List, [], Some, max}
+use Rattle.std.specs.Prelude.{◌≡◌, ◌≤◌, ℕ, List, [], Some, max, true}
+use Rattle.std.specs.List.{AllByRecursion}
 use Rattle.osc_context.specs.SecurityContext.{SecurityContext}
 use Rattle.osc_window.specs.declared.window_size.WindowSize.{WindowSize}
 use Rattle.osc_client.specs.ClientDeciding as client_deciding
@@ -8,7 +9,8 @@ use Rattle.osc_client.specs.ClientHistory as client
 use Rattle.osc_client.specs.Views.{ClientShows}
 use Rattle.osc_client.specs.declared.client_outcome.ClientOutcome.{ClientOutcome}
 use Rattle.osc_client.specs.declared.decision.ClientDecision.{ClientDecision}
-use Rattle.osc_laws.specs.Laws.{delivered}
+use Rattle.osc_laws.specs.Laws.{AreApart, answered, delivered}
+use Rattle.osc_laws.specs.Waiting.{lies_far_back}
 use Rattle.osc_life.specs.Deciding as deciding
 use Rattle.osc_life.specs.ServerHistory as server
 use Rattle.osc_life.specs.Views.{Shows}
@@ -33,9 +35,10 @@ pub record RunsIn (s : SecurityContext) (w : Peers) (p : PeerHandle) (requests :
   pub serves : ServesBehind p own h
   pub asks : AsksBehind p requests room own a
 
--- a delivery of the device gave the ticket; the device itself sees to it that no reply took it yet (own rule)
+-- a delivery of the device gave the ticket; the device itself sees to it that no reply took it yet, unless the ticket's request lies far back: then none did (own rule)
 abbrev pub GivesTicketTo : SecurityContext → Peers → server.TicketValues → Type 0
-GivesTicketTo s w t = (h : server.History) → server_history (turned s) (back w) ≡ Some h → Has t (delivered h)
+GivesTicketTo s w t = (h : server.History) → server_history (turned s) (back w) ≡ Some h
+    → Has t (delivered h) × (lies_far_back h t.context t.life t.number ≡ true → AllByRecursion (AreApart t) (answered h))
 
 -- ---- what a call leaves
 

@@ -95,7 +95,7 @@ pub fn take_bytes_in_list<'b>(
 }
 
 /// Calls `PeerHandle::reply`. Its claim about that list assumes a ticket of this peer that a delivery gave, and a message without an Echo
-/// value. The ticket may have been copied: an accepted reply is the first to its request.
+/// value. The ticket may have been copied: an accepted reply is the first to its request, unless that lies far back. Then you see to it.
 pub fn reply_bytes_in_list(
     peer: &mut PeerHandle,
     ticket: &TicketHandle,
@@ -112,8 +112,8 @@ pub fn reply_bytes_in_list(
         × ((h : served.History) (o : Own) → ServesBehind peer.old o h → HasToSave (asks_own (ticket_in (inside_of peer.old ticket.now)) own) (upcoming o) peer.old) }
     ensures refuses { (h : served.History) (o : Own) → ServesBehind peer.old o h → IsTicket ticket.now → IsTicketOf peer.old ticket.now → HasToSave (asks_own (ticket_in (inside_of peer.old ticket.now)) own) (upcoming o) peer.old
         → result ≡ Err (replies.SaveFirst (next_limit peer.old.server.reserved)) }
-    ensures spent { result ≡ Err replies.TicketSpent → (h : served.History) (o : Own) → ServesBehind peer.old o h → IsSpent h (ticket_in (inside_of peer.old ticket.now)) }
-    ensures once { IsTicket ticket.now → IsTicketOf peer.old ticket.now → (h : served.History) (o : Own) → ServesBehind peer.old o h → IsSpent h (ticket_in (inside_of peer.old ticket.now))
+    ensures spent { result ≡ Err replies.TicketSpent → (h : served.History) (o : Own) → ServesBehind peer.old o h → IsSpent h (ticket_in (inside_of peer.old ticket.now)) (asks_own (ticket_in (inside_of peer.old ticket.now)) own) }
+    ensures once { IsTicket ticket.now → IsTicketOf peer.old ticket.now → (h : served.History) (o : Own) → ServesBehind peer.old o h → IsSpent h (ticket_in (inside_of peer.old ticket.now)) (asks_own (ticket_in (inside_of peer.old ticket.now)) own)
         → (HasToSave (asks_own (ticket_in (inside_of peer.old ticket.now)) own) (upcoming o) peer.old → ⊥) → result ≡ Err replies.TicketSpent }
     ensures foreign { IsPeer peer.old → IsTicket ticket.now → (IsTicketOf peer.old ticket.now → ⊥) → result ≡ Err (replies.Refused StaleTicket) }
     ensures bad { result ≡ Err replies.BadHandle → IsPeer peer.old → IsTicket ticket.now → ⊥ }

@@ -245,17 +245,17 @@ marked_count None l = refl
 marked_count (Some mark) l = refl
 
 -- a ticket that is spent once numbers were passed over was spent before
-pub spent_before : (h g : History) (t : TicketValues) → ServerPasses h g → IsSpent g t → IsSpent h t
-spent_before h g t passes spent =
-    let (of, present, none) = subst (λ x. IsSpent x t) passes.is spent in
+pub spent_before : (h g : History) (t : TicketValues) (own : Bool) → ServerPasses h g → IsSpent g t own → IsSpent h t own
+spent_before h g t own passes spent =
+    let (of, present, none) = subst (λ x. IsSpent x t own) passes.is spent in
     let (l, is, count) = count_marked (life h t.context) (skip_mark_at t.context 0 passes.count) of present.0 in
     (l, (is, present.1 ∙ count), none)
 
 -- and it stays spent
-pub spent_after : (h g : History) (t : TicketValues) → ServerPasses h g → IsSpent h t → IsSpent g t
-spent_after h g t passes (of, present, none) =
+pub spent_after : (h g : History) (t : TicketValues) (own : Bool) → ServerPasses h g → IsSpent h t own → IsSpent g t own
+spent_after h g t own passes (of, present, none) =
     let m = skip_mark_at t.context 0 passes.count in
-    subst (λ x. IsSpent x t) (sym passes.is) (marked m of, (ap (option_map (marked m)) present.0, present.1 ∙ sym (marked_count m of)), none)
+    subst (λ x. IsSpent x t own) (sym passes.is) (marked m of, (ap (option_map (marked m)) present.0, present.1 ∙ sym (marked_count m of)), none)
 
 -- whether the life is open doesn't change
 pub open_still : (h g : History) → ServerPasses h g → is_open_life (life g 0) ≡ is_open_life (life h 0)

@@ -106,7 +106,7 @@ serves_passed s h reached count next serves reached_is is most =
             (places_passed serves.slots (life h) l slot x count at life_is agrees serves.agrees.places);
         remembers = remembers_skipped _ h 0 count serves.remembers;
         answers = (serves.answers, row);
-        waiting = serves.waiting;
+        due = serves.due;
         senders = serves.senders;
       },
     )

@@ -3,17 +3,18 @@
 use Rattle.std.specs.Prelude.{◌≡◌, ℕ, List, false}
 use Rattle.osc_client.specs.ClientHistory as asked
 use Rattle.osc_laws.specs.ClientLaws.{RequestNumbersAre, RequestsHaveTwoNonces, sealed}
-use Rattle.osc_laws.specs.Laws.{AreApart, HaveTwoNonces, Pairwise, answered, texts}
+use Rattle.osc_laws.specs.Laws.{HaveTwoNonces, Pairwise, texts}
 use Rattle.osc_laws.specs.Plainness.{ClientIsPlain, ServerIsPlain}
+use Rattle.osc_laws.specs.Waiting.{AreFirst}
 use Rattle.osc_life.specs.ServerHistory as served
 use Rattle.osc_context_handle.specs.ContextBytes.{server_in}
 use Rattle.osc_kept_ends.specs.Numbering.{Own}
 use Rattle.osc_peer_handle.specs.PeerBytes.{AsksBehind, ServesBehind}
 use Rattle.osc_peer_handle.specs.declared.peer_handle.PeerHandle.{PeerHandle}
 
--- each request is answered at most once (RFC 8613, 8.3)
+-- each reply to a request that waits is the first to it: so a request is answered at most once as long as it doesn't lie far back (RFC 8613, 8.3)
 abbrev pub PeerAnswersOnce : Type 0
-PeerAnswersOnce = (p : PeerHandle) (o : Own) (h : served.History) → ServesBehind p o h → Pairwise AreApart (answered h)
+PeerAnswersOnce = (p : PeerHandle) (o : Own) (h : served.History) → ServesBehind p o h → AreFirst h
 
 -- no two texts that it sealed to answer, in one life, share a nonce (RFC 8613, 5.2)
 abbrev pub PeerAnswersApart : Type 0

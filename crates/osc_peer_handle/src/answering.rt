@@ -177,8 +177,8 @@ impl PeerHandle {
             × ((h : served.History) (o : Own) → ServesBehind self.old o h → HasToSave (asks_own (ticket_in (inside_of self.old ticket.now)) own) (upcoming o) self.old) }
         ensures refuses { (h : served.History) (o : Own) → ServesBehind self.old o h → IsTicket ticket.now → IsTicketOf self.old ticket.now → HasToSave (asks_own (ticket_in (inside_of self.old ticket.now)) own) (upcoming o) self.old
             → result ≡ Err (replies.SaveFirst (next_limit self.old.server.reserved)) }
-        ensures spent { result ≡ Err replies.TicketSpent → (h : served.History) (o : Own) → ServesBehind self.old o h → IsSpent h (ticket_in (inside_of self.old ticket.now)) }
-        ensures once { IsTicket ticket.now → IsTicketOf self.old ticket.now → (h : served.History) (o : Own) → ServesBehind self.old o h → IsSpent h (ticket_in (inside_of self.old ticket.now))
+        ensures spent { result ≡ Err replies.TicketSpent → (h : served.History) (o : Own) → ServesBehind self.old o h → IsSpent h (ticket_in (inside_of self.old ticket.now)) (asks_own (ticket_in (inside_of self.old ticket.now)) own) }
+        ensures once { IsTicket ticket.now → IsTicketOf self.old ticket.now → (h : served.History) (o : Own) → ServesBehind self.old o h → IsSpent h (ticket_in (inside_of self.old ticket.now)) (asks_own (ticket_in (inside_of self.old ticket.now)) own)
             → (HasToSave (asks_own (ticket_in (inside_of self.old ticket.now)) own) (upcoming o) self.old → ⊥) → result ≡ Err replies.TicketSpent }
         ensures foreign { IsPeer self.old → IsTicket ticket.now → (IsTicketOf self.old ticket.now → ⊥) → result ≡ Err (replies.Refused StaleTicket) }
         ensures bad { result ≡ Err replies.BadHandle → IsPeer self.old → IsTicket ticket.now → ⊥ }

@@ -4,8 +4,8 @@ ghost use Rattle.osc_peer_handle.specs.PeerLaws.{PeerAnswersApart, PeerAnswersOn
 
 use osc_laws::{answered_once, ends_are_plain, nonces_once, own_numbers_once};
 
-/// States that each request is answered at most once, and that no two texts that a peer seals to answer in one life share a nonce, even if its
-/// tickets are copied or altered (RFC 8613, 5.2 and 8.3).
+/// States that each request is answered at most once as long as it doesn't lie far back, and that no two texts that a peer seals to answer in
+/// one life share a nonce, even if its tickets are copied or altered (RFC 8613, 5.2 and 8.3).
 pub fn peer_answers_once()
     ensures once { PeerAnswersOnce }
     ensures nonces { PeerAnswersApart }

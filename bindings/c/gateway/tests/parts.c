@@ -198,7 +198,7 @@ typedef struct made {
     size_t out_len, saved;
 } made;
 
-static made reply_by(oscore_peer *peer, const oscore_ticket *ticket, bool own) {
+static made reply_by(oscore_peer *peer, oscore_ticket *ticket, bool own) {
     const uint8_t reply[] = {0x60, 68, 0, 0};
     made to = OSCORE_ZERO;
     oscore_peer_record record = OSCORE_ZERO;

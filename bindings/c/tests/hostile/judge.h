@@ -68,6 +68,7 @@ struct life {
     struct kept kept;
     struct challenge challenge;
     struct numbers spent, waiting;
+    uint64_t past; /* each number below it is 64 or more below one that was delivered in this life */
 };
 
 struct life fresh_life(const struct agreed *agreed);
@@ -85,7 +86,8 @@ bool admits(const struct life *life, bool has_echo, struct bytes echo);
 /* Gives the challenge in force, or else a fresh one, whose Echo value is the Sender Sequence Number that is spent for it (RFC 9175, A, method
    3). False where none is left. */
 bool challenge_in(struct life *life);
-bool is_waiting(const struct life *life, uint64_t number);
+/* Whether the request with this number may have such an answer: it waits for it; or it lies far back, and the answer has a number of its own. */
+bool is_due(const struct life *life, uint64_t number, bool has_own);
 void answered_in(struct life *life, uint64_t number);
 
 /* A datagram, and what is handed in with it. */

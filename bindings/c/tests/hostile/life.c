@@ -103,6 +103,7 @@ void deliver_in(struct life *life, uint64_t number) {
     life->is_challenged = false;
     spend(life, number);
     add_number(&life->waiting, number, ANSWERED_WITHIN);
+    if (number + 1 > life->past + ANSWERED_WITHIN) life->past = number + 1 - ANSWERED_WITHIN;
 }
 
 static bool is_in_force(const struct life *life) {
@@ -125,8 +126,8 @@ bool challenge_in(struct life *life) {
     return true;
 }
 
-bool is_waiting(const struct life *life, uint64_t number) {
-    return has(&life->waiting, number);
+bool is_due(const struct life *life, uint64_t number, bool has_own) {
+    return has(&life->waiting, number) || (has_own && number < life->past);
 }
 
 void answered_in(struct life *life, uint64_t number) {

@@ -119,6 +119,7 @@ void judge_take(struct server_judge *judge, oscore_size peer, const struct hande
 /* What refuses a ticket, and a plain message that is none. */
 static uint32_t refuses_ticket(const struct server_judge *judge, const struct answer *answer, struct judged *judged) {
     const oscore_ticket *ticket = &answer->ticket;
+    if (ticket->answered) return OSCORE_TICKET_SPENT;
     if (ticket->number >= NUMBER_LIMIT || ticket->observes > 1) return OSCORE_BAD_HANDLE;
     uint32_t fault = read_datagram(answer->plain, &judged->seen, &judged->detail);
     if (fault) return fault;
@@ -139,7 +140,7 @@ static uint32_t refuses(struct server_judge *judge, const struct answer *answer,
     if (refused) return refused;
     struct life *life = &judge->lives[answer->peer];
     save_first(&life->kept, has_own(answer), judged);
-    if (!is_waiting(life, ticket->number)) return OSCORE_TICKET_SPENT;
+    if (!is_due(life, ticket->number, has_own(answer))) return OSCORE_TICKET_SPENT;
     /* Of the plain head the code alone is used. */
     if (!is_response_code(plain->head.code)) return OSCORE_NOT_THAT_KIND;
     judged->detail = unsupported_of(&plain->body, allowed_as((struct sealed_as){.is_response = true, .context = answer->peer}));

@@ -83,7 +83,7 @@ static bool is_ticket(const oscore_ticket *ticket, const struct judged *judged) 
     oscore_size peer = judged->opened->as.context;
     return ticket->context == (oscore_size)judge.names[peer] && ticket->life == judge.lives[peer].kept.life && ticket->number == judged->request
         && ticket->kind == head.kind && ticket->message_id == head.message_id
-        && ticket->observes == judged->registers && is_same((struct bytes){ticket->token, ticket->token_len}, head.token);
+        && ticket->observes == judged->registers && !ticket->answered && is_same((struct bytes){ticket->token, ticket->token_len}, head.token);
 }
 
 /* Has an end find the peer that a datagram is for, behind the judge. */
@@ -151,7 +151,7 @@ static struct came take(struct server_end *end, oscore_size peer, const struct h
 
 /* Lays what an answer or a notification is made of, and asks for it. */
 static uint32_t call_reply(struct server_end *end, enum call call, const struct answer *answer) {
-    const oscore_ticket *ticket = lay_bytes(&end->ticket, (struct bytes){(const uint8_t *)&answer->ticket, sizeof *ticket});
+    oscore_ticket *ticket = lay_bytes(&end->ticket, (struct bytes){(const uint8_t *)&answer->ticket, sizeof *ticket});
     const uint8_t *plain = lay_bytes(&end->plain, answer->plain);
     uint8_t *out = lay(&end->out, answer->room);
     oscore_peer_record *record = lay_zeros(&end->record, sizeof *record);
@@ -174,7 +174,10 @@ static struct came reply(struct server_end *end, enum call call, const struct an
     uint32_t status = call_reply(end, call, answer);
     const oscore_size *out_len = (const oscore_size *)end->out_len.at, *detail = (const oscore_size *)end->detail.at;
     struct bytes written = {end->out.at, *out_len <= answer->room ? *out_len : answer->room};
-    bool is_left = !memcmp(end->ticket.at, &answer->ticket, sizeof answer->ticket)
+    /* A reply is marked in its ticket. */
+    oscore_ticket ticket = answer->ticket;
+    if (call == REPLY && !judged->status) ticket.answered = 1;
+    bool is_left = !memcmp(end->ticket.at, &ticket, sizeof ticket)
         && is_same((struct bytes){end->plain.at, answer->plain.len}, answer->plain);
     const char *differs = status != judged->status ? "answer"
         : status && *detail != judged->detail ? "detail"
@@ -229,6 +232,7 @@ static struct given draw_ticket(void) {
     case 5: ticket->message_id ^= 1, ticket->kind ^= 1; break;
     case 6: ticket->observes ^= 1; break;
     case 7: ticket->observes = 2; break;
+    case 9: ticket->answered = (uint8_t)(1 + below(255)); break;
     case 8: given.peer = (given.peer + 1) % CONTEXTS; break;
     }
     return given;

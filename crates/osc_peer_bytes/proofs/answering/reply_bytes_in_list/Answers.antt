@@ -19,6 +19,7 @@ returns-clause-answered c = λ s w requests room counted runs of gives none.
     let size = length c.args.out.now in
     IfSome_then (entry_of_kept_reply c.reply.result c.reply.new.out) (c.reply.ensures.answered of runs.h runs.own runs.serves) (λ entry step.
     answers_after c.peer_calls_in_list.ensures.server s w c.args.peer.now c.reply.new.self requests room runs (Reply t own c.args.mid plain size) entry counted tt (inl none) step
-    (reply_trusts c.answered_once.ensures.once room (turned s) (back w) runs.h step.g t own c.args.mid plain size entry _ counted.back_is.answers runs.runs.server_is (gives runs.h runs.runs.server_is)
+    (reply_trusts c.answered_once.ensures.once room (turned s) (back w) runs.h step.g t own c.args.mid plain size entry _ counted.back_is.answers runs.runs.server_is (gives runs.h runs.runs.server_is).0
+    (gives runs.h runs.runs.server_is).1
     step.passes step.serves.serves)
     (reply_under step.g t own c.args.mid plain size entry c.reply.new.self.received step.row))

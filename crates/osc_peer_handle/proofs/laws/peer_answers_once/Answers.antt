@@ -2,6 +2,6 @@ use Rattle.osc_peer_handle.proofs.laws.peer_answers_once.Goals as goal
 
 pub returns : goal.returns
 returns c = record {
-  once = λ p o h w. c.answered_once.ensures.once h w.serves.answers w.serves.waiting;
-  nonces = λ p o h w. c.answered_once.ensures.nonces h w.serves.answers w.serves.waiting;
+  once = λ p o h w. c.answered_once.ensures.once h w.serves.answers w.serves.due;
+  nonces = λ p o h w. c.answered_once.ensures.nonces h w.serves.answers w.serves.due;
 }

@@ -44,12 +44,14 @@ returns-clause-refuses c = λ h o w ticket of wants.
 pub returns-clause-spent : goal.returns-clause-spent
 returns-clause-spent c = λ is h o w.
     let (g, passes, serves) = caught_up c.args.self.now o h w in
-    subst (λ x. IsSpent h (ticket_in x)) c.in-Some.ensures.some.0 (spent_before h g (ticket_in c.in-Some.inside) passes (c.reply.ensures.spent is g o serves))
+    let t = ticket_in c.in-Some.inside in
+    subst (λ x. IsSpent h (ticket_in x) (asks_own (ticket_in x) c.args.own)) c.in-Some.ensures.some.0 (spent_before h g t (asks_own t c.args.own) passes (c.reply.ensures.spent is g o serves))
 
 pub returns-clause-once : goal.returns-clause-once
 returns-clause-once c = λ ticket of h o w spent none.
     let p = c.args.self.now in
+    let t = ticket_in c.in-Some.inside in
     let (g, passes, serves) = caught_up p o h w in
     c.reply.ensures.once (inside_whole p c.args.ticket.now c.in-Some.inside c.in-Some.ensures.some.0 ticket) g o serves
-    (spent_after h g (ticket_in c.in-Some.inside) passes (subst (λ x. IsSpent h (ticket_in x)) (sym c.in-Some.ensures.some.0) spent))
+    (spent_after h g t (asks_own t c.args.own) passes (subst (λ x. IsSpent h (ticket_in x) (asks_own (ticket_in x) c.args.own)) (sym c.in-Some.ensures.some.0) spent))
     (λ wants. none (inr (subst (λ x. WantsSave (asks_own (ticket_in x) c.args.own) (upcoming o) p.server.reserved) c.in-Some.ensures.some.0 wants)))

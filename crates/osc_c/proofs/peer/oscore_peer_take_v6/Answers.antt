@@ -7,7 +7,7 @@ use Rattle.osc_peer_handle.specs.PeerBytes.{inside_of, next_in}
 use Rattle.osc_c.specs.Answering.{ReadsServing}
 use Rattle.osc_c.specs.Statuses.{code}
 use Rattle.osc_c.proofs.PeerRead.{answered_once, peer_serving_read}
-use Rattle.osc_c.proofs.peer.oscore_peer_take_v5.Goals as goal
+use Rattle.osc_c.proofs.peer.oscore_peer_take_v6.Goals as goal
 
 pub returns-in-Ok-clause-opened : goal.returns-in-Ok-clause-opened
 returns-in-Ok-clause-opened c = λ done. (
