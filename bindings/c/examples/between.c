@@ -1,12 +1,13 @@
 /* A network between a key and its lock, or a reader and its sensor, that isn't as kind as 127.0.0.1 is, for run.sh.
 
-       between PORT request|reply|separate|first|lost|late|twice|answer
+       between PORT request|reply|separate|first|lost|late|twice|answer|again|reset
 
    It says at which port it listens, and hands datagrams on to PORT, and what comes from there back to whoever sent last. The first
    request is lost, or the first reply; or a reply comes as of a lock that is slow: an empty acknowledgment, and then the response in a
-   confirmable message of its own (RFC 7252, 5.2.2), for OSCORE protects neither kind nor message ID. By the last five words it says what a
+   confirmable message of its own (RFC 7252, 5.2.2), for OSCORE protects neither kind nor message ID. By the last seven words it says what a
    stranger sees of what comes from PORT, and there the first notification is lost; or of the confirmable messages the first is lost, or
-   comes late, behind the second, or twice; or the first reply that is no notification is lost. It ends where nothing came for ten
+   comes late, behind the second, or twice; or the first reply that is no notification is lost; or the first request comes twice; or the
+   first confirmable message is answered by a reset, as a client would that lost what it knew. It ends where nothing came for ten
    seconds. */
 #define _DEFAULT_SOURCE
 #include <arpa/inet.h>
@@ -22,7 +23,7 @@ static int front, back;
 static struct sockaddr_in key;
 static uint8_t datagram[1500], held[1500];
 static size_t held_len;
-static bool lose_request, lose_reply, separate, is_observed, lose_first, lose_next, hold_next, double_next, lose_answer;
+static bool lose_request, lose_reply, separate, is_observed, lose_first, lose_next, hold_next, double_next, lose_answer, double_request, reset_next;
 /* Of the response that comes by itself, and the key's acknowledgment of it. */
 static const uint8_t OWN_ID[2] = {0xab, 0xcd}, ACKNOWLEDGED[4] = {0x60, 0, 0xab, 0xcd};
 
@@ -47,8 +48,9 @@ static void from_key(void) {
         fflush(stdout);
     } else if (len >= 4 && !lose_request) {
         send(back, datagram, (size_t)len, 0);
+        if (double_request) send(back, datagram, (size_t)len, 0);
     }
-    lose_request = false;
+    lose_request = double_request = false;
 }
 
 /* What a stranger sees of what the sensor sends. Observe is the first option of a notification, behind the token. */
@@ -65,8 +67,14 @@ static void say(size_t len) {
     fflush(stdout);
 }
 
-/* A confirmable message that is the first of its kind is lost, held or doubled; what was held goes behind the next one. */
+/* A confirmable message that is the first of its kind is lost, held, doubled or reset; what was held goes behind the next one. */
 static void confirmable(size_t len) {
+    if (reset_next) {
+        const uint8_t reset[] = {0x70, 0, datagram[2], datagram[3]};
+        send(back, reset, sizeof reset, 0);
+        reset_next = false;
+        return;
+    }
     if (!lose_next && !hold_next) to_key(datagram, len);
     if (double_next) to_key(datagram, len);
     if (held_len > 0) to_key(held, held_len);
@@ -102,11 +110,12 @@ static void from_lock(void) {
 }
 
 int main(int count, char **words) {
-    if (count != 3) stop("between PORT request|reply|separate|first|lost|late|twice|answer");
+    if (count != 3) stop("between PORT request|reply|separate|first|lost|late|twice|answer|again|reset");
     lose_request = !strcmp(words[2], "request"), lose_reply = !strcmp(words[2], "reply"), separate = !strcmp(words[2], "separate");
     lose_first = !strcmp(words[2], "first"), lose_next = !strcmp(words[2], "lost"), hold_next = !strcmp(words[2], "late");
     double_next = !strcmp(words[2], "twice"), lose_answer = !strcmp(words[2], "answer");
-    is_observed = lose_first || lose_next || hold_next || double_next || lose_answer;
+    double_request = !strcmp(words[2], "again"), reset_next = !strcmp(words[2], "reset");
+    is_observed = lose_first || lose_next || hold_next || double_next || lose_answer || double_request || reset_next;
     struct sockaddr_in own = loopback(0), lock = loopback((uint16_t)atoi(words[1]));
     socklen_t own_len = sizeof own;
     front = socket(AF_INET, SOCK_DGRAM, 0), back = socket(AF_INET, SOCK_DGRAM, 0);

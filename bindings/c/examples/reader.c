@@ -20,11 +20,14 @@
 #include <sys/socket.h>
 #include <time.h>
 
-/* RFC 7252, 4.8, 4.8.2 and 5.10.5. A try may have another first timeout. */
+/* RFC 7252, 4.8, 4.8.2 and 5.10.5. A try may have another first timeout, and give up earlier. */
 #ifndef ACK_TIMEOUT_MS
 #define ACK_TIMEOUT_MS 2000
 #endif
-enum { MAX_RETRANSMIT = 4, EXCHANGE_LIFETIME_MS = 247000, MAX_AGE_MS = 60000 };
+#ifndef MAX_AGE_MS
+#define MAX_AGE_MS 60000
+#endif
+enum { MAX_RETRANSMIT = 4, EXCHANGE_LIFETIME_MS = 247000 };
 enum { CON = 0, ACK = 2, RST = 3, GET = 1, UNAUTHORIZED = 129, OBSERVE = 6, URI_PATH = 11, ECHO = 252 };
 
 /* As sensor.c has them. */
@@ -135,7 +138,7 @@ static oscore_opened exchange(const uint8_t *datagram, size_t len) {
     }
 }
 
-/* Waits for the next notification, or for the last response. What was heard is fresh for 60 seconds where nothing else is said (RFC 7252,
+/* Waits for the next notification, or for the last response. What was heard is fresh for 60 seconds if nothing else is said (RFC 7252,
    5.10.5): behind that a reader may register anew (RFC 7641, 3.3.1), and this one gives up. */
 static oscore_opened hear(void) {
     oscore_opened response = OSCORE_ZERO;

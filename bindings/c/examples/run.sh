@@ -17,6 +17,8 @@ done
 for source in {lock,key,sensor,reader,between}.c "$work"/other_{lock,key}.c; do
     cc -std=c11 -Wall -Wextra -Werror -O1 -D ACK_TIMEOUT_MS=3000 -I .. "$@" "$source" "$library" -o "$work/$(basename "$source" .c)"
 done
+# A reader that gives up after four seconds in which it hears nothing new.
+cc -std=c11 -Wall -Wextra -Werror -O1 -D ACK_TIMEOUT_MS=3000 -D MAX_AGE_MS=4000 -I .. "$@" reader.c "$library" -o "$work/hasty"
 mkfifo "$work/says"
 
 # Starts a lock or a sensor for so many datagrams; its first line says its port.
@@ -43,10 +45,10 @@ finish() {
     server=
 }
 
-# Lets a key or a reader speak.
+# Lets a key or a reader speak. The hasty reader gives up.
 ask() {
     echo "-- $*"
-    (cd "$work" && timeout 30 "./$1" "$port" "${@:2}") | sed "s/^/$1: /"
+    (cd "$work" && timeout 30 "./$1" "$port" "${@:2}") | sed "s/^/$1: /" || [ "$1" = hasty ]
 }
 
 # Sends a datagram once more, as somebody who overheard it and has no key can. All that is read of the reply is its code: 2.04 where it
@@ -150,6 +152,18 @@ of_sensor_and_reader() {
     # The answer to a cancellation is lost, so that comes again.
     begin sensor 3 sensor.record
     behind answer reader reader.record 1
+    finish
+    # The registration comes twice: it is obeyed once, and its first notification is sent again.
+    begin sensor 3 sensor.record
+    behind again reader reader.record 9
+    finish
+    # A notification is answered by a reset: the sensor notifies no more, and has nobody to whom to say that it ends.
+    begin sensor 2 sensor.record
+    behind reset hasty reader.record 9
+    finish
+    # The end is lost. The reader gives up once what it heard is too old.
+    begin sensor 2 sensor.record
+    behind answer hasty reader.record 9
     finish
     kept sensor.record
     kept reader.record
