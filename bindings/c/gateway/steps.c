@@ -112,13 +112,14 @@ static bool is_written(const item *of) {
     return of->outcome == ITEM_SPENT || of->outcome == ITEM_CHALLENGE || of->outcome == ITEM_DELIVERED;
 }
 
+/* What the row says counts, and not what was sealed before a write that came too late: each time the ticket is as the delivery gave it. */
 static oscore_status reply(item *of) {
     oscore_peer *by = &of->row.peer;
+    oscore_ticket ticket = of->ticket;
     oscore_peer_record record = OSCORE_ZERO;
     oscore_status status;
     size_t detail;
-    do status = oscore_peer_reply(by, &of->ticket, of->own, of->mid, of->plain, of->plain_len, of->out, sizeof of->out, &of->out_len, &record,
-                                  &detail);
+    do status = oscore_peer_reply(by, &ticket, of->own, of->mid, of->plain, of->plain_len, of->out, sizeof of->out, &of->out_len, &record, &detail);
     while (life_goes_on(by, status, &record));
     return status;
 }

@@ -228,7 +228,7 @@ static void are_alike(history *h, const made *one, const made *two) {
     through(&h->kept, &h->key);
 }
 
-/* Begins another life, in which the tickets of the one before are stale. */
+/* Begins another life, in which the tickets of the one before are stale. The last one answered, which it says itself. */
 static void begin_anew(history *h) {
     const oscore_context context = h->alone.server.context.context;
     uint64_t next = h->alone.server.context.next + drawn() % 9;
@@ -238,6 +238,10 @@ static void begin_anew(history *h) {
     through(&h->kept, &h->key);
     if (!h->has_ticket) return;
     made one = reply_by(&h->alone, &h->ticket[0], true), two = reply_by(&h->kept.peer, &h->ticket[1], true);
+    CHECK(one.status == OSCORE_TICKET_SPENT);
+    are_alike(h, &one, &two);
+    h->ticket[0].answered = h->ticket[1].answered = 0;
+    one = reply_by(&h->alone, &h->ticket[0], true), two = reply_by(&h->kept.peer, &h->ticket[1], true);
     CHECK(one.status == OSCORE_STALE_TICKET);
     are_alike(h, &one, &two);
     h->stale++;
