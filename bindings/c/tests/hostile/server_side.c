@@ -309,14 +309,15 @@ void step_serving(void) {
     for (oscore_size i = 0; i < judged.save_count; i++) count_save(TAKE);
     for (int i = 0; i < ENDS; i++) came[i] = take(&ends[i], peer, &handed, &judged);
     report(TAKE, &judged, came, handed.datagram);
-    bool is_delivered = came[0].status == OSCORE_DONE;
+    bool is_delivered = came[0].status == OSCORE_DONE, is_registered = is_delivered && judged.registers;
     if (is_delivered) {
         struct given given = {*(const oscore_ticket *)ends[0].ticket.at, peer};
         tickets[ticket_count++ % TICKETS] = given;
-        if (judged.registers) observing[observing_count++ % TICKETS] = given;
+        if (is_registered) observing[observing_count++ % TICKETS] = given;
     }
     judged.sealed.by_library = true;
     if (judged.has_sealed) keep(&judged.sealed);
-    for (uint64_t times = is_delivered ? below(3) : ticket_count ? one_in(6) : 0; times > 0; times--) ask_for(REPLY);
-    for (uint64_t times = ticket_count ? below(3) : 0; times > 0; times--) ask_for(NOTIFY);
+    /* A registration has its answer later: with that, it isn't notified. */
+    for (uint64_t times = is_delivered && !is_registered ? below(3) : ticket_count ? one_in(6) : 0; times > 0; times--) ask_for(REPLY);
+    for (uint64_t times = ticket_count ? is_registered + below(3) : 0; times > 0; times--) ask_for(NOTIFY);
 }
