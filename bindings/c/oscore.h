@@ -125,7 +125,7 @@ typedef enum oscore_status {
     OSCORE_NO_CONTEXT = 31,        /* the request names no context of the peer, or of the peers */
     OSCORE_WRONG_CONTEXT = 32,     /* the request names another context by its kid or kid context */
     OSCORE_REPLAY = 33,            /* the request's number isn't new, or too old to tell */
-    OSCORE_OLD = 34,               /* a later response to the same registration came before this one */
+    OSCORE_OLD = 34,               /* a later response to the same registration came before this notification */
     OSCORE_TAG = 35,               /* the payload protects nothing under this context and this number */
     OSCORE_INNER = 36,             /* it protects what may not stand inside a message */
     OSCORE_CHALLENGE = 37,         /* a new life, and the request lacks the Echo value that the reply asks for */
@@ -754,18 +754,20 @@ OSCORE_MUST_USE static inline oscore_status oscore_peer_request(oscore_peer *pee
    gives it each datagram first: a request is OSCORE_NOT_THAT_KIND here, as it came, and goes to `oscore_peer_take`.
    0: a response to a pending request, which is pending no more, and `request` is its number; that, `opened` and `options` are written at 0
    alone. Where `opened->is_notification` is true, it is a notification of the registration `request`, which stays pending, and later ones
-   come in the same way; each is delivered once at most, and none after a later one, which is OSCORE_OLD. OSCORE_BUSY and OSCORE_BAD_HANDLE
-   leave the peer as it was, the others move its clock.
+   come in the same way; each is delivered once at most, and none after a later one, which is OSCORE_OLD. Any other response is the last
+   one, also one without a Partial IV behind notifications. OSCORE_BUSY and OSCORE_BAD_HANDLE leave the peer as it was, the others move
+   its clock.
    Each other refusal says that this datagram isn't the response, and nothing of the one that may still come: the request stays pending,
    and the caller keeps waiting, until 0, the end of `life_ms`, `oscore_peer_forget` or a new life. Anyone may have sent what is refused,
-   and anyone can send an error without protection; OSCORE_INNER alone says that it was sealed with the other end's Sender Key.
+   and anyone can send an error without protection; OSCORE_INNER, and OSCORE_OLD without a Partial IV, alone say that it was sealed with
+   the other end's Sender Key.
    An end that asks for an Echo value answers 0 with the code 129, 4.01, and the option 252. It may have lost what it knew, so this doesn't
    say that the request wasn't obeyed: it may have been obeyed before, and a copy of it that comes late may yet be. Where what is asked for
    may be done twice, ask anew with that option's value (RFC 9175, 2.3): that is another request, and is obeyed too.
    Empty messages are OSCORE_NOT_THAT_KIND here: by their message ID they tell the caller that a request arrived (ACK), so that it isn't
    sent again, or that it isn't answered (RST), so that it can be forgotten.
-   Behind 0 and OSCORE_INNER the datagram holds what was inside, and the old tag behind it; else it is as it came. (What it holds is
-   tested, and proved of the call behind this one.) */
+   Behind 0 and OSCORE_INNER the datagram holds what was inside, and the old tag behind it; so it does at OSCORE_OLD if it has no Partial
+   IV. Else it is as it came. (What it holds is tested, and proved of the call behind this one.) */
 OSCORE_MUST_USE static inline oscore_status oscore_peer_hear(oscore_peer *peer, oscore_pending *pending, oscore_size pending_room,
                                                              oscore_size *pending_count, uint64_t now, uint8_t *datagram, oscore_size datagram_len,
                                                              oscore_option *options, oscore_size options_room, oscore_opened *opened,

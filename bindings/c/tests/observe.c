@@ -158,11 +158,18 @@ static oscore_status serve(const char *text) {
     return serve_bytes(bytes, len);
 }
 
+/* Whether the last option, which is OSCORE, is one without a value: there is no Partial IV. */
+static bool has_no_number(const uint8_t *bytes, oscore_size len) {
+    const uint8_t *marker = memchr(bytes, 0xff, len);
+    return marker && (marker[-1] == 0x30 || marker[-1] == 0x90);
+}
+
 /* A response comes. What isn't opened stays. */
 static oscore_status hear_bytes(uint64_t now, const uint8_t *bytes, oscore_size len) {
     uint8_t *datagram = guarded_copy(DATAGRAM, bytes, len);
     oscore_status status = oscore_peer_hear(asking, pending, PLACES, pending_count, now, datagram, len, options, 4, opened, number, detail);
-    CHECK(!status || status == OSCORE_INNER || !memcmp(datagram, bytes, len));
+    bool is_opened = !status || status == OSCORE_INNER || (status == OSCORE_OLD && has_no_number(bytes, len));
+    CHECK(is_opened == (memcmp(datagram, bytes, len) != 0));
     return status;
 }
 
@@ -321,6 +328,18 @@ static void ends(void) {
     CHECK(!opened->is_notification && opened->has_number && opened->number == 0 && opened->code == 0x84 && *pending_count == 0);
 }
 
+/* A notification without a Partial IV is the first. The last answer may have none too, as others seal it, and ends the wait wherever it comes. */
+static void hears_without_a_number(void) {
+    static const char *const FIRST = "514570004a610130ffdb35f973f9bb320708b776abeef1", *const LAST = "514400094a90ff1a106b852326dd7c16";
+    registered();
+    CHECK(!hear(1, FIRST, 0) && opened->is_notification && !opened->has_number && pending[0].from == 1);
+    CHECK(hear(2, FIRST, 0) == OSCORE_OLD && *detail == 0 && *pending_count == 1 && pending[0].from == 1);
+    CHECK(!hear(3, NOTIFICATIONS[1], 0) && is_notified(1, "20.2"));
+    CHECK(hear(4, FIRST, 0) == OSCORE_OLD && hear(5, LAST, 1) == OSCORE_TAG && pending[0].from == 3);
+    CHECK(!hear(6, LAST, 0) && !opened->is_notification && !opened->has_number && opened->code == 0x84 && *number == 20 && *pending_count == 0);
+    CHECK(hear(7, LAST, 0) == OSCORE_UNKNOWN_TOKEN && hear(8, NOTIFICATIONS[3], 0) == OSCORE_UNKNOWN_TOKEN);
+}
+
 /* What no call wrote of a wait is refused. */
 static void refuses_waits(void) {
     registered();
@@ -466,6 +485,7 @@ int main(void) {
             lasts_where_it_is_served();
             lasts_where_it_is_asked();
             ends();
+            hears_without_a_number();
             refuses_waits();
             allows_nothing_else();
             hears_no_notification();

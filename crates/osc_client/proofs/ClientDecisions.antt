@@ -1,5 +1,5 @@
 -- What a client decides of a datagram, after a history.
-use Rattle.std.proofs.Common.{◌≡◌, ℕ, ◌+◌, ◌≤◌, ◌∙◌, sym, ap, subst, refl, bytes_eq, not, Bool, true, false, Option, Some, None, List, if◌then◌else◌}
+use Rattle.std.proofs.Common.{◌≡◌, ℕ, ◌+◌, ◌<◌, ◌≤◌, ◌∙◌, arith, inl, inr, sym, ap, subst, refl, bytes_eq, not, Bool, true, false, Option, Some, None, List, if◌then◌else◌}
 use Rattle.std.specs.Prelude.{Contains, max, remove}
 use Rattle.std.specs.Option.{option_map}
 use Rattle.osc_coap.specs.Code.{is_response}
@@ -25,13 +25,13 @@ use Rattle.osc_client.specs.declared.pending.Wait.{Wait}
 use Rattle.osc_client.specs.declared.pending.Wait.TheVariants.{Once, Observing}
 use Rattle.osc_client.specs.Agrees.{ClientParts, PartsAgree, TokensDiffer}
 use Rattle.osc_client.specs.Awaited.{AwaitedShowHeads, OneAwaited}
-use Rattle.osc_client.specs.ClientAnswer.{IsAmong, IsAnswerTo, IsAwaited, SaysAwaited, SaysOwn, awaited, continues}
+use Rattle.osc_client.specs.ClientAnswer.{IsAmong, IsAnswerTo, IsFirstAgain, IsInPlace, MayAwait, SaysAwaited, SaysOwn, awaited, continues}
 use Rattle.osc_client.specs.ClientDeciding.{DecidesAmong, IsDecryptedFor, IsFoundIn, IsOpenedAmong, OfWhatWasRead, ReadsAs, wait_after}
-use Rattle.osc_client.specs.ClientHistory.{Advance, Advanced, Asked, Datagram, Deliver, History, Notified, Then, Took, after_place, alive, asked, clock, context, first_place, life_ms, observes, pending_at, without}
+use Rattle.osc_client.specs.ClientHistory.{Advance, Advanced, Asked, Datagram, Deliver, History, Notified, Old, Then, Took, after_place, alive, asked, clock, context, first_place, life_ms, observes, pending_at, without}
 use Rattle.osc_observe.specs.Observing.{is_notification, place_of}
 use Rattle.osc_observe.specs.Received.{Received}
 use Rattle.osc_observe.proofs.Receiving.{said, receives_said, opened_said}
-use Rattle.osc_client.proofs.Asking.{contains_at, contains_filter, differ_filter, differ_heard, ended, heard, heard_alive, removed}
+use Rattle.osc_client.proofs.Asking.{contains_at, contains_filter, differ_filter, differ_heard, ended, heard, heard_alive, moved, removed}
 
 -- a fact of the client's context and a request's number, in the words of the history
 pub in_history : (P : Protection (Option ℕ) → Type 0) (s t : SecurityContext) (r b : Bool) (k n m : ℕ) → s ≡ t → r ≡ b → k ≡ n → m ≡ n
@@ -52,11 +52,27 @@ pub same_own : (s : SecurityContext) (r q : Asked) (d : List ℕ) (a b : Option 
 same_own s r q d a b one (head, has, names) (other, there, says) =
     ap (λ (x : OscoreParts). x.piv) (sym names ∙ ap (λ (x : Head). x.parts) (one.head _ head other has there) ∙ says)
 
--- what a datagram protects is awaited, if its head says so
-pub is_awaited : (s : SecurityContext) (r : Asked) (d : List ℕ) (own : Option ℕ) (m : InnerParts) → OneResponseHead → AwaitedShowHeads
-    → Protects (awaited s r) own m d → SaysAwaited s r d → IsAwaited r own
-is_awaited s r d own m one shows protects (other, says, later) =
-    subst (IsAwaited r) (same_own s r r d other own one says ((shows s (observes r.wait) r.number).protects d own m protects)) later
+-- what a datagram protects may be awaited, if its head says so
+pub may_await : (s : SecurityContext) (r : Asked) (d : List ℕ) (own : Option ℕ) (m : InnerParts) → OneResponseHead → AwaitedShowHeads
+    → Protects (awaited s r) own m d → SaysAwaited s r d → MayAwait r.wait own
+may_await s r d own m one shows protects (other, says, later) =
+    subst (MayAwait r.wait) (same_own s r r d other own one says ((shows s (observes r.wait) r.number).protects d own m protects)) later
+
+-- the last response is in place
+pub last_in_place : (r : Asked) (own : Option ℕ) (m : InnerParts) → MayAwait r.wait own → continues r.wait m ≡ false → IsInPlace r own m
+last_in_place r None m may last = inr (refl, last)
+last_in_place r (Some own) m may last = inl may
+
+-- a notification isn't, if it has no Partial IV and the registration waits for later ones
+pub first_again : (s : SecurityContext) (r : Asked) (d : List ℕ) (own : Option ℕ) (m : InnerParts) → Protects (awaited s r) own m d → MayAwait r.wait own → continues r.wait m ≡ true
+    → place_of own < first_place r.wait → IsFirstAgain s r d
+first_again s r d None m protects may more before = (m, protects, more, omega (arith, before))
+first_again s r d (Some own) m protects may more before = absurd (omega (arith, may, before))
+
+-- the place behind a response
+pub place_after : (place : ℕ) (wait : Wait) (m : InnerParts) → continues wait m ≡ true → first_place (after_place place wait) ≡ place + 1
+place_after place Once m more = absurd (let e = more in cc)
+place_after place (Observing from) m more = refl
 
 -- what was found at a place of the table is found among its requests
 pub there : (xs : List Asked) (f : Found) (t token : List ℕ) → t ≡ token → IsFoundIn xs t f
@@ -68,10 +84,10 @@ pub says_own : (s : SecurityContext) (r : Asked) (d : List ℕ) (head : Response
 says_own s r d head has = (seen_response_head head, has, refl)
 
 pub says_awaited : (s : SecurityContext) (r : Asked) (d : List ℕ) (head : ResponseHead) (f : Found) → HasResponseHead d (seen_response_head head) → r.wait ≡ f.wait
-    → first_place f.wait ≤ place_of (option_map number_of head.number) → SaysAwaited s r d
+    → MayAwait f.wait (option_map number_of head.number) → SaysAwaited s r d
 says_awaited s r d head f has is later =
     let own = option_map number_of head.number in
-    (own, says_own s r d head has, subst (λ w. first_place w ≤ place_of own) (sym is) later)
+    (own, says_own s r d head has, subst (λ w. MayAwait w own) (sym is) later)
 
 pub not_there : (c : ClientParts) (h : History) (now : ℕ) (t token : List ℕ) → PartsAgree c (Then h (Advance now) Advanced) → t ≡ token → (IsAmong t c.pending → ⊥)
     → IsAmong token (pending_at h (max (clock h) now)) → ⊥
@@ -111,6 +127,24 @@ is_last false w e = refl
 is_more : (b : Bool) (v w : Wait) → Some v ≡ (if b then Some w else None) → (b ≡ true) × (v ≡ w)
 is_more true v w e = (refl, cc)
 is_more false v w e = absurd (let f = e in cc)
+
+-- what was decrypted and read, and continues the wait behind what it waits for, is old
+pub overtaken : (c : ClientParts) (h : History) (now : ℕ) (d new : List ℕ) (x : DecryptedResponse) (f : Found) → IsDecryptedFor h now d x f new c → (y : ReadResponse) (wait : Wait)
+    → OneResponseHead → AwaitedShowHeads → CanLendResponse new x y → AcceptsResponseAfter new x → OfWhatWasRead new y (λ own m. Some wait ≡ wait_after f.wait own m)
+    → first_place wait ≤ first_place f.wait → DecidesAmong h now d decisions.Old new c
+overtaken c h now d new x f was y wait head shows can accepts over behind =
+    let s = context h in
+    let r = was.to in
+    let (own, m, p) = accepts s (observes r.wait) r.number d was.decrypts in
+    let (more, wait_is) = is_more (continues f.wait m) wait (after_place (place_of own) f.wait) (over x s (observes r.wait) r.number d own m can was.decrypts p) in
+    let place : first_place wait ≡ place_of own + 1 = ap first_place wait_is ∙ place_after (place_of own) f.wait m more in
+    let from : first_place r.wait ≡ first_place f.wait = ap first_place was.wait_is in
+    record {
+      answer = Old;
+      row = (r, was.answers, inr (first_again s r d own m p (may_await s r d own m head shows p was.awaits) (ap (λ w. continues w m) was.wait_is ∙ more) (omega (arith, behind, place, from))));
+      decides = tt;
+      agrees = moved c h now _ _ refl refl refl was.agrees;
+    }
 
 module _ (c after : ClientParts) (h : History) (now : ℕ) (d new : List ℕ) (x : DecryptedResponse) (f : Found) (was : IsDecryptedFor h now d x f new c) where
   abbrev moment : ℕ
@@ -187,7 +221,7 @@ module _ (c after : ClientParts) (h : History) (now : ℕ) (d new : List ℕ) (x
           (
             sym was.number_is,
             own,
-            is_awaited s r d own m head shows p was.awaits,
+            last_in_place r own m (may_await s r d own m head shows p was.awaits) (ap (λ w. continues w m) was.wait_is ∙ last),
             receives_said (awaited s r) own m d p,
             ap (λ w. continues w m) was.wait_is ∙ last,
           ),
@@ -198,15 +232,17 @@ module _ (c after : ClientParts) (h : History) (now : ℕ) (d new : List ℕ) (x
 
   -- what was decrypted and read, and continues the wait, is notified
   pub notified : (y : ReadResponse) (wait : Wait) → DatagramIsOneMessage → OneAwaited → OneResponseHead → AwaitedShowHeads → CanLendResponse new x y → AcceptsResponseAfter new x
-      → OfWhatWasRead new y (λ own m. Some wait ≡ wait_after f.wait own m)
+      → first_place f.wait < first_place wait → OfWhatWasRead new y (λ own m. Some wait ≡ wait_after f.wait own m)
       → after.context ≡ c.context → after.life_ms ≡ c.life_ms → after.clock ≡ c.clock → after.next ≡ c.next
       → ((place : ℕ) → wait ≡ after_place place was.to.wait → after.pending ≡ heard was.to.token place c.pending)
       → DecidesAmong h now d (decisions.Notified y f.number) new after
-  notified y wait one laws head shows can accepts over same_context same_life same_clock same_next noted =
+  notified y wait one laws head shows can accepts ahead over same_context same_life same_clock same_next noted =
       let s = context h in
       let r = was.to in
       let (own, m, p) = accepts s (observes r.wait) r.number d was.decrypts in
       let (more, wait_is) = is_more (continues f.wait m) wait (after_place (place_of own) f.wait) (over x s (observes r.wait) r.number d own m can was.decrypts p) in
+      let place : first_place wait ≡ place_of own + 1 = ap first_place wait_is ∙ place_after (place_of own) f.wait m more in
+      let from : first_place r.wait ≡ first_place f.wait = ap first_place was.wait_is in
       record {
         answer = Notified (seen own m p) (number_of f.number);
         row = (
@@ -215,7 +251,7 @@ module _ (c after : ClientParts) (h : History) (now : ℕ) (d new : List ℕ) (x
           (
             sym was.number_is,
             own,
-            is_awaited s r d own m head shows p was.awaits,
+            omega (arith, ahead, place, from),
             receives_said (awaited s r) own m d p,
             ap (λ w. continues w m) was.wait_is ∙ more,
           ),

@@ -1,6 +1,8 @@
 -- What a client delivers and notifies, exactly.
-use Rattle.std.proofs.Common.{◌≡◌, ℕ, ◌<◌, ◌∙◌, sym, ap, subst, refl, arith, Bool, true, false, Option, Some, List}
+use Rattle.std.proofs.Common.{◌≡◌, ℕ, ◌<◌, ◌≤◌, ◌∙◌, inl, inr, sym, ap, subst, refl, arith, Bool, true, false, Option, Some, None, List}
 use Rattle.std.specs.Prelude.{max, unwrap_or}
+use Rattle.std.proofs.lemmas.Bool.{both_ways}
+use Rattle.std.proofs.lemmas.Option.{none-some}
 use Rattle.osc_coap.specs.Datagram.{Parts}
 use Rattle.osc_coap.specs.Inner.{InnerParts}
 use Rattle.osc_coap.specs.Laws.{DatagramIsOneMessage}
@@ -15,7 +17,7 @@ use Rattle.osc_client.specs.declared.client_outcome.ClientOutcome.{ClientOutcome
 use Rattle.osc_client.specs.declared.client_outcome.ClientOutcome.TheVariants as outcomes
 use Rattle.osc_client.specs.Agrees.{TokensDiffer}
 use Rattle.osc_client.specs.Awaited.{AwaitedShowHeads, OneAwaited}
-use Rattle.osc_client.specs.ClientAnswer.{Hears, IsAnswerTo, IsAwaited, ResponseAnswer, awaited, continues, told}
+use Rattle.osc_client.specs.ClientAnswer.{Hears, IsAnswerTo, IsInPlace, IsPassed, ResponseAnswer, awaited, continues, told}
 use Rattle.osc_client.specs.ClientHistory as client
 use Rattle.osc_client.specs.ClientHistory.{first_place, observes}
 use Rattle.osc_observe.specs.Observing.{place_of}
@@ -68,7 +70,7 @@ record IsHeard (h : client.History) (now : ℕ) (d : List ℕ) (continuing : Boo
   pub answers : IsAnswerTo h (max (client.clock h) now) d to
   pub number_is : k ≡ to.number
   pub mine : Option ℕ
-  pub later : IsAwaited to mine
+  pub later : IsInPlace to mine received.message
   pub receives : Receives (awaited (client.context h) to) mine d received
   pub wait_is : continues to.wait received.message ≡ continuing
 
@@ -82,7 +84,7 @@ hears h now k n d c continuing received own m x e =
       to = r;
       number_is = sym x.number_is ∙ same.1;
       answers = x.answers;
-      awaited_is = subst (IsAwaited r) own_is x.later;
+      awaited_is = subst (λ z. IsInPlace r z m) own_is (subst (IsInPlace r x.mine) same.3 x.later);
       protects = subst (λ z. Protects (awaited (client.context h) r) z m d) own_is (subst (λ z. Protects (awaited (client.context h) r) x.mine z d) same.3 x.receives.protects);
       wait_is = ap (continues r.wait) (sym same.3) ∙ x.wait_is ∙ same.0;
     }
@@ -91,7 +93,7 @@ hears h now k n d c continuing received own m x e =
 pub row_hears : (h : client.History) (now n : ℕ) (d : List ℕ) (answer : client.Answer) (continuing : Bool) (own : Option ℕ) (m : InnerParts)
     → ResponseAnswer h (max (client.clock h) now) d answer → told answer ≡ Some (continuing, n, own, m) → Hears h now d continuing n own m
 row_hears h now n d (client.Notified received k) continuing own m (r, at, (k_is, mine, later, receives, wait)) e =
-    hears h now k n d true continuing received own m (record { to = r; answers = at; number_is = k_is; mine = mine; later = later; receives = receives; wait_is = wait }) e
+    hears h now k n d true continuing received own m (record { to = r; answers = at; number_is = k_is; mine = mine; later = inl later; receives = receives; wait_is = wait }) e
 row_hears h now n d (client.Deliver received k) continuing own m (r, at, (k_is, mine, later, receives, wait)) e =
     hears h now k n d false continuing received own m (record { to = r; answers = at; number_is = k_is; mine = mine; later = later; receives = receives; wait_is = wait }) e
 row_hears h now n d (client.Malformed fault place) continuing own m row e = cc
@@ -102,6 +104,18 @@ row_hears h now n d client.Undecodable continuing own m row e = cc
 row_hears h now n d client.BadTag continuing own m row e = cc
 row_hears h now n d client.BadInner continuing own m row e = cc
 row_hears h now n d client.Old continuing own m row e = cc
+
+-- what the request waits for isn't one that it has passed
+pub in_place_once : (r : client.Asked) (own : Option ℕ) (m : InnerParts) → IsPassed r.wait own → IsInPlace r own m → ⊥
+in_place_once r None m passed place = passed
+in_place_once r (Some own) m passed (inl later) = omega (arith, passed, later)
+in_place_once r (Some own) m passed (inr last) = none-some own (sym last.0)
+
+pub first_in_place : (r : client.Asked) (own : Option ℕ) (m : InnerParts) → own ≡ None → continues r.wait m ≡ true → 0 < first_place r.wait → IsInPlace r own m → ⊥
+first_in_place r own m none more behind (inl later) =
+    let first : first_place r.wait ≤ place_of None = subst (λ o. first_place r.wait ≤ place_of o) none later in
+    omega (arith, first, behind)
+first_in_place r own m none more behind (inr last) = both_ways (continues r.wait m) last.1 more
 
 -- what is to be told is
 module _ (one : DatagramIsOneMessage) (head : OneResponseHead) (laws : OneAwaited) (shows : AwaitedShowHeads) (h : client.History) (now n : ℕ) (d : List ℕ)
@@ -135,15 +149,19 @@ module _ (one : DatagramIsOneMessage) (head : OneResponseHead) (laws : OneAwaite
       absurd (none (is.to, found, sym name ∙ ap (λ (x : Parts). x.token) (one q p d there datagram) ∙ token_is))
   hears_row client.Unprotected (r, at, row) = absurd (never NoOscore row)
   hears_row client.Undecodable (r, at, row) = absurd (never BadHead row)
-  hears_row client.Old (r, at, (mine, says, older)) =
+  hears_row client.Old (r, at, inl (mine, says, older)) =
       let own_is : mine ≡ own = same_own s r is.to d mine own head says ((shows s (observes is.to.wait) is.to.number).protects d own m is.protects) in
-      let from : first_place r.wait ≡ first_place is.to.wait = ap (λ (x : client.Asked). first_place x.wait) (same r at) in
-      let before = subst (λ x. place_of x < first_place r.wait) own_is older in
-      let later = is.awaited_is in
-      absurd (omega (arith, before, later, from))
+      absurd (in_place_once is.to own m (subst (λ (x : client.Asked). IsPassed x.wait own) (same r at) (subst (IsPassed r.wait) own_is older)) is.awaited_is)
+  hears_row client.Old (r, at, inr (first, protects, more, behind)) =
+      let law = laws s (observes is.to.wait) is.to.number in
+      let by : Protects (awaited s is.to) None first d = subst (λ (x : client.Asked). Protects (awaited s x) None first d) (same r at) protects in
+      let own_is : None ≡ own = law.number d None own first m by is.protects in
+      let message : first ≡ m = law.message d None own first m by is.protects in
+      absurd (first_in_place is.to own m (sym own_is) (subst (λ x. continues is.to.wait x ≡ true) message (subst (λ (x : client.Asked). continues x.wait first ≡ true) (same r at) more))
+      (subst (λ (x : client.Asked). 0 < first_place x.wait) (same r at) behind) is.awaited_is)
   hears_row client.BadTag (r, at, (says, row)) = absurd (never Tag (subst (λ (x : client.Asked). RefusesTag (awaited s x) d) (same r at) row))
   hears_row client.BadInner (r, at, (says, row)) = absurd (never Inner (subst (λ (x : client.Asked). RefusesPlaintext (awaited s x) d) (same r at) row))
   hears_row (client.Notified received k) (r, at, (k_is, mine, later, receives, wait)) =
-      hears_heard true k received (record { to = r; answers = at; number_is = k_is; mine = mine; later = later; receives = receives; wait_is = wait })
+      hears_heard true k received (record { to = r; answers = at; number_is = k_is; mine = mine; later = inl later; receives = receives; wait_is = wait })
   hears_row (client.Deliver received k) (r, at, (k_is, mine, later, receives, wait)) =
       hears_heard false k received (record { to = r; answers = at; number_is = k_is; mine = mine; later = later; receives = receives; wait_is = wait })

@@ -2,7 +2,7 @@
 -- are checked; the condition of each row includes that no earlier row's condition holds. h is a history, s its context, d a datagram, r a
 -- pending request, n the number of pending requests that there is room for, clock the clock after the event's own moment, m a message, own
 -- a response's own Partial IV or none.
-use Rattle.std.specs.Prelude.{◌≡◌, ℕ, ◌+◌, ◌<◌, ◌≤◌, ◌^◌, ◌↔◌, ◌&&◌, List, Contains, length, max, Bool, true, false, Option, Some, None}
+use Rattle.std.specs.Prelude.{◌≡◌, ◌⊎◌, ℕ, ◌+◌, ◌<◌, ◌≤◌, ◌^◌, ◌↔◌, ◌&&◌, List, Contains, length, max, Bool, true, false, Option, Some, None}
 use Rattle.osc_coap.specs.Code.{is_response}
 use Rattle.osc_coap.specs.Datagram.{Parts, IsDatagram}
 use Rattle.osc_coap.specs.Fault.{HasFault}
@@ -45,25 +45,44 @@ SaysOwn s r d own = (head : Head) × HasResponseHead d head × Names (awaited s 
 abbrev pub IsAwaited : Asked → Option ℕ → Type 0
 IsAwaited r own = first_place r.wait ≤ place_of own
 
+-- the request waits for responses with later Partial IVs than this one (RFC 8613, 7.4.1)
+abbrev pub IsPassed : Wait → Option ℕ → Type 0
+IsPassed wait None = ⊥
+IsPassed wait (Some own) = place_of (Some own) < first_place wait
+
+-- the request may wait for a response with this Partial IV, or with none: then what is inside tells (RFC 8613, 7.4.1)
+abbrev pub MayAwait : Wait → Option ℕ → Type 0
+MayAwait wait None = Unit {0}
+MayAwait wait (Some own) = first_place wait ≤ place_of (Some own)
+
 -- the datagram's head says such a Partial IV, or none (RFC 8613, 7.4.1)
 abbrev pub SaysAwaited : SecurityContext → Asked → List ℕ → Type 0
-SaysAwaited s r d = (own : Option ℕ) × SaysOwn s r d own × IsAwaited r own
+SaysAwaited s r d = (own : Option ℕ) × SaysOwn s r d own × MayAwait r.wait own
 
 -- the message continues the wait: it is a notification for a registration (RFC 7641, 3.2; RFC 8613, 4.1.3.5.2)
 abbrev pub continues : Wait → InnerParts → Bool
 continues wait m = observes wait && is_notification m.code m.options
 
--- the answer to a response to this request, row by row from the OSCORE option on (RFC 8613, 7.4.1, 8.4 and 8.4.2; own rule: what is old is known from the head)
+-- the request waits for this message, with this Partial IV or none: in its place; or as the last response, which is in place wherever it comes if it has none
+-- (RFC 8613, 7.4.1 and 8.3; RFC 7641, 3.2)
+abbrev pub IsInPlace : Asked → Option ℕ → InnerParts → Type 0
+IsInPlace r own m = IsAwaited r own ⊎ ((own ≡ None) × (continues r.wait m ≡ false))
+
+-- the datagram is a notification without a Partial IV, and the registration waits for later ones (RFC 8613, 7.4.1)
+abbrev pub IsFirstAgain : SecurityContext → Asked → List ℕ → Type 0
+IsFirstAgain s r d = (m : InnerParts) × Protects (awaited s r) None m d × (continues r.wait m ≡ true) × (0 < first_place r.wait)
+
+-- the answer to a response to this request, row by row from the OSCORE option on (RFC 8613, 7.4.1, 8.4 and 8.4.2; own rule: a Partial IV in the head tells what is old)
 abbrev pub AskedAnswer : SecurityContext → Asked → List ℕ → Answer → Type 0
 AskedAnswer s r d Unprotected = HasNoResponseHead d heads.NoOscore
 AskedAnswer s r d Undecodable = HasNoResponseHead d heads.Undecodable
-AskedAnswer s r d Old = (own : Option ℕ) × SaysOwn s r d own × (place_of own < first_place r.wait)
+AskedAnswer s r d Old = ((own : Option ℕ) × SaysOwn s r d own × IsPassed r.wait own) ⊎ IsFirstAgain s r d
 AskedAnswer s r d BadTag = SaysAwaited s r d × RefusesTag (awaited s r) d
 AskedAnswer s r d BadInner = SaysAwaited s r d × RefusesPlaintext (awaited s r) d
 AskedAnswer s r d (Notified received number) =
     (number ≡ r.number) × (own : Option ℕ) × IsAwaited r own × Receives (awaited s r) own d received × (continues r.wait received.message ≡ true)
 AskedAnswer s r d (Deliver received number) =
-    (number ≡ r.number) × (own : Option ℕ) × IsAwaited r own × Receives (awaited s r) own d received × (continues r.wait received.message ≡ false)
+    (number ≡ r.number) × (own : Option ℕ) × IsInPlace r own received.message × Receives (awaited s r) own d received × (continues r.wait received.message ≡ false)
 AskedAnswer s r d answer = ⊥
 
 -- a row of a pending request that has the datagram's token (RFC 7252, 5.3.2)
@@ -119,7 +138,7 @@ pub record Hears (h : History) (now : ℕ) (d : List ℕ) (continuing : Bool) (n
   pub to : Asked
   pub number_is : to.number ≡ number
   pub answers : IsAnswerTo h (max (clock h) now) d to
-  pub awaited_is : IsAwaited to own
+  pub awaited_is : IsInPlace to own m
   pub protects : Protects (awaited (context h) to) own m d
   pub wait_is : continues to.wait m ≡ continuing
 

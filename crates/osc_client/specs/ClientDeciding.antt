@@ -1,6 +1,6 @@
 -- How the code is seen: what a client decides about a datagram before it lends slices of it. h is a history, c the client or what it is made of, d the
 -- datagram as it came, new the datagram as it was left.
-use Rattle.std.specs.Prelude.{◌≡◌, ℕ, Bool, List, Contains, Option, Some, None, max, slice_get, if◌then◌else◌}
+use Rattle.std.specs.Prelude.{◌≡◌, ◌⊎◌, ℕ, Bool, List, Contains, Option, Some, None, max, slice_get, if◌then◌else◌}
 use Rattle.osc_coap.specs.Inner.{InnerParts}
 use Rattle.osc_context.specs.SecurityContext.{SecurityContext}
 use Rattle.osc_context.specs.Views.{number_of}
@@ -66,9 +66,10 @@ ClientShowsDecided decision new outcome = (answer : client.Answer) → Decides d
 abbrev pub IsOpenedAmong : ClientParts → List ℕ → List ℕ → Type 0
 IsOpenedAmong c d new = (r : client.Asked) × Contains c.pending r × (own : Option ℕ) × (len : ℕ) × Decrypts (awaited c.context r) d own len new
 
--- what is left of the datagram: it is opened in the rows from a bad plaintext on, and as it came in the others (RFC 8613, 8.4)
+-- what is left of the datagram: it is opened in the rows from a bad plaintext on, and as it came in the others; an old one is one or the other (RFC 8613, 8.4)
 abbrev pub LeavesAmong : ClientParts → ClientDecision → List ℕ → List ℕ → Type 0
 LeavesAmong c decisions.BadInner d new = IsOpenedAmong c d new
+LeavesAmong c decisions.Old d new = (new ≡ d) ⊎ IsOpenedAmong c d new
 LeavesAmong c (decisions.Notified x number) d new = IsOpenedAmong c d new
 LeavesAmong c (decisions.Deliver x number) d new = IsOpenedAmong c d new
 LeavesAmong c decision d new = new ≡ d

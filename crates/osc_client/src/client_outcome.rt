@@ -79,8 +79,8 @@ pub enum ClientOutcome<'b> {
     Unprotected,
     /// The OSCORE option can't be used, or there is no payload, or there is an option for proxies.
     Undecodable,
-    /// The pending request is a registration, and a later response to it was delivered: one with a greater Partial IV of its own, or
-    /// any if this one has none.
+    /// The pending request is a registration, and a later response to it was delivered: one with the same or a greater Partial IV of its
+    /// own, or any if this one is a notification without one.
     Old,
     /// The payload protects no plaintext as a response to the pending request.
     BadTag,

@@ -121,7 +121,7 @@ impl ClientState {
             Err(NoHead::NoOscore) => return Err(ClientDecision::Unprotected),
             Err(NoHead::Undecodable) => return Err(ClientDecision::Undecodable),
         };
-        if found.is_old(head.number) {
+        if found.is_passed(head.number) {
             return Err(ClientDecision::Old);
         }
         let (sealed, request) = (head.sealed(), found.request());
@@ -163,6 +163,9 @@ impl ClientState {
         };
         match continued(found.wait, datagram, read) {
             Some(wait) => {
+                if wait.first_place() <= found.wait.first_place() {
+                    return ClientDecision::Old;
+                }
                 pending.wait_at(found.place, wait);
                 ClientDecision::Notified(read, found.number)
             }

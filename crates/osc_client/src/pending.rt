@@ -92,18 +92,21 @@ pub struct Found {
 
 impl Found {
     ghost use Rattle.osc_client.specs.ClientHistory.{observes};
-    ghost use Rattle.osc_observe.specs.Observing.{place_of as place};
+    ghost use Rattle.osc_client.specs.ClientAnswer.{IsPassed, MayAwait};
     ghost use Rattle.std.specs.Option.{option_map};
     ghost use Rattle.std.specs.Prelude.{◌≤◌, true, false};
     ghost use Rattle.osc_protect.specs.Views.{registers, request_number};
 
-    /// Returns whether a response with this Partial IV, or with none, is old: the request waits for later ones (RFC 8613,
-    /// 7.4.1).
-    pub(crate) fn is_old(&self, own: Option<Piv>) -> bool
-        ensures yes { result ≡ true → place (option_map number_of own) < first_place self.now.wait }
-        ensures no { result ≡ false → first_place self.now.wait ≤ place (option_map number_of own) }
+    /// Returns whether a response with this Partial IV is old: the request waits for later ones (RFC 8613, 7.4.1). Of one with none, what is
+    /// inside tells.
+    pub(crate) fn is_passed(&self, own: Option<Piv>) -> bool
+        ensures yes { result ≡ true → IsPassed self.now.wait (option_map number_of own) }
+        ensures no { result ≡ false → MayAwait self.now.wait (option_map number_of own) }
     {
-        place_of(own) < self.wait.first_place()
+        match own {
+            Some(own) => place_of(Some(own)) < self.wait.first_place(),
+            None => false,
+        }
     }
 
     /// Names the request for opening a response to it.

@@ -168,7 +168,7 @@ seals_new laws n s w (AtServer (server.Reply t true mid p room) (server.Replied 
     new_own laws n s w t.number (server.Reply t true mid p room) (server.Replied bytes) of i f refl
 seals_new laws n s w (AtServer (server.Reply t false mid p room) (server.Replied bytes)) i = λ of f r h e.
     let y = at_server n s w (server.Reply t false mid p room) (server.Replied bytes) i in
-    let holds : Holds (digest s w) t = held laws.tickets s (digest s w) y.answer.0 t false mid room p bytes (at_stands n s w _ _ y) y.answer.2 y.answer.4 in
+    let holds : Holds (digest s w) t = held laws.tickets s (digest s w) y.answer.0 t false mid room p bytes (at_stands n s w _ _ y) y.answer.4 in
     let earlier = before n s w _ i in
     shared_differs laws n s w t r r.own earlier holds (held_small laws n s w t earlier holds) h refl e
 seals_new laws n s w (AtServer (server.Notify t p room) (server.Replied bytes)) i = λ of f.

@@ -120,9 +120,10 @@ Fits s ds (Delivers t m) = Passes (life_in s ds) t.number × (is_open (life_in s
     × Has (record { number = t.number; message = m }) (sends ds)
 Fits s ds (Challenges n echo issued own m) = IsSent ds n × AllBelow (owns ds) own
     × ((challenge (life_in s ds).marks ≡ Some (echo, issued)) ⊎ ((r : Request) → Has r (sends ds) → carried r.message ≡ Some echo → ⊥))
+    × (is_notification m.code m.options ≡ false)
 Fits s ds (Replies t None m) = Holds ds t × (is_notification m.code m.options ≡ false)
 Fits s ds (Replies t (Some own) m) = Holds ds t × AllBelow (owns ds) own
-Fits s ds (Notifies t own m) = Has t (given ds) × AllBelow (owns ds) own
+Fits s ds (Notifies t own m) = Holds ds t × AllBelow (owns ds) own
 Fits s ds deed = Unit {0}
 
 abbrev pub AllFit : SecurityContext → List Deed → Type 0
@@ -534,7 +535,7 @@ answered_sent s (Challenges n echo issued own m ∷ ds) r a (inr h) = answered_s
 answered_sent s (Replies t None m ∷ ds) r a (inl e) = let k = held_sent s ds t a.0 a.1.0.0 in (k.0, k.1, k.2 ∙ sym (ap (λ (y : Response). y.number) e))
 answered_sent s (Replies t (Some own) m ∷ ds) r a (inl e) = let k = held_sent s ds t a.0 a.1.0.0 in (k.0, k.1, k.2 ∙ sym (ap (λ (y : Response). y.number) e))
 answered_sent s (Replies t own m ∷ ds) r a (inr h) = answered_sent s ds r a.0 h
-answered_sent s (Notifies t own m ∷ ds) r a (inl e) = let k = held_sent s ds t a.0 a.1.0 in (k.0, k.1, k.2 ∙ sym (ap (λ (y : Response). y.number) e))
+answered_sent s (Notifies t own m ∷ ds) r a (inl e) = let k = held_sent s ds t a.0 a.1.0.0 in (k.0, k.1, k.2 ∙ sym (ap (λ (y : Response). y.number) e))
 answered_sent s (Notifies t own m ∷ ds) r a (inr h) = answered_sent s ds r a.0 h
 answered_sent s (Sends n m ∷ ds) r a h = sent_more n m ds r.number (answered_sent s ds r a.0 h)
 answered_sent s (d ∷ ds) r a h = answered_sent s ds r a.0 h

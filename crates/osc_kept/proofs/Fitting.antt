@@ -21,10 +21,10 @@ use Rattle.osc_life.specs.declared.start.Start.{Start}
 use Rattle.osc_life.specs.declared.start.Start.TheVariants as starts
 use Rattle.osc_observe.specs.Received.{Received}
 use Rattle.osc_client.specs.ClientHistory as client
-use Rattle.osc_laws.specs.Laws.{AreApart, TicketOnce, answered, delivered}
+use Rattle.osc_laws.specs.Laws.{AreApart, Pairwise, TicketOnce, answered, delivered}
+use Rattle.osc_laws.proofs.Tickets.{all_behind}
 use Rattle.osc_endpoint.specs.Tickets.{AreLeft, TakesTickets}
 use Rattle.osc_life.specs.Life.{Life, Admits, born, Carries, challenge, in_force, is_open}
-use Rattle.osc_endpoint.specs.ServerAnswer.{ServerAnswer}
 use Rattle.osc_life.specs.LifeAnswer.{challenge_given}
 use Rattle.osc_life.specs.ServerHistory as server
 use Rattle.osc_kept.specs.Premises.{AtEach, Answers, BeginsAbove, EchoIsNew, StartsAboveDelivered, IsLawful, NobodyForges, NobodyForgesRequests, SealedByClient}
@@ -126,22 +126,31 @@ all_at P [] x a k = absurd k
 all_at P (y ∷ ys) x a (inl e) = subst P (sym e) a.0
 all_at P (y ∷ ys) x a (inr k) = all_at P ys x a.1 k
 
--- an accepted reply takes a ticket that was given and not taken
-pub held : TicketOnce → (s : SecurityContext) (ds : List Deed) (h : server.History) (t : server.TicketValues) (own : Bool) (mid room : ℕ) (p : Parts) (bytes : List ℕ) → Stands s ds h
-    → ServerAnswer h (server.Reply t own mid p room) (server.Replied bytes) → TakesTickets (server.Then h (server.Reply t own mid p room) (server.Replied bytes)) → Holds ds t
-held once s ds h t own mid room p bytes x answer tickets =
-    let out = tickets.1.2 in
-    let was : Has t tickets.1.0 = subst (λ xs. Has t xs) (sym out.2) (has_middle out.0 out.1 t) in (
-      subst (λ ts. Has t ts) x.given_is (left_given h tickets.1.0 t tickets.1.1 was),
-      λ k. all_at (AreApart t) (answered h) t (once (server.Then h (server.Reply t own mid p room) (server.Replied bytes)) (x.lawful, answer) tickets).0
-          (subst (λ ts. Has t ts) (sym x.taken_is) k) refl refl refl,
-    )
+-- one of the tickets in front is apart from those behind
+apart_behind : (xs ys : List server.TicketValues) (t : server.TicketValues) → Pairwise AreApart (xs ++ ys) → Has t xs → AllByRecursion (AreApart t) ys
+apart_behind [] ys t pairs k = absurd k
+apart_behind (x ∷ xs) ys t pairs (inl e) = subst (λ u. AllByRecursion (AreApart u) ys) (sym e) (all_behind (AreApart x) xs ys pairs.0)
+apart_behind (x ∷ xs) ys t pairs (inr k) = apart_behind xs ys t pairs.1 k
 
--- an accepted notification has a ticket that was given
-given_left : (s : SecurityContext) (ds : List Deed) (h : server.History) (t : server.TicketValues) (p : Parts) (room : ℕ) (bytes : List ℕ) → Stands s ds h
-    → TakesTickets (server.Then h (server.Notify t p room) (server.Replied bytes)) → Has t (given ds)
-given_left s ds h t p room bytes x (ts, (left, (front, back, is))) =
-    subst (λ us. Has t us) x.given_is (left_given h ts t left (subst (λ us. Has t us) (sym is) (has_middle front back t)))
+-- a ticket that is left was given and not taken
+left_held : TicketOnce → (s : SecurityContext) (ds : List Deed) (h : server.History) (t : server.TicketValues) (ts : List server.TicketValues) → Stands s ds h → AreLeft h ts → Has t ts
+    → Holds ds t
+left_held once s ds h t ts x left was = (
+  subst (λ us. Has t us) x.given_is (left_given h ts t left was),
+  λ k. all_at (AreApart t) (answered h) t (apart_behind ts (answered h) t (once h x.lawful (ts, left)) was) (subst (λ us. Has t us) (sym x.taken_is) k) refl refl refl,
+)
+
+-- so is that of an accepted reply
+pub held : TicketOnce → (s : SecurityContext) (ds : List Deed) (h : server.History) (t : server.TicketValues) (own : Bool) (mid room : ℕ) (p : Parts) (bytes : List ℕ) → Stands s ds h
+    → TakesTickets (server.Then h (server.Reply t own mid p room) (server.Replied bytes)) → Holds ds t
+held once s ds h t own mid room p bytes x tickets =
+    let out = tickets.1.2 in
+    left_held once s ds h t tickets.1.0 x tickets.1.1 (subst (λ xs. Has t xs) (sym out.2) (has_middle out.0 out.1 t))
+
+-- and that of an accepted notification
+notifying : TicketOnce → (s : SecurityContext) (ds : List Deed) (h : server.History) (t : server.TicketValues) (p : Parts) (room : ℕ) (bytes : List ℕ) → Stands s ds h
+    → TakesTickets (server.Then h (server.Notify t p room) (server.Replied bytes)) → Holds ds t
+notifying once s ds h t p room bytes x (ts, (left, (front, back, is))) = left_held once s ds h t ts x left (subst (λ us. Has t us) (sym is) (has_middle front back t))
 
 -- what stands before an event of the server, and that it meets the premises
 pub record At (n : ℕ) (s : SecurityContext) (w : World) (event : server.Event) (entry : server.Entry) : Type 0 where
@@ -218,17 +227,18 @@ fits_challenge laws n s w now mid i k issued echo d value reply y =
         | inl same ↦ inl same
         | inr new ↦ inr (λ r q f. y.unseen h l y.answer.1 life_i new.0 r (subst (λ rs. Has r rs) (sym (sent_is s w)) q) f)
       ],
+      refl,
     )
 
 fits_reply : LawsBelow → (n : ℕ) (s : SecurityContext) (w : World) (t : server.TicketValues) (own : Bool) (mid room : ℕ) (p : Parts) (bytes : List ℕ)
     → At n s w (server.Reply t own mid p room) (server.Replied bytes)
     → Fits s (digest s w) (server_deed (Some (life_in s (digest s w))) (server.Reply t own mid p room) (server.Replied bytes))
 fits_reply laws n s w t true mid room p bytes y = (
-  held laws.tickets s (digest s w) y.answer.0 t true mid room p bytes (at_stands n s w _ _ y) y.answer.2 y.answer.4,
+  held laws.tickets s (digest s w) y.answer.0 t true mid room p bytes (at_stands n s w _ _ y) y.answer.4,
   (owns_below n s w y.all y.above).below,
 )
 fits_reply laws n s w t false mid room p bytes y = (
-  held laws.tickets s (digest s w) y.answer.0 t false mid room p bytes (at_stands n s w _ _ y) y.answer.2 y.answer.4,
+  held laws.tickets s (digest s w) y.answer.0 t false mid room p bytes (at_stands n s w _ _ y) y.answer.4,
   unnotified (unobserved y.answer.2.0.context.features) p refl
       (subst (λ (x : Features). has_number (is_unsupported x) p.options ≡ false) (replied_features y.answer.2.0.context t.number p) y.answer.2.2.1.supported),
 )
@@ -237,7 +247,7 @@ fits_notify : LawsBelow → (n : ℕ) (s : SecurityContext) (w : World) (t : ser
     → At n s w (server.Notify t p room) (server.Replied bytes)
     → Fits s (digest s w) (server_deed (Some (life_in s (digest s w))) (server.Notify t p room) (server.Replied bytes))
 fits_notify laws n s w t room p bytes y = (
-  given_left s (digest s w) y.answer.0 t p room bytes (at_stands n s w _ _ y) y.answer.4,
+  notifying laws.tickets s (digest s w) y.answer.0 t p room bytes (at_stands n s w _ _ y) y.answer.4,
   (owns_below n s w y.all y.above).below,
 )
 

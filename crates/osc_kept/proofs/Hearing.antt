@@ -28,7 +28,7 @@ use Rattle.osc_kept.specs.Freshness.{OpensFresh}
 use Rattle.osc_kept.specs.Premises.{AtEach, Answers, IsLawful}
 use Rattle.osc_kept.specs.World.{World, Event, Begin, Then, ClientStarts, AtClient, AtServer, Has, Request, Response, client_history, heard, heard_in, sent, server_life}
 use Rattle.osc_kept.proofs.Claims.{AnswersThatRequest, SealsUnderNewNonce, answers_that, delivers_once, nonces_apart, seals_new}
-use Rattle.osc_kept.proofs.Deeds.{AllFit, Challenges, Deed, IsSent, Nothing, Notifies, Replies, Sends, answers, owned, owns, sends}
+use Rattle.osc_kept.proofs.Deeds.{AllFit, Challenges, Deed, IsSent, Nothing, Notifies, Replies, Sends, answers, not_shared, owned, owns, sends}
 use Rattle.osc_kept.proofs.Digest.{answered_is, client_deed, deed, digest, sends_server, sent_is}
 use Rattle.osc_kept.proofs.Fitting.{LawsBelow, all_fit, before, fits_client}
 use Rattle.osc_kept.proofs.Freshness.{opens_fresh}
@@ -86,6 +86,25 @@ notified_own s (Notifies t own m ∷ ds) y None a (inr h) is e = notified_own s 
 notified_own s (d ∷ ds) y None a h is e = notified_own s ds y None a.0 h is e
 notified_own s [] y None a h is e = absurd h
 
+-- a reply is the last that is sealed for its request: what was notified for it was sealed before one without a Partial IV
+last_after : (s : SecurityContext) (ds : List Deed) (x y : Response) → AllFit s ds → x.own ≡ None → x.number ≡ y.number → (j : ℕ) → y.own ≡ Some j
+    → is_notification y.message.code y.message.options ≡ true → Has x (answers ds) → Has y (answers ds) → IsAfter x y (answers ds)
+last_after s (Challenges n echo issued own m ∷ ds) x y a none same j some is (inl f) g = let e : None ≡ Some own = sym none ∙ ap (λ (u : Response). u.own) f in cc
+last_after s (Challenges n echo issued own m ∷ ds) x y a none same j some is (inr h) (inl f) =
+    let e : true ≡ false = sym is ∙ ap (λ (u : Response). is_notification u.message.code u.message.options) f ∙ a.1.3 in cc
+last_after s (Challenges n echo issued own m ∷ ds) x y a none same j some is (inr h) (inr g) = inr (last_after s ds x y a.0 none same j some is h g)
+last_after s (Replies t None m ∷ ds) x y a none same j some is h (inl f) = let e : None ≡ Some j = sym (ap (λ (u : Response). u.own) f) ∙ some in cc
+last_after s (Replies t None m ∷ ds) x y a none same j some is (inl f) (inr g) = inl (f, g)
+last_after s (Replies t None m ∷ ds) x y a none same j some is (inr h) (inr g) = inr (last_after s ds x y a.0 none same j some is h g)
+last_after s (Replies t (Some own) m ∷ ds) x y a none same j some is (inl f) g = let e : None ≡ Some own = sym none ∙ ap (λ (u : Response). u.own) f in cc
+last_after s (Replies t (Some own) m ∷ ds) x y a none same j some is (inr h) (inl f) = absurd (not_shared s ds t x a.0 a.1.0 h none (same ∙ ap (λ (u : Response). u.number) f))
+last_after s (Replies t (Some own) m ∷ ds) x y a none same j some is (inr h) (inr g) = inr (last_after s ds x y a.0 none same j some is h g)
+last_after s (Notifies t own m ∷ ds) x y a none same j some is (inl f) g = let e : None ≡ Some own = sym none ∙ ap (λ (u : Response). u.own) f in cc
+last_after s (Notifies t own m ∷ ds) x y a none same j some is (inr h) (inl f) = absurd (not_shared s ds t x a.0 a.1.0 h none (same ∙ ap (λ (u : Response). u.number) f))
+last_after s (Notifies t own m ∷ ds) x y a none same j some is (inr h) (inr g) = inr (last_after s ds x y a.0 none same j some is h g)
+last_after s (d ∷ ds) x y a none same j some is h g = last_after s ds x y a.0 none same j some is h g
+last_after s [] x y a none same j some is h g = absurd h
+
 -- ---- what was heard was sealed, for a request that was sent
 
 record WasFor (ds : List Deed) (y : Response) : Type 0 where
@@ -123,9 +142,10 @@ heard_for laws n s Begin y i h = absurd h
 
 -- ---- a request that was asked, and what was heard for it
 
--- what was heard for it has a Partial IV of its own, and its place is before the one from which it waits; if it waits for notifications, it registers
+-- what was heard for it is a notification with a Partial IV of its own, and its place is before the one from which it waits; if it waits for notifications, it registers
 record Follows (s : SecurityContext) (ds : List Deed) (hs : List Response) (r : client.Asked) : Type 0 where
   pub own : (y : Response) → Has y hs → y.number ≡ r.number → (j : ℕ) × (y.own ≡ Some j)
+  pub notified : (y : Response) → Has y hs → y.number ≡ r.number → is_notification y.message.code y.message.options ≡ true
   pub earlier : (y : Response) → Has y hs → y.number ≡ r.number → place_of y.own < client.first_place r.wait
   pub registered : client.observes r.wait ≡ true → (q : Request) → Has q (sends ds) → q.number ≡ r.number → registers s.features q.message.code q.message.options ≡ true
 
@@ -139,6 +159,7 @@ record Listens (s : SecurityContext) (ds : List Deed) (hs : List Response) (h : 
 follows_same : (s : SecurityContext) (ds es : List Deed) (hs : List Response) (r : client.Asked) → sends es ≡ sends ds → Follows s ds hs r → Follows s es hs r
 follows_same s ds es hs r same f = record {
   own = f.own;
+  notified = f.notified;
   earlier = f.earlier;
   registered = λ observing q h e. f.registered observing q (subst (λ rs. Has q rs) same h) e;
 }
@@ -195,6 +216,7 @@ module _ (s : SecurityContext) (ds : List Deed) (hs : List Response) (g : client
         follow = All-push (Follows s es hs) (client.asked g) new
             (All-weaker (λ (r : client.Asked). Follows s ds hs r × IsSent ds r.number) (Follows s es hs) (λ r f. record {
               own = f.0.own;
+              notified = f.0.notified;
               earlier = f.0.earlier;
               registered = λ observing q. elim [
                 | inl e ↦ λ same.
@@ -206,6 +228,7 @@ module _ (s : SecurityContext) (ds : List Deed) (hs : List Response) (g : client
             }) (client.asked g) (both (Follows s ds hs) (λ (r : client.Asked). IsSent ds r.number) (client.asked g) x.follow sent))
             (record {
               own = λ y h e. let less : y.number < k = below y.number (known y h) in absurd (omega (arith, less, e));
+              notified = λ y h e. let less : y.number < k = below y.number (known y h) in absurd (omega (arith, less, e));
               earlier = λ y h e. let less : y.number < k = below y.number (known y h) in absurd (omega (arith, less, e));
               registered = λ observing q. elim [
                 | inl e ↦ λ same.
@@ -260,6 +283,10 @@ module _ (s : SecurityContext) (ds : List Deed) (hs : List Response) (g : client
               | inl e ↦ λ same. absurd (never q f (sym (ap (λ (z : Response). z.number) e) ∙ same))
               | inr h ↦ λ same. f.0.0.own y h same
             ];
+            notified = λ y. elim [
+              | inl e ↦ λ same. absurd (never q f (sym (ap (λ (z : Response). z.number) e) ∙ same))
+              | inr h ↦ λ same. f.0.0.notified y h same
+            ];
             earlier = λ y. elim [
               | inl e ↦ λ same. absurd (never q f (sym (ap (λ (z : Response). z.number) e) ∙ same))
               | inr h ↦ λ same. f.0.0.earlier y h same
@@ -279,6 +306,7 @@ module _ (s : SecurityContext) (ds : List Deed) (hs : List Response) (g : client
         let ys = client.pending_at g (max (client.clock g) now) in
         let reached : client.first_place r.wait ≤ place = subst (λ o. client.first_place r.wait ≤ place_of o) (sym receives.number) later in
         let observing = (yes_to_both (client.observes r.wait) (is_notification received.message.code received.message.options) goes).0 in
+        let notifies = (yes_to_both (client.observes r.wait) (is_notification received.message.code received.message.options) goes).1 in
         let all = both (λ q. Follows s ds hs q × Contains xs q) (Contains ys) ys
         (All-filter _ (λ q. Follows s ds hs q × Contains xs q) xs (both (Follows s ds hs) (Contains xs) xs x.follow (All-contains_itself xs))) (All-contains_itself ys) in
         let there : (q : client.Asked) → Follows s ds hs q → Contains ys q → q.token ≡ received.token → Follows s ds (response ∷ hs) (record q { wait = client.after_place place q.wait }) =
@@ -292,6 +320,10 @@ module _ (s : SecurityContext) (ds : List Deed) (hs : List Response) (g : client
             | inl e ↦ λ n. (numbered.0, ap (λ (z : Response). z.own) e ∙ numbered.1)
             | inr h ↦ λ n. k.own y h n
           ];
+          notified = λ y. elim [
+            | inl e ↦ λ n. ap (λ (z : Response). is_notification z.message.code z.message.options) e ∙ notifies
+            | inr h ↦ λ n. k.notified y h n
+          ];
           earlier = λ y. elim [
             | inl e ↦ λ n. let at_place : place_of y.own ≡ place = ap (λ (z : Response). place_of z.own) e in omega (arith, at_place, behind)
             | inr h ↦ λ n. let before = k.earlier y h n in omega (arith, before, from, behind)
@@ -303,6 +335,7 @@ module _ (s : SecurityContext) (ds : List Deed) (hs : List Response) (g : client
         let never : number ≡ q.number → ⊥ = λ e. let g' : true ≡ false = sym ((bytes_eq-Decides q.token received.token).1 (is_that q has e)) ∙ none in cc in
         record {
           own = λ y. elim [ inl e ↦ λ n. absurd (never (sym (ap (λ (z : Response). z.number) e) ∙ n)) | inr h ↦ λ n. k.own y h n ];
+          notified = λ y. elim [ inl e ↦ λ n. absurd (never (sym (ap (λ (z : Response). z.number) e) ∙ n)) | inr h ↦ λ n. k.notified y h n ];
           earlier = λ y. elim [ inl e ↦ λ n. absurd (never (sym (ap (λ (z : Response). z.number) e) ∙ n)) | inr h ↦ λ n. k.earlier y h n ];
           registered = k.registered;
         } in
@@ -412,15 +445,36 @@ is_next laws n s w h now number d received r own i f at is later receives was =
           (after s (digest s w) x y k j (all_fit laws n s w i) x_own y_own less (for_that s w number received.number received.message was).sealed (heard_for laws n s w y i has).sealed);
     }
 
+-- the last response has no Partial IV, and what was heard before it does
+is_last : LawsBelow → (n : ℕ) (s : SecurityContext) (w : World) (h : client.History) (now number : ℕ) (d : List ℕ) (received : Received) (r : client.Asked) (own : Option ℕ) → IsLawful n s w
+    → client_history s w ≡ Some h → IsAnswerTo h (max (client.clock h) now) d r → number ≡ r.number → own ≡ None → Receives (awaited (client.context h) r) own d received
+    → IsForThatRequest s w (record { number = number; own = received.number; message = received.message }) → IsNext s w (record { number = number; own = received.number; message = received.message })
+is_last laws n s w h now number d received r own i f at is none receives was =
+    let x : Response = record { number = number; own = received.number; message = received.message } in
+    let was_asked = contains_filter (client.is_alive (max (client.clock h) now) (client.life_ms h)) (client.asked h) r at.1 in
+    let follows = All-contains (Follows s (digest s w) (heard w)) (client.asked h) r (listens laws n s w h i f).follow was_asked in
+    let x_own : received.number ≡ None = receives.number ∙ none in
+    record {
+      once = λ has. let (j, some) = follows.own x has is in let e : None ≡ Some j = sym x_own ∙ some in cc;
+      in_order = λ y has same.
+          let (j, y_own) = follows.own y has (same ∙ is) in
+          subst (IsAfter x y) (sym (answered_is s w))
+          (last_after s (digest s w) x y (all_fit laws n s w i) x_own (sym same) j y_own (follows.notified y has (same ∙ is))
+          (for_that s w number received.number received.message was).sealed (heard_for laws n s w y i has).sealed);
+    }
+
 hears_in_order : LawsBelow → (n : ℕ) (s : SecurityContext) (w : World) (event : Event) → IsLawful n s (Then w event) → IfSome (heard_in event) (IsNext s w)
 hears_in_order laws n s w (AtClient (client.Datagram now d) (client.Took (client.Notified received number))) i =
     let (r, at, (is, own, later, receives, goes)) = i.answers.1.2 in
     is_next laws n s w i.answers.1.0 now number d received r own (before n s w _ i) i.answers.1.1 at is later receives
     (answers_that laws n s w (AtClient (client.Datagram now d) (client.Took (client.Notified received number))) i)
 hears_in_order laws n s w (AtClient (client.Datagram now d) (client.Took (client.Deliver received number))) i =
-    let (r, at, (is, own, later, receives, goes)) = i.answers.1.2 in
-    is_next laws n s w i.answers.1.0 now number d received r own (before n s w _ i) i.answers.1.1 at is later receives
-    (answers_that laws n s w (AtClient (client.Datagram now d) (client.Took (client.Deliver received number))) i)
+    let (r, at, (is, own, place, receives, goes)) = i.answers.1.2 in
+    let that = answers_that laws n s w (AtClient (client.Datagram now d) (client.Took (client.Deliver received number))) i in
+    elim place [
+      | inl later ↦ is_next laws n s w i.answers.1.0 now number d received r own (before n s w _ i) i.answers.1.1 at is later receives that
+      | inr last ↦ is_last laws n s w i.answers.1.0 now number d received r own (before n s w _ i) i.answers.1.1 at is last.0 receives that
+    ]
 hears_in_order laws n s w event i = tt
 
 notifies_registrations : LawsBelow → (n : ℕ) (s : SecurityContext) (w : World) (event : Event) → IsLawful n s (Then w event) → NotifiesRegistrations s w event

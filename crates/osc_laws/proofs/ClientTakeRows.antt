@@ -1,5 +1,5 @@
 -- That a client has one answer to a datagram.
-use Rattle.std.proofs.Common.{◌≡◌, ℕ, ◌<◌, ◌⊎◌, ◌∙◌, sym, ap, subst, refl, arith, Bool, true, false, Option, List, inl, inr}
+use Rattle.std.proofs.Common.{◌≡◌, ℕ, ◌⊎◌, ◌∙◌, sym, ap, subst, refl, arith, Bool, true, false, Option, Some, None, List, inl, inr}
 use Rattle.std.specs.Prelude.{max}
 use Rattle.std.proofs.lemmas.Bool.{both_ways}
 use Rattle.osc_coap.specs.Code.{is_response}
@@ -13,12 +13,11 @@ use Rattle.osc_protect.specs.declared.unprotect_error.UnprotectError.{UnprotectE
 use Rattle.osc_protect.specs.declared.unprotect_error.UnprotectError.TheVariants as opens
 use Rattle.osc_client.specs.Agrees.{TokensDiffer}
 use Rattle.osc_laws.specs.AnswerLaws.{ClientAnswerLaws}
-use Rattle.osc_client.specs.ClientAnswer.{AskedAnswer, IsAmong, IsAwaited, IsResponseWith, PendingAnswer, ResponseAnswer, SaysAwaited, SaysOwn, awaited, continues}
-use Rattle.osc_client.specs.ClientHistory.{Answer, Asked, History, BadInner, BadTag, Deliver, Malformed, NotResponse, Notified, Old, Undecodable, UnknownToken, Unprotected, clock, context, first_place, observes, pending, pending_at}
-use Rattle.osc_observe.specs.Observing.{place_of}
+use Rattle.osc_client.specs.ClientAnswer.{AskedAnswer, IsAmong, IsFirstAgain, IsInPlace, IsPassed, IsResponseWith, MayAwait, PendingAnswer, ResponseAnswer, SaysAwaited, SaysOwn, awaited, continues}
+use Rattle.osc_client.specs.ClientHistory.{Answer, Asked, History, BadInner, BadTag, Deliver, Malformed, NotResponse, Notified, Old, Undecodable, UnknownToken, Unprotected, clock, context, observes, pending, pending_at}
 use Rattle.osc_observe.specs.Received.{Received, Receives}
 use Rattle.osc_client.proofs.ClientDecisions.{same_own}
-use Rattle.osc_client.proofs.ClientDeliveries.{same_request}
+use Rattle.osc_client.proofs.ClientDeliveries.{first_in_place, in_place_once, same_request}
 use Rattle.osc_laws.proofs.OneReceived.{one_received}
 
 -- ---- the answer by a pending request
@@ -40,9 +39,7 @@ record IsUnopened (s : SecurityContext) (r : Asked) (d : List ℕ) (answer : Ans
 
 -- its place is before the first that the request waits for
 record IsOld (s : SecurityContext) (r : Asked) (d : List ℕ) (answer : Answer) : Type 0 where
-  pub own : Option ℕ
-  pub says : SaysOwn s r d own
-  pub before : place_of own < first_place r.wait
+  pub is : ((own : Option ℕ) × SaysOwn s r d own × IsPassed r.wait own) ⊎ IsFirstAgain s r d
   pub answer_is : answer ≡ Old
 
 -- the answer where it opens
@@ -53,7 +50,7 @@ opened false received n = Deliver received n
 record IsOpened (s : SecurityContext) (r : Asked) (d : List ℕ) (answer : Answer) : Type 0 where
   pub received : Received
   pub own : Option ℕ
-  pub later : IsAwaited r own
+  pub later : IsInPlace r own received.message
   pub receives : Receives (awaited s r) own d received
   pub answer_is : answer ≡ opened (continues r.wait received.message) received r.number
 
@@ -63,22 +60,22 @@ module _ (laws : ClientAnswerLaws) (s : SecurityContext) (r : Asked) (d : List �
 
   -- one that isn't opened isn't old, where it has a head that says so
   abbrev Sort : Answer → Type 0
-  Sort x = (IsUnopened s r d x × ((own : Option ℕ) → SaysOwn s r d own → IsAwaited r own)) ⊎ Rest x
+  Sort x = (IsUnopened s r d x × ((own : Option ℕ) → SaysOwn s r d own → MayAwait r.wait own)) ⊎ Rest x
 
-  none_says : (e : HeadError) → HasNoResponseHead d e → (own : Option ℕ) → SaysOwn s r d own → IsAwaited r own
+  none_says : (e : HeadError) → HasNoResponseHead d e → (own : Option ℕ) → SaysOwn s r d own → MayAwait r.wait own
   none_says e none own (head, has, names) = absurd (laws.head.never_both d head e has none)
 
-  awaited_alone : SaysAwaited s r d → (own : Option ℕ) → SaysOwn s r d own → IsAwaited r own
-  awaited_alone (other, says, later) own too = subst (IsAwaited r) (same_own s r r d other own laws.head says too) later
+  awaited_alone : SaysAwaited s r d → (own : Option ℕ) → SaysOwn s r d own → MayAwait r.wait own
+  awaited_alone (other, says, later) own too = subst (MayAwait r.wait) (same_own s r r d other own laws.head says too) later
 
   sort_by : (x : Answer) → AskedAnswer s r d x → Sort x
   sort_by Unprotected row = inl (record { refusal = opens.NoOscore; refuses = row; answer_is = refl }, none_says heads.NoOscore row)
   sort_by Undecodable row = inl (record { refusal = opens.Undecodable; refuses = row; answer_is = refl }, none_says heads.Undecodable row)
   sort_by BadTag row = inl (record { refusal = opens.Tag; refuses = row.1; answer_is = refl }, awaited_alone row.0)
   sort_by BadInner row = inl (record { refusal = opens.Inner; refuses = row.1; answer_is = refl }, awaited_alone row.0)
-  sort_by Old (own, says, before) = inr (inl (record { own = own; says = says; before = before; answer_is = refl }))
+  sort_by Old row = inr (inl (record { is = row; answer_is = refl }))
   sort_by (Notified received n) (is, own, later, receives, wait) =
-      inr (inr (record { received = received; own = own; later = later; receives = receives; answer_is = ap (Notified received) is ∙ ap (λ b. opened b received r.number) (sym wait) }))
+      inr (inr (record { received = received; own = own; later = inl later; receives = receives; answer_is = ap (Notified received) is ∙ ap (λ b. opened b received r.number) (sym wait) }))
   sort_by (Deliver received n) (is, own, later, receives, wait) =
       inr (inr (record { received = received; own = own; later = later; receives = receives; answer_is = ap (Deliver received) is ∙ ap (λ b. opened b received r.number) (sym wait) }))
   sort_by x row = absurd row
@@ -86,12 +83,27 @@ module _ (laws : ClientAnswerLaws) (s : SecurityContext) (r : Asked) (d : List �
   not_both : (x y : Answer) → IsUnopened s r d x → IsOpened s r d y → ⊥
   not_both x y a b = (laws.response s (observes r.wait) r.number).never_both d b.own b.received.message a.refusal b.receives.protects a.refuses
 
-  not_old : (x : Answer) → IsOld s r d x → ((own : Option ℕ) → SaysOwn s r d own → IsAwaited r own) → ⊥
-  not_old x a later = let before = a.before in let from = later a.own a.says in omega (arith, before, from)
+  not_passed : (own : Option ℕ) → IsPassed r.wait own → MayAwait r.wait own → ⊥
+  not_passed None passed may = passed
+  not_passed (Some own) passed may = omega (arith, passed, may)
+
+  not_old : (x y : Answer) → IsOld s r d x → IsUnopened s r d y → ((own : Option ℕ) → SaysOwn s r d own → MayAwait r.wait own) → ⊥
+  not_old x y a b may = elim a.is [
+    | inl passed ↦ not_passed passed.0 passed.2 (may passed.0 passed.1)
+    | inr first ↦ (laws.response s (observes r.wait) r.number).never_both d None first.0 b.refusal first.1 b.refuses
+  ]
 
   not_opened : (x y : Answer) → IsOld s r d x → IsOpened s r d y → ⊥
-  not_opened x y a b =
-      not_old x a (awaited_alone (b.own, ((laws.shows s (observes r.wait) r.number).protects d b.own b.received.message b.receives.protects), b.later))
+  not_opened x y a b = elim a.is [
+    | inl passed ↦
+        let says = (laws.shows s (observes r.wait) r.number).protects d b.own b.received.message b.receives.protects in
+        in_place_once r b.own b.received.message (subst (IsPassed r.wait) (same_own s r r d passed.0 b.own laws.head passed.1 says) passed.2) b.later
+    | inr first ↦
+        let law = laws.response s (observes r.wait) r.number in
+        let own_is : None ≡ b.own = law.number d None b.own first.0 b.received.message first.1 b.receives.protects in
+        let message : first.0 ≡ b.received.message = law.message d None b.own first.0 b.received.message first.1 b.receives.protects in
+        first_in_place r b.own b.received.message (sym own_is) (subst (λ m. continues r.wait m ≡ true) message first.2) first.3 b.later
+  ]
 
   one_rest : (x y : Answer) → Rest x → Rest y → x ≡ y
   one_rest x y (inl a) (inl b) = a.answer_is ∙ sym b.answer_is
@@ -101,8 +113,8 @@ module _ (laws : ClientAnswerLaws) (s : SecurityContext) (r : Asked) (d : List �
       let same = one_received (awaited s r) laws.one (laws.response s (observes r.wait) r.number) d a.own b.own a.received b.received a.receives b.receives in
       a.answer_is ∙ ap (λ (k : Received). opened (continues r.wait k.message) k r.number) same ∙ sym b.answer_is
 
-  no_rest : (x y : Answer) → IsUnopened s r d x × ((own : Option ℕ) → SaysOwn s r d own → IsAwaited r own) → Rest y → ⊥
-  no_rest x y a (inl b) = not_old y b a.1
+  no_rest : (x y : Answer) → IsUnopened s r d x × ((own : Option ℕ) → SaysOwn s r d own → MayAwait r.wait own) → Rest y → ⊥
+  no_rest x y a (inl b) = not_old y x b a.0 a.1
   no_rest x y a (inr b) = not_both x y a.0 b
 
   one_sort : (x y : Answer) → Sort x → Sort y → x ≡ y

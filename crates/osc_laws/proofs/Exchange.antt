@@ -22,7 +22,7 @@ use Rattle.osc_window.specs.Views.{places_of}
 use Rattle.osc_life.specs.declared.doubt.Doubt.{Doubt}
 use Rattle.osc_life.specs.declared.start.Start.TheVariants as starts
 use Rattle.osc_laws.specs.Arriving.{WhatIsSealedArrives}
-use Rattle.osc_client.specs.ClientAnswer.{ClientAnswer, Hears, continues, told}
+use Rattle.osc_client.specs.ClientAnswer.{ClientAnswer, Hears, IsInPlace, continues, told}
 use Rattle.osc_laws.specs.ClientHeadline.{ClientRowsExclude}
 use Rattle.osc_client.specs.ClientHistory as client
 use Rattle.osc_laws.specs.ClientLaws.{AllClientAnswers}
@@ -399,14 +399,14 @@ module _ (laws : ExchangeLaws) where
               | inl a ↦
                   let same = All-contains (λ (q : client.Asked). q.number ≡ y.to → (q.token ≡ a.plain.token) × (client.observes q.wait ≡ a.observing)) (client.asked h) r a.known.1 asked w.number_is in
                   let seals = subst (λ k. SealsResponse (client.context h) k y.own a.plain y.bytes) (sym w.number_is) a.seals in
-                  let heard : Hears h now y.bytes false r.number y.own (inside a.plain) = laws.arrive.response h now r y.own a.plain y.bytes w.is_next w.is_pending (sym same.0) seals in
+                  let heard : Hears h now y.bytes false r.number y.own (inside a.plain) = laws.arrive.response h now r y.own a.plain y.bytes (subst (IsInPlace r y.own) a.says w.is_next) w.is_pending (sym same.0) seals in
                   subst (λ k. Hears h now y.bytes y.notifies k y.own y.message) w.number_is
                   (subst (λ m. Hears h now y.bytes y.notifies r.number y.own m) (sym a.says) (subst (λ f. Hears h now y.bytes f r.number y.own (inside a.plain)) (sym a.flag) heard))
               | inr a ↦
                   let same = All-contains (λ (q : client.Asked). q.number ≡ y.to → (q.token ≡ a.plain.token) × (client.observes q.wait ≡ true)) (client.asked h) r a.known.1 asked w.number_is in
                   let seals = subst (λ k. SealsNotification (client.context h) k y.own a.plain y.bytes) (sym w.number_is) a.seals in
                   let m = inside (as_notified a.plain) in
-                  let heard : Hears h now y.bytes (continues r.wait m) r.number y.own m = laws.arrive.notification h now r y.own a.plain y.bytes same.1 w.is_next w.is_pending (sym same.0) seals in
+                  let heard : Hears h now y.bytes (continues r.wait m) r.number y.own m = laws.arrive.notification h now r y.own a.plain y.bytes same.1 (subst (IsInPlace r y.own) a.says w.is_next) w.is_pending (sym same.0) seals in
                   let goes_on : continues r.wait m ≡ y.notifies = ap (λ c. c && is_notification m.code m.options) same.1 ∙ a.continuing ∙ sym a.flag in
                   subst (λ k. Hears h now y.bytes y.notifies k y.own y.message) w.number_is
                   (subst (λ z. Hears h now y.bytes y.notifies r.number y.own z) (sym a.says) (subst (λ f. Hears h now y.bytes f r.number y.own m) goes_on heard))

@@ -1,5 +1,5 @@
 -- Both ends without Observe.
-use Rattle.std.proofs.Common.{◌≡◌, ℕ, ◌∙◌, sym, ap, arith, Bool, true, false, List, ◌&&◌, ◌||◌, if◌then◌else◌}
+use Rattle.std.proofs.Common.{◌≡◌, ℕ, ◌∙◌, sym, ap, arith, Bool, true, false, Option, Some, None, inl, inr, List, ◌&&◌, ◌||◌, if◌then◌else◌}
 use Rattle.std.specs.Prelude.{All, max, not, bytes_eq}
 use Rattle.std.proofs.lemmas.List.Elements.{All-contains, All-filter, All-map, All-nil, All-push, All-weaker}
 use Rattle.osc_coap.specs.Datagram.{Parts}
@@ -13,6 +13,7 @@ use Rattle.osc_observe.specs.Observing.{is_notification, is_observable, place_of
 use Rattle.osc_life.specs.ServerHistory as server
 use Rattle.osc_life.specs.LifeAnswer.{Arrival}
 use Rattle.osc_endpoint.specs.ServerAnswer.{MeetsRow}
+use Rattle.osc_client.specs.ClientAnswer.{IsPassed}
 use Rattle.osc_client.specs.ClientHistory as client
 use Rattle.osc_laws.specs.ClientLaws.{AllClientAnswers}
 use Rattle.osc_laws.specs.Plainness.{WithoutObserve, ServerIsPlain, ClientIsPlain, EndsArePlain}
@@ -64,14 +65,21 @@ once (client.Then h (client.Forget token) entry) e = All-filter (λ r. not (byte
 once (client.Then h (client.Restart first) entry) e = All-nil IsOnce
 once (client.Then h event entry) e = once h e
 
+never_passed : (wait : Wait) (own : Option ℕ) → client.first_place wait ≡ 0 → IsPassed wait own → ⊥
+never_passed wait None none passed = passed
+never_passed wait (Some own) none passed = omega (arith, passed, none)
+
 client_plain : (n : ℕ) (h : client.History) → AllClientAnswers n h → (client.context h).features.observe ≡ false → ClientIsPlain h
 client_plain n h a e = record {
   once = once h e;
   never_old = λ clock d x.
-      let (r, at, (own, says, less)) = x in
+      let (r, at, old) = x in
       let is : r.wait ≡ Once = All-contains IsOnce (client.asked h) r (once h e) (contains_filter (client.is_alive clock (client.life_ms h)) (client.asked h) r at.1) in
       let none : client.first_place r.wait ≡ 0 = ap client.first_place is in
-      omega (arith, less, none);
+      elim old [
+        | inl passed ↦ never_passed r.wait passed.0 none passed.2
+        | inr first ↦ let behind = first.3 in omega (arith, behind, none)
+      ];
   never_notified = λ clock d received number x.
       let (r, at, (same, own, awaited, receives, goes)) = x in
       let is : r.wait ≡ Once = All-contains IsOnce (client.asked h) r (once h e) (contains_filter (client.is_alive clock (client.life_ms h)) (client.asked h) r at.1) in

@@ -15,7 +15,7 @@ use Rattle.osc_life.specs.LifeAnswer.{LifeRestart, LifeSkip}
 use Rattle.osc_life.specs.ServerHistory.{History, Begin, Then, Add, Datagram, Reply, Notify, Restart, Skip, Advance, Deliver, Took, Replied, Answer, TicketValues, life}
 use Rattle.osc_laws.proofs.LifeCounts.{Kept, Image, answered_plainly, image, SealsNumbered, SealsPlain, Steps, Stays, Adds, Restarts, Skips, Numbers, Replies, steps}
 use Rattle.osc_laws.proofs.OwnNumbers.{IsCounted, IsOfLife, all_weaker, counted, is_own, passed_over, taken_up}
-use Rattle.osc_laws.proofs.Tickets.{all_answered, tickets_once}
+use Rattle.osc_laws.proofs.Tickets.{all_answered, pairs_behind, tickets_once}
 
 -- ---- nonces of one context
 
@@ -261,4 +261,4 @@ pairs_plainly (Then h event entry) pairs = pairs_plainly h pairs
 -- nor where each reply takes a ticket
 pub no_shared_nonce : OneNonce → ValueNumberInRange → SealedHeads → DeliveredOnce → ServerNoncesOnce
 no_shared_nonce one range shows once h a takes =
-    texts_apart one shows h a (pairs_plainly h (tickets_once once h a takes)) (all_plainly IsFor h (all_answered IsFor h takes.0 takes.1 (all_for range h a)))
+    texts_apart one shows h a (pairs_plainly h (pairs_behind AreApart takes.0 (answered h) (tickets_once once h a takes))) (all_plainly IsFor h (all_answered IsFor h takes.0 takes.1 (all_for range h a)))

@@ -70,4 +70,4 @@ all_answered P h ts left all = all_behind P ts (answered h) (all_kept P h ts lef
 
 -- a ticket gives one response at most
 pub tickets_once : DeliveredOnce → TicketOnce
-tickets_once once h a takes = pairs_behind AreApart takes.0 (answered h) (pairs_kept h takes.0 takes.1 (once h a))
+tickets_once once h a takes = pairs_kept h takes.0 takes.1 (once h a)

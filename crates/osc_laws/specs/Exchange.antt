@@ -19,7 +19,7 @@ use Rattle.osc_life.specs.ServerHistory as server
 use Rattle.osc_endpoint.specs.ServerAnswer.{ServerAnswer}
 use Rattle.osc_life.specs.LifeAnswer.{challenge_given, own_number}
 use Rattle.osc_client.specs.ClientHistory as client
-use Rattle.osc_client.specs.ClientAnswer.{ClientAnswer, IsAwaited, told}
+use Rattle.osc_client.specs.ClientAnswer.{ClientAnswer, IsInPlace, told}
 use Rattle.osc_laws.specs.ClientLaws.{AllClientAnswers}
 use Rattle.osc_laws.specs.Headline as delivery
 use Rattle.osc_laws.specs.Laws.{AllAnswers}
@@ -128,13 +128,13 @@ abbrev pub IsHonest : ℕ → ℕ → Exchange → Type 0
 IsHonest n i (Starts h g held) = AllClientAnswers n h × AllAnswers g × AreInStep i h g × All (λ t. t.context ≡ i → IsTicketTo h t) held
 IsHonest n i (Then x step) = IsHonest n i x × GoesWell n i x step
 
--- the client still waits for the response: its request is pending, neither answered nor forgotten nor too old, and no later response to it was heard
--- (RFC 8613, 7.4.1 and 8.4; own rule: the time)
+-- the client still waits for the response: its request is pending, neither answered nor forgotten nor too old, and no later response to it was heard; or it is
+-- the last response, without a Partial IV (RFC 8613, 7.4.1 and 8.4; own rule: the time)
 pub record IsWaitedFor (h : client.History) (moment : ℕ) (y : Response) : Type 0 where
   pub request : client.Asked
   pub is_pending : Contains (client.pending_at h moment) request
   pub number_is : request.number ≡ y.to
-  pub is_next : IsAwaited request y.own
+  pub is_next : IsInPlace request y.own y.message
 
 -- the client's clock at this moment (own rule)
 abbrev pub client_clock : Exchange → ℕ → ℕ

@@ -110,9 +110,9 @@ answered Begin = []
 answered (Then h (Reply ticket own mid plain room) (Replied bytes)) = ticket ∷ answered h
 answered (Then h event entry) = answered h
 
--- a ticket gives at most one reply: no two replies are to one number in one life of one context (RFC 8613, 8.3)
+-- a ticket gives at most one reply: no two tickets that replies took, or that are left, are of one number in one life of one context (RFC 8613, 8.3)
 abbrev pub TicketOnce : Type 0
-TicketOnce = (h : History) → AllAnswers h → TakesTickets h → Pairwise AreApart (answered h)
+TicketOnce = (h : History) → AllAnswers h → (takes : TakesTickets h) → Pairwise AreApart (takes.0 ++ answered h)
 
 -- the nonce of a text (RFC 8613, 5.2)
 abbrev pub nonce_of_text : Text → List ℕ

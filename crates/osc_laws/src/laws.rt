@@ -57,8 +57,9 @@ pub fn own_numbers_once()
     protections_show_heads();
 }
 
-/// States that a ticket gives at most one reply: no two replies are to one number in one life of one context (RFC 8613, 8.3). Each accepted
-/// reply has to take a ticket that a delivery gave and that no earlier reply took, as it does in a run. Notifications aren't counted.
+/// States that a ticket gives at most one reply: no two replies are to one number in one life of one context, and no ticket is left of a
+/// number that has its reply (RFC 8613, 8.3). Each accepted reply has to take a ticket that a delivery gave and that no earlier reply
+/// took, as it does in a run. Notifications aren't counted.
 pub fn ticket_once()
     ensures { TicketOnce }
 {

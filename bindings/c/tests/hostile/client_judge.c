@@ -71,7 +71,7 @@ static uint32_t open_response(struct client_judge *judge, struct bytes datagram,
     /* A response has neither kid nor kid context; own rule. */
     if (!usable_value(&judged->seen.body, &value) || value.has_kid || value.has_kid_context) return OSCORE_UNDECODABLE;
     *place = value.has_number ? value.number + 1 : 0;
-    if (*place < pending->from) return OSCORE_OLD;
+    if (value.has_number && *place < pending->from) return OSCORE_OLD;
     judged->request = pending->number;
     judged->registers = pending->registers;
     judged->opened = opens((struct sealed_as){true, value.has_number, 0, pending->number, value.number, false}, judged->seen.body.payload);
@@ -93,10 +93,13 @@ void judge_response(struct client_judge *judge, uint64_t now, struct bytes datag
         judged->status = OSCORE_INNER;
         return;
     }
-    /* Later notifications come from the next place on. */
+    /* Later notifications come from the next place on. The last response is none, and ends the registration wherever it stands. */
+    struct pending *pending = under(judge, judged->seen.head.token);
     judged->is_notification = judged->registers && is_notification(code, &inner);
-    if (judged->is_notification)
-        under(judge, judged->seen.head.token)->from = place + 1;
+    if (judged->is_notification && place < pending->from)
+        judged->status = OSCORE_OLD;
+    else if (judged->is_notification)
+        pending->from = place + 1;
     else
         end_pending(judge, &judged->seen.head.token);
 }

@@ -1,4 +1,4 @@
-use Rattle.std.proofs.Common.{◌<◌, ◌∙◌, sym, ap, subst, refl, rules, option_map}
+use Rattle.std.proofs.Common.{◌∙◌, inl, sym, ap, subst, refl, rules, option_map}
 use Rattle.std.proofs.lemmas.Option.{slice_get_within}
 use Rattle.osc_coap.specs.Views.{parts_of}
 use Rattle.osc_context.specs.Views.{as_client, number_of}
@@ -7,8 +7,8 @@ use Rattle.osc_protect.specs.Refusals.{RefusesTag}
 use Rattle.osc_protect.specs.StageViews.{DecryptsResponse}
 use Rattle.osc_protect.specs.Views.{context_of, registers, request_number}
 use Rattle.osc_client.specs.Agrees.{parts_over}
-use Rattle.osc_client.specs.ClientHistory.{Malformed, NotResponse, UnknownToken, Unprotected, Undecodable, BadTag, Old, context, first_place, observes}
-use Rattle.osc_observe.specs.Observing.{place_of}
+use Rattle.osc_client.specs.ClientAnswer.{IsPassed}
+use Rattle.osc_client.specs.ClientHistory.{Malformed, NotResponse, UnknownToken, Unprotected, Undecodable, BadTag, Old, context, observes}
 use Rattle.osc_client.proofs.Asking.{advanced, contains_at, differ_alive, moved}
 use Rattle.osc_client.proofs.ClientDecisions.{answers, in_history, not_there, opened_by, says_awaited, says_own, there}
 use Rattle.osc_client.proofs.client_state.ClientState.decrypt.Goals as goal
@@ -91,7 +91,7 @@ returns-in_default-decrypt_response-clause-refused g c = λ h a.
     let refused = in_history (λ f. RefusesTag f c.args.datagram.now) (as_client (context_of c.args.self.now.context)) (context h) (registers c.request-request.result) (observes r.wait)
     (request_number c.request-request.result) (number_of c.in-Some.found.number) r.number a.context_is (c.request-request.ensures.registers ∙ ap observes (sym wait))
     c.request-request.ensures.number number c.in_default-decrypt_response.ensures.refused in
-    let says = says_awaited (context h) r c.args.datagram.now c.in-Ok-read.head c.in-Some.found (p, c.in-Ok.ensures.accepted, c.in-Ok-read.ensures.head) wait (c.is_old.ensures.no (search rules)) in
+    let says = says_awaited (context h) r c.args.datagram.now c.in-Ok-read.head c.in-Some.found (p, c.in-Ok.ensures.accepted, c.in-Ok-read.ensures.head) wait (c.is_passed.ensures.no (search rules)) in
     record {
       answer = BadTag;
       row = (r, answers _ h c.args.now c.args.datagram.now p r b c.in-Ok.ensures.accepted (search rules) token has, (says, refused));
@@ -99,8 +99,8 @@ returns-in_default-decrypt_response-clause-refused g c = λ h a.
       agrees = moved _ h c.args.now _ _ refl refl refl b;
     }
 
-pub returns-then-is_old-clause-refused : goal.returns-then-is_old-clause-refused
-returns-then-is_old-clause-refused g c = λ h a.
+pub returns-then-is_passed-clause-refused : goal.returns-then-is_passed-clause-refused
+returns-then-is_passed-clause-refused g c = λ h a.
     let b = advanced _ _ h c.args.now a refl refl refl c.max-self.ensures c.drop_expired.ensures.requests in
     let p = parts_of c.in-Ok.message in
     let (r, has, token, number, wait) = there _ c.in-Some.found _ p.token c.as_slice.ensures.value c.in-Some.ensures.found in
@@ -110,10 +110,10 @@ returns-then-is_old-clause-refused g c = λ h a.
       row = (
         r,
         answers _ h c.args.now c.args.datagram.now p r b c.in-Ok.ensures.accepted (search rules) token has,
-        (
+        inl (
           own,
           says_own (context h) r c.args.datagram.now c.in-Ok-read.head (p, c.in-Ok.ensures.accepted, c.in-Ok-read.ensures.head),
-          subst (λ w. place_of own < first_place w) (sym wait) (c.is_old.ensures.yes (search rules)),
+          subst (λ w. IsPassed w own) (sym wait) (c.is_passed.ensures.yes (search rules)),
         ),
       );
       decides = tt;
@@ -133,7 +133,7 @@ returns-clause-answers g c = λ h a.
       number_is = number;
       wait_is = wait;
       answers = answers _ h c.args.now c.args.datagram.now p r b c.in-Ok.ensures.accepted (search rules) (named ∙ c.as_slice.ensures.value) has;
-      awaits = says_awaited (context h) r c.args.datagram.now c.in-Ok-read.head c.in-Some.found (p, c.in-Ok.ensures.accepted, c.in-Ok-read.ensures.head) wait (c.is_old.ensures.no (search rules));
+      awaits = says_awaited (context h) r c.args.datagram.now c.in-Ok-read.head c.in-Some.found (p, c.in-Ok.ensures.accepted, c.in-Ok-read.ensures.head) wait (c.is_passed.ensures.no (search rules));
       decrypts = in_history (λ f. DecryptsResponse f c.args.datagram.now c.in-Ok-decrypt_response.decrypted c.decrypt_response.new.datagram) (as_client (context_of c.args.self.now.context)) (context h)
           (registers c.request-request.result) (observes r.wait) (request_number c.request-request.result) (number_of c.in-Some.found.number) r.number a.context_is
           (c.request-request.ensures.registers ∙ ap observes (sym wait)) c.request-request.ensures.number number c.in-Ok-decrypt_response.ensures.decrypted;
@@ -145,8 +145,8 @@ returns-clause-opened g c =
     opened_by (parts_over c.args.self.now (g.W.Waiting.requests c.args.pending.now)) c.max-self.result (request_number c.request-request.result) (registers c.request-request.result) c.in-Some.found _ c.args.datagram.now c.decrypt_response.new.datagram r c.in-Ok-decrypt_response.decrypted
     c.drop_expired.ensures.requests has number wait c.request-request.ensures.registers c.request-request.ensures.number c.in-Ok-decrypt_response.ensures.decrypted
 
-pub returns-then-is_old-clause-apart : goal.returns-then-is_old-clause-apart
-returns-then-is_old-clause-apart g c = λ d. differ_alive _ _ _ _ c.drop_expired.ensures.requests d
+pub returns-then-is_passed-clause-apart : goal.returns-then-is_passed-clause-apart
+returns-then-is_passed-clause-apart g c = λ d. differ_alive _ _ _ _ c.drop_expired.ensures.requests d
 
 pub returns-in-Err-clause-apart : goal.returns-in-Err-clause-apart
 returns-in-Err-clause-apart g c = λ d. differ_alive _ _ _ _ c.drop_expired.ensures.requests d
