@@ -131,7 +131,7 @@ typedef enum oscore_status {
     OSCORE_CHALLENGE = 37,         /* a new life, and the request lacks the Echo value that the reply asks for */
     OSCORE_UNSUPPORTED = 38,       /* an option that isn't sealed, as Proxy-Uri; `detail` is its number */
     OSCORE_NOT_NOTIFICATION = 39,  /* the message isn't of class 2, or has no Observe */
-    OSCORE_TOKEN_IN_USE = 40,      /* a request with this token is pending */
+    OSCORE_TOKEN_IN_USE = 40,      /* a request with this token is pending, and gives no way to this one */
     OSCORE_PENDING_FULL = 41,      /* as many requests are pending as there are places */
     OSCORE_SEQUENCE_EXHAUSTED = 42, /* no Sender Sequence Number below 2^40 is left */
     OSCORE_TOO_LONG = 43,          /* the sealed message would have more than 65,535 bytes */
@@ -668,7 +668,8 @@ static inline bool oscore_peer_fits(const oscore_peer *peers, size_t peer_count,
 
 /* Seals the answer to the request of a ticket: with a Partial IV of its own where `own` says so, else under the request's nonce, which
    needs no number. Of `plain`, which is a datagram, the code, the options and the payload are used; kind, message ID and token are those
-   that the request asks for, and `mid` is the message ID where the request wasn't confirmable. A request is answered once:
+   that the request asks for, and `mid` is the message ID where the request wasn't confirmable. Where it was, and has its ACK already, call `oscore_make_separate`
+   behind this. A request is answered once:
    OSCORE_TICKET_SPENT where it has its answer. A refusal spends nothing.
    The answer to a registration has a Partial IV of its own whatever `own` says. It has no Observe, and so it is the last: the client then
    waits for nothing more.
@@ -723,6 +724,13 @@ OSCORE_MUST_USE static inline oscore_status oscore_peer_notify(oscore_peer *peer
     return status;
 }
 
+/* Makes a reply a message of its own: its datagram gets the kind CON, or NON where it isn't confirmable, and this message ID; token, code,
+   options and payload stay. `oscore_peer_reply` seals the reply to a CON for the ACK of that, with the message ID of the request. Where
+   that CON has its ACK already, an empty one or a notification, call this behind it (RFC 7252, 5.2.2). Neither kind nor message ID is
+   protected, so the reply opens as before (RFC 8613, 4.2). Fewer than 4 bytes, which are no datagram, stay. */
+#define oscore_make_separate oscore_make_separate_v6
+void oscore_make_separate(uint8_t *datagram, oscore_size datagram_len, bool is_confirmable, uint16_t message_id);
+
 /* What a peer asks. Its requests that wait for their responses lie in an array of yours, of as many places as you give it: the first
    `*pending_count` of its `pending_room` places hold one each, oldest first. Begin with a count of 0 and zeroed places when you begin the
    peer, hand in both with each of these calls, and change nothing of them. They are one peer's: those of another have other numbers. A
@@ -733,7 +741,8 @@ OSCORE_MUST_USE static inline oscore_status oscore_peer_notify(oscore_peer *peer
    token is pending from then on. `now` is as at `oscore_peer_take`; a moment from far ahead ends all that is pending, and what is sealed
    after it is pending until the time has come there. A refusal from OSCORE_NOT_THAT_KIND on moves the clock, which ends what was pending
    for too long. To send a request again (RFC 7252, 4.2), send the same bytes: what is sealed anew is another request, and is obeyed once
-   more. To cancel an observation, or to register anew, under its token, call `oscore_peer_forget` first. */
+   more. A registration gives way to a GET or FETCH under its token whose Observe is 0 or 1, which registers anew or cancels (RFC 7641,
+   3.3.1 and 3.6): that takes its place, and nothing is heard for the old one from then on. A refusal leaves it pending. */
 OSCORE_MUST_USE static inline oscore_status oscore_peer_request(oscore_peer *peer, oscore_pending *pending, oscore_size pending_room,
                                                                 oscore_size *pending_count, uint64_t now, const uint8_t *plain, oscore_size plain_len,
                                                                 uint8_t *out, oscore_size out_room, oscore_size *out_len, oscore_peer_record *record,

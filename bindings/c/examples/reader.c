@@ -35,7 +35,7 @@ static const uint8_t SECRET[] = "a secret for a try";
 static const uint8_t SENSOR[] = {3}, READER[] = {4};
 
 static oscore_peer peer;
-/* One place is enough: a registration has it until its last response, and is forgotten before what cancels it is sealed. */
+/* One place is enough: a registration has it until its last response, or until what cancels it, under the same token, takes it. */
 static oscore_pending pending[1];
 static oscore_size pending_count;
 static int udp;
@@ -233,9 +233,7 @@ int main(int count, char **words) {
         if (response.has_number) printf("%llu: ", (unsigned long long)response.number);
         else fputs("no Partial IV of its own: ", stdout);
         printf("%.*s\n", (int)response.payload_len, (const char *)response.payload);
-        /* The same token cancels, so the peer may wait for nothing under it. */
-        if (--left == 0 && oscore_peer_forget(&peer, pending, OSCORE_COUNT(pending), &pending_count, token, sizeof token))
-            stop("nothing to forget");
+        left--;
     }
     printf("last: %u.%02u%s%.*s\n", response.code >> 5, response.code & 31u, response.payload_len > 0 ? " " : "", (int)response.payload_len,
            (const char *)response.payload);

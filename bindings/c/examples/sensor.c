@@ -174,12 +174,11 @@ static void notify_again(void) {
     else observation.on = observation.waits = false;
 }
 
-/* What is observed is over. The registration had its ACK, so the last response is a message of its own: to a NON, the reply is a NON. */
+/* What is observed is over. The registration had its ACK, so the last response is a message of its own. */
 static void end_observation(void) {
     uint8_t out[OSCORE_ROOM(MOST_PLAIN)];
-    oscore_ticket last = observation.ticket;
-    last.kind = NON;
-    size_t len = seal_reply(&last, NOT_FOUND, "no more", out);
+    size_t len = seal_reply(&observation.ticket, NOT_FOUND, "no more", out);
+    oscore_make_separate(out, len, false, next_id++);
     send_to(&observation.to, out, len);
 }
 

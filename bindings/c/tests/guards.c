@@ -144,6 +144,11 @@ WRAP(peer_reply_v6, oscore_status, (oscore_peer *peer, const oscore_ticket *tick
     return __real_oscore_peer_reply_v6(peer, ticket, own, mid, plain, plain_len, out, out_room, out_len, record, detail);
 }
 
+WRAP(make_separate_v6, void, (uint8_t *datagram, oscore_size datagram_len, bool is_confirmable, uint16_t message_id)) {
+    BYTES(datagram);
+    __real_oscore_make_separate_v6(datagram, datagram_len, is_confirmable, message_id);
+}
+
 WRAP(peer_notify_v6, oscore_status, (oscore_peer *peer, const oscore_ticket *ticket, const uint8_t *plain, oscore_size plain_len, uint8_t *out,
                                   oscore_size out_room, oscore_size *out_len, oscore_peer_record *record, oscore_size *detail)) {
     STRUCT(peer), STRUCT(ticket), BYTES(plain), SOME(out, out_room), STRUCT(out_len), STRUCT(record), STRUCT(detail);

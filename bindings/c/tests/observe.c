@@ -225,8 +225,10 @@ static oscore_ticket notified(void) {
 /* The whole exchange. */
 static void observes(void) {
     oscore_ticket observing = notified();
-    CHECK(ask(40, CANCELLATION) == OSCORE_TOKEN_IN_USE && forget(0x4a));
-    CHECK(!ask(40, CANCELLATION) && is(out, *out_len, SEALED_END) && pending[0].observes == 0);
+    /* What cancels takes the place of the registration. Any other request under its token is refused. */
+    CHECK(ask(40, "410101024ab474656d70") == OSCORE_TOKEN_IN_USE && *pending_count == 1 && pending[0].observes == 1);
+    CHECK(!ask(40, CANCELLATION) && is(out, *out_len, SEALED_END) && *pending_count == 1 && pending[0].observes == 0);
+    CHECK(ask(40, CANCELLATION) == OSCORE_TOKEN_IN_USE && ask(40, REGISTRATION) == OSCORE_TOKEN_IN_USE);
     CHECK(!serve(SEALED_END) && opened->number == 21 && ticket->observes == 0 && ticket->number == 21);
     CHECK(options[0].number == 6 && options[0].value_len == 1 && options[0].value[0] == 1 && opened->option_count == 2);
     CHECK(notify(ticket, STATES[1]) == OSCORE_NOT_OBSERVING && *detail == 0);
@@ -442,10 +444,11 @@ static void goes_through_losses(void) {
     CHECK(!hear_bytes(0, end.bytes, end.len) && !opened->is_notification && opened->code == 0x84 && *number == 20 && *pending_count == 0);
     CHECK(hear_bytes(0, end.bytes, end.len) == OSCORE_UNKNOWN_TOKEN && reply(&observing, GONE) == OSCORE_TICKET_SPENT);
     CHECK(notify(&observing, STATES[0]) == OSCORE_TICKET_SPENT);
-    CHECK(!ask(0, REGISTRATION) && comes_through(true).number == 121 && *pending_count == 1 && forget(0x4a));
-    CHECK(!ask(0, CANCELLATION));
+    CHECK(!ask(0, REGISTRATION) && comes_through(true).number == 121 && *pending_count == 1);
+    CHECK(!ask(0, REGISTRATION) && comes_through(true).number == 122 && *pending_count == 1);
+    CHECK(!ask(0, CANCELLATION) && *pending_count == 1);
     oscore_ticket cancelled = comes_through(false);
-    CHECK(cancelled.number == 122 && !cancelled.observes && *pending_count == 0);
+    CHECK(cancelled.number == 123 && !cancelled.observes && *pending_count == 0);
 }
 
 /* ---- the room that it takes */

@@ -193,6 +193,24 @@ static void exchanges(void) {
     CHECK(take_sealed("54015d1f00003974", 21, NOW) == OSCORE_REPLAY && is(reply, 4, "54811234"));
 }
 
+/* In a message of its own a reply is what it would be in the acknowledgement, but for its kind and its message ID. */
+static void replies_alone(void) {
+    static const char *heads[2] = {"5444abcd", "4444abcd"};
+    for (int confirmable = 0; confirmable < 2; confirmable++) {
+        begin();
+        CHECK(!take_text(SEALED) && !answer(ticket, false) && is(out, *out_len, SEALED_ANSWERS[false]));
+        size_t len = *out_len;
+        uint8_t *reply_alone = guarded_copy(GIVEN, out, len);
+        oscore_make_separate(reply_alone, len, confirmable, 0xabcd);
+        CHECK(is(reply_alone, 4, heads[confirmable]) && !memcmp(reply_alone + 4, out + 4, len - 4));
+        CHECK(!open_response(20, reply_alone, len) && opened->code == 69 && opened->kind == !confirmable && opened->message_id == 0xabcd);
+        /* Three bytes are no datagram. */
+        uint8_t *three = guarded_copy(GIVEN, "\x64\x44\x5d", 3);
+        oscore_make_separate(three, 3, confirmable, 0xabcd);
+        CHECK(is(three, 3, "64445d"));
+    }
+}
+
 /* Three options, Uri-Path a, b and c, where the array has room for none, for two, and for more. */
 static void counts_options(void) {
     const uint8_t plain[] = {0x40, 1, 0, 1, 0xb1, 'a', 1, 'b', 1, 'c'};
@@ -477,6 +495,7 @@ int main(int count, char **words) {
         for (int ciphers = 0; ciphers < 2; ciphers++) {
             tables = ciphers == 0;
             exchanges();
+            replies_alone();
             challenges_first();
         }
         counts_options();

@@ -24,7 +24,7 @@ pub(crate) fn make(
     }
 }
 
-/// Makes a call of osc_coap, or of a layer above.
+/// Makes a call of osc_coap or osc_message, or of a layer above.
 fn of_messages(
     verb: &str,
     fields: &Fields<'_>,
@@ -41,6 +41,7 @@ fn of_messages(
         "write-inner" => writing::write_inner(fields, answer),
         "write-again" => writing::write_again(fields, answer),
         "write-under-head" => writing::write_under_head(fields, answer),
+        "separate" => writing::separate(fields, answer),
         _ => of_options(verb, fields, contexts, answer),
     }
 }

@@ -1,8 +1,9 @@
-//! Calls of osc_coap that write.
+//! Calls of osc_coap and osc_message that write.
 
 use crate::answer::Answer;
 use crate::fields::Fields;
 use osc_coap::{Message, WriteError, Writer};
+use osc_message::{Separate, make_separate};
 
 /// What a writer's buffer is filled with.
 const FILLED_WITH: u8 = 0xee;
@@ -110,4 +111,20 @@ pub(crate) fn write_under_head(fields: &Fields<'_>, answer: &mut Answer) {
         } = head;
         copied(&message.with_head(kind, message_id, token), fields, answer);
     }
+}
+
+/// Makes a datagram a message of its own, and shows it.
+pub(crate) fn separate(fields: &Fields<'_>, answer: &mut Answer) {
+    fields.count(3);
+    let kind = match fields.word(0) {
+        "CON" => Separate::Con,
+        "NON" => Separate::Non,
+        _ => {
+            fields.refuse();
+            return;
+        }
+    };
+    let mut datagram = fields.copy(2);
+    make_separate(datagram.as_mut_slice(), kind, fields.message_id(1));
+    answer.bytes(datagram.as_slice());
 }

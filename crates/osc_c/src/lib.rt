@@ -14,6 +14,7 @@ mod peer_asking;
 mod peer_finding;
 mod refusals;
 mod sealing;
+mod separating;
 mod sizes;
 mod status;
 mod writing;

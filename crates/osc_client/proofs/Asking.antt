@@ -32,7 +32,7 @@ pub map_filter : (p : Asked → Bool) (xs : List Pending) → map asked_of (filt
 map_filter p [] = refl
 map_filter p (x ∷ xs) = step (p (asked_of x)) x _ _ (map_filter p xs)
 
-passes : {X : Type 0} (p : X → Bool) (x : X) (xs : List X) → p x ≡ true → filter p (x ∷ xs) ≡ x ∷ filter p xs
+pub passes : {X : Type 0} (p : X → Bool) (x : X) (xs : List X) → p x ≡ true → filter p (x ∷ xs) ≡ x ∷ filter p xs
 passes p x xs e = ap (λ b. cond b (x ∷ filter p xs) (filter p xs)) e
 
 fails : (p : Asked → Bool) (x : Asked) (xs : List Asked) → p x ≡ false → filter p (x ∷ xs) ≡ filter p xs

@@ -1,6 +1,6 @@
 -- Requests of a client: their rows, and the table with one request more.
 use Rattle.std.proofs.Common.{◌≡◌, ◌≢◌, ℕ, ◌+◌, ◌-◌, ◌∙◌, sym, ap, subst, refl, arith, Bool, true, false, List, [], ◌∷◌, ◌++◌, length, get_or, take, inl, inr}
-use Rattle.std.specs.Prelude.{◌||◌, cond, max, nat_le, nat_lt}
+use Rattle.std.specs.Prelude.{◌||◌, cond, max, nat_le, nat_lt, not}
 use Rattle.std.proofs.lemmas.Bool.Decides.{nat_tests}
 use Rattle.std.proofs.lemmas.List.{get_or_default}
 use Rattle.std.proofs.lemmas.List.Elements.{filter-append}
@@ -17,8 +17,10 @@ use Rattle.osc_client.specs.declared.client_outcome.RequestError.{RequestError}
 use Rattle.osc_client.specs.declared.client_outcome.RequestError.TheVariants.{NotThatKind, Unsupported, TokenInUse, PendingFull, SequenceExhausted, TooLong, NoRoom, KeeperFailed}
 use Rattle.osc_client.specs.Agrees.{ClientParts, PartsAgree, TokensDiffer}
 use Rattle.osc_client.specs.ClientAnswer.{CanAsk, IsAmong, RequestAnswer}
-use Rattle.osc_client.specs.ClientHistory.{Asked, Entry, History, Then, Request, Advance, Advanced, Sent, NotSent, alive, asked, clock, context, first_place, is_alive, life_ms, next, pending_at, wait_of}
+use Rattle.osc_client.specs.ClientHistory.{Asked, Entry, History, Then, Request, Advance, Advanced, Sent, NotSent, alive, asked, beside, clock, context, first_place, gives_way, is_alive, life_ms, next, pending_at, wait_of}
 use Rattle.osc_client.specs.Requesting.{IsFirstReason, lifted}
+use Rattle.osc_client.proofs.Asking.{filter_swap}
+use Rattle.osc_client.proofs.GivingWay.{differ_beside}
 use Rattle.osc_observe.proofs.Fronts.{front_fits}
 
 -- ---- refusals
@@ -63,14 +65,24 @@ young true moment ms at e = refl
 young false moment ms at e = grind (arith, nat_tests)
 
 -- the newest is alive
-pub alive_more : (moment ms : ℕ) (xs : List Asked) (a : Asked) → a.moment ≡ moment → alive moment ms (xs ++ a ∷ []) ≡ alive moment ms xs ++ a ∷ []
+alive_more : (moment ms : ℕ) (xs : List Asked) (a : Asked) → a.moment ≡ moment → alive moment ms (xs ++ a ∷ []) ≡ alive moment ms xs ++ a ∷ []
 alive_more moment ms xs a e =
     filter-append (is_alive moment ms) xs (a ∷ []) ∙ ap (λ b. alive moment ms xs ++ cond b (a ∷ []) []) (young (nat_lt 0 (first_place a.wait)) moment ms a.moment e)
 
 -- a new token is none of those before
-pub differ_more : (xs : List Asked) (a : Asked) → TokensDiffer xs → (IsAmong a.token xs → ⊥) → TokensDiffer (xs ++ a ∷ [])
+differ_more : (xs : List Asked) (a : Asked) → TokensDiffer xs → (IsAmong a.token xs → ⊥) → TokensDiffer (xs ++ a ∷ [])
 differ_more xs a h new =
     all_pairs_push (λ (r q : Asked). r.token ≢ q.token) xs a h (λ k d within same. new (get_or xs k d, (k, within, get_or_default xs k (get_or xs k d) d within), same))
+
+-- the newest is alive, whichever gives way to it
+pub beside_more : (moment ms : ℕ) (x : Features) (p : Parts) (xs : List Asked) (a : Asked) → a.moment ≡ moment
+    → alive moment ms (beside x p xs ++ a ∷ []) ≡ beside x p (alive moment ms xs) ++ a ∷ []
+beside_more moment ms x p xs a e =
+    alive_more moment ms (beside x p xs) a e ∙ ap (λ qs. qs ++ a ∷ []) (filter_swap (is_alive moment ms) (λ q. not (gives_way x p q)) xs)
+
+-- and its token is none of those that stay
+pub differ_beside_more : (x : Features) (p : Parts) (xs : List Asked) (a : Asked) → TokensDiffer xs → (IsAmong a.token (beside x p xs) → ⊥) → TokensDiffer (beside x p xs ++ a ∷ [])
+differ_beside_more x p xs a differ new = differ_more (beside x p xs) a (differ_beside x p xs differ) new
 
 -- the answer by a client with as much room
 pub in_room : (n k : ℕ) (h : History) (now room : ℕ) (p : Parts) (entry : Entry) → n ≡ k → RequestAnswer n h (max (clock h) now) p room entry → RequestAnswer k h (max (clock h) now) p room entry
@@ -92,22 +104,24 @@ sealed_now n c h now number len p new old a can is room sealed =
     (can, subst (λ k. SealsRequest (context h) k p (take len new)) is by_context, front_fits len new old room)
 
 -- the table holds it
-pub agrees_sent : (n : ℕ) (c new : ClientParts) (h : History) (now room : ℕ) (p : Parts) (bytes : List ℕ) (r : Asked)
+pub agrees_sent : (n : ℕ) (c new : ClientParts) (h : History) (now room : ℕ) (p : Parts) (bytes : List ℕ) (rest : List Asked) (r : Asked)
     → PartsAgree c (Then h (Advance now) Advanced) → CanAsk n (Then h (Advance now) Advanced) (max (clock h) now) p
-    → new.context ≡ c.context → new.life_ms ≡ c.life_ms → new.clock ≡ c.clock → new.next ≡ c.next + 1 → new.pending ≡ c.pending ++ r ∷ []
+    → new.context ≡ c.context → new.life_ms ≡ c.life_ms → new.clock ≡ c.clock → new.next ≡ c.next + 1 → rest ≡ beside c.context.features p c.pending → new.pending ≡ rest ++ r ∷ []
     → r.token ≡ p.token → r.number ≡ next h → r.moment ≡ c.clock → r.wait ≡ wait_of c.context.features p
     → PartsAgree new (Then h (Request now p room) (Sent bytes))
-agrees_sent n c new h now room p bytes r a can same_context same_life same_clock counted more token number moment wait =
+agrees_sent n c new h now room p bytes rest r a can same_context same_life same_clock counted left more token number moment wait =
     let asked_now : Asked = record { token = p.token; number = next h; moment = max (clock h) now; wait = wait_of (context h).features p } in
     let is : r ≡ asked_now = λ i. record { token = token i; number = number i; moment = (moment ∙ a.clock_is) i; wait = (wait ∙ ap (λ (s : SecurityContext). wait_of s.features p) a.context_is) i } in
-    let grows = alive_more (max (clock h) now) (life_ms h) (asked h) asked_now refl in
+    let x = (context h).features in
+    let grows = beside_more (max (clock h) now) (life_ms h) x p (asked h) asked_now refl in
+    let stay : rest ≡ beside x p (pending_at h (max (clock h) now)) = left ∙ ap (λ (s : SecurityContext). beside s.features p c.pending) a.context_is ∙ ap (beside x p) a.table in
     record {
       context_is = same_context ∙ a.context_is;
       life_is = same_life ∙ a.life_is;
       clock_is = same_clock ∙ a.clock_is;
       next_is = counted ∙ ap (λ k. k + 1) a.next_is;
-      table = more ∙ ap (λ xs. xs ++ r ∷ []) a.table ∙ ap (λ q. pending_at h (max (clock h) now) ++ q ∷ []) is ∙ sym grows;
-      differ = subst TokensDiffer (sym grows) (differ_more (pending_at h (max (clock h) now)) asked_now a.differ can.0.1);
+      table = more ∙ ap (λ xs. xs ++ r ∷ []) stay ∙ ap (λ q. beside x p (pending_at h (max (clock h) now)) ++ q ∷ []) is ∙ sym grows;
+      differ = subst TokensDiffer (sym grows) (differ_beside_more x p (pending_at h (max (clock h) now)) asked_now a.differ can.0.1);
     }
 
 -- its token is none of those before

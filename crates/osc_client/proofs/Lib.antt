@@ -1,3 +1,4 @@
+pub mod GivingWay
 pub mod Showing
 pub mod Asking
 pub mod ClientDecisions

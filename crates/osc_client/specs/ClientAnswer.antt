@@ -19,7 +19,7 @@ use Rattle.osc_client.specs.declared.client_outcome.RequestError.TheVariants.{No
 use Rattle.osc_client.specs.declared.pending.Wait.{Wait}
 use Rattle.osc_observe.specs.Observing.{is_notification, place_of}
 use Rattle.osc_observe.specs.Received.{Receives}
-use Rattle.osc_client.specs.ClientHistory.{History, Event, Entry, Answer, Asked, Request, Datagram, Forget, Restart, Skip, Advance, Malformed, NotResponse, UnknownToken, Unprotected, Undecodable, BadTag, BadInner, Old, Notified, Deliver, Sent, NotSent, Took, Forgot, Restarted, Skipped, NotSkipped, Advanced, context, next, clock, first_place, observes, pending, pending_at}
+use Rattle.osc_client.specs.ClientHistory.{History, Event, Entry, Answer, Asked, Request, Datagram, Forget, Restart, Skip, Advance, Malformed, NotResponse, UnknownToken, Unprotected, Undecodable, BadTag, BadInner, Old, Notified, Deliver, Sent, NotSent, Took, Forgot, Restarted, Skipped, NotSkipped, Advanced, beside, context, next, clock, first_place, observes, pending, pending_at}
 
 -- a request with this token is among these (RFC 7252, 5.3.2)
 abbrev pub IsAmong : List ℕ → List Asked → Type 0
@@ -96,21 +96,25 @@ ResponseAnswer h clock d NotResponse = HasNoResponseHead d heads.NotThatKind
 ResponseAnswer h clock d UnknownToken = (token : List ℕ) × IsResponseWith d token × (IsAmong token (pending_at h clock) → ⊥)
 ResponseAnswer h clock d answer = PendingAnswer h clock d answer
 
--- a request that can be sealed, and whose token isn't pending (RFC 7252, 5.3.1)
+-- the requests that are pending then, but one that gives way to this message (RFC 7641, 3.3.1 and 3.6)
+abbrev pub staying : History → ℕ → Parts → List Asked
+staying h clock p = beside (context h).features p (pending_at h clock)
+
+-- a request that can be sealed, and whose token isn't pending, or gives way (RFC 7252, 5.3.1; RFC 7641, 3.3.1 and 3.6)
 abbrev pub IsNewRequest : History → ℕ → Parts → Type 0
-IsNewRequest h clock p = IsPlainRequest (context h).features p × (IsAmong p.token (pending_at h clock) → ⊥)
+IsNewRequest h clock p = IsPlainRequest (context h).features p × (IsAmong p.token (staying h clock p) → ⊥)
 
 -- such a request, with room for it among n pending ones, and a number left for it (RFC 8613, 7.2.1; own rule: the room)
 abbrev pub CanAsk : ℕ → History → ℕ → Parts → Type 0
-CanAsk n h clock p = IsNewRequest h clock p × (length (pending_at h clock) < n) × (next h < 2 ^ 40)
+CanAsk n h clock p = IsNewRequest h clock p × (length (staying h clock p) < n) × (next h < 2 ^ 40)
 
 -- the answer to Request, row by row (RFC 8613, 8.1; own rule: the order)
 abbrev pub RequestAnswer : ℕ → History → ℕ → Parts → ℕ → Entry → Type 0
 RequestAnswer n h clock p room (NotSent NotThatKind) = RefusesPlainRequest (context h).features p seals.NotThatKind
 RequestAnswer n h clock p room (NotSent (Unsupported k)) = RefusesPlainRequest (context h).features p (seals.Unsupported k)
-RequestAnswer n h clock p room (NotSent TokenInUse) = IsPlainRequest (context h).features p × IsAmong p.token (pending_at h clock)
-RequestAnswer n h clock p room (NotSent PendingFull) = IsNewRequest h clock p × (n ≤ length (pending_at h clock))
-RequestAnswer n h clock p room (NotSent SequenceExhausted) = IsNewRequest h clock p × (length (pending_at h clock) < n) × (2 ^ 40 ≤ next h)
+RequestAnswer n h clock p room (NotSent TokenInUse) = IsPlainRequest (context h).features p × IsAmong p.token (staying h clock p)
+RequestAnswer n h clock p room (NotSent PendingFull) = IsNewRequest h clock p × (n ≤ length (staying h clock p))
+RequestAnswer n h clock p room (NotSent SequenceExhausted) = IsNewRequest h clock p × (length (staying h clock p) < n) × (2 ^ 40 ≤ next h)
 RequestAnswer n h clock p room (NotSent TooLong) = CanAsk n h clock p × RefusesToSeal (requests (context h)) (next h) p room seals.TooLong
 RequestAnswer n h clock p room (NotSent NoRoom) = CanAsk n h clock p × RefusesToSeal (requests (context h)) (next h) p room seals.NoRoom
 RequestAnswer n h clock p room (Sent bytes) = CanAsk n h clock p × SealsRequest (context h) (next h) p bytes × (length bytes ≤ room)

@@ -1,6 +1,6 @@
 -- To be believed: the history of a client: what happened to it, each event with its entry. h is a history, d a datagram. Moments are in
 -- milliseconds.
-use Rattle.std.specs.Prelude.{ℕ, ◌+◌, ◌-◌, ◌||◌, List, [], ◌∷◌, ◌++◌, Bool, true, false, bytes_eq, filter, map, max, nat_le, nat_lt, not, if◌then◌else◌}
+use Rattle.std.specs.Prelude.{ℕ, ◌+◌, ◌-◌, ◌||◌, ◌&&◌, List, [], ◌∷◌, ◌++◌, Bool, true, false, bytes_eq, filter, map, max, nat_le, nat_lt, not, if◌then◌else◌}
 use Rattle.osc_coap.specs.declared.format_error.Fault.{Fault}
 use Rattle.osc_coap.specs.Datagram.{Parts}
 use Rattle.osc_context.specs.SecurityContext.{SecurityContext}
@@ -8,7 +8,7 @@ use Rattle.osc_context.specs.declared.features.Features.{Features}
 use Rattle.osc_client.specs.declared.client_outcome.RequestError.{RequestError}
 use Rattle.osc_client.specs.declared.pending.Wait.{Wait}
 use Rattle.osc_client.specs.declared.pending.Wait.TheVariants.{Once, Observing}
-use Rattle.osc_observe.specs.Observing.{place_of, registers}
+use Rattle.osc_observe.specs.Observing.{cancels, place_of, registers}
 use Rattle.osc_observe.specs.Received.{Received}
 
 -- a request that was sealed: its token, its number, the clock at that moment, and what it waits for (own rule)
@@ -110,6 +110,14 @@ next (Then h event entry) = next h
 abbrev pub without : List ℕ → List Asked → List Asked
 without token requests = filter (λ r. not (bytes_eq r.token token)) requests
 
+-- the request gives way to this message: it waits for notifications under the message's token, and the message registers anew, or cancels (RFC 7641, 3.3.1 and 3.6)
+abbrev pub gives_way : Features → Parts → Asked → Bool
+gives_way x p r = bytes_eq r.token p.token && (observes r.wait && (registers x p.code p.options || cancels x p.code p.options))
+
+-- the requests beside which this message is sealed: all that don't give way to it (RFC 7641, 3.3.1 and 3.6)
+abbrev pub beside : Features → Parts → List Asked → List Asked
+beside x p requests = filter (λ r. not (gives_way x p r)) requests
+
 -- the request is still pending at this moment: it is at most ms milliseconds old, or it is a registration that was notified (own rule)
 abbrev pub is_alive : ℕ → ℕ → Asked → Bool
 is_alive moment ms r = nat_lt 0 (first_place r.wait) || nat_le (moment - r.moment) ms
@@ -123,11 +131,11 @@ abbrev pub after_response : List ℕ → ℕ → Asked → Asked
 after_response token place r = if bytes_eq r.token token then record r { wait = after_place place r.wait } else r
 
 -- the requests that were sealed since the start or the last restart, oldest first, except those whose token was delivered or forgotten
--- since, and those whose time had passed at a notification (RFC 7252, 5.3.2; RFC 8613, 7.4.1 and 8.4)
+-- since, those that gave way to a later one, and those whose time had passed at a notification (RFC 7252, 5.3.2; RFC 7641, 3.6; RFC 8613, 7.4.1 and 8.4)
 abbrev pub asked : History → List Asked
 asked (New s first ms) = []
 asked (Then h (Request now plain room) (Sent bytes)) =
-    asked h ++ record { token = plain.token; number = next h; moment = max (clock h) now; wait = wait_of (context h).features plain } ∷ []
+    beside (context h).features plain (asked h) ++ record { token = plain.token; number = next h; moment = max (clock h) now; wait = wait_of (context h).features plain } ∷ []
 asked (Then h (Datagram now d) (Took (Notified received number))) = map (after_response received.token (place_of received.number)) (alive (max (clock h) now) (life_ms h) (asked h))
 asked (Then h (Datagram now d) (Took (Deliver received number))) = without received.token (asked h)
 asked (Then h (Forget token) entry) = without token (asked h)

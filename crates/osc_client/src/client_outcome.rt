@@ -14,7 +14,7 @@ pub enum RequestError {
     NotThatKind,
     /// The message has an option that can't be sealed. The value is the lowest number of such an option; own rule.
     Unsupported(u16),
-    /// A request with this token is pending.
+    /// A request with this token is pending, and doesn't give way to this one: see `Client::request`.
     TokenInUse,
     /// The client has as many pending requests as it has room for; own rule.
     PendingFull,

@@ -1,6 +1,6 @@
 //! Requests of a client.
 
-ghost use Rattle.std.specs.Prelude.{◌≡◌, ◌≢◌, ◌≤◌, ◌<◌, ◌^◌, ℕ, IfOk, IfErr, OnOk, OnErr, length, drop};
+ghost use Rattle.std.specs.Prelude.{◌≡◌, ◌≢◌, ◌≤◌, ◌<◌, ◌^◌, ◌||◌, ℕ, IfOk, IfErr, IfSome, OnOk, OnErr, length, drop};
 ghost use Rattle.osc_coap.specs.Views.{parts_of};
 ghost use Rattle.osc_context.specs.Views.{number_of};
 ghost use Rattle.osc_client.specs.Requesting.{IsFirstReason, lifted};
@@ -11,10 +11,10 @@ use crate::client::Client;
 use crate::client_outcome::RequestError;
 use crate::client_state::ClientState;
 use crate::pending::{Pending, Wait};
-use crate::waiting::Waiting;
+use crate::waiting::{Waiting, take_out_of};
 use osc_coap::Message;
 use osc_context::{Features, Piv};
-use osc_observe::siblings::{copy_of, registers};
+use osc_observe::siblings::{cancels, copy_of, registers};
 use osc_protect::{ProtectError, check_request};
 
 /// Turns a refusal to seal into the refusal of a request.
@@ -45,33 +45,74 @@ fn first_reason(plain: &Message<'_>, features: Features, other: RequestError) ->
 impl ClientState {
     ghost use Rattle.osc_client.specs.Agrees.{PartsAgree, TokensDiffer, parts_over};
     ghost use Rattle.osc_client.specs.ClientAnswer.{CanAsk, ClientAnswer, IsAmong, RequestAnswer};
-    ghost use Rattle.osc_client.specs.ClientHistory.{History, Then, Request, NotSent, Advance, Advanced, clock, context, next, wait_of};
+    ghost use Rattle.osc_client.specs.ClientHistory.{History, Then, Request, NotSent, Advance, Advanced, beside, clock, context, next, wait_of};
+    ghost use Rattle.osc_client.specs.declared.client_outcome.RequestError.TheVariants.{TokenInUse};
+    ghost use Rattle.osc_observe.specs.Observing.{cancels as cancelling, registers as registering};
     ghost use Rattle.osc_protect.specs.Views.{context_of};
-    ghost use Rattle.osc_client.specs.Requesting.{sent_entry};
+    ghost use Rattle.osc_client.specs.Requesting.{sent_entry, without_place};
 
-    /// Returns the Sender Sequence Number of a request that is sealed now, or why there is none for a request that can be sealed, whatever
-    /// the room for it.
-    fn number_for<W: Waiting>(&self, pending: &W, plain: &Message<'_>) -> Result<Piv, RequestError>
+    /// Returns whether a registration under this message's token gives way to it: it registers anew, or cancels (RFC 7641, 3.3.1 and 3.6).
+    fn takes_over(&self, plain: &Message<'_>) -> bool
+        ensures { result ≡ (registering (context_of self.now.context).features (parts_of plain.now).code (parts_of plain.now).options
+            || cancelling (context_of self.now.context).features (parts_of plain.now).code (parts_of plain.now).options) }
+    {
+        let features = self.context.context().features();
+        registers(features, plain.code, &plain.options())
+            || cancels(features, plain.code, &plain.options())
+    }
+
+    /// Returns the place of the registration that gives way to this message, if one does, or that its token is in use.
+    fn place_for<W: Waiting>(
+        &self,
+        pending: &W,
+        plain: &Message<'_>,
+    ) -> Result<Option<usize>, RequestError>
         requires { W.is_table pending.now }
-        ensures accepted { IfOk result (λ number. (h : History) → PartsAgree (parts_over self.now (W.requests pending.now)) h
+        ensures accepted { IfOk result (λ place. TokensDiffer (W.requests pending.now)
+            → (without_place place (W.requests pending.now) ≡ beside (context_of self.now.context).features (parts_of plain.now) (W.requests pending.now))
+            × (IsAmong (parts_of plain.now).token (without_place place (W.requests pending.now)) → ⊥)) }
+        ensures refused { IfErr result (λ e. (e ≡ TokenInUse)
+            × IsAmong (parts_of plain.now).token (beside (context_of self.now.context).features (parts_of plain.now) (W.requests pending.now))) }
+        ensures within { IfOk result (λ place. IfSome place (λ i. i < length (W.requests pending.now))) }
+    {
+        let Some(found) = pending.find(plain.token.as_slice()) else {
+            return Ok(None);
+        };
+        if found.wait.observes() && self.takes_over(plain) {
+            Ok(Some(found.place))
+        } else {
+            Err(RequestError::TokenInUse)
+        }
+    }
+
+    /// Returns the Sender Sequence Number of a request that is sealed now, and the place of the registration that gives way to it, if one
+    /// does; or why there is none for a request that can be sealed, whatever the room for it.
+    fn number_for<W: Waiting>(
+        &self,
+        pending: &W,
+        plain: &Message<'_>,
+    ) -> Result<(Piv, Option<usize>), RequestError>
+        requires { W.is_table pending.now }
+        ensures accepted { IfOk result (λ r. (h : History) → PartsAgree (parts_over self.now (W.requests pending.now)) h
             → IsPlainRequest (context h).features (parts_of plain.now)
-            → CanAsk (W.room pending.now) h (clock h) (parts_of plain.now) × (number_of number ≡ next h)) }
-        ensures number { IfOk result (λ number. (h : History) → PartsAgree (parts_over self.now (W.requests pending.now)) h → number_of number ≡ next h) }
+            → CanAsk (W.room pending.now) h (clock h) (parts_of plain.now) × (number_of r.0 ≡ next h)) }
+        ensures number { IfOk result (λ r. (h : History) → PartsAgree (parts_over self.now (W.requests pending.now)) h → number_of r.0 ≡ next h) }
         ensures refused { IfErr result (λ e. (h : History) (room : ℕ) → PartsAgree (parts_over self.now (W.requests pending.now)) h
             → IsPlainRequest (context h).features (parts_of plain.now)
             → RequestAnswer (W.room pending.now) h (clock h) (parts_of plain.now) room (NotSent e)) }
-        ensures fits { OnOk result ((length (W.requests pending.now) < W.room pending.now) × (self.now.next < 2 ^ 40)) }
-        ensures unused { OnOk result (IsAmong (parts_of plain.now).token (W.requests pending.now) → ⊥) }
+        ensures fits { IfOk result (λ r. (length (without_place r.1 (W.requests pending.now)) < W.room pending.now) × (self.now.next < 2 ^ 40)) }
+        ensures within { IfOk result (λ r. IfSome r.1 (λ i. i < length (W.requests pending.now))) }
+        ensures unused { IfOk result (λ r. TokensDiffer (W.requests pending.now)
+            → (without_place r.1 (W.requests pending.now) ≡ beside (context_of self.now.context).features (parts_of plain.now) (W.requests pending.now))
+            × (IsAmong (parts_of plain.now).token (without_place r.1 (W.requests pending.now)) → ⊥)) }
         ensures no_keeper_failed { IfErr result (λ e. e ≢ KeeperFailed) }
     {
-        if pending.find(plain.token.as_slice()).is_some() {
-            return Err(RequestError::TokenInUse);
-        }
-        if pending.is_full() {
+        let place = self.place_for(pending, plain)?;
+        if pending.is_full() && place.is_none() {
             return Err(RequestError::PendingFull);
         }
         match Piv::new(self.next) {
-            Some(number) => Ok(number),
+            Some(number) => Ok((number, place)),
             None => Err(RequestError::SequenceExhausted),
         }
     }
@@ -114,8 +155,8 @@ impl ClientState {
         ensures apart { TokensDiffer (W.requests pending.old) → TokensDiffer (W.requests pending.new) }
     {
         self.advance(pending, now);
-        let number = match self.number_for(pending, plain) {
-            Ok(number) => number,
+        let (number, place) = match self.number_for(pending, plain) {
+            Ok(numbered) => numbered,
             Err(other) => {
                 let features = self.context.context().features();
                 let reason = first_reason(plain, features, other);
@@ -126,6 +167,7 @@ impl ClientState {
             Ok(len) => {
                 let wait = self.wait_for(plain);
                 self.next += 1;
+                take_out_of(pending, place);
                 pending.push(Pending {
                     token: copy_of(&plain.token),
                     number,
@@ -170,8 +212,9 @@ impl<const N: usize> Client<N> {
     }
 
     /// Seals a request with the next Sender Sequence Number into `out`, and returns how many bytes it takes at the front of `out` (RFC
-    /// 8613, 8.1). The request's token is pending from then on, of a registration over all its notifications. Returns the first refusal in
-    /// the order of `RequestError`. A refusal leaves `out` unchanged, and changes the client only as `advance` does.
+    /// 8613, 8.1). The request's token is pending from then on, of a registration over all its notifications. A registration under the same
+    /// token gives way to a GET or FETCH with Observe 0 or 1, which registers anew or cancels: from then on nothing is heard for it (RFC
+    /// 7641, 3.3.1 and 3.6). Returns the first refusal in the order of `RequestError`. A refusal leaves `out` unchanged, and changes the client only as `advance` does.
     pub fn request(
         &mut self,
         now: u64,

@@ -5,6 +5,7 @@ ghost use Rattle.osc_client.specs.Agrees.{ClientParts, PartsAgree, TokensDiffer}
 ghost use Rattle.osc_client.specs.ClientAnswer.{ClientAnswer, IsAmong};
 ghost use Rattle.osc_client.specs.ClientDeciding.{IsFoundIn};
 ghost use Rattle.osc_client.specs.ClientHistory.{Asked, History, Then, Forget, Forgot, alive};
+ghost use Rattle.osc_client.specs.Requesting.{without_place};
 ghost use Rattle.osc_client.specs.Views.{asked_of};
 
 use crate::pending::{Found, Pending, Wait, drop_expired, find_request};
@@ -31,7 +32,8 @@ pub trait Waiting {
     fn is_full(&self) -> bool
         requires { is_table self.now }
         ensures yes { result ≡ true → room self.now ≤ length (requests self.now) }
-        ensures no { result ≡ false → length (requests self.now) < room self.now };
+        ensures no { result ≡ false → length (requests self.now) < room self.now }
+        ensures fits { length (requests self.now) ≤ room self.now };
 
     /// Puts a request behind the others.
     fn push(&mut self, request: Pending)
@@ -101,6 +103,20 @@ impl<const N: usize> Waiting for ArrayVec<Pending, N> {
 
     fn drop_expired(&mut self, clock: u64, life_ms: u64) {
         drop_expired(self, clock, life_ms);
+    }
+}
+
+/// Takes the request at this place out, if one is named.
+pub(crate) fn take_out_of<W: Waiting>(pending: &mut W, place: Option<usize>)
+    requires table { W.is_table pending.old }
+    requires within { IfSome place (λ i. i < length (W.requests pending.old)) }
+    ensures table { W.is_table pending.new }
+    ensures room { W.room pending.new ≡ W.room pending.old }
+    ensures lies { W.lies pending.new ≡ W.lies pending.old }
+    ensures requests { W.requests pending.new ≡ without_place place (W.requests pending.old) }
+{
+    if let Some(place) = place {
+        pending.take_out(place);
     }
 }
 

@@ -15,6 +15,7 @@ pub mod file;
 pub mod hkdf;
 pub mod keeping;
 pub mod kept;
+pub mod message;
 pub mod messages;
 pub mod observing;
 pub mod peer_handle;

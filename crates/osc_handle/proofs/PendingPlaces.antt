@@ -9,7 +9,7 @@ use Rattle.std.proofs.lemmas.List.{drop-map, length-map, length-set, length-take
 use Rattle.std.proofs.lemmas.List.Edits.{take-paste}
 use Rattle.std.proofs.lemmas.List.Elements.{filter-append}
 use Rattle.std.proofs.lemmas.Option.{get_or_from_slice_get, none-some, slice_get-get_or, slice_get-map, slice_get_within}
-use Rattle.osc_client.proofs.ClientRequests.{differ_more}
+use Rattle.osc_client.proofs.ClientRequests.{differ_sent}
 use Rattle.osc_endpoint.proofs.Places.{slice_get-set_other, slice_get-set_same}
 use Rattle.osc_client.specs.Agrees.{TokensDiffer}
 use Rattle.osc_client.specs.ClientAnswer.{IsAmong}
@@ -93,8 +93,7 @@ none_among ps i token over unlike (r, (k, less, at), is) =
 -- its token is none of those before
 pub apart_more : (ps : List PendingHandle) (i : ℕ) (b : PendingHandle) → slice_get ps i ≡ Some b → TokensDiffer (map asked_at (take i ps))
     → (IsAmong (asked_at b).token (map asked_at (take i ps)) → ⊥) → TokensDiffer (map asked_at (take (i + 1) ps))
-apart_more ps i b there d new =
-    subst TokensDiffer (sym (asked_more ps i b there)) (differ_more (map asked_at (take i ps)) (asked_at b) d new)
+apart_more ps i b there d new = differ_sent (map asked_at (take i ps)) _ (asked_at b) (asked_at b).token (asked_more ps i b there) refl new d
 
 -- its bytes are ones that a call may have written
 pub each_read : (ps : List PendingHandle) (i : ℕ) (b : PendingHandle) → slice_get ps i ≡ Some b → IsPending b → ((j : ℕ) (c : PendingHandle) → j < i → slice_get ps j ≡ Some c → IsPending c)

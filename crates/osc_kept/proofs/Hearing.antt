@@ -27,6 +27,7 @@ use Rattle.osc_kept.specs.Claims.{BothEnds, DeliversOnce, ended, IsAfter, IsForT
 use Rattle.osc_kept.specs.Freshness.{OpensFresh}
 use Rattle.osc_kept.specs.Premises.{AtEach, Answers, IsLawful}
 use Rattle.osc_kept.specs.World.{World, Event, Begin, Then, ClientStarts, AtClient, AtServer, Has, Request, Response, client_history, heard, heard_in, sent, server_life}
+use Rattle.osc_client.proofs.GivingWay.{All-beside}
 use Rattle.osc_kept.proofs.Claims.{AnswersThatRequest, SealsUnderNewNonce, answers_that, delivers_once, nonces_apart, seals_new}
 use Rattle.osc_kept.proofs.Deeds.{AllFit, Challenges, Deed, IsSent, Nothing, Notifies, Replies, Sends, answers, not_shared, owned, owns, sends}
 use Rattle.osc_kept.proofs.Digest.{answered_is, client_deed, deed, digest, sends_server, sent_is}
@@ -212,9 +213,10 @@ module _ (s : SecurityContext) (ds : List Deed) (hs : List Response) (g : client
       let es = Sends k (inside p) ∷ ds in
       let new : client.Asked = record { token = p.token; number = k; moment = max (client.clock g) now; wait = client.wait_of (client.context g).features p } in
       let below : (i : ℕ) → IsSent ds i → i < k = λ i is. subst (λ z. z < k) is.2 (above is.0 is.1) in
+      let stay = client.beside (client.context g).features p (client.asked g) in
       record {
-        follow = All-push (Follows s es hs) (client.asked g) new
-            (All-weaker (λ (r : client.Asked). Follows s ds hs r × IsSent ds r.number) (Follows s es hs) (λ r f. record {
+        follow = All-push (Follows s es hs) stay new
+            (All-beside (Follows s es hs) (client.context g).features p (client.asked g) (All-weaker (λ (r : client.Asked). Follows s ds hs r × IsSent ds r.number) (Follows s es hs) (λ r f. record {
               own = f.0.own;
               notified = f.0.notified;
               earlier = f.0.earlier;
@@ -225,7 +227,7 @@ module _ (s : SecurityContext) (ds : List Deed) (hs : List Response) (g : client
                     absurd (omega (arith, less, is, same))
                 | inr h ↦ λ same. f.0.registered observing q h same
               ];
-            }) (client.asked g) (both (Follows s ds hs) (λ (r : client.Asked). IsSent ds r.number) (client.asked g) x.follow sent))
+            }) (client.asked g) (both (Follows s ds hs) (λ (r : client.Asked). IsSent ds r.number) (client.asked g) x.follow sent)))
             (record {
               own = λ y h e. let less : y.number < k = below y.number (known y h) in absurd (omega (arith, less, e));
               notified = λ y h e. let less : y.number < k = below y.number (known y h) in absurd (omega (arith, less, e));
@@ -238,8 +240,11 @@ module _ (s : SecurityContext) (ds : List Deed) (hs : List Response) (g : client
                 | inr h ↦ λ same. let less : q.number < k = above q h in absurd (omega (arith, less, same))
               ];
             });
-        apart = all_pairs_push (λ (r q : client.Asked). r.number ≢ q.number) (client.asked g) new x.apart
-            (λ i d within same. let less : (slice_index_or (client.asked g) i d).number < k = below _ (sent i d within) in omega (arith, less, same));
+        apart = all_pairs_push (λ (r q : client.Asked). r.number ≢ q.number) stay new
+            (AllPairs-filter (λ (r q : client.Asked). r.number ≢ q.number) (λ r. not (client.gives_way (client.context g).features p r)) (client.asked g) x.apart)
+            (λ i d within same.
+            let less : (slice_index_or stay i d).number < k = below _ (All-beside (λ (r : client.Asked). IsSent ds r.number) (client.context g).features p (client.asked g) sent i d within) in
+            omega (arith, less, same));
       }
 
   -- some of them are left
@@ -534,7 +539,7 @@ open_after : LawsBelow → (n : ℕ) (s : SecurityContext) (w : World) (g : clie
 open_after laws n s w g (client.Request now p room) (client.Sent bytes) i f answer x =
     let j = before n s w _ i in
     let above = fits_client n s w (Some g) (client.Request now p room) (client.Sent bytes) f i.answers.0 i.above.0 in
-    All-push (IsOpen (ended w)) (client.asked g) _ x (λ has.
+    All-push (IsOpen (ended w)) (client.beside (client.context g).features p (client.asked g)) _ (All-beside (IsOpen (ended w)) (client.context g).features p (client.asked g) x) (λ has.
     let (y, was, is) = ended_heard w _ has in
     let sent_is = (heard_for laws n s w y j was).sent in
     let less = above sent_is.0 sent_is.1 in

@@ -8,6 +8,7 @@ use Rattle.osc_protect.specs.Sealed.{inside}
 use Rattle.osc_client.specs.ClientHistory as client
 use Rattle.osc_observe.specs.Observing.{place_of}
 use Rattle.osc_life.specs.ServerHistory as server
+use Rattle.osc_client.proofs.GivingWay.{All-beside}
 use Rattle.osc_kept.specs.Premises.{AtEach, Answers}
 use Rattle.osc_kept.specs.World.{World, Begin, Then, Client, Server, ClientStarts, Draws, Reserves, AtClient, AtServer, Has, Request, client_effect, client_history, server_effect, server_history, server_life}
 use Rattle.osc_kept.proofs.Deeds.{Deed, Sends, Challenges, Replies, Notifies, IsSent, life_in, owns, sends}
@@ -90,7 +91,8 @@ asked_step : (h : client.History) (event : client.Event) (entry : client.Entry) 
     → AllSent (client_deed (Some h) event entry ∷ ds) (client.asked (client.Then h event entry))
 asked_step h (client.Request now p room) (client.Sent bytes) ds a =
     let d : Deed = Sends (client.next h) (inside p) in
-    All-push (λ (r : client.Asked). IsSent (d ∷ ds) r.number) (client.asked h) _ (all_still d ds (client.asked h) a) (record { number = client.next h; message = inside p }, inl refl, refl)
+    let stay = client.beside (client.context h).features p (client.asked h) in
+    All-push (λ (r : client.Asked). IsSent (d ∷ ds) r.number) stay _ (All-beside (λ (r : client.Asked). IsSent (d ∷ ds) r.number) (client.context h).features p (client.asked h) (all_still d ds (client.asked h) a)) (record { number = client.next h; message = inside p }, inl refl, refl)
 asked_step h (client.Datagram now d) (client.Took (client.Notified received number)) ds a =
     let place = place_of received.number in
     let alive = client.alive (max (client.clock h) now) (client.life_ms h) (client.asked h) in

@@ -6,7 +6,8 @@ use Rattle.osc_client.specs.declared.pending.Wait.{Wait}
 use Rattle.osc_client.specs.declared.pending.Wait.TheVariants.{Once, Observing}
 use Rattle.osc_observe.specs.Observing.{place_of, registers}
 use Rattle.osc_coap.specs.Datagram.{Parts}
-use Rattle.osc_client.specs.ClientHistory.{Asked, Datagram, Deliver, Entry, Event, Forget, History, New, Notified, Request, Restart, Sent, Skip, Skipped, Then, Took, after_place, after_response, alive, asked, clock, context, is_alive, life_ms, next, observes, wait_of}
+use Rattle.osc_client.specs.ClientHistory.{Asked, Datagram, Deliver, Entry, Event, Forget, History, New, Notified, Request, Restart, Sent, Skip, Skipped, Then, Took, after_place, after_response, alive, asked, beside, clock, context, is_alive, life_ms, next, observes, wait_of}
+use Rattle.osc_client.proofs.GivingWay.{All-beside}
 
 -- the fact about a request
 abbrev Of : (ℕ → List ℕ → Bool → Type 0) → Asked → Type 0
@@ -33,7 +34,9 @@ IfAsked P h (Request now plain room) (Sent bytes) = P (next h) plain.token (obse
 IfAsked P h event entry = Unit {0}
 
 asked_after : (P : ℕ → List ℕ → Bool → Type 0) (h : History) (event : Event) (entry : Entry) → IfAsked P h event entry → All (Of P) (asked h) → All (Of P) (asked (Then h event entry))
-asked_after P h (Request now plain room) (Sent bytes) new a = All-push (Of P) (asked h) _ a new
+asked_after P h (Request now plain room) (Sent bytes) new a =
+    let x = (context h).features in
+    All-push (Of P) (beside x plain (asked h)) _ (All-beside (Of P) x plain (asked h) a) new
 asked_after P h (Datagram now d) (Took (Notified received number)) new a =
     let xs = alive (max (clock h) now) (life_ms h) (asked h) in
     let place = place_of received.number in

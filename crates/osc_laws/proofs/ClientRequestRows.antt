@@ -9,8 +9,8 @@ use Rattle.osc_protect.specs.declared.protect_error.ProtectError.{ProtectError}
 use Rattle.osc_protect.specs.declared.protect_error.ProtectError.TheVariants as seals
 use Rattle.osc_client.specs.declared.client_outcome.RequestError.TheVariants.{NotThatKind, Unsupported, TokenInUse, PendingFull, SequenceExhausted, TooLong, NoRoom}
 use Rattle.osc_laws.specs.AnswerLaws.{ClientAnswerLaws}
-use Rattle.osc_client.specs.ClientAnswer.{CanAsk, IsAmong, IsNewRequest, RequestAnswer}
-use Rattle.osc_client.specs.ClientHistory.{Entry, History, NotSent, Sent, context, next, pending_at}
+use Rattle.osc_client.specs.ClientAnswer.{CanAsk, IsAmong, IsNewRequest, RequestAnswer, staying}
+use Rattle.osc_client.specs.ClientHistory.{Entry, History, NotSent, Sent, context, next}
 use Rattle.osc_client.specs.Requesting.{lifted}
 use Rattle.osc_laws.proofs.LifeReplies.{unsupported_among}
 
@@ -30,9 +30,9 @@ record IsRefused (n : ℕ) (h : History) (moment : ℕ) (p : Parts) (room : ℕ)
 
 -- it is for one of these
 abbrev IsHindered : ℕ → History → ℕ → Parts → Entry → Type 0
-IsHindered n h moment p (NotSent TokenInUse) = IsPlainRequest (context h).features p × IsAmong p.token (pending_at h moment)
-IsHindered n h moment p (NotSent PendingFull) = IsNewRequest h moment p × (n ≤ length (pending_at h moment))
-IsHindered n h moment p (NotSent SequenceExhausted) = IsNewRequest h moment p × (length (pending_at h moment) < n) × (2 ^ 40 ≤ next h)
+IsHindered n h moment p (NotSent TokenInUse) = IsPlainRequest (context h).features p × IsAmong p.token (staying h moment p)
+IsHindered n h moment p (NotSent PendingFull) = IsNewRequest h moment p × (n ≤ length (staying h moment p))
+IsHindered n h moment p (NotSent SequenceExhausted) = IsNewRequest h moment p × (length (staying h moment p) < n) × (2 ^ 40 ≤ next h)
 IsHindered n h moment p entry = ⊥
 
 -- it is sealed

@@ -9,7 +9,7 @@ use Rattle.osc_laws.specs.ClientLaws.{AllClientAnswers, OneClientAnswer}
 use Rattle.osc_observe.specs.Observing.{place_of}
 use Rattle.osc_client.proofs.Asking.{differ_filter, differ_heard, differ_later, ended, heard_alive}
 use Rattle.osc_laws.proofs.ClientRequestRows.{one_request_answer}
-use Rattle.osc_client.proofs.ClientRequests.{alive_more, differ_more}
+use Rattle.osc_client.proofs.ClientRequests.{beside_more, differ_beside_more}
 use Rattle.osc_laws.proofs.ClientTakeRows.{one_take_answer}
 
 -- without those of a token the others differ
@@ -25,7 +25,8 @@ tokens_differ n (New s first ms) a = none_differ
 tokens_differ n (Then h (Request now p room) (Sent bytes)) a =
     let before = differ_later h now (tokens_differ n h a.0) in
     let r : Asked = record { token = p.token; number = next h; moment = max (clock h) now; wait = wait_of (context h).features p } in
-    subst TokensDiffer (sym (alive_more (max (clock h) now) (life_ms h) (asked h) r refl)) (differ_more (pending_at h (max (clock h) now)) r before a.1.0.0.1)
+    let x = (context h).features in
+    subst TokensDiffer (sym (beside_more (max (clock h) now) (life_ms h) x p (asked h) r refl)) (differ_beside_more x p (pending_at h (max (clock h) now)) r before a.1.0.0.1)
 tokens_differ n (Then h (Request now p room) entry) a = differ_later h now (tokens_differ n h a.0)
 tokens_differ n (Then h (Datagram now d) (Took (Notified received number))) a =
     let place = place_of received.number in

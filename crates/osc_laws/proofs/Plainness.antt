@@ -15,6 +15,7 @@ use Rattle.osc_life.specs.LifeAnswer.{Arrival}
 use Rattle.osc_endpoint.specs.ServerAnswer.{MeetsRow}
 use Rattle.osc_client.specs.ClientAnswer.{IsPassed}
 use Rattle.osc_client.specs.ClientHistory as client
+use Rattle.osc_client.proofs.GivingWay.{All-beside}
 use Rattle.osc_laws.specs.ClientLaws.{AllClientAnswers}
 use Rattle.osc_laws.specs.Plainness.{WithoutObserve, ServerIsPlain, ClientIsPlain, EndsArePlain}
 use Rattle.osc_client.proofs.Asking.{contains_filter}
@@ -53,7 +54,8 @@ IsOnce r = r.wait ≡ Once
 once : (h : client.History) → (client.context h).features.observe ≡ false → All IsOnce (client.asked h)
 once (client.New s first ms) e = All-nil IsOnce
 once (client.Then h (client.Request now plain room) (client.Sent bytes)) e =
-    All-push IsOnce (client.asked h) _ (once h e) (waits_once (client.context h).features plain e)
+    let x = (client.context h).features in
+    All-push IsOnce (client.beside x plain (client.asked h)) _ (All-beside IsOnce x plain (client.asked h) (once h e)) (waits_once x plain e)
 once (client.Then h (client.Datagram now d) (client.Took (client.Notified received number))) e =
     let xs = client.alive (max (client.clock h) now) (client.life_ms h) (client.asked h) in
     All-map IsOnce (client.after_response received.token (place_of received.number)) xs

@@ -8,6 +8,6 @@ mod tokens;
 /// All of it is for the crates beside this one. If you have a server or a client, you need none of it.
 #[doc(hidden)]
 pub mod siblings {
-    pub use crate::observing::{is_notification, place_of, registers};
+    pub use crate::observing::{cancels, is_notification, place_of, registers};
     pub use crate::tokens::copy_of;
 }

@@ -23,14 +23,20 @@ static struct pending *under(struct client_judge *judge, struct bytes token) {
     return NULL;
 }
 
+/* A registration gives way to a request under its token that registers anew, or cancels (RFC 7641, 3.3.1 and 3.6). */
+static bool gives_way(const struct pending *pending, const struct seen *plain) {
+    return pending && pending->registers && (is_registration(plain->head.code, &plain->body) || is_cancellation(plain->head.code, &plain->body));
+}
+
 /* What refuses a request before it is sealed. */
 static uint32_t refuses(struct client_judge *judge, struct judged *judged) {
     const struct seen *plain = &judged->seen;
+    const struct pending *holder = under(judge, plain->head.token);
     if (!is_request(plain->head)) return OSCORE_NOT_THAT_KIND;
     judged->detail = unsupported_of(&plain->body, AGREED[0].allowed);
     if (judged->detail) return OSCORE_UNSUPPORTED;
-    if (under(judge, plain->head.token)) return OSCORE_TOKEN_IN_USE;
-    if (judge->count >= MOST_PENDING) return OSCORE_PENDING_FULL;
+    if (holder && !gives_way(holder, plain)) return OSCORE_TOKEN_IN_USE;
+    if (!holder && judge->count >= MOST_PENDING) return OSCORE_PENDING_FULL;
     return judge->kept.next >= NUMBER_LIMIT ? OSCORE_SEQUENCE_EXHAUSTED : OSCORE_DONE;
 }
 
@@ -54,6 +60,8 @@ void judge_request(struct client_judge *judge, const struct asked *asked, struct
         return;
     }
     judged->written = judged->sealed.datagram;
+    judged->takes_place = under(judge, judged->seen.head.token) != NULL;
+    end_pending(judge, &judged->seen.head.token);
     struct pending *pending = &judge->pending[judge->count++];
     *pending = (struct pending){.number = judge->kept.next++, .moment = judge->clock, .registers = registers};
     add_bytes(&pending->token, judged->seen.head.token);

@@ -26,6 +26,7 @@ struct judged {
     uint64_t request;            /* the number of the request that is delivered, or answered */
     bool registers;              /* whether that registers an observation */
     bool is_notification;        /* whether it stays pending */
+    bool takes_place;            /* of a registration that was pending */
     struct text written;
     struct sealed sealed; /* where what is written was sealed */
     bool has_sealed;

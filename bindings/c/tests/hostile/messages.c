@@ -9,8 +9,10 @@ struct plain draw_plain(uint8_t kind, uint8_t code, struct bytes token) {
     plain.has_host = one_in(3);
     plain.has_observe = one_in(6);
     plain.observe = draw_text(5);
-    /* Half of them say register, by leading zeros or none, where they have at most 3 bytes. */
-    if (one_in(2)) memset(plain.observe.at, 0, plain.observe.len);
+    /* Where they have at most 3 bytes, half of them say register, by zeros or no byte, and a quarter cancels, by zeros and a 1. */
+    bool registers = one_in(2), cancels = !registers && plain.observe.len && one_in(2);
+    if (registers || cancels) memset(plain.observe.at, 0, plain.observe.len);
+    if (cancels) plain.observe.at[plain.observe.len - 1] = 1;
     plain.has_further_observe = one_in(8);
     plain.further_observe = draw_text(5);
     plain.has_block = one_in(10);

@@ -90,6 +90,15 @@ bool is_registration(uint8_t code, const struct body *body) {
     return true;
 }
 
+/* The number 1, with any count of leading zero bytes. */
+bool is_cancellation(uint8_t code, const struct body *body) {
+    struct bytes value;
+    if ((code != 1 && code != 5) || !observe_of(body, &value) || !value.len || value.at[value.len - 1] != 1) return false;
+    for (oscore_size i = 0; i + 1 < value.len; i++)
+        if (value.at[i]) return false;
+    return true;
+}
+
 bool is_notification(uint8_t code, const struct body *body) {
     return code >> 5 == 2 && has_observe(body);
 }

@@ -74,6 +74,8 @@ bool is_outer(uint32_t number);
 bool has_observe(const struct body *body);
 /* Whether a request registers an observation: a GET or a FETCH whose first Observe is the number 0 (RFC 7641, 2; RFC 8132, 2.4). */
 bool is_registration(uint8_t code, const struct body *body);
+/* Whether a request cancels an observation: such a request whose first Observe is the number 1 (RFC 7641, 3.6). */
+bool is_cancellation(uint8_t code, const struct body *body);
 /* Whether a response is a notification: of class 2, with Observe (RFC 7641, 3.2). */
 bool is_notification(uint8_t code, const struct body *body);
 /* The first option that a message may not have which is allowed these, and the first with which it isn't sealed; 0 if there is none. */

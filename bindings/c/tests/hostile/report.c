@@ -36,7 +36,7 @@ static const uint8_t HAVE_TO_COME[CALLS][24] = {
 
 static unsigned long steps, differences, counts[CALLS][STATUSES];
 /* What an end of the library sealed, and the other end of the library delivered. */
-static unsigned long by_library[CALLS], notified, notified_by_library;
+static unsigned long by_library[CALLS], notified, notified_by_library, gave_way;
 
 void count_step(void) {
     steps++;
@@ -74,6 +74,7 @@ void report(enum call call, const struct judged *judged, const struct came came[
     by_library[call] += came[0].status == OSCORE_DONE && judged->opened && judged->opened->by_library;
     bool is_notified = came[0].status == OSCORE_DONE && judged->is_notification;
     notified += is_notified;
+    gave_way += came[0].status == OSCORE_DONE && judged->takes_place;
     notified_by_library += is_notified && judged->opened->by_library;
     for (int end = 0; end < ENDS; end++)
         if (came[end].differs) tell(call, END_NAMES[end], judged, &came[end], handed);
@@ -95,10 +96,11 @@ static bool tell_answers(enum call call) {
 }
 
 int end_report(void) {
-    bool all = by_library[TAKE] && by_library[HEAR] && notified && notified_by_library;
+    bool all = by_library[TAKE] && by_library[HEAR] && notified && notified_by_library && gave_way;
     for (int call = 0; call < CALLS; call++) all &= tell_answers(call);
     printf("of the library's own: %lu requests delivered, %lu responses\n", by_library[TAKE], by_library[HEAR]);
     printf("notifications: %lu, of the library's own %lu\n", notified, notified_by_library);
+    printf("registrations that gave way: %lu\n", gave_way);
     printf("hostile: %lu datagrams, %lu calls differ\n", steps, differences);
     return !all || differences > 0;
 }

@@ -1,0 +1,2 @@
+-- to be believed, in reading order
+pub mod Separating
