@@ -145,14 +145,14 @@ OSCORE_ASSERT(sizeof(oscore_status) == 4, "a status has 4 bytes");
 
 /* So many bytes of `out` are enough to seal a plain datagram of so many bytes, whatever its options are, and the context, and the number:
    by a context or a peer that calls wrote, no call then answers OSCORE_NO_ROOM. That is proved (docs/PROVED.md).
-   63 are: 48 of the OSCORE option (RFC 8613, 6.1: its option byte, one more byte for its length, the flags, 5 of a Partial IV, a length
-   and 32 of a kid context, 7 of a kid); 10 of the marker, the code inside and the tag; 1, since an inner option may come after Uri-Port in
-   the plain datagram, and after nothing inside, so that its delta is up to 7 more, and that can take an extended byte more (RFC 7252,
-   3.1); and 4 of Observe, which stands outside and inside where the context allows it (RFC 8613, 4.1.3.5), in at most 3 bytes: a longer
+   64 are: 48 of the OSCORE option (RFC 8613, 6.1: its option byte, one more byte for its length, the flags, 5 of a Partial IV, a length
+   and 32 of a kid context, 7 of a kid); 10 of the marker, the code inside and the tag; 2, since an inner option may come after one that stands
+   outside alone, such as Uri-Port or Hop-Limit, so that its delta is up to 21 more inside, which can take an extended byte more (RFC 7252,
+   3.1), and two options of a message can; and 4 of Observe, which stands outside and inside where the context allows it (RFC 8613, 4.1.3.5), in at most 3 bytes: a longer
    one, and one more, stand inside alone (RFC 7252, 5.4.3 and 5.4.5; RFC 7641, 2). A response has no kid, so its option has at most 7
-   bytes, and the peer puts the request's token of up to 8 bytes into it. Some requests with Observe take all 63, and without it 59. The
+   bytes, and the peer puts the request's token of up to 8 bytes into it. Some requests with Observe take all 64, and without it 60. The
    sealed message has at most 65,535 bytes. */
-#define OSCORE_ROOM(plain_len) ((plain_len) + 63)
+#define OSCORE_ROOM(plain_len) ((plain_len) + 64)
 
 /* A context as one of its two ends holds it (RFC 8613, 3.1): plain bytes, to be made by `oscore_derive` and copied as you like.
    It holds keys: `oscore_wipe(&context, sizeof context)` when it isn't needed, as behind `oscore_peer_begin_first`, which
@@ -441,8 +441,8 @@ static inline void oscore_leave(volatile uint32_t *busy) {
    says that there is one, the identifier of this end and that of the other (0 to 7 bytes each). Its keys are used with AES by a cipher
    whose source has no look-up and no branch that depends on a key or a message; with `tables` by one that looks up tables, which is faster,
    and whose times may tell of a key to whoever shares the machine. What is sent is the same, and the other end may choose otherwise.
-   With `blocks` the options Block1 and Block2 (27 and 23) pass inside the protection, both ways (RFC 8613, 4.1.3.4.1). Without it no
-   message with such an option is sealed, and none opens.
+   With `blocks` the options Block1 and Block2 (27 and 23) pass inside the protection, both ways (RFC 8613, 4.1.3.4.1), and so do Q-Block1
+   and Q-Block2 (19 and 31; RFC 9177). Without it no message with such an option is sealed, and none opens.
    With `observe` messages may have Observe (6), the option of observations (RFC 7641; RFC 8613, 4.1.3.5): it then stands outside and,
    encrypted, inside, the code outside is 0.05 or 2.05, and who opens sees the one inside. A GET or FETCH whose Observe is 0, an empty
    value, registers: `oscore_peer_request` seals it, `oscore_peer_take` delivers it, `oscore_peer_notify` seals each notification, in

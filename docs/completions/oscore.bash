@@ -49,7 +49,7 @@ _oscore() {
             local role=
             [[ $given == *" --record "* ]] && role=peer
             [[ $given =~ " --role "("= ")?(server|client|peer)" " ]] && role=${BASH_REMATCH[2]}
-            words+=(--role)
+            words+=(--role --follow)
             [[ $role == peer || $given == *" --numbers "* ]] || words+=(--sequence)
             [[ $role == peer || $given == *" --"@(sequence|restarted)" "* ]] || words+=(--numbers)
             [[ $role == @(client|peer) || $given == *" --"@(life|numbers)" "* ]] || words+=(--restarted)

@@ -52,6 +52,7 @@ complete -c oscore -n '__oscore_call open protect; and __oscore_without --regist
 complete -c oscore -n '__oscore_call protect; and __oscore_without --sequence' -l sequence -x -d 'The Sender Sequence Number to use'
 
 complete -c oscore -n '__oscore_call run; and __oscore_without --role' -l role -x -a 'server client peer' -d 'What this end is'
+complete -c oscore -n '__oscore_call run; and __oscore_without --follow' -l follow -d 'Print each entry as soon as its line is read'
 complete -c oscore -n '__oscore_call run; and __oscore_without --sequence --numbers; and not __oscore_peer' -l sequence -x -d 'The next Sender Sequence Number'
 complete -c oscore -n '__oscore_call run; and __oscore_without --numbers --sequence --restarted; and not __oscore_peer' -l numbers -r -F -d 'The file that keeps the Sender Sequence Numbers'
 complete -c oscore -n '__oscore_call run; and __oscore_without --restarted --numbers --life; and __oscore_no client; and not __oscore_peer' -l restarted -d 'Requests may have come to it in an earlier life'

@@ -60,12 +60,12 @@ class SecurityContext(peer.CanProtect, peer.CanUnprotect, peer.SecurityContextUt
 
 def suited_options(trial: Trial) -> Tuple[Tuple[int, bytes], ...]:
     """aiocoap leaves Uri-Port out, and Uri-Host inside in a response; of several Uri-Host it keeps the first. It reads the values of Block
-    options and of Observe, which here are bytes of any kind, so these aren't compared."""
+    options and of Observe, which here are bytes of any kind, and has no rule for Hop-Limit and EDHOC, so these aren't compared."""
     suited = []
     for number, value in trial.message.options:
         if number == URI_PORT or (number == URI_HOST and (not trial.is_request or first(tuple(suited), URI_HOST) is not None)):
             continue
-        if number in (*oscore_reading.BLOCKS, oscore_reading.OBSERVE):
+        if number in (*oscore_reading.BLOCKS, oscore_reading.OBSERVE, oscore_reading.HOP_LIMIT, oscore_reading.EDHOC):
             continue
         if number in TEXTS:
             value = bytes(ord("a") + byte % 26 for byte in value)

@@ -16,7 +16,7 @@ from blocks import MOST_SIZE, Block
 from body_asker import BodyAsker, Part
 from command import Life, context_words
 from network import Network
-from oscore_reading import OSCORE, OUTSIDE
+from oscore_reading import HOSTS, OSCORE
 from rows import Rows
 from serving import Bodies, CallsServer
 
@@ -24,7 +24,7 @@ LENGTHS = (1100, 10000)
 SMALLER = 64
 """What an end asks for that is offered the largest size."""
 NETWORKS = ("the request is lost", "the reply is lost", "each datagram comes twice", "the request is late", "the reply is late")
-PLACES_OUTSIDE = {OSCORE, *OUTSIDE}
+PLACES_OUTSIDE = {OSCORE, *HOSTS}
 """The OSCORE option, Uri-Host and Uri-Port."""
 Expected = List[Tuple[Block, int]]
 """Blocks, and the lengths of their payloads."""
@@ -242,9 +242,7 @@ class CommandBodies(command.Server):
 
 
 class CommandBlockRows(BlockRows):
-    """By `oscore run --allow blocks`. Each block runs all that came before it once more, so a body has few."""
-
-    most_blocks = 20
+    """By `oscore run --allow blocks`."""
 
     def __init__(self, bench, peer, program: str):
         super().__init__(bench, peer)

@@ -11,8 +11,9 @@ from coap_reading import ACK, CON, NON, Message
 from oscore_reading import BLOCKS, OBSERVE, Context
 
 MESSAGES_OF_A_CONTEXT = 8
-OPTIONS = (1, 3, 4, 5, 7, 8, 11, 12, 14, 15, 17, 20, 28, 60, 252, 258)
-"""The options of RFC 8613, 4.1, with Echo (RFC 9175), but for those that are refused by each context or by some."""
+OPTIONS = (1, 3, 4, 5, 7, 8, 11, 12, 14, 15, 16, 17, 20, 21, 28, 60, 252, 258, 292)
+"""The options of RFC 8613, 4.1, with Hop-Limit (RFC 8768), EDHOC (RFC 9668), Echo and Request-Tag (RFC 9175), but for those that are
+refused by each context or by some."""
 MOST_NUMBER = 2**40 - 1
 
 

@@ -1,16 +1,13 @@
-"""The command `oscore run` as both ends over UDP.
-
-It reads all lines of its input before it answers one, so it can't be spoken with line by line. What lies between it and a socket here
-keeps the lines of a life, and runs the whole list again for each that comes: moments, Echo values and message IDs stand in the lines, so
-what was printed before is printed again, and that is looked at. With --numbers FILE each run but the last of a life is as if it hadn't
-been: the file is put back as the life found it. (Who does that and lets a run say other things uses numbers twice.)"""
+"""The command `oscore run --follow` as both ends over UDP: a program that lives as long as its end, and answers each line with one."""
 
 from __future__ import annotations
 
 import pathlib
 import secrets
+import select
 import subprocess
 import time
+import weakref
 from typing import List, Optional, Tuple
 
 import coap_reading
@@ -41,33 +38,50 @@ def code_of(name: str) -> int:
 
 
 class Life:
-    """The events of one life of an end, and what they came to."""
+    """One life of an end: a program that runs, and the events that it was told, with what they came to."""
 
     def __init__(self, program: str, words: List[str], numbers: Optional[pathlib.Path] = None):
-        self.line = [program, "run", *words] + (["--numbers", str(numbers)] if numbers else [])
-        self.numbers, self.events, self.entries = numbers, [], []
-        self.found = numbers.read_bytes() if numbers and numbers.exists() else None
+        self.line = [program, "run", "--follow", *words] + (["--numbers", str(numbers)] if numbers else [])
+        self.events, self.entries = [], []
+        self.process = subprocess.Popen(self.line, stdin=subprocess.PIPE, stdout=subprocess.PIPE, stderr=subprocess.PIPE, bufsize=0)
+        self.kill = weakref.finalize(self, stop, self.process)
         self.began = time.monotonic()
 
     def now(self) -> int:
         return int((time.monotonic() - self.began) * 1000)
 
-    def put_back(self) -> None:
-        if self.numbers and self.found is not None:
-            self.numbers.write_bytes(self.found)
-        elif self.numbers:
-            self.numbers.unlink(missing_ok=True)
+    def fail(self, what: str) -> None:
+        self.process.kill()
+        raise SystemExit(f"oscore run: {what}: {self.process.stderr.read().decode()}")
 
     def happens(self, event: str) -> List[str]:
-        """The words of the entry that an event comes to."""
-        self.put_back()
+        """The words of the entry that an event comes to. It is printed while the program waits for its next line."""
         self.events.append(event)
-        done = subprocess.run(self.line, input="\n".join(self.events) + "\n", capture_output=True, text=True, timeout=GIVEN_UP_S)
-        entries = done.stdout.splitlines()
-        if done.returncode != 0 or len(entries) != len(self.events) or entries[:-1] != self.entries:
-            raise SystemExit(f"oscore run: status {done.returncode}, {done.stderr or entries[-3:]}")
-        self.entries = entries
-        return entries[-1].split(" ")
+        self.process.stdin.write(f"{event}\n".encode())
+        if not select.select([self.process.stdout], [], [], GIVEN_UP_S)[0]:
+            self.fail(f"no entry for {event} in {GIVEN_UP_S} s")
+        entry = self.process.stdout.readline().decode()
+        if not entry.endswith("\n"):
+            self.fail(f"no entry for {event}, but {entry!r}")
+        self.entries.append(entry[:-1])
+        return entry[:-1].split(" ")
+
+    def end(self) -> None:
+        """Its input ends, and so does the program, with nothing more to say. Its file of numbers can then be the next one's."""
+        self.process.stdin.close()
+        try:
+            status, more = self.process.wait(GIVEN_UP_S), self.process.stdout.read()
+        except subprocess.TimeoutExpired:
+            return self.fail("it doesn't end with its input")
+        if status != 0 or more:
+            self.fail(f"it ends with status {status} and {more!r}")
+
+
+def stop(process: subprocess.Popen) -> None:
+    process.kill()
+    process.wait()
+    for pipe in (process.stdin, process.stdout, process.stderr):
+        pipe.close()
 
 
 def mirror(request: Message) -> Message:
@@ -86,6 +100,11 @@ class Server(UdpServer):
     def __init__(self, life: Life, resource: Resource = mirror):
         super().__init__()
         self.life, self.resource, self.delivered = life, resource, []
+
+    def __exit__(self, *_: object) -> None:
+        super().__exit__()
+        if self.failure is None:
+            self.life.end()
 
     def answer(self, datagram: bytes) -> Answer:
         at = len(self.life.events)
@@ -120,4 +139,4 @@ class Client:
         return Response(words[3], bytes_of(words[5]), options_of(words[4]), words[2] != "-")
 
     def end(self) -> None:
-        pass
+        self.life.end()

@@ -95,7 +95,7 @@ def parts_of(trial: Trial) -> Opened:
     """What an opening has to show: all that was sealed, and of Uri-Host and Uri-Port the first."""
     message = trial.message
     inner = tuple(option for option in message.options if option[0] not in oscore_reading.OUTSIDE)
-    host, port = (first(message.options, number) for number in oscore_reading.OUTSIDE)
+    host, port = (first(message.options, number) for number in oscore_reading.HOSTS)
     number = trial.number if trial.is_request else trial.own
     return Opened(message.kind, message.code, message.message_id, message.token, number, host, port, inner, message.payload)
 

@@ -14,7 +14,7 @@ import oscore_reading
 import outside
 from asker import EMPTY, code_name
 from bench import THE_LOCK, Observer, ended
-from oscore_reading import OBSERVE, OUTSIDE
+from oscore_reading import HOSTS, OBSERVE
 from relay import Relay
 from rows import CHALLENGED, Rows
 
@@ -121,7 +121,7 @@ class Observing(Rows):
         seen = outside.see_all(relay.of_client)
         self.check(f"{what}: code and Observe of the requests outside", wanted, [(one.code, one.observe) for one in seen])
         self.check(f"{what}: whether their Partial IVs grow", True, outside.grows([one.number for one in seen]))
-        self.check(f"{what}: what else stands outside of requests", set(), set().union(*(one.others for one in seen)) - set(OUTSIDE))
+        self.check(f"{what}: what else stands outside of requests", set(), set().union(*(one.others for one in seen)) - set(HOSTS))
 
     def replies_outside(self, what: str, relay: Relay, count: int) -> list:
         """Answers the Partial IVs of the notifications."""

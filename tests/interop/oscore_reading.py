@@ -16,13 +16,15 @@ from cryptography.hazmat.primitives.kdf.hkdf import HKDF
 import coap_reading
 from coap_reading import Message, Options
 
-URI_HOST, OBSERVE, URI_PORT, OSCORE, BLOCK2, BLOCK1, PROXY_URI, PROXY_SCHEME = 3, 6, 7, 9, 23, 27, 35, 39
-OUTSIDE = (URI_HOST, URI_PORT)
-"""Options of class U (RFC 8613, 4.1); those for proxies are refused. All others go inside, and inside alone: class E, and by an own
-rule what may stand on both sides."""
-BLOCKS = (BLOCK2, BLOCK1)
+URI_HOST, OBSERVE, URI_PORT, OSCORE, HOP_LIMIT, Q_BLOCK1, EDHOC, BLOCK2, BLOCK1, Q_BLOCK2 = 3, 6, 7, 9, 16, 19, 21, 23, 27, 31
+PROXY_URI, PROXY_SCHEME = 35, 39
+HOSTS = (URI_HOST, URI_PORT)
+OUTSIDE = (*HOSTS, HOP_LIMIT, EDHOC)
+"""Options of class U (RFC 8613, 4.1; RFC 8768, 3; RFC 9668, 3.1); those for proxies are refused. All others go inside, and inside alone:
+class E, and by an own rule what may stand on both sides."""
+BLOCKS = (Q_BLOCK1, BLOCK2, BLOCK1, Q_BLOCK2)
 REFUSED = (OBSERVE, OSCORE, *BLOCKS, PROXY_URI, PROXY_SCHEME)
-"""Options that a context refuses, but for the two of BLOCKS if it allows blocks, and for Observe if it allows that."""
+"""Options that a context refuses, but for those of BLOCKS if it allows blocks, and for Observe if it allows that."""
 POST, FETCH, CHANGED, CONTENT = 0x02, 0x05, 0x44, 0x45
 REQUEST_CODES, RESPONSE_CODES = (POST, FETCH), (CHANGED, CONTENT)
 """The codes outside, of a message without Observe and of one with it: 0.02 and 0.05, 2.04 and 2.05 (RFC 8613, 4.1.3.5 and 4.2)."""
@@ -178,7 +180,7 @@ def seal(context: Context, nonce: bytes, additional_data: bytes, value: bytes, c
     code = codes[observe is not None]
     plaintext = bytes([message.code]) + coap_reading.write_rest(inner, message.payload)
     ciphertext = AESCCM(context.sender_key, TAG_LEN).encrypt(nonce, plaintext, additional_data)
-    outer.append((OSCORE, value))
+    outer = sorted(outer + [(OSCORE, value)], key=lambda option: option[0])
     return coap_reading.write(Message(message.kind, code, message.message_id, message.token, tuple(outer), ciphertext))
 
 

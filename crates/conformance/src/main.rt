@@ -27,6 +27,7 @@ mod peer_alike;
 mod peer_bytes;
 mod peer_record;
 mod protection;
+mod proxying;
 mod reading;
 mod refusal;
 mod remembering;

@@ -107,7 +107,7 @@ pub(crate) fn class(fields: &Fields<'_>, answer: &mut Answer) {
 }
 
 /// The numbers that osc_coap names.
-const NUMBERS: [u16; 22] = [
+const NUMBERS: [u16; 27] = [
     IF_MATCH,
     URI_HOST,
     ETAG,
@@ -120,16 +120,21 @@ const NUMBERS: [u16; 22] = [
     CONTENT_FORMAT,
     MAX_AGE,
     URI_QUERY,
+    HOP_LIMIT,
     ACCEPT,
+    Q_BLOCK1,
     LOCATION_QUERY,
+    EDHOC,
     BLOCK2,
     BLOCK1,
     SIZE2,
+    Q_BLOCK2,
     PROXY_URI,
     PROXY_SCHEME,
     SIZE1,
     ECHO,
     NO_RESPONSE,
+    REQUEST_TAG,
 ];
 
 /// Shows one of these numbers, counted from 0.

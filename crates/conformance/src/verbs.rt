@@ -4,7 +4,8 @@ use crate::answer::Answer;
 use crate::fields::{Fields, NamedContext};
 use crate::protection::Asked;
 use crate::{
-    blocks, ciphers, context, freshening, numbers, peer_bytes, protection, reading, window, writing,
+    blocks, ciphers, context, freshening, numbers, peer_bytes, protection, proxying, reading,
+    window, writing,
 };
 use osc_protect::KeyedContext;
 
@@ -42,6 +43,17 @@ fn of_messages(
         "write-again" => writing::write_again(fields, answer),
         "write-under-head" => writing::write_under_head(fields, answer),
         "separate" => writing::separate(fields, answer),
+        _ => of_proxies(verb, fields, contexts, answer),
+    }
+}
+
+/// Makes a call of osc_proxy, or of a layer above.
+fn of_proxies(verb: &str, fields: &Fields<'_>, contexts: &[NamedContext<'_>], answer: &mut Answer) {
+    match verb {
+        "ask-proxy" => proxying::ask(fields, answer),
+        "split-proxy-uri" => proxying::split(fields, answer),
+        "uri" => proxying::read_uri(fields, answer),
+        "percent-decoded" => proxying::decoded(fields, answer),
         _ => of_options(verb, fields, contexts, answer),
     }
 }

@@ -80,7 +80,7 @@ request_has_room law B c n plain room status detail refuses enough =
 
 -- a response too
 pub response_has_room : ResponsesHaveRoom → (A B : Type 0) (s : SecurityContext) (asked : ℕ) (own : Option ℕ) (plain : List ℕ) (room : ℕ) (status : Status) (detail : ℕ)
-    → RefusesSealing A B (responses s asked) own plain room status detail → length plain + 59 ≤ room → code status ≡ 44 → ⊥
+    → RefusesSealing A B (responses s asked) own plain room status detail → length plain + 60 ≤ room → code status ≡ 44 → ⊥
 response_has_room law A B s asked own plain room status detail refuses enough =
     sealing_room A B (responses s asked) own plain room status detail (λ a p of. law s false asked own p p.kind p.message_id p.token plain room of of.token (omega (arith, enough))) refuses
 
@@ -104,7 +104,7 @@ save_code p sender received kept status (inr wants) says = let number = ap code 
 -- for a reply; a ticket that isn't the peer's is stale
 pub peer_reply_has_room : ResponsesHaveRoom → (p : PeerHandle) (kept : RecordHandle) (t : TicketHandle) (own : Bool) (mid : ℕ) (plain : List ℕ) (room : ℕ) (new : PeerHandle) (status : Status) (detail : ℕ)
     → RefusesPeerReplying p kept t own mid plain room new status detail → ((q : Parts) → IsDatagram q plain → IsPeer p → IsTicket t → (IsTicketOf p t → ⊥) → status ≡ StaleTicket)
-    → (h : server.History) (o : Own) → ServesBehind p o h → length plain + 59 ≤ room → code status ≡ 44 → ⊥
+    → (h : server.History) (o : Own) → ServesBehind p o h → length plain + 60 ≤ room → code status ≡ 44 → ⊥
 peer_reply_has_room law p kept t own mid plain room new status detail (reply_handle bad is at) foreign h o w enough says = let number = ap code is in omega (arith, number, says)
 peer_reply_has_room law p kept t own mid plain room new status detail (reply_malformed a b fault place has is at) foreign h o w enough says = let number = ap code is in let small = fault_code fault in omega (arith, number, small, says)
 peer_reply_has_room law p kept t own mid plain room new status detail (reply_first a b q of wants at has) foreign h o w enough says = save_code p _ _ kept status wants says

@@ -114,7 +114,7 @@ pub extern "C" fn oscore_peer_reply_v6(
     ensures stays { IsSamePeer peer.old peer.new }
     ensures within { result ≡ 0 → out_len.new ≤ length out.new }
     ensures behind { result ≡ 0 → drop out_len.new out.new ≡ drop out_len.new out.old }
-    ensures enough { (h : History) (o : Own) → ServesBehind peer.old o h → length plain.now + 59 ≤ length out.old → result ≢ code NoRoom }
+    ensures enough { (h : History) (o : Own) → ServesBehind peer.old o h → length plain.now + 60 ≤ length out.old → result ≢ code NoRoom }
     ensures unchanged { result ≢ 0 → (peer.new ≡ peer.old) × (out.new ≡ out.old) × (out_len.new ≡ out_len.old) }
 {
     // For the proof alone.

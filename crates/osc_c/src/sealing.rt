@@ -60,7 +60,7 @@ fn seal_request_in(
 
 /// Seals a request (RFC 8613, 8.1) under this Sender Sequence Number, as the context's client. `plain` is its datagram. The first `out_len`
 /// bytes of `out` are the sealed datagram. A refusal is BadHandle, BadNumber, one of the datagram's faults with its place, NotThatKind,
-/// Unsupported with the lowest number of such an option, TooLong or NoRoom, in this order. A buffer that has 59 bytes more than `plain` has
+/// Unsupported with the lowest number of such an option, TooLong or NoRoom, in this order. A buffer that has 60 bytes more than `plain` has
 /// room; if the context allows Observe and `plain` has it, Observe stands inside and outside, and takes its own bytes more.
 #[unsafe(no_mangle)]
 pub extern "C" fn oscore_seal_request_v5(
@@ -172,7 +172,7 @@ pub extern "C" fn oscore_seal_response_v5(
         × SealsResponse (server_in context.now) request (number_given has_own own) p (take out_len.new out.new) }
     ensures within { result ≡ 0 → out_len.new ≤ length out.new }
     ensures behind { result ≡ 0 → drop out_len.new out.new ≡ drop out_len.new out.old }
-    ensures room { length plain.now + 59 ≤ length out.old → result ≢ code NoRoom }
+    ensures room { length plain.now + 60 ≤ length out.old → result ≢ code NoRoom }
     ensures accepts { (p : Parts) → IsContext context.now → AreNumbers request has_own own → IsDatagram p plain.now
         → FitsToSeal (responses (server_in context.now) request) (number_given has_own own) p (length out.old) → result ≡ 0 }
     ensures refused { result ≢ 0 → (status : StatusOf) × (result ≡ code status)

@@ -21,6 +21,10 @@ oscore = 9
 abbrev pub max_age : ℕ
 max_age = 14
 
+-- the number of Q-Block1 (RFC 9177, 4.1)
+abbrev pub q_block1 : ℕ
+q_block1 = 19
+
 -- the number of Block2 (RFC 7959, 2.1)
 abbrev pub block2 : ℕ
 block2 = 23
@@ -28,6 +32,10 @@ block2 = 23
 -- the number of Block1 (RFC 7959, 2.1)
 abbrev pub block1 : ℕ
 block1 = 27
+
+-- the number of Q-Block2 (RFC 9177, 4.1)
+abbrev pub q_block2 : ℕ
+q_block2 = 31
 
 -- the number of Proxy-Uri (RFC 7252, 5.10.2)
 abbrev pub proxy_uri : ℕ

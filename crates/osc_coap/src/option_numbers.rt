@@ -24,16 +24,24 @@ pub const CONTENT_FORMAT: u16 = 12;
 pub const MAX_AGE: u16 = 14;
 /// Uri-Query (RFC 7252, 5.10.1).
 pub const URI_QUERY: u16 = 15;
+/// Hop-Limit (RFC 8768, 3).
+pub const HOP_LIMIT: u16 = 16;
 /// Accept (RFC 7252, 5.10.4).
 pub const ACCEPT: u16 = 17;
+/// Q-Block1 (RFC 9177, 4.1).
+pub const Q_BLOCK1: u16 = 19;
 /// Location-Query (RFC 7252, 5.10.7).
 pub const LOCATION_QUERY: u16 = 20;
+/// EDHOC (RFC 9668, 3.1).
+pub const EDHOC: u16 = 21;
 /// Block2 (RFC 7959, 2.1).
 pub const BLOCK2: u16 = 23;
 /// Block1 (RFC 7959, 2.1).
 pub const BLOCK1: u16 = 27;
 /// Size2 (RFC 7959, 4).
 pub const SIZE2: u16 = 28;
+/// Q-Block2 (RFC 9177, 4.1).
+pub const Q_BLOCK2: u16 = 31;
 /// Proxy-Uri (RFC 7252, 5.10.2).
 pub const PROXY_URI: u16 = 35;
 /// Proxy-Scheme (RFC 7252, 5.10.2).
@@ -44,3 +52,5 @@ pub const SIZE1: u16 = 60;
 pub const ECHO: u16 = 252;
 /// No-Response (RFC 7967, 2).
 pub const NO_RESPONSE: u16 = 258;
+/// Request-Tag (RFC 9175, 3.2.1).
+pub const REQUEST_TAG: u16 = 292;

@@ -71,7 +71,8 @@ const EXAMPLE_EXPLAIN: &str = "Example:
 const EXAMPLE_RUN: &str =
     "Prints what each event came to, one a line. Of a server alone is --restarted,
 of a server and a peer --window, of a client and a peer --life. A peer is both
-ends of a context, and needs --record; --ahead is of a peer alone.
+ends of a context, and needs --record; --ahead is of a peer alone. With
+--follow each line runs as it comes, without it all lines are read first.
 
 Events of a server, one a line; bytes are hex, and - for none:
   take NOW ECHO MID DATAGRAM        a datagram comes at NOW, in milliseconds;
@@ -159,6 +160,7 @@ const RUN: &[Word] = &[
     Word { name: "window", value: "SIZE", takes: Takes::OneOf(&["1", "32", "64"]), help: "Window size [default: 32]" },
     Word { name: "life", value: "MS", takes: Takes::Value, help: "How many ms a request is pending [default: 60000]" },
     Word { name: "ahead", value: "N", takes: Takes::Value, help: "How many received numbers a peer keeps ahead [default: 0]" },
+    Word { name: "follow", value: "", takes: Takes::Nothing, help: "Print each entry as soon as its line is read" },
 ];
 
 /// All calls, as the help lists them.

@@ -250,3 +250,14 @@ pub(crate) fn event_fault(
     let fault = numbered_fault(alloc, number, forms, input)?;
     format!(in alloc; "line {number}: {fault}")
 }
+
+/// Returns what is wrong with a line, which has its newline, if it has one, and its number. The text is one line.
+pub(crate) fn last_fault(
+    alloc: Global,
+    number: usize,
+    forms: Forms,
+    line: &[u8],
+) -> Result<String, AllocError> {
+    let fault = numbered_fault(alloc, 1, forms, line)?;
+    format!(in alloc; "line {number}: {fault}")
+}

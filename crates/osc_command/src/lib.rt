@@ -11,6 +11,7 @@ mod context_words;
 mod event_faults;
 mod fault_text;
 mod quoting;
+mod run_ends;
 mod run_words;
 mod running;
 mod words;

@@ -4,18 +4,16 @@ ghost use Rattle.std.specs.Prelude.{◌≡◌, ◌≢◌, ◌⊎◌, IfOk, Ok, t
 ghost use Rattle.clap.specs.Matches.{has_subcommand};
 
 use crate::context_words::ContextWords;
-use crate::event_faults::{Forms, event_fault};
 use crate::fault_text::{put_fault, put_help, usage_text};
 use crate::quoting::quoted_words;
-use crate::run_words::{Beginning, KeptBeginning, PeerBeginning, read_beginning, read_input};
+use crate::run_ends::run_role;
 use crate::words::{input_fault, optional_number, read_words, required_bytes};
 use clap::error::ErrorKind;
 use clap::{ArgMatches, Error};
 use osc_context::{Keeper, Piv, RecordKeeper};
 use osc_protect::RequestRef;
 use osc_text::{
-    Agreed, Fault, Opening, Sealing, Wrong, ask_kept_text, ask_text, derive_text, explain_text,
-    open_text, peer_text, protect_text, serve_kept_text, serve_text,
+    Agreed, Fault, Opening, Sealing, Wrong, derive_text, explain_text, open_text, protect_text,
 };
 use std::alloc::Global;
 use std::io::{Read, Write};
@@ -91,117 +89,6 @@ fn run_explain<W: Write>(alloc: Global, matches: &ArgMatches<'_>, out: &mut W) -
 {
     let datagram = required_bytes(alloc, matches, "datagram", "DATAGRAM")?;
     explain_text(alloc, datagram.as_slice(), out)
-}
-
-/// If a line isn't an event, returns the fault that says what is wrong with it.
-fn told(alloc: Global, done: Result<u8, Fault>, forms: Forms, input: &[u8]) -> Result<u8, Fault>
-    ensures { IfOk result (λ s. done ≡ Ok s) }
-{
-    match done {
-        Err(Fault::Line(line)) => Err(Fault::Usage(event_fault(alloc, line, forms, input)?)),
-        done => done,
-    }
-}
-
-/// Runs an end whose numbers are kept over an input.
-fn run_kept<W: Write, K: Keeper + Drop>(
-    alloc: Global,
-    beginning: KeptBeginning,
-    keeper: K,
-    agreed: Agreed<'_>,
-    input: &[u8],
-    out: &mut W,
-) -> Result<u8, Fault>
-    ensures { IfOk result (λ s. (s ≡ 0) ⊎ (s ≡ 2)) }
-{
-    match beginning {
-        KeptBeginning::Server(window) => {
-            serve_kept_text(alloc, agreed, keeper, window, input, out)
-        }
-        KeptBeginning::Client(life_ms) => {
-            ask_kept_text(alloc, agreed, keeper, life_ms, input, out)
-        }
-    }
-}
-
-/// Runs a peer over an input. The keeper of the record is made only if the context isn't refused.
-fn run_peer<W: Write, P: RecordKeeper + Drop, G: FnOnce(&str, [u8; 8], bool) -> P + Drop>(
-    alloc: Global,
-    agreed: Agreed<'_>,
-    beginning: PeerBeginning,
-    file: &str,
-    make: G,
-    input: &[u8],
-    out: &mut W,
-) -> Result<u8, Fault>
-    requires { G.IsAlwaysCallable make }
-    ensures { IfOk result (λ s. (s ≡ 0) ⊎ (s ≡ 2)) }
-{
-    let Ok(fingerprint) = agreed.fingerprint() else {
-        // This prints the refusal.
-        return derive_text(alloc, agreed, out);
-    };
-    let keeper = make(file, fingerprint, beginning.is_first);
-    peer_text(alloc, agreed, keeper, beginning.peering, input, out)
-}
-
-/// Runs an end over an input. The keeper of a file is made only for an end that has one.
-fn run_end<W: Write, K, P, F, G>(
-    alloc: Global,
-    agreed: Agreed<'_>,
-    beginning: Beginning,
-    matches: &ArgMatches<'_>,
-    keepers: Keepers<F, G>,
-    input: &[u8],
-    out: &mut W,
-) -> Result<u8, Fault>
-where
-    K: Keeper + Drop,
-    P: RecordKeeper + Drop,
-    F: FnOnce(&str) -> K + Drop,
-    G: FnOnce(&str, [u8; 8], bool) -> P + Drop,
-    requires numbers { F.IsAlwaysCallable keepers.numbers }
-    requires records { G.IsAlwaysCallable keepers.records }
-    ensures { IfOk result (λ s. (s ≡ 0) ⊎ (s ≡ 2)) }
-{
-    let Keepers { numbers, records } = keepers;
-    match beginning {
-        Beginning::Server(serving) => serve_text(alloc, agreed, serving, input, out),
-        Beginning::Client(asking) => ask_text(alloc, agreed, asking, input, out),
-        Beginning::Kept(kept) => {
-            let file = matches.get_str("numbers").unwrap_or("");
-            run_kept(alloc, kept, numbers(file), agreed, input, out)
-        }
-        Beginning::Peer(peer) => {
-            let file = matches.get_str("record").unwrap_or("");
-            run_peer(alloc, agreed, peer, file, records, input, out)
-        }
-    }
-}
-
-/// Does what `run` asks for, under a context. If the words name a file, the end's numbers are kept in it. Reads the whole input first.
-fn run_role<R: Read, W: Write, K, P, F, G>(
-    alloc: Global,
-    agreed: Agreed<'_>,
-    matches: &ArgMatches<'_>,
-    input: &mut R,
-    out: &mut W,
-    keepers: Keepers<F, G>,
-) -> Result<u8, Fault>
-where
-    K: Keeper + Drop,
-    P: RecordKeeper + Drop,
-    F: FnOnce(&str) -> K + Drop,
-    G: FnOnce(&str, [u8; 8], bool) -> P + Drop,
-    requires numbers { F.IsAlwaysCallable keepers.numbers }
-    requires records { G.IsAlwaysCallable keepers.records }
-    ensures { IfOk result (λ s. (s ≡ 0) ⊎ (s ≡ 2)) }
-{
-    let beginning = read_beginning(matches)?;
-    let bytes = read_input(alloc, input)?;
-    let input = bytes.as_slice();
-    let done = run_end(alloc, agreed, beginning, matches, keepers, input, out);
-    told(alloc, done, beginning.forms(), input)
 }
 
 /// Does what a call with this name asks for, under a context.

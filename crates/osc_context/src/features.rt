@@ -8,7 +8,8 @@ ghost use Rattle.osc_context.specs.Features.{unobserved};
 pub struct Features {
     /// Observe: a request may register, and notifications answer it (RFC 7641; RFC 8613, 4.1.3.5).
     pub observe: bool,
-    /// Block-wise transfer inside the protection: Block1 and Block2 pass, both ways (RFC 7959; RFC 8613, 4.1.3.4.1).
+    /// Block-wise transfer inside the protection: Block1, Block2, Q-Block1 and Q-Block2 pass, both ways (RFC 7959; RFC 8613, 4.1.3.4.1;
+    /// RFC 9177).
     pub blocks: bool,
 }
 

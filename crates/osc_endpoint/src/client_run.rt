@@ -38,7 +38,7 @@ fn run_request<'a, const N: usize>(
 }
 
 /// Runs one event, whose entry borrows from it.
-fn run_event<'a, const N: usize>(
+pub fn ask_event<'a, const N: usize>(
     client: &mut Client<N>,
     event: &'a mut ClientEvent,
 ) -> ClientEntry<'a>
@@ -79,7 +79,7 @@ pub fn run_client_on<'a, const N: usize>(
             return Err(error);
         }
         let (front, tail) = rest.split_at_mut(1);
-        let entry = run_event(client, &mut front[0]);
+        let entry = ask_event(client, &mut front[0]);
         log.push_reserved(entry);
         rest = tail;
     }

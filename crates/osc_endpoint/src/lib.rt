@@ -28,12 +28,13 @@ pub use server::Server;
 pub use server_event::{Answering, Arrival, Notifying, SealedResponse, ServerEntry, ServerEvent};
 pub use server_run::{run_server, run_server_on};
 
-/// The base of the crates that keep an end elsewhere: a server's table and its contexts as values, and the tickets of a run. If you have a
-/// server or a client, you need none of it.
+/// The base of the crates that keep an end elsewhere: a server's table and its contexts as values, the tickets of a run, and a run one event
+/// at a time. If you have a server or a client, you need none of it.
 #[doc(hidden)]
 pub mod siblings {
+    pub use crate::client_run::ask_event;
     pub use crate::contexts::Contexts;
-    pub use crate::server_run::sealed_number;
+    pub use crate::server_run::{sealed_number, serve_event};
     pub use crate::server_take::decide_over;
     pub use osc_life::siblings::{
         Asker, Named, Slot, is_replay, make_places, put_back, refuse_replay, take_out, ticket_at,

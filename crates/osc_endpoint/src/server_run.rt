@@ -171,8 +171,9 @@ fn serve_restart<'a>(server: &mut Server, context: usize, next: Piv) -> ServerEn
     ServerEntry::Restarted(server.restart(context, next))
 }
 
-/// Runs one event, whose entry borrows from it.
-fn serve<'a>(
+/// Runs one event, whose entry borrows from it. Returns the entry, and the ticket that a delivery gives. `tickets` has a place for each event
+/// before, with the ticket that is left of it.
+pub fn serve_event<'a>(
     server: &mut Server,
     event: &'a mut ServerEvent,
     tickets: &mut [Option<Ticket>],
@@ -216,7 +217,7 @@ pub fn run_server_on<'a>(
             return Err(error);
         }
         let (front, tail) = rest.split_at_mut(1);
-        let (entry, ticket) = serve(server, &mut front[0], &mut tickets);
+        let (entry, ticket) = serve_event(server, &mut front[0], &mut tickets);
         log.push_reserved(entry);
         tickets.push_reserved(ticket);
         rest = tail;

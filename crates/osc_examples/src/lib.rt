@@ -20,6 +20,7 @@ pub mod messages;
 pub mod observing;
 pub mod peer_handle;
 pub mod protect;
+pub mod proxy;
 pub mod record;
 pub mod room;
 pub mod serving;

@@ -52,7 +52,7 @@ fn run_restart<'a, K: Keeper, const N: usize>(client: &mut KeptClient<K, N>) -> 
 }
 
 /// Runs one event. Its entry borrows from the event.
-fn run_event<'a, K: Keeper, const N: usize>(
+pub fn ask_kept_event<'a, K: Keeper, const N: usize>(
     client: &mut KeptClient<K, N>,
     event: &'a mut KeptClientEvent,
 ) -> KeptClientEntry<'a>
@@ -99,7 +99,7 @@ pub fn run_kept_client_on<'a, K: Keeper, const N: usize>(
             return Err(error);
         }
         let (front, tail) = rest.split_at_mut(1);
-        let entry = run_event(client, &mut front[0]);
+        let entry = ask_kept_event(client, &mut front[0]);
         log.push_reserved(entry);
         rest = tail;
     }

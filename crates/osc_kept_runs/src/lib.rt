@@ -9,3 +9,10 @@ mod server_run;
 pub use client_run::{run_kept_client, run_kept_client_on};
 pub use kept_event::{KeptClientEntry, KeptClientEvent, KeptServerEntry, KeptServerEvent};
 pub use server_run::{run_kept_server, run_kept_server_on};
+
+/// A run one event at a time, for the crates that print each entry at once. If you have the events, you need none of it.
+#[doc(hidden)]
+pub mod siblings {
+    pub use crate::client_run::ask_kept_event;
+    pub use crate::server_run::serve_kept_event;
+}

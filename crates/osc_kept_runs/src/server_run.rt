@@ -170,8 +170,9 @@ fn serve_restart<'a, K: Keeper>(server: &mut KeptServer<K>) -> KeptServerEntry<'
     KeptServerEntry::Restarted(server.restart())
 }
 
-/// Serves one event. The entry borrows from the event.
-fn serve<'a, K: Keeper>(
+/// Serves one event, whose entry borrows from it. Returns the entry, and the ticket that a delivery gives. `tickets` has a place for each
+/// event before, with the ticket that is left of it.
+pub fn serve_kept_event<'a, K: Keeper>(
     server: &mut KeptServer<K>,
     event: &'a mut KeptServerEvent,
     tickets: &mut [Option<Ticket>],
@@ -219,7 +220,7 @@ pub fn run_kept_server_on<'a, K: Keeper>(
             return Err(error);
         }
         let (front, tail) = rest.split_at_mut(1);
-        let (entry, ticket) = serve(server, &mut front[0], &mut tickets);
+        let (entry, ticket) = serve_kept_event(server, &mut front[0], &mut tickets);
         log.push_reserved(entry);
         tickets.push_reserved(ticket);
         rest = tail;

@@ -7,7 +7,7 @@ use osc_fresh::{HeardEcho, Wishes};
 
 /// The last challenge of the server that asked for a fresh request, and the Echo value that the client heard last.
 #[derive(Drop)]
-pub(crate) struct EchoMemory {
+pub struct EchoMemory {
     pub(crate) wishes: Wishes,
     pub(crate) heard: HeardEcho,
 }
@@ -16,7 +16,7 @@ impl EchoMemory {
     ghost use Rattle.osc_peer_runs.specs.PeerCalls.{echoes_of};
 
     /// Nothing was asked for or heard yet.
-    pub(crate) fn new() -> EchoMemory
+    pub fn new() -> EchoMemory
         ensures { echoes_of result ≡ no_echoes }
     {
         EchoMemory {

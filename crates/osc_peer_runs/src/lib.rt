@@ -10,3 +10,10 @@ mod serving;
 
 pub use peer_event::{Challenging, PeerArrival, PeerEntry, PeerEvent};
 pub use peer_run::{run_kept_peer, run_kept_peer_on};
+
+/// A run one event at a time, for the crates that print each entry at once. If you have the events, you need none of it.
+#[doc(hidden)]
+pub mod siblings {
+    pub use crate::echo_memory::EchoMemory;
+    pub use crate::peer_run::run_peer_event;
+}

@@ -19,8 +19,9 @@ use osc_kept_ends::KeptPeer;
 use std::alloc::{AllocError, Global};
 use std::mem;
 
-/// Runs one event, and returns its entry, and the ticket that it gives, if it gives one. The entry borrows from the event.
-fn run_event<'a, R: RecordKeeper, const N: usize>(
+/// Runs one event, whose entry borrows from it. Returns the entry, and the ticket that it gives, if it gives one. `tickets` has a place for
+/// each event before, with the ticket that is left of it.
+pub fn run_peer_event<'a, R: RecordKeeper, const N: usize>(
     peer: &mut KeptPeer<R, N>,
     memory: &mut EchoMemory,
     event: &'a mut PeerEvent,
@@ -96,7 +97,7 @@ pub fn run_kept_peer_on<'a, R: RecordKeeper, const N: usize>(
             return Err(error);
         }
         let (front, tail) = rest.split_at_mut(1);
-        let (entry, ticket) = run_event(peer, &mut memory, &mut front[0], &mut tickets);
+        let (entry, ticket) = run_peer_event(peer, &mut memory, &mut front[0], &mut tickets);
         log.push_reserved(entry);
         tickets.push_reserved(ticket);
         rest = tail;

@@ -3,24 +3,23 @@
 use Rattle.std.proofs.Common.{◌≡◌, ℕ, ◌==◌, Bool, true, false, List, [], ◌∷◌, ◌++◌, length, refl, sym, ap, subst, ◌∙◌, inl, inr, Option, Some, None, if◌then◌else◌, is_some, ◌&&◌, not}
 use Rattle.std.proofs.lemmas.Bool.{eqb-true}
 use Rattle.std.specs.Option.{unwrap_or}
-use Rattle.osc_coap.specs.Class.{class, is_outer, outer_options}
 use Rattle.osc_coap.specs.Interpreted.{interpreted, is_valid_length}
 use Rattle.osc_coap.specs.OptionNumbers.{observe}
 use Rattle.osc_coap.specs.OptionSpelling.{Entry}
 use Rattle.osc_coap.specs.Search.{has_number, values_at}
 use Rattle.osc_context.specs.declared.features.Features.{Features}
-use Rattle.osc_protect.specs.OptionSets.{is_unsupported}
+use Rattle.osc_protect.specs.OptionSets.{is_behind, is_in_front, is_unsupported}
 use Rattle.osc_protect.specs.Protection.{emptied}
-use Rattle.osc_protect.specs.Sealed.{options_outside}
+use Rattle.osc_protect.specs.Sealed.{front_options, options_behind, options_outside}
 use Rattle.osc_protect.specs.Split.{has_observe}
 use Rattle.osc_protect.proofs.Sides.{unsought_outside}
 use Rattle.osc_protect.proofs.Splits.{chosen, neither, supported}
 
--- Observe isn't of class U
-inner_number : (n : ℕ) → (n == observe) ≡ true → is_outer (class n) ≡ false
-inner_number n is = subst (λ (k : ℕ). is_outer (class k) ≡ false) (sym (eqb-true n observe is)) refl
+-- Observe doesn't stand outside whatever it says
+inner_number : (n : ℕ) → (n == observe) ≡ true → is_in_front n ≡ false
+inner_number n is = subst (λ (k : ℕ). is_in_front k ≡ false) (sym (eqb-true n observe is)) refl
 
-outer_number : (n : ℕ) → is_outer (class n) ≡ true → (n == observe) ≡ false
+outer_number : (n : ℕ) → is_in_front n ≡ true → (n == observe) ≡ false
 outer_number n outer = elim (chosen (n == observe)) [
   | inl is ↦ absurd (let bad : true ≡ false = sym outer ∙ inner_number n is in cc)
   | inr isnt ↦ isnt
@@ -46,14 +45,14 @@ module _ (entry : Entry) (entries : List Entry) where
   outside_here : (entry.0 == observe) ≡ true → is_valid_length observe (length entry.1) ≡ true → options_outside true (entry ∷ entries) ≡ entry ∷ options_outside false entries
   outside_here is valid = rw (is, valid) refl
 
-  outside_too_long : (entry.0 == observe) ≡ true → is_valid_length observe (length entry.1) ≡ false → options_outside true (entry ∷ entries) ≡ outer_options (entry ∷ entries)
-  outside_too_long is invalid = long ∙ ap (λ (es : List Entry). if is_outer (class entry.0) then entry ∷ es else es) (unsought_outside entries)
+  outside_too_long : (entry.0 == observe) ≡ true → is_valid_length observe (length entry.1) ≡ false → options_outside true (entry ∷ entries) ≡ front_options (entry ∷ entries)
+  outside_too_long is invalid = long ∙ ap (λ (es : List Entry). if is_in_front entry.0 then entry ∷ es else es) (unsought_outside entries)
     where
-      long : options_outside true (entry ∷ entries) ≡ (if is_outer (class entry.0) then entry ∷ options_outside false entries else options_outside false entries)
+      long : options_outside true (entry ∷ entries) ≡ (if is_in_front entry.0 then entry ∷ options_outside false entries else options_outside false entries)
       long = rw (is, invalid) refl
 
   outside_other : (entry.0 == observe) ≡ false
-      → options_outside true (entry ∷ entries) ≡ (if is_outer (class entry.0) then entry ∷ options_outside true entries else options_outside true entries)
+      → options_outside true (entry ∷ entries) ≡ (if is_in_front entry.0 then entry ∷ options_outside true entries else options_outside true entries)
   outside_other isnt = rw isnt refl
 
   emptied_here : (entry.0 == observe) ≡ true → is_valid_length observe (length entry.1) ≡ true → emptied true (entry ∷ entries) ≡ (entry.0, []) ∷ emptied false entries
@@ -68,9 +67,23 @@ module _ (entry : Entry) (entries : List Entry) where
 -- no further one counts
 none_further : (entries tail : List Entry) → values_at observe tail ≡ [] → values_at observe (options_outside false entries ++ tail) ≡ []
 none_further [] tail none = none
-none_further (entry ∷ entries) tail none = elim (chosen (is_outer (class entry.0))) [
+none_further (entry ∷ entries) tail none = elim (chosen (is_in_front entry.0)) [
   | inl is ↦ let other = outer_number entry.0 is in rw (is, other) (none_further entries tail none)
   | inr isnt ↦ rw isnt (none_further entries tail none)
+]
+
+-- nor does one behind the OSCORE option
+high : (n : ℕ) → (n == observe) ≡ true → is_behind n ≡ false
+high n is = subst (λ (k : ℕ). is_behind k ≡ false) (sym (eqb-true n observe is)) refl
+
+pub none_behind : (entries : List Entry) → values_at observe (options_behind entries) ≡ []
+none_behind [] = refl
+none_behind (entry ∷ entries) = elim (chosen (is_behind entry.0)) [
+  | inl is ↦ elim (chosen (entry.0 == observe)) [
+    | inl seen ↦ absurd (let bad : true ≡ false = sym is ∙ high entry.0 seen in cc)
+    | inr other ↦ rw (is, other) (none_behind entries)
+  ]
+  | inr isnt ↦ rw isnt (none_behind entries)
 ]
 
 all_kept : (entries : List Entry) → emptied false entries ≡ entries
@@ -91,14 +104,14 @@ outside_observe (entry ∷ entries) tail value none h = elim (chosen (entry.0 ==
   ]
   | inr isnt ↦
       let rest = outside_observe entries tail value none (sym (behind entry entries isnt) ∙ h) in
-      ap (λ (es : List Entry). values_at observe (es ++ tail)) (outside_other entry entries isnt) ∙ (elim (chosen (is_outer (class entry.0))) [
+      ap (λ (es : List Entry). values_at observe (es ++ tail)) (outside_other entry entries isnt) ∙ (elim (chosen (is_in_front entry.0)) [
         | inl outer ↦ rw (outer, isnt) rest
         | inr inner ↦ rw inner rest
       ])
 ]
 
 -- where none is, those of class U alone stand outside
-none_outside : (entries : List Entry) → interpreted observe entries ≡ None → options_outside true entries ≡ outer_options entries
+none_outside : (entries : List Entry) → interpreted observe entries ≡ None → options_outside true entries ≡ front_options entries
 none_outside [] h = refl
 none_outside (entry ∷ entries) h = elim (chosen (entry.0 == observe)) [
   | inl is ↦ elim (chosen (is_valid_length observe (length entry.1))) [
@@ -106,10 +119,10 @@ none_outside (entry ∷ entries) h = elim (chosen (entry.0 == observe)) [
     | inr invalid ↦ outside_too_long entry entries is invalid
   ]
   | inr isnt ↦ outside_other entry entries isnt
-      ∙ ap (λ (es : List Entry). if is_outer (class entry.0) then entry ∷ es else es) (none_outside entries (sym (behind entry entries isnt) ∙ h))
+      ∙ ap (λ (es : List Entry). if is_in_front entry.0 then entry ∷ es else es) (none_outside entries (sym (behind entry entries isnt) ∙ h))
 ]
 
-pub unknown_outside : (sought : Bool) (entries : List Entry) → interpreted observe entries ≡ None → options_outside sought entries ≡ outer_options entries
+pub unknown_outside : (sought : Bool) (entries : List Entry) → interpreted observe entries ≡ None → options_outside sought entries ≡ front_options entries
 unknown_outside true entries h = none_outside entries h
 unknown_outside false entries h = unsought_outside entries
 
@@ -165,7 +178,7 @@ none_left_out x [] off h = refl
 none_left_out x (entry ∷ entries) off h =
     let both = neither (is_unsupported x entry.0) (has_number (is_unsupported x) entries) h in
     let left = neither _ _ (supported x entry.0 both.0).0 in
-    let first : (not x.observe && (entry.0 == observe)) ≡ false = (neither _ _ left.0).0 in
+    let first : (not x.observe && (entry.0 == observe)) ≡ false = left.0 in
     let isnt : (entry.0 == observe) ≡ false = subst (λ (b : Bool). (not b && (entry.0 == observe)) ≡ false) off first in
     ap is_some (behind entry entries isnt) ∙ none_left_out x entries off both.1
 

@@ -1,14 +1,14 @@
 -- The options of one side, and what a plain message says inside.
 use Rattle.std.proofs.Common.{◌≡◌, ℕ, ◌+◌, ◌||◌, Bool, true, false, List, [], ◌∷◌, length, refl, sym, ap, ◌∙◌, if◌then◌else◌}
-use Rattle.osc_coap.specs.Class.{class, inner_options, is_inner, is_outer, outer_options}
+use Rattle.osc_coap.specs.Class.{class, inner_options, is_inner}
 use Rattle.osc_coap.specs.Datagram.{Parts}
 use Rattle.osc_coap.specs.Inner.{InnerParts, inner_length}
 use Rattle.osc_coap.specs.OptionSpelling.{Entry, marked, spelling_length}
 use Rattle.osc_coap.specs.Search.{has_number}
-use Rattle.osc_protect.specs.OptionSets.{counts_as_observe, is_outside, sought_behind}
+use Rattle.osc_protect.specs.OptionSets.{counts_as_observe, is_behind, is_in_front, is_outside, sought_behind}
 use Rattle.osc_protect.specs.Protection.{emptied}
-use Rattle.osc_protect.specs.Sealed.{inside, options_outside}
-use Rattle.osc_protect.specs.Split.{Inside, Outside, Side, entry_on, options_on, said}
+use Rattle.osc_protect.specs.Sealed.{front_options, inside, options_behind, options_outside}
+use Rattle.osc_protect.specs.Split.{Behind, Inside, Outside, Side, entry_on, options_on, said}
 
 -- an option without its value, or as it is
 abbrev pub without_value : Bool → Entry → Entry
@@ -22,6 +22,7 @@ number_kept false entry = refl
 -- on either side
 pub number_on : (side : Side) (entry : Entry) → (entry_on side entry).0 ≡ entry.0
 number_on (Outside sought) entry = refl
+number_on Behind entry = refl
 number_on (Inside sought) entry = number_kept (counts_as_observe sought entry) entry
 
 -- so the same numbers are there
@@ -36,10 +37,18 @@ pub outside_options : (sought : Bool) (entries : List Entry) → options_on (Out
 outside_options sought [] = refl
 outside_options sought (entry ∷ entries) = ap (λ (es : List Entry). if is_outside sought entry then entry ∷ es else es) (outside_options (sought_behind sought entry) entries)
 
--- where no Observe is sought, they are those of class U
-pub unsought_outside : (entries : List Entry) → options_outside false entries ≡ outer_options entries
+-- where no Observe is sought, they are those that stand there anyway
+pub unsought_outside : (entries : List Entry) → options_outside false entries ≡ front_options entries
 unsought_outside [] = refl
-unsought_outside (entry ∷ entries) = ap (λ (es : List Entry). if is_outer (class entry.0) then entry ∷ es else es) (unsought_outside entries)
+unsought_outside (entry ∷ entries) = ap (λ (es : List Entry). if is_in_front entry.0 then entry ∷ es else es) (unsought_outside entries)
+
+-- so do those behind the OSCORE option
+pub behind_options : (entries : List Entry) → options_on Behind entries ≡ options_behind entries
+behind_options [] = refl
+behind_options (entry ∷ entries) = ap (λ (es : List Entry). if is_behind entry.0 then entry ∷ es else es) (behind_options entries)
+
+pub behind_read : (p : Parts) (os : List Entry) → os ≡ p.options → options_on Behind os ≡ options_behind p.options
+behind_read p os e = ap (options_on Behind) e ∙ behind_options p.options
 
 -- of a message that was read
 pub outside_read : (sought : Bool) (p : Parts) (os : List Entry) → os ≡ p.options → options_on (Outside sought) os ≡ options_outside sought p.options

@@ -1,6 +1,7 @@
 -- The options of one side, and that a writer takes them.
 use Rattle.std.proofs.Common.{◌≡◌, ◌≢◌, ℕ, ◌+◌, ◌≤◌, ◌==◌, ◌&&◌, ◌||◌, ◌⊎◌, Bool, true, false, List, [], ◌∷◌, ◌++◌, Option, refl, sym, ap, subst, ◌∙◌, arith, inl, inr, append_assoc, Result, Err, IfNone, IfSome, None, Some, IsOk}
 use Rattle.std.proofs.lemmas.Bool.{eqb-true}
+use Rattle.std.proofs.lemmas.Bool.Decides.{nat_tests}
 use Rattle.osc_coap.specs.Class.{class, is_outer}
 use Rattle.osc_coap.specs.Datagram.{Parts, datagram_length}
 use Rattle.osc_coap.specs.Inner.{InnerParts, inner_length}
@@ -8,14 +9,13 @@ use Rattle.osc_coap.specs.OptionSpelling.{Entry, Ascends, last_number, spelling_
 use Rattle.osc_coap.specs.Writing.{Draft, Datagram, Plaintext, TakesOption, TakesPayload, bare, bare_inner, options_of, length_of, with_option, with_options, with_payload}
 use Rattle.osc_coap.specs.Writer.{Holds}
 use Rattle.osc_coap.specs.declared.writer.Writer.{Writer}
-use Rattle.osc_coap.specs.Search.{has_number}
 use Rattle.osc_coap.specs.OptionNumbers.{observe, oscore}
 use Rattle.osc_context.specs.declared.features.Features.{Features}
-use Rattle.osc_protect.specs.OptionSets.{counts_as_observe, is_left_out, is_outside, is_proxy, is_unsupported, sought_behind}
-use Rattle.osc_protect.specs.Sealed.{inside, options_outside, outside}
-use Rattle.osc_protect.specs.Split.{Inside, Outside, Side, TakesAll, entry_on, option_with, options_on, said, side_behind, stands_on, value_on}
+use Rattle.osc_protect.specs.OptionSets.{counts_as_observe, is_behind, is_in_front, is_left_out, is_outside, is_proxy, is_unsupported, sought_behind}
+use Rattle.osc_protect.specs.Sealed.{inside, options_behind, options_outside, outside}
+use Rattle.osc_protect.specs.Split.{Behind, Inside, Outside, Side, TakesAll, entry_on, option_with, options_on, said, side_behind, stands_on, value_on}
 use Rattle.osc_protect.proofs.SealedLengths.{spelled_append}
-use Rattle.osc_protect.proofs.Sides.{inside_length, inside_read, number_on, outside_options, outside_read}
+use Rattle.osc_protect.proofs.Sides.{behind_options, behind_read, inside_length, inside_read, number_on, outside_options, outside_read}
 
 -- one of two
 pub chosen : (b : Bool) → (b ≡ true) ⊎ (b ≡ false)
@@ -48,10 +48,6 @@ pub one_of : (a b : Bool) → (a || b) ≡ true → (a ≡ true) ⊎ (b ≡ true
 one_of true b h = inl refl
 one_of false b h = inr h
 
--- an option of class U that is for no proxy comes before the OSCORE option, or is that one
-outer_below : (n : ℕ) → is_outer (class n) ≡ true → is_proxy n ≡ false → n ≤ oscore
-outer_below n u p = grind (arith, u, p)
-
 -- both of two
 pub both_hold : (a b : Bool) → (a && b) ≡ true → (a ≡ true) × (b ≡ true)
 both_hold true b h = (refl, h)
@@ -61,22 +57,20 @@ both_hold false b h = absurd (cc)
 pub observe_number : (sought : Bool) (entry : Entry) → counts_as_observe sought entry ≡ true → entry.0 ≡ observe
 observe_number sought entry h = eqb-true _ _ (both_hold (entry.0 == observe) _ (both_hold sought _ h).1).0
 
--- so does an option outside that can be sealed
-below : (x : Features) (sought : Bool) (entry : Entry) → is_outside sought entry ≡ true → is_unsupported x entry.0 ≡ false → entry.0 ≤ oscore
-below x sought entry u s = elim (one_of (counts_as_observe sought entry) (is_outer (class entry.0)) u) [
+-- an option in front of the OSCORE option has a lower number
+below : (sought : Bool) (entry : Entry) → is_outside sought entry ≡ true → entry.0 ≤ oscore
+below sought entry u = elim (one_of (counts_as_observe sought entry) (is_in_front entry.0) u) [
   | inl h ↦ let e = observe_number sought entry h in omega (arith, e)
-  | inr h ↦ outer_below entry.0 h (supported x entry.0 s).1
+  | inr h ↦ let low = (both_hold (is_outer (class entry.0)) _ h).1 in grind (arith, nat_tests, low)
 ]
 
 -- so do all of them
-pub all_below : (x : Features) (sought : Bool) (d : ℕ) (entries : List Entry) → d ≤ oscore → has_number (is_unsupported x) entries ≡ false → last_number d (options_outside sought entries) ≤ oscore
-all_below x sought d [] le h = le
-all_below x sought d (entry ∷ entries) le h =
-    let both = neither (is_unsupported x entry.0) (has_number (is_unsupported x) entries) h in
-    elim (chosen (is_outside sought entry)) [
-      | inl is ↦ rw is (all_below x (sought_behind sought entry) entry.0 entries (below x sought entry is both.0) both.1)
-      | inr isnt ↦ rw isnt (all_below x (sought_behind sought entry) d entries le both.1)
-    ]
+pub all_below : (sought : Bool) (d : ℕ) (entries : List Entry) → d ≤ oscore → last_number d (options_outside sought entries) ≤ oscore
+all_below sought d [] le = le
+all_below sought d (entry ∷ entries) le = elim (chosen (is_outside sought entry)) [
+  | inl is ↦ rw is (all_below (sought_behind sought entry) entry.0 entries (below sought entry is))
+  | inr isnt ↦ rw isnt (all_below (sought_behind sought entry) d entries le)
+]
 
 -- ---- order
 
@@ -211,7 +205,7 @@ pub outside_takes : (x : Features) (p : Parts) (code : ℕ) (value : List ℕ) (
     → datagram_length (outside x p code value []) ≤ room → datagram_length (outside x p code value []) ≤ 65535
     → TakesAll room (Datagram (bare p.kind code p.message_id p.token)) (options_on (Outside sought) os)
 outside_takes x p code value os sought room e is some up in_room in_all =
-    let all = spelled_append 0 (options_outside x.observe p.options) ((oscore, value) ∷ []) in
+    let all = spelled_append 0 (options_outside x.observe p.options) ((oscore, value) ∷ options_behind p.options) in
     let same = ap (λ (b : Bool). options_on (Outside b) os) is ∙ outside_read x.observe p os e in
     subst (λ (es : List Entry). TakesAll room (Datagram (bare p.kind code p.message_id p.token)) es) (sym same) (record {
       filled = some;
@@ -221,19 +215,54 @@ outside_takes x p code value os sought room e is some up in_room in_all =
     })
 
 -- the OSCORE option has its room behind them
-pub oscore_takes : (x : Features) (p : Parts) (code : ℕ) (value : List ℕ) (os : List Entry) (sought : Bool) (room : ℕ) → os ≡ p.options → sought ≡ x.observe → code ≢ 0 → has_number (is_unsupported x) p.options ≡ false
+pub oscore_takes : (x : Features) (p : Parts) (code : ℕ) (value : List ℕ) (os : List Entry) (sought : Bool) (room : ℕ) → os ≡ p.options → sought ≡ x.observe → code ≢ 0
     → datagram_length (outside x p code value []) ≤ room → datagram_length (outside x p code value []) ≤ 65535
     → TakesOption room (with_options (Datagram (bare p.kind code p.message_id p.token)) (options_on (Outside sought) os)) oscore value
-oscore_takes x p code value os sought room e is some none in_room in_all =
+oscore_takes x p code value os sought room e is some in_room in_all =
     let same = ap (λ (b : Bool). options_on (Outside b) os) is ∙ outside_read x.observe p os e in
+    let part = part_fits 0 (options_outside x.observe p.options) (oscore, value) (options_behind p.options) in
     subst (λ (es : List Entry). TakesOption room (with_options (Datagram (bare p.kind code p.message_id p.token)) es) 9 value) (sym same)
-    (some, refl, all_below x x.observe 0 p.options (omega arith) none, (in_room, in_all))
+    (some, refl, all_below x.observe 0 p.options (omega arith), (omega (arith, part, in_room), omega (arith, part, in_all)))
+
+-- the options behind it ascend from it on
+behind_ascends : (d : ℕ) (entries : List Entry) → Ascends d entries → Ascends oscore (options_behind entries)
+behind_ascends d [] up = tt
+behind_ascends d (entry ∷ entries) up = elim (chosen (is_behind entry.0)) [
+  | inl is ↦
+      let high = (both_hold (is_outer (class entry.0)) _ is).1 in
+      let above : oscore ≤ entry.0 = grind (arith, nat_tests, high) in
+      rw is (above, up.1, subst (Ascends entry.0) (behind_options entries) (side_ascends Behind entry.0 entries up.2))
+  | inr isnt ↦ rw isnt (behind_ascends entry.0 entries up.2)
+]
+
+-- what stands outside in front of them and the OSCORE option
+abbrev pub front : Features → Parts → ℕ → List ℕ → Draft
+front x p code value = with_option (with_options (Datagram (bare p.kind code p.message_id p.token)) (options_outside x.observe p.options)) oscore value
+
+-- they have their room behind that
+pub behind_takes : (x : Features) (p : Parts) (code : ℕ) (value : List ℕ) (os qs : List Entry) (sought : Bool) (room : ℕ) → os ≡ p.options → qs ≡ p.options → sought ≡ x.observe → code ≢ 0 → Ascends 0 p.options
+    → datagram_length (outside x p code value []) ≤ room → datagram_length (outside x p code value []) ≤ 65535
+    → TakesAll room (with_option (with_options (Datagram (bare p.kind code p.message_id p.token)) (options_on (Outside sought) os)) oscore value) (options_on Behind qs)
+behind_takes x p code value os qs sought room e f is some up in_room in_all =
+    let same = ap (λ (b : Bool). options_on (Outside b) os) is ∙ outside_read x.observe p os e in
+    let last = last_append 0 (options_outside x.observe p.options) ((oscore, value) ∷ []) in
+    let whole = ap (spelling_length 0) (append_assoc (options_outside x.observe p.options) ((oscore, value) ∷ []) (options_behind p.options)) in
+    subst (λ (es : List Entry). TakesAll room (with_option (with_options (Datagram (bare p.kind code p.message_id p.token)) es) oscore value) (options_on Behind qs)) (sym same)
+    (subst (λ (es : List Entry). TakesAll room (front x p code value) es) (sym (behind_read p qs f)) (record {
+      filled = some;
+      unfinished = refl;
+      ascends = subst (λ (n : ℕ). Ascends n (options_behind p.options)) (sym last) (behind_ascends 0 p.options up);
+      has_room = (omega (arith, whole, in_room), omega (arith, whole, in_all));
+    }))
 
 -- what is written then stands outside
-pub outside_held : (x : Features) (p : Parts) (code : ℕ) (value : List ℕ) (os : List Entry) (sought : Bool) (w : Writer) (old : List ℕ) → os ≡ p.options → sought ≡ x.observe
-    → Holds w (with_option (with_options (Datagram (bare p.kind code p.message_id p.token)) (options_on (Outside sought) os)) oscore value) old → Holds w (Datagram (outside x p code value [])) old
-outside_held x p code value os sought w old e is held =
-    subst (λ (es : List Entry). Holds w (with_option (with_options (Datagram (bare p.kind code p.message_id p.token)) es) 9 value) old) (ap (λ (b : Bool). options_on (Outside b) os) is ∙ outside_read x.observe p os e) held
+pub outside_held : (x : Features) (p : Parts) (code : ℕ) (value : List ℕ) (os qs : List Entry) (sought : Bool) (w : Writer) (old : List ℕ) → os ≡ p.options → qs ≡ p.options → sought ≡ x.observe
+    → Holds w (with_options (with_option (with_options (Datagram (bare p.kind code p.message_id p.token)) (options_on (Outside sought) os)) oscore value) (options_on Behind qs)) old → Holds w (Datagram (outside x p code value [])) old
+outside_held x p code value os qs sought w old e f is held =
+    let all = append_assoc (options_outside x.observe p.options) ((oscore, value) ∷ []) (options_behind p.options) in
+    subst (λ (es : List Entry). Holds w (Datagram (record (outside x p code value []) { options = es })) old) all
+    (subst (λ (es : List Entry). Holds w (with_options (front x p code value) es) old) (behind_read p qs f)
+    (subst (λ (es : List Entry). Holds w (with_options (with_option (with_options (Datagram (bare p.kind code p.message_id p.token)) es) 9 value) (options_on Behind qs)) old) (ap (λ (b : Bool). options_on (Outside b) os) is ∙ outside_read x.observe p os e) held))
 
 -- the options inside have their room behind the code
 pub inside_takes : (notifies : Bool) (p : Parts) (os : List Entry) (sought : Bool) (room : ℕ) → os ≡ p.options → sought ≡ notifies → Ascends 0 p.options

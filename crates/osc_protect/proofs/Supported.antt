@@ -4,12 +4,12 @@ use Rattle.std.specs.Option.{unwrap_or}
 use Rattle.std.proofs.lemmas.Bool.{eqb-true}
 use Rattle.osc_coap.specs.OptionSpelling.{Entry, Ascends}
 use Rattle.osc_coap.specs.Datagram.{Parts}
-use Rattle.osc_coap.specs.OptionNumbers.{block1, block2, oscore}
+use Rattle.osc_coap.specs.OptionNumbers.{oscore}
 use Rattle.osc_coap.specs.Search.{has_number}
 use Rattle.osc_protect.specs.Found.{first_number}
 use Rattle.osc_context.specs.Features.{unobserved}
 use Rattle.osc_context.specs.declared.features.Features.{Features}
-use Rattle.osc_protect.specs.OptionSets.{is_observe, is_proxy, is_unsupported}
+use Rattle.osc_protect.specs.OptionSets.{is_block, is_observe, is_proxy, is_unsupported}
 use Rattle.osc_protect.specs.SealRefusals.{IsLowestUnsupported, RefusesPlain, CanBeSealed}
 use Rattle.osc_protect.specs.Usage.{sealing_features}
 use Rattle.osc_protect.specs.declared.usage.Usage.{Usage}
@@ -90,16 +90,16 @@ has_one p n (entry ∷ entries) pn h = elim (one_of (entry.0 == n) (has_number (
 
 -- ---- what is sealed with fewer features can be sealed with more
 
-less : (a o b c d e : Bool) → (((((true && o) || b) || c) || d) || e) ≡ false → (((((a && o) || b) || c) || d) || e) ≡ false
-less true o b c d e h = h
-less false true b c d e h = absurd (cc)
-less false false b c d e h = h
+less : (a o b d e : Bool) → ((((true && o) || b) || d) || e) ≡ false → ((((a && o) || b) || d) || e) ≡ false
+less true o b d e h = h
+less false true b d e h = absurd (cc)
+less false false b d e h = h
 
 less_unsupported : (x : Features) (entries : List Entry) → has_number (is_unsupported (unobserved x)) entries ≡ false → has_number (is_unsupported x) entries ≡ false
 less_unsupported x [] h = refl
 less_unsupported x (entry ∷ entries) h =
     let both = neither (is_unsupported (unobserved x) entry.0) (has_number (is_unsupported (unobserved x)) entries) h in
-    both_false (is_unsupported x entry.0) _ (less (not x.observe) (is_observe entry.0) (not x.blocks && (entry.0 == block2)) (not x.blocks && (entry.0 == block1)) (is_proxy entry.0) (entry.0 == oscore) both.0) (less_unsupported x entries both.1)
+    both_false (is_unsupported x entry.0) _ (less (not x.observe) (is_observe entry.0) (not x.blocks && is_block entry.0) (is_proxy entry.0) (entry.0 == oscore) both.0) (less_unsupported x entries both.1)
 
 pub sealing_supported : (u : Usage) (x : Features) (code : ℕ) (entries : List Entry) → has_number (is_unsupported (sealing_features u x code)) entries ≡ false
     → has_number (is_unsupported x) entries ≡ false

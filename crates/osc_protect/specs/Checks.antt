@@ -2,9 +2,10 @@
 -- context, r a request.
 use Rattle.std.specs.Prelude.{◌≡◌, ◌<◌, ◌≤◌, ◌⊎◌, Bool, IfNone, IfSome}
 use Rattle.osc_coap.specs.Datagram.{Parts}
+use Rattle.osc_coap.specs.OptionNumbers.{oscore}
 use Rattle.osc_coap.specs.OptionSpelling.{last_number, spelling_length}
 use Rattle.osc_protect.specs.SealRefusals.{CanBeSealed}
-use Rattle.osc_protect.specs.Split.{Inside, Outside, has_observe, options_on}
+use Rattle.osc_protect.specs.Split.{Behind, Inside, Outside, has_observe, options_on}
 use Rattle.osc_protect.specs.Usage.{sealing_features}
 use Rattle.osc_context.specs.declared.context.Context.{Context}
 use Rattle.osc_protect.specs.Views.{registers, sealed_responses}
@@ -14,17 +15,19 @@ use Rattle.osc_protect.specs.declared.family.Family.{Family}
 use Rattle.osc_protect.specs.declared.request_ref.RequestRef.{RequestRef}
 use Rattle.osc_protect.specs.declared.usage.Usage.TheVariants.{Response}
 
--- the two lists are counted (how the code is seen)
+-- the three lists are counted (how the code is seen)
 pub record Counts (f : Family) (p : Parts) (s : Lists) : Type 0 where
   pub outer : s.outer.len ≡ spelling_length 0 (options_on (Outside f.features.observe) p.options)
   pub last : s.outer.number ≡ last_number 0 (options_on (Outside f.features.observe) p.options)
+  pub behind : s.behind.len ≡ spelling_length oscore (options_on Behind p.options)
   pub inner : s.inner.len ≡ spelling_length 0 (options_on (Inside f.notifies) p.options)
   pub outer_fits : s.outer.len ≤ 65535
+  pub behind_fits : s.behind.len ≤ 65535
   pub inner_fits : s.inner.len ≤ 65535
 
--- one of the two lists is longer than a datagram can be (how the code is seen)
+-- one of the lists is longer than a datagram can be (how the code is seen)
 abbrev pub IsBeyond : Family → Parts → Type 0
-IsBeyond f p = (65535 < spelling_length 0 (options_on (Outside f.features.observe) p.options)) ⊎ (65535 < spelling_length 0 (options_on (Inside f.notifies) p.options))
+IsBeyond f p = (65535 < spelling_length 0 (options_on (Outside f.features.observe) p.options)) ⊎ ((65535 < spelling_length oscore (options_on Behind p.options)) ⊎ (65535 < spelling_length 0 (options_on (Inside f.notifies) p.options)))
 
 -- the message can be sealed, whether one of its options counts as Observe, and these are its lists, or one of them is too long (how the code is
 -- seen)

@@ -4,19 +4,19 @@
 use Rattle.std.specs.Prelude.{◌≡◌, ◌+◌, ◌<◌, ◌≤◌, ◌⊎◌, ◌^◌, ◌==◌, ◌||◌, ℕ, true, false, List, [], ◌∷◌, ◌++◌, length, Option, Some, None, IfSome}
 use Rattle.osc_coap.specs.Datagram.{Parts, datagram_length}
 use Rattle.osc_coap.specs.Inner.{InnerParts, inner_length}
-use Rattle.osc_coap.specs.Class.{class, is_outer, outer_options}
+use Rattle.osc_coap.specs.Class.{class, is_outer}
 use Rattle.osc_coap.specs.Interpreted.{interpreted}
 use Rattle.osc_coap.specs.OptionSpelling.{Entry}
 use Rattle.osc_coap.specs.Search.{values_at}
-use Rattle.osc_coap.specs.OptionNumbers.{block1, block2, observe, oscore}
+use Rattle.osc_coap.specs.OptionNumbers.{observe, oscore}
 use Rattle.osc_ccm.specs.Ccm.{tag_length}
 use Rattle.osc_context.specs.Features.{no_features, unobserved}
 use Rattle.osc_context.specs.SecurityContext.{SecurityContext}
 use Rattle.osc_context.specs.declared.features.Features.{Features}
-use Rattle.osc_protect.specs.OptionSets.{is_barred, is_left_out, is_outside, is_proxy, is_unsupported}
+use Rattle.osc_protect.specs.OptionSets.{is_barred, is_block, is_in_front, is_left_out, is_outside, is_proxy, is_unsupported}
 use Rattle.osc_protect.specs.Usage.{outer_code_of, plain_code_of}
 use Rattle.osc_protect.specs.Head.{Head, HasHead, HasNoHead, ShowsHead, ShowsNoHead}
-use Rattle.osc_protect.specs.Sealed.{IsSealed, SealsNotification, SealsRequest, SealsResponse, inside, outside, sealed_length}
+use Rattle.osc_protect.specs.Sealed.{IsSealed, SealsNotification, SealsRequest, SealsResponse, front_options, inside, options_behind, outside, sealed_length}
 use Rattle.osc_protect.specs.Protection.{Protection, Protects, as_it_is, as_notified, notifications, requests, responses}
 use Rattle.osc_protect.specs.Refusals.{Names, RefusesToOpen}
 use Rattle.osc_protect.specs.SealRefusals.{RefusesToSeal}
@@ -159,18 +159,18 @@ pub record OneSealed : Type 0 where
 
 -- the part outside of a message that has no Observe there: the head, the options of class U, and the OSCORE option (RFC 8613, 4.1 and 4.2)
 abbrev pub plain_outside : Parts → ℕ → List ℕ → List ℕ → Parts
-plain_outside p code value payload = record { kind = p.kind; code = code; message_id = p.message_id; token = p.token; options = outer_options p.options ++ (oscore, value) ∷ []; payload = payload }
+plain_outside p code value payload = record { kind = p.kind; code = code; message_id = p.message_id; token = p.token; options = front_options p.options ++ (oscore, value) ∷ options_behind p.options; payload = payload }
 
--- a context without features leaves out Observe, Block2 and Block1, one with blocks leaves out Observe alone, and one with Observe the blocks alone; without Observe, what stands outside is the options of class U, behind a code that tells nothing (own rule; RFC 8613, 4.1.2 and 4.2)
+-- a context without features leaves out Observe and the blocks, one with blocks leaves out Observe alone, and one with Observe the blocks alone; without Observe, what stands outside is the options of class U, behind a code that tells nothing (own rule; RFC 8613, 4.1.2 and 4.2)
 pub record LeavesOut : Type 0 where
-  pub left_out : (n : ℕ) → is_left_out no_features n ≡ ((n == observe) || (n == block2) || (n == block1))
-  pub unsupported : (n : ℕ) → is_unsupported no_features n ≡ (((n == observe) || (n == block2) || (n == block1)) || is_proxy n || (n == oscore))
-  pub barred : (n : ℕ) → is_barred no_features n ≡ (((n == observe) || (n == block2) || (n == block1)) || is_outer (class n))
+  pub left_out : (n : ℕ) → is_left_out no_features n ≡ ((n == observe) || is_block n)
+  pub unsupported : (n : ℕ) → is_unsupported no_features n ≡ (((n == observe) || is_block n) || is_proxy n || (n == oscore))
+  pub barred : (n : ℕ) → is_barred no_features n ≡ (((n == observe) || is_block n) || is_outer (class n))
   pub with_blocks : (n : ℕ) → is_left_out (record { observe = false; blocks = true }) n ≡ (n == observe)
-  pub with_observe : (n : ℕ) → is_left_out (record { observe = true; blocks = false }) n ≡ ((n == block2) || (n == block1))
+  pub with_observe : (n : ℕ) → is_left_out (record { observe = true; blocks = false }) n ≡ is_block n
   pub with_both : (n : ℕ) → is_left_out (record { observe = true; blocks = true }) n ≡ false
   pub without : unobserved no_features ≡ no_features
-  pub outside_alone : (x : Features) (entry : Entry) → is_outside (unobserved x).observe entry ≡ is_outer (class entry.0)
+  pub outside_alone : (x : Features) (entry : Entry) → is_outside (unobserved x).observe entry ≡ is_in_front entry.0
   pub code : (u : Usage) (x : Features) (entries : List Entry) → outer_code_of u (unobserved x) entries ≡ plain_code_of u
   pub outer : (x : Features) (p : Parts) (code : ℕ) (value payload : List ℕ) → outside (unobserved x) p code value payload ≡ plain_outside p code value payload
   pub long : (x : Features) (p : Parts) (value : List ℕ) → sealed_length (unobserved x) as_it_is p value ≡ datagram_length (plain_outside p p.code value []) + (1 + (inner_length (inside p) + tag_length))

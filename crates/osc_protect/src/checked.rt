@@ -1,12 +1,13 @@
 //! What sealing has to know of a plain message, found in one pass over its options.
 
 ghost use Rattle.std.specs.Prelude.{◌≡◌, ◌<◌, ◌≤◌, ◌⊎◌, ◌||◌, ℕ, List, true, false, IfErr, IfNone, IfOk, IfSome};
+ghost use Rattle.osc_coap.specs.OptionNumbers.{oscore};
 ghost use Rattle.osc_coap.specs.OptionSpelling.{last_number, spelling_length};
 ghost use Rattle.osc_coap.specs.Search.{has_number};
 ghost use Rattle.osc_coap.specs.Views.{options_left, parts_of};
 ghost use Rattle.osc_protect.specs.OptionSets.{is_unsupported};
 ghost use Rattle.osc_protect.specs.SealRefusals.{RefusesPlain};
-ghost use Rattle.osc_protect.specs.Split.{Inside, Outside, has_observe, options_on};
+ghost use Rattle.osc_protect.specs.Split.{Behind, Inside, Outside, has_observe, options_on};
 ghost use Rattle.osc_protect.specs.Usage.{sealing_features};
 
 use crate::checks::judge;
@@ -19,10 +20,12 @@ use osc_coap::option_numbers::OBSERVE;
 use osc_coap::{Message, Options};
 use osc_context::Features;
 
-/// The options of a message that can be sealed, counted on both sides.
+/// The options of a message that can be sealed, counted on each side.
 #[derive(Clone, Copy)]
 pub(crate) struct Lists {
     pub(crate) outer: Tally,
+    /// Those behind the OSCORE option.
+    pub(crate) behind: Tally,
     pub(crate) inner: Tally,
 }
 
@@ -49,21 +52,24 @@ impl Checked {
 }
 
 /// Goes through the options once. Returns `None` if one of them keeps the message from being sealed, with the features that say so, or
-/// if either of the two lists is longer than a datagram can be.
+/// if one of the lists is longer than a datagram can be.
 #[inline(always)]
 fn survey(family: Family, features: Features, options: Options<'_>) -> Option<(Lists, bool)>
     ensures supported { IfSome result (λ s. has_number (is_unsupported features) (options_left options.entry) ≡ false) }
     ensures observes { IfSome result (λ s. s.1 ≡ has_observe family.features.observe (options_left options.entry)) }
     ensures outer { IfSome result (λ s. s.0.outer.len ≡ spelling_length 0 (options_on (Outside family.features.observe) (options_left options.entry))) }
     ensures last { IfSome result (λ s. s.0.outer.number ≡ last_number 0 (options_on (Outside family.features.observe) (options_left options.entry))) }
+    ensures behind { IfSome result (λ s. s.0.behind.len ≡ spelling_length oscore (options_on Behind (options_left options.entry))) }
     ensures inner { IfSome result (λ s. s.0.inner.len ≡ spelling_length 0 (options_on (Inside family.notifies) (options_left options.entry))) }
-    ensures fits { IfSome result (λ s. (s.0.outer.len ≤ 65535) × (s.0.inner.len ≤ 65535)) }
+    ensures fits { IfSome result (λ s. (s.0.outer.len ≤ 65535) × (s.0.behind.len ≤ 65535) × (s.0.inner.len ≤ 65535)) }
     ensures nothing { IfNone result
         ((has_number (is_unsupported features) (options_left options.entry) ≡ true)
         ⊎ ((65535 < spelling_length 0 (options_on (Outside family.features.observe) (options_left options.entry)))
-        ⊎ (65535 < spelling_length 0 (options_on (Inside family.notifies) (options_left options.entry))))) }
+        ⊎ ((65535 < spelling_length oscore (options_on Behind (options_left options.entry)))
+        ⊎ (65535 < spelling_length 0 (options_on (Inside family.notifies) (options_left options.entry)))))) }
 {
     let mut outer = Tally::new();
+    let mut behind = Tally::behind_oscore();
     let mut inner = Tally::new();
     let mut sought = family.sought();
     let mut observes = false;
@@ -71,13 +77,19 @@ fn survey(family: Family, features: Features, options: Options<'_>) -> Option<(L
         if is_unsupported(features, number) {
             return None;
         }
-        let (behind, placed) = sought.place(number, value);
+        let (next, placed) = sought.place(number, value);
         outer = outer.and(number, placed.outside)?;
+        behind = behind.and(number, placed.behind)?;
         inner = inner.and(number, placed.inside)?;
         observes |= placed.observes;
-        sought = behind;
+        sought = next;
     }
-    Some((Lists { outer, inner }, observes))
+    let lists = Lists {
+        outer,
+        behind,
+        inner,
+    };
+    Some((lists, observes))
 }
 
 ghost use Rattle.osc_protect.specs.Checks.{Checks};

@@ -29,9 +29,9 @@ pub fn one_head()
     layer_laws();
 }
 
-/// States which options are left out: by a context without features Observe, Block2 and Block1, by one with blocks Observe alone, and by
-/// one with Observe Block2 and Block1. Without Observe, a sealed message has outside the options of class U alone, and the code 0.02 or
-/// 2.04 (own rule; RFC 8613, 4.1.2 and 4.2).
+/// States which options are left out: by a context without features Observe, Block1, Block2, Q-Block1 and Q-Block2, by one with blocks
+/// Observe alone, and by one with Observe those of block-wise transfer. Without Observe, a sealed message has outside the options of class U
+/// alone, and the code 0.02 or 2.04 (own rule; RFC 8613, 4.1.2 and 4.2).
 pub fn options_left_out()
     ensures { LeavesOut }
 {}

@@ -31,6 +31,16 @@ impl Tally {
         Tally { number: 0, len: 0 }
     }
 
+    /// The count before the first option behind the OSCORE option.
+    pub(crate) fn behind_oscore() -> Tally
+        ensures { (result.number ≡ 9) × (result.len ≡ 0) }
+    {
+        Tally {
+            number: OSCORE,
+            len: 0,
+        }
+    }
+
     /// Adds one option, if it stands on the side. Returns `None` if the sum is more than a datagram can hold.
     #[inline(always)]
     pub(crate) fn and(self, number: u16, placed: Option<&[u8]>) -> Option<Tally>
@@ -97,7 +107,8 @@ pub(crate) fn check_length(
         return Err(ProtectError::TooLong);
     };
     let delta = OSCORE.saturating_sub(lists.outer.number);
-    let marker = head_len(&plain.token) + lists.outer.len + option_len(delta, value.len() as u16);
+    let option = option_len(delta, value.len() as u16);
+    let marker = head_len(&plain.token) + lists.outer.len + option + lists.behind.len;
     let plaintext = 1 + lists.inner.len + marked_len(plain.payload());
     let sealed = marker + 1 + plaintext + AesCcm16_64_128::TAG_LEN;
     if sealed > MOST_DATAGRAM {

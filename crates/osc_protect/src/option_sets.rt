@@ -1,9 +1,11 @@
 //! Which options a protected message doesn't have at all, doesn't have inside, or has outside (RFC 8613, 4.1).
 
 ghost use Rattle.std.specs.Prelude.{◌≡◌, true};
-ghost use Rattle.osc_protect.specs.OptionSets.{counts_as_observe, is_barred, is_left_out, is_proxy, is_unsupported};
+ghost use Rattle.osc_protect.specs.OptionSets.{counts_as_observe, is_barred, is_behind, is_block, is_left_out, is_proxy, is_unsupported};
 
-use osc_coap::option_numbers::{BLOCK1, BLOCK2, OBSERVE, OSCORE, PROXY_SCHEME, PROXY_URI};
+use osc_coap::option_numbers::{
+    BLOCK1, BLOCK2, OBSERVE, OSCORE, PROXY_SCHEME, PROXY_URI, Q_BLOCK1, Q_BLOCK2,
+};
 use osc_coap::{Class, class_of};
 use osc_context::Features;
 
@@ -15,8 +17,21 @@ const MOST_OBSERVE: usize = 3;
 fn is_left_out(features: Features, number: u16) -> bool
     ensures { result ≡ is_left_out features number }
 {
-    !features.observe && number == OBSERVE
-        || !features.blocks && (number == BLOCK2 || number == BLOCK1)
+    !features.observe && number == OBSERVE || !features.blocks && is_block(number)
+}
+
+/// Returns whether an option of this number is of block-wise transfer (RFC 7959, 2.1; RFC 9177, 4.1).
+fn is_block(number: u16) -> bool
+    ensures { result ≡ is_block number }
+{
+    matches!(number, BLOCK2 | BLOCK1 | Q_BLOCK1 | Q_BLOCK2)
+}
+
+/// Returns whether an option of this number stands outside behind the OSCORE option (RFC 7252, 3.1; RFC 8613, 4.1.2).
+pub(crate) fn is_behind(number: u16) -> bool
+    ensures { result ≡ is_behind number }
+{
+    number > OSCORE && matches!(class_of(number), Class::U)
 }
 
 /// Returns whether an option of this number is for proxies.

@@ -9,8 +9,8 @@ pub enum ProtectError {
     /// A request isn't CON or NON with a request code, or a response isn't CON, NON or ACK with a response code.
     NotThatKind,
     /// The message has an option that can't be sealed. The value is the lowest number that it has of OSCORE, Proxy-Uri, Proxy-Scheme and,
-    /// unless the features that count allow them, Observe, Block2 and Block1. A response to a request that registers nothing never has
-    /// Observe; own rule.
+    /// unless the features that count allow them, Observe, Block1, Block2, Q-Block1 and Q-Block2. A response to a request that registers
+    /// nothing never has Observe; own rule.
     Unsupported(u16),
     /// The sealed message would have more than 65,535 bytes; own rule.
     TooLong,

@@ -1,7 +1,7 @@
 //! Seals a request or a response into the caller's buffer (RFC 8613, 8.1 and 8.3). The length of the sealed message is known before a
 //! byte is written.
 //!
-//!     head, outer code | token | options of class U and Observe | OSCORE option | ff | plaintext, sealed in place | tag
+//!     head, outer code | token | options of class U and Observe, the OSCORE option among them | ff | plaintext, sealed in place | tag
 
 ghost use Rattle.std.specs.Prelude.{◌≡◌, ◌≢◌, ◌≤◌, ◌+◌, [], ℕ, List, length, take, drop, IfOk, IfErr, IsErrOf, IsOk, OnErr, false};
 ghost use Rattle.std.specs.Option.{option_map};
@@ -30,7 +30,7 @@ use crate::family::Family;
 use crate::lengths::check_length;
 use crate::protect_error::ProtectError;
 use crate::request_ref::RequestRef;
-use crate::split::write_options;
+use crate::split::{write_behind, write_options};
 use crate::usage::{Usage, outer_code};
 use arrayvec::ArrayVec;
 use osc_ccm::protection_length;
@@ -72,6 +72,7 @@ fn write_parts(
     let mut inner = Writer::begin_inner(buf, plain.code);
     write_options(&mut outer, &mut inner, plain.options(), family.sought());
     outer.add_option(OSCORE, value);
+    write_behind(&mut outer, plain.options());
     let Ok(()) = inner.payload(plain.payload()) else {
         unreachable!()
     };

@@ -5,10 +5,10 @@ ghost use Rattle.osc_coap.specs.Views.{options_left};
 ghost use Rattle.osc_coap.specs.Writer.{Holds, buffer_of};
 ghost use Rattle.osc_coap.specs.Writing.{Draft, TakesOption, with_options};
 ghost use Rattle.osc_protect.specs.OptionSets.{counts_as_observe, sought_behind};
-ghost use Rattle.osc_protect.specs.Split.{Inside, Outside, TakesAll, option_with, options_on, value_on};
+ghost use Rattle.osc_protect.specs.Split.{Behind, Inside, Outside, TakesAll, option_with, options_on, value_on};
 
-use crate::option_sets::is_valid_observe;
-use osc_coap::option_numbers::OBSERVE;
+use crate::option_sets::{is_behind, is_valid_observe};
+use osc_coap::option_numbers::{OBSERVE, OSCORE};
 use osc_coap::{Class, Options, Writer, class_of};
 
 /// Whether Observe is sought among the options from a place on: outside, and inside. Only the first Observe is one, so none is sought behind
@@ -20,14 +20,24 @@ pub(crate) struct Sought {
     pub(crate) inside: bool,
 }
 
-/// An option as its message is protected: the value that it has outside and the one inside, each `None` if it doesn't stand there. Outside
-/// stand the options of class U, and Observe; inside stand those of class E and of both classes; own rule (RFC 8613, 4.1).
+/// An option as its message is protected: the value that it has outside in front of the OSCORE option, outside behind that, and inside, each
+/// `None` if it doesn't stand there. Outside stand the options of class U, and Observe; inside stand those of class E and of both classes; own
+/// rule (RFC 8613, 4.1).
 #[derive(Clone, Copy)]
 pub(crate) struct Placed<'a> {
     pub(crate) outside: Option<&'a [u8]>,
+    pub(crate) behind: Option<&'a [u8]>,
     pub(crate) inside: Option<&'a [u8]>,
     /// It counts as Observe outside.
     pub(crate) observes: bool,
+}
+
+/// Returns the value that an option has outside behind the OSCORE option, if it stands there.
+#[inline(always)]
+fn behind_value(number: u16, value: &[u8]) -> Option<&[u8]>
+    ensures { option_copied result ≡ value_on Behind (number, value.now) }
+{
+    if is_behind(number) { Some(value) } else { None }
 }
 
 impl Sought {
@@ -37,6 +47,7 @@ impl Sought {
         ensures outer_behind { result.0.outside ≡ sought_behind self.outside (number, value.now) }
         ensures inner_behind { result.0.inside ≡ sought_behind self.inside (number, value.now) }
         ensures outside { option_copied result.1.outside ≡ value_on (Outside self.outside) (number, value.now) }
+        ensures behind { option_copied result.1.behind ≡ value_on Behind (number, value.now) }
         ensures inside { option_copied result.1.inside ≡ value_on (Inside self.inside) (number, value.now) }
         ensures observes { result.1.observes ≡ counts_as_observe self.outside (number, value.now) }
     {
@@ -46,11 +57,12 @@ impl Sought {
         let is_emptied = self.inside && is_observe;
         let whole = if is_emptied { &value[..0] } else { value };
         let placed = Placed {
-            outside: if observes || is_outer {
+            outside: if observes || is_outer && number < OSCORE {
                 Some(value)
             } else {
                 None
             },
+            behind: if is_behind(number) { Some(value) } else { None },
             inside: if is_outer { None } else { Some(whole) },
             observes,
         };
@@ -99,5 +111,18 @@ pub(crate) fn write_options(
         write_option(outer, number, placed.outside);
         write_option(inner, number, placed.inside);
         sought = behind;
+    }
+}
+
+/// Writes the options outside that stand behind the OSCORE option, in order. There must be room for them.
+pub(crate) fn write_behind(outer: &mut Writer<'_>, options: Options<'_>)
+    requires { (draft : Draft) × (old : List ℕ) × Holds outer.old draft old
+        × TakesAll (length old) draft (options_on Behind (options_left options)) }
+    ensures same_reference { buffer_of outer.new ≡ buffer_of outer.old }
+    ensures written { (draft : Draft) (old : List ℕ) → Holds outer.old draft old
+        → Holds outer.new (with_options draft (options_on Behind (options_left options.entry))) old }
+{
+    for (number, value) in options {
+        write_option(outer, number, behind_value(number, value));
     }
 }

@@ -7,9 +7,9 @@ use Rattle.osc_context.specs.SecurityContext.{SecurityContext}
 abbrev pub observe_room : Bool → ℕ
 observe_room allowed = if allowed then 4 else 0
 
--- 59 bytes more than the plain message has, those that Observe takes outside, and at most the 65,535 of a datagram (RFC 7252, 3.1; RFC 8613, 4.1 and 6.1; own rule: the limit)
+-- 60 bytes more than the plain message has, those that Observe takes outside, and at most the 65,535 of a datagram (RFC 7252, 3.1; RFC 8613, 4.1 and 6.1; own rule: the limit)
 abbrev pub room_of : ℕ → Bool → ℕ
-room_of len allowed = min (len + (59 + observe_room allowed)) 65535
+room_of len allowed = min (len + (60 + observe_room allowed)) 65535
 
 -- the buffer has so many (RFC 7252, 3.1; RFC 8613, 4.1 and 6.1)
 abbrev pub HasRoomFor : Bool → List ℕ → ℕ → Type 0

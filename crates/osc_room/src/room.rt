@@ -4,8 +4,8 @@ ghost use Rattle.std.specs.Prelude.{◌≡◌};
 ghost use Rattle.osc_room.specs.Room.{room_of};
 
 /// How many bytes a sealed message has at most beyond those of its plain message, without Observe: 48 of the OSCORE option, 10 of the
-/// marker, the code inside and the tag, and 1 of a delta inside (RFC 7252, 3.1; RFC 8613, 5.3 and 6.1).
-const MOST_GROWTH: usize = 48 + 10 + 1;
+/// marker, the code inside and the tag, and 2 of deltas inside (RFC 7252, 3.1; RFC 8613, 5.3 and 6.1).
+const MOST_GROWTH: usize = 48 + 10 + 2;
 
 /// How many bytes Observe takes outside at most: an option byte and a value of 3 (RFC 7252, 3.1; RFC 7641, 2).
 const OBSERVE_LEN: usize = 1 + 3;

@@ -15,7 +15,7 @@ pub record SoFar (old now : Option (List ℕ)) (whole rest : List (List ℕ)) : 
   pub parts : whole ≡ done ++ rest
 
 -- the text of two lists of lines, one after the other
-text_of-append : (xs ys : List (List ℕ)) → text_of (xs ++ ys) ≡ text_of xs ++ text_of ys
+pub text_of-append : (xs ys : List (List ℕ)) → text_of (xs ++ ys) ≡ text_of xs ++ text_of ys
 text_of-append [] ys = refl
 text_of-append (x ∷ xs) ys = ap (λ (t : List ℕ). x ++ t) (text_of-append xs ys) ∙ sym (append_assoc x (text_of xs) (text_of ys))
 

@@ -50,7 +50,7 @@ request_is h k now plain room (entries.BadPlain e) is s = bad_plain e.fault e.pl
 request_is h k now plain room x is s = absurd s
 
 -- a step of the code is one of the lines
-step_is : (h k : History) (e : ClientEvent) (x : ClientEntry) → HasRoom e → ClientRunStep places h e x k → ClientLine h (asked_seen e) (asked_line x) k
+pub step_is : (h k : History) (e : ClientEvent) (x : ClientEntry) → HasRoom e → ClientRunStep places h e x k → ClientLine h (asked_seen e) (asked_line x) k
 step_is h k (events.Request now plain out) x is s = request_is h k now plain.items (length out.items) x is s
 step_is h k (events.Datagram now bytes) (entries.Took x) is (answer, shows, goes) = (answer, goes, ap entry_line (outcome_is x answer shows))
 step_is h k (events.Forget token) (entries.Forgot was_pending) is goes = (was_pending, goes, refl)

@@ -73,7 +73,7 @@ all_read {V} spells input [] all s none = subst (λ (ls : List (List ℕ)). Spel
 all_read spells input (b ∷ rest) all s none = absurd (omega (arith, none))
 
 -- a bad line
-pub none_more : {V : Type 0} (spells : List ℕ → V → Type 0) (IsBad : List ℕ → Type 0) (input line rest behind : List ℕ) (all : List V) (n : ℕ) → ReadSoFar spells input rest all
+unfoldable pub none_more : {V : Type 0} (spells : List ℕ → V → Type 0) (IsBad : List ℕ → Type 0) (input line rest behind : List ℕ) (all : List V) (n : ℕ) → ReadSoFar spells input rest all
     → lines_of rest ≡ line ∷ lines_of behind → IsBad line → n ≡ length all + 1 → StopsReading spells IsBad input n
 none_more spells IsBad input line rest behind all n s first is counted = record {
   good = s.done;
@@ -89,7 +89,7 @@ none_more spells IsBad input line rest behind all n s first is counted = record 
 -- ---- the lines of an input
 
 -- equal lists have equal heads and tails
-first_same : {A : Type 0} {x y : A} {xs ys : List A} → x ∷ xs ≡ y ∷ ys → x ≡ y
+pub first_same : {A : Type 0} {x y : A} {xs ys : List A} → x ∷ xs ≡ y ∷ ys → x ≡ y
 first_same {x = x} h = ap (λ zs. head_or zs x) h
   where
     head_or : {A : Type 0} → List A → A → A
@@ -149,7 +149,7 @@ input_spelled spells seen IsRight input all s =
     ((lines_of input, lines_are input, both.0), both.1)
 
 -- the first bad line stops the reading
-pub first_bad : {E V : Type 0} (spells : List ℕ → E → Type 0) (seen : V → E) (IsRight : V → Type 0) (input : List ℕ) (n : ℕ)
+unfoldable pub first_bad : {E V : Type 0} (spells : List ℕ → E → Type 0) (seen : V → E) (IsRight : V → Type 0) (input : List ℕ) (n : ℕ)
     → StopsReading (SpellsSeen spells seen IsRight) (SpellsNone spells) input n → IsFirstBadLine spells input n
 first_bad spells seen IsRight input n s = record {
   good = s.good;

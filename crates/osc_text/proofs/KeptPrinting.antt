@@ -121,6 +121,10 @@ pub in_context_two : (g : Params) (tells : Told) → ZeroOrTwo tells → ZeroOrT
 in_context_two g tells two lines n (no_context e first text is) = inr is
 in_context_two g tells two lines n (in_context none text) = two lines n text
 
+pub start_two : {K S E : Type 0} (Refuses : KeptError → K → Type 0) (Starts : S → Type 0) (spells : List ℕ → E → Type 0) (step : S → E → List ℕ → S → Type 0) (input : List ℕ) → ZeroOrTwo (StartText Refuses Starts (λ s. InputText spells step s input))
+start_two Refuses Starts spells step input lines n (not_started e left refuses text is) = inr is
+start_two Refuses Starts spells step input lines n (started s starts (events, spelled, event_lines, is)) = inl is
+
 -- ---- an end that begins
 
 module _ {K X S E : Type 0} (Refuses : KeptError → K → Type 0) (Starts : S → Type 0) (contents : X → Option (List ℕ)) (spells : List ℕ → E → Type 0) (step : S → E → List ℕ → S → Type 0) (input : List ℕ) (before after : X) (r : Result ℕ Fault) where
@@ -145,8 +149,4 @@ module _ {K X S E : Type 0} (Refuses : KeptError → K → Type 0) (Starts : S �
   -- with status 0 or 2
   pub end_two : (g : Params) → RunsContext g (contents before) (contents after) r Under → IfOk r (λ n. (n ≡ 0) ⊎ (n ≡ 2))
   end_two g runs = status_told contents (InContext g (StartText Refuses Starts (λ s. InputText spells step s input))) (InContext g (StartText Refuses Starts (λ s. FrontText spells step s input))) (HasBadLineOf g Starts spells input) before after r
-      (in_context_two g (StartText Refuses Starts (λ s. InputText spells step s input)) start_two) (end_told g runs)
-    where
-      start_two : ZeroOrTwo (StartText Refuses Starts (λ s. InputText spells step s input))
-      start_two lines n (not_started e left refuses text is) = inr is
-      start_two lines n (started s starts (events, spelled, event_lines, is)) = inl is
+      (in_context_two g (StartText Refuses Starts (λ s. InputText spells step s input)) (start_two Refuses Starts spells step input)) (end_told g runs)

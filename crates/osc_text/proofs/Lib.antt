@@ -3,6 +3,8 @@ pub mod ContextTexts
 pub mod OneServerTexts
 pub mod OpenTexts
 pub mod ExplainTexts
+pub mod FollowedLines
+pub mod FollowedTexts
 pub mod HexWords
 pub mod InputWords
 pub mod InputLines

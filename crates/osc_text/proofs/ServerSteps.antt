@@ -66,7 +66,7 @@ drop_is h k ts us of (entries.Dropped there) s = (ap dropped_line s.0, s.1, s.2)
 drop_is h k ts us of x s = absurd s
 
 -- a step of the code is one of the lines
-step_is : (h k : History) (ts us : List (Option TicketValues)) (e : ServerEvent) (x : ServerEntry) → IsOfRun e → ServerRunStep h ts e x k us → EventLine h ts (event_seen e) (log_line x) k us
+pub step_is : (h k : History) (ts us : List (Option TicketValues)) (e : ServerEvent) (x : ServerEntry) → IsOfRun e → ServerRunStep h ts e x k us → EventLine h ts (event_seen e) (log_line x) k us
 step_is h k ts us (events.Datagram a) (entries.Took x reply) is (answer, logs, goes, after) =
     (answer, reply.now, goes, after, ap (λ (text : List ℕ). entry_line (text ++ reply_text reply.now)) (seen_is x answer logs))
 step_is h k ts us (events.Reply r) x is (left, step, after) = (left, reply_is h k ts left r.of r.own r.mid r.plain.items (length r.out.items) x is step, after)

@@ -1,5 +1,5 @@
 -- What came of a server's start is what is printed of it.
-use Rattle.std.proofs.Common.{◌≡◌, ℕ, List, [], ◌∷◌, Option, Result, IfOk, ap, subst, ◌∙◌}
+use Rattle.std.proofs.Common.{◌≡◌, ◌⊎◌, inl, inr, ℕ, List, [], ◌∷◌, Option, Result, IfOk, ap, subst, ◌∙◌}
 use Rattle.osc_context.specs.SecurityContext.{SecurityContext}
 use Rattle.osc_window.specs.declared.window_size.WindowSize.{WindowSize}
 use Rattle.osc_laws.specs.Laws.{OneServerAnswer}
@@ -27,6 +27,11 @@ StartsBadly s start size = BeginsBadly (λ i. ServerAnswer Begin (Add s start si
 abbrev refusal_lines : Entry → List (List ℕ)
 refusal_lines (NotAdded e) = refused_line (add_error_text e) ∷ []
 refusal_lines entry = []
+
+-- what is printed comes with status 0 or 2
+pub server_two : (s : SecurityContext) (start : Start) (size : WindowSize) (bytes : List ℕ) (lines : List (List ℕ)) (n : ℕ) → ServerText s start size bytes lines n → (n ≡ 0) ⊎ (n ≡ 2)
+server_two s start size bytes lines n (refused e answer text two) = inr two
+server_two s start size bytes lines n (served i answer text) = inl text.3
 
 module _ {X : Type 0} (law : OneServerAnswer) (contents : X → Option (List ℕ)) (s : SecurityContext) (start : Start) (size : WindowSize) (bytes : List ℕ) (before after : X) (r : Result ℕ Fault) where
   -- a server that started prints what its input says

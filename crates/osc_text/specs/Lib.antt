@@ -27,11 +27,13 @@ pub mod KeptAsking
 pub mod PeerEvents
 pub mod PeerLog
 pub mod Peering
+pub mod Following
 -- how the code is seen
 pub mod KeptSeen
 pub mod PeerSeen
 -- for the proofs
 pub mod AskedReading
+pub mod Feeding
 pub mod InputReading
 pub mod Outcomes
 pub mod PeerReading

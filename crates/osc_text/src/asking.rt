@@ -1,20 +1,22 @@
 //! What `run` prints for a client.
 
-ghost use Rattle.std.specs.Prelude.{◌≡◌, ◌⊎◌, ℕ, List, All, Err, IfOk, map};
+ghost use Rattle.std.specs.Prelude.{◌≡◌, ◌⊎◌, ℕ, List, All, Err, IfOk, IfSome, map};
 ghost use Rattle.osc_context.specs.Views.{number_of};
 ghost use Rattle.osc_client.specs.Agrees.{ClientAgrees};
 ghost use Rattle.osc_client.specs.ClientHistory.{History, New};
 
 use crate::agreed::Agreed;
-use crate::ends::{Beginning, Done, End, write_input, write_run};
-use crate::entry_lines::write_log;
+use crate::ends::{Beginning, Done, End, Input, write_run};
+use crate::entry_lines::{put_entry, write_log};
 use crate::fault::Fault;
+use crate::following::Lines;
 use osc_coap::one_datagram;
 use osc_context::{Context, Piv};
+use osc_endpoint::siblings::ask_event;
 use osc_endpoint::{Client, ClientEvent, run_client};
 use osc_laws::one_client_answer;
 use std::alloc::Global;
-use std::io::Write;
+use std::io::{BufRead, Write};
 
 /// How a client begins.
 #[derive(Clone, Copy, Debug)]
@@ -28,6 +30,8 @@ pub struct Asking {
 ghost use Rattle.osc_text.specs.AskedEvents.{SpellsAsked};
 ghost use Rattle.osc_text.specs.AskedReading.{HasRoom, asked_seen};
 ghost use Rattle.osc_text.specs.Asking.{AskText, ClientLine, HasBadAskedLine};
+ghost use Rattle.osc_text.specs.Feeding.{ByFeed, EndsWell, FollowedUnder, Follows};
+ghost use Rattle.osc_text.specs.Following.{AskFollowed, IsNewClient};
 ghost use Rattle.osc_text.specs.InputText.{EventLines, InputText, RefusesLine};
 ghost use Rattle.osc_text.specs.Inputs.{IsFirstBadLine};
 ghost use Rattle.osc_text.specs.Printing.{Prints};
@@ -60,28 +64,73 @@ pub fn ask_text<W: Write>(
     write_run(alloc, agreed, asking, input, out)
 }
 
-impl Beginning for Asking {
-    ghost promised = { λ asking client server input X contents.
-        Prints contents (InputText SpellsAsked ClientLine (New client (number_of asking.next) asking.life_ms) input) (IsFirstBadLine SpellsAsked input) };
+/// Derives a context, and runs a client of it, as [`ask_text`] does, but writes the line of each event's entry as soon as its line was read:
+/// each line by one call of the writer. So a line that spells no event is a fault with the lines of the events before it written. `line` has
+/// the line that was read last, with its newline.
+pub fn ask_following<R: BufRead, W: Write>(
+    alloc: Global,
+    agreed: Agreed<'_>,
+    asking: Asking,
+    input: &mut R,
+    line: &mut Vec<u8>,
+    out: &mut W,
+) -> Result<u8, Fault>
+    ensures written { IfSome (R.remaining input.old) (λ bytes. AskFollowed W.contents agreed.entry asking bytes out.old out.new result) }
+    ensures two { IfOk result (λ s. (s ≡ 0) ⊎ (s ≡ 2)) }
+{
+    write_run(alloc, agreed, asking, Lines { input, line }, out)
+}
 
-    fn begin<W: Write>(self, alloc: Global, context: Context, input: &[u8], out: &mut W) -> Done {
+impl Beginning for Asking {
+    ghost promised = { λ asking client server feed X contents before after r. ByFeed
+        (λ input. Prints contents (InputText SpellsAsked ClientLine (New client (number_of asking.next) asking.life_ms) input)
+        (IsFirstBadLine SpellsAsked input) before after r)
+        (λ input. FollowedUnder contents (InputText SpellsAsked ClientLine (New client (number_of asking.next) asking.life_ms) input)
+        (IsNewClient client asking) SpellsAsked ClientLine input before after r) (EndsWell r) feed };
+
+    fn begin<I: Input, W: Write>(
+        self,
+        alloc: Global,
+        context: Context,
+        input: I,
+        out: &mut W,
+    ) -> Done {
         // For the proof alone.
         one_client_answer();
         one_datagram();
         let mut client = Client::<16>::new(context, self.next, self.life_ms);
-        write_input(alloc, &mut client, input, out)
+        input.run(alloc, &mut client, out)
     }
 }
 
 impl End for Client<16> {
     type Event = ClientEvent;
 
+    type Memory = ();
+
     ghost are_lines_of = { λ client events lines. (h : History) → ClientAgrees client h → All HasRoom events
         → EventLines ClientLine h (map asked_seen events) lines };
+
+    ghost is_new = { λ none. none ≡ tt };
+
+    ghost does = { Follows ClientAgrees (λ client none h. h) asked_seen HasRoom ClientLine };
 
     fn print<W: Write>(&mut self, alloc: Global, events: &mut [Self::Event], out: &mut W) -> Done {
         let mut log = Vec::new(alloc);
         let ran = run_client(alloc, self, events, &mut log);
         write_log(alloc, log.as_slice(), ran, out)
+    }
+
+    fn memory(_alloc: Global) {}
+
+    fn follow<W: Write>(
+        &mut self,
+        alloc: Global,
+        _memory: &mut (),
+        event: &mut ClientEvent,
+        out: &mut W,
+    ) -> Result<(), Fault> {
+        let entry = ask_event(self, event);
+        put_entry(alloc, &entry, out)
     }
 }

@@ -82,7 +82,11 @@ pub(crate) fn message_text(alloc: Global, opened: &Opened<'_>) -> Result<String,
 }
 
 /// Writes the line of an entry.
-fn put_entry<L: LogEntry, W: Write>(alloc: Global, entry: &L, out: &mut W) -> Result<(), Fault>
+pub(crate) fn put_entry<L: LogEntry, W: Write>(
+    alloc: Global,
+    entry: &L,
+    out: &mut W,
+) -> Result<(), Fault>
     ensures { Writes (W.contents out.old) (W.contents out.new) (entry_line (L.text_of entry.now) ∷ []) result }
 {
     put_line(alloc, entry.text(alloc), out)

@@ -24,7 +24,7 @@ pub(crate) trait LineEvent: Drop + Sized {
 }
 
 /// Returns the first line, without its newline, and what comes after it.
-fn first_line(rest: &[u8]) -> (&[u8], &[u8])
+pub(crate) fn first_line(rest: &[u8]) -> (&[u8], &[u8])
     requires { rest.now ≢ [] }
     ensures lines { lines_of rest.now ≡ result.0.now ∷ lines_of result.1.now }
     ensures shorter { length result.1.now < length rest.now }
@@ -36,7 +36,7 @@ fn first_line(rest: &[u8]) -> (&[u8], &[u8])
 }
 
 /// Returns the fault that the line after `good` good ones is bad. The first line is line 1.
-fn line_behind(good: usize) -> Fault
+pub(crate) fn line_behind(good: usize) -> Fault
     requires { good < 2 ^ 63 }
     ensures { result ≡ Line (good + 1) }
 {

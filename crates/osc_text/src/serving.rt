@@ -1,21 +1,23 @@
 //! What `run` prints for a server.
 
-ghost use Rattle.std.specs.Prelude.{◌≡◌, ◌⊎◌, ℕ, [], List, All, Err, IfOk, map};
+ghost use Rattle.std.specs.Prelude.{◌≡◌, ◌⊎◌, ℕ, [], List, All, Err, IfOk, IfSome, map};
 ghost use Rattle.osc_endpoint.specs.Agrees.{Agrees};
 ghost use Rattle.osc_life.specs.ServerHistory.{History};
 
 use crate::agreed::Agreed;
-use crate::ends::{Beginning, Done, End, write_input, write_run};
-use crate::entry_lines::write_log;
+use crate::ends::{Beginning, Done, End, Input, write_run};
+use crate::entry_lines::{put_entry, write_log};
 use crate::fault::Fault;
+use crate::following::Lines;
 use crate::lines::put_refused;
 use osc_coap::one_datagram;
 use osc_context::{Context, Piv};
-use osc_endpoint::{Server, ServerEvent, Start, run_server};
+use osc_endpoint::siblings::serve_event;
+use osc_endpoint::{Server, ServerEvent, Start, Ticket, run_server};
 use osc_laws::one_server_answer;
 use osc_window::WindowSize;
 use std::alloc::Global;
-use std::io::Write;
+use std::io::{BufRead, Write};
 
 /// How a server begins.
 #[derive(Clone, Copy, Debug)]
@@ -28,8 +30,11 @@ pub struct Serving {
     pub window: WindowSize,
 }
 
+ghost use Rattle.osc_text.specs.Feeding.{ByFeed, EndsWell, FollowedUnder, Follows};
+ghost use Rattle.osc_text.specs.Following.{ServeFollowed, StartsServer};
 ghost use Rattle.osc_text.specs.InputText.{EventLines, RefusesLine};
 ghost use Rattle.osc_endpoint.specs.ServerAnswer.{ServerAnswer};
+ghost use Rattle.osc_endpoint.specs.ServerRun.{values_in};
 ghost use Rattle.osc_life.specs.ServerHistory.{Add, Added, Begin};
 ghost use Rattle.osc_text.specs.InputEvents.{SpellsEvent};
 ghost use Rattle.osc_text.specs.Printing.{BeginsBadly, Prints};
@@ -77,18 +82,43 @@ pub fn serve_text<W: Write>(
     write_run(alloc, agreed, serving, input, out)
 }
 
-impl Beginning for Serving {
-    ghost promised = { λ serving client server input X contents.
-        Prints contents (ServerText server (start_of serving) serving.window input)
-        (BeginsBadly (λ i. ServerAnswer Begin (Add server (start_of serving) serving.window) (Added i)) SpellsEvent input) };
+/// Derives a context, and runs a server of this context alone, as [`serve_text`] does, but writes the line of each event's entry as soon as
+/// its line was read: each line by one call of the writer. So a line that spells no event is a fault with the lines of the events before it
+/// written. `line` has the line that was read last, with its newline.
+pub fn serve_following<R: BufRead, W: Write>(
+    alloc: Global,
+    agreed: Agreed<'_>,
+    serving: Serving,
+    input: &mut R,
+    line: &mut Vec<u8>,
+    out: &mut W,
+) -> Result<u8, Fault>
+    ensures written { IfSome (R.remaining input.old) (λ bytes. ServeFollowed W.contents agreed.entry serving bytes out.old out.new result) }
+    ensures two { IfOk result (λ s. (s ≡ 0) ⊎ (s ≡ 2)) }
+{
+    write_run(alloc, agreed, serving, Lines { input, line }, out)
+}
 
-    fn begin<W: Write>(self, alloc: Global, context: Context, input: &[u8], out: &mut W) -> Done {
+impl Beginning for Serving {
+    ghost promised = { λ serving client server feed X contents before after r. ByFeed
+        (λ input. Prints contents (ServerText server (start_of serving) serving.window input)
+        (BeginsBadly (λ i. ServerAnswer Begin (Add server (start_of serving) serving.window) (Added i)) SpellsEvent input) before after r)
+        (λ input. FollowedUnder contents (ServerText server (start_of serving) serving.window input)
+        (StartsServer server (start_of serving) serving.window) SpellsEvent ServerLine input before after r) (EndsWell r) feed };
+
+    fn begin<I: Input, W: Write>(
+        self,
+        alloc: Global,
+        context: Context,
+        input: I,
+        out: &mut W,
+    ) -> Done {
         // For the proof alone.
         one_server_answer();
         one_datagram();
         let mut server = Server::new();
         match server.add(context, self.start(), self.window) {
-            Ok(_index) => write_input(alloc, &mut server, input, out),
+            Ok(_index) => input.run(alloc, &mut server, out),
             Err(refusal) => put_refused(alloc, refusal, out),
         }
     }
@@ -97,12 +127,35 @@ impl Beginning for Serving {
 impl End for Server {
     type Event = ServerEvent;
 
+    type Memory = Vec<Option<Ticket>>;
+
     ghost are_lines_of = { λ server events lines. (h : History) → Agrees server h → All IsOfRun events
         → EventLines ServerLine (h, []) (map event_seen events) lines };
+
+    ghost is_new = { λ tickets. tickets.items ≡ [] };
+
+    ghost does = { Follows Agrees (λ server tickets h. (h, values_in tickets.items)) event_seen IsOfRun ServerLine };
 
     fn print<W: Write>(&mut self, alloc: Global, events: &mut [Self::Event], out: &mut W) -> Done {
         let mut log = Vec::new(alloc);
         let ran = run_server(alloc, self, events, &mut log);
         write_log(alloc, log.as_slice(), ran, out)
+    }
+
+    fn memory(alloc: Global) -> Vec<Option<Ticket>> {
+        Vec::new(alloc)
+    }
+
+    fn follow<W: Write>(
+        &mut self,
+        alloc: Global,
+        memory: &mut Vec<Option<Ticket>>,
+        event: &mut ServerEvent,
+        out: &mut W,
+    ) -> Result<(), Fault> {
+        memory.reserve(1)?;
+        let (entry, ticket) = serve_event(self, event, memory);
+        memory.push_reserved(ticket);
+        put_entry(alloc, &entry, out)
     }
 }

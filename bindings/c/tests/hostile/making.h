@@ -4,13 +4,14 @@
 
 #include "judge.h"
 
-/* A message: its head, an outer option or none, Observe once, twice or not at all, Block1 or none, an option for proxies or none, and what
-   else is to be protected. */
+/* A message: its head, Uri-Host, Hop-Limit and EDHOC or none of them, Observe once, twice or not at all, an option of block-wise transfer or
+   0, an option for proxies or none, and what else is to be protected. */
 struct plain {
     uint8_t kind, code;
     uint16_t message_id;
     struct text token, observe, further_observe, payload;
-    bool has_host, has_observe, has_further_observe, has_block, has_proxy;
+    bool has_host, has_observe, has_further_observe, has_hop_limit, has_edhoc, has_proxy;
+    uint32_t block;
     struct bytes echoes[2];
     oscore_size echo_count;
 };

@@ -2,6 +2,13 @@
 #include "making.h"
 #include <string.h>
 
+/* An option of block-wise transfer, or mostly none. */
+static uint32_t draw_block(void) {
+    static const uint32_t numbers[4] = {Q_BLOCK1, BLOCK2, BLOCK1, Q_BLOCK2};
+    uint32_t number = numbers[below(4)];
+    return one_in(10) ? number : 0;
+}
+
 struct plain draw_plain(uint8_t kind, uint8_t code, struct bytes token) {
     struct plain plain = {.kind = kind, .code = code};
     plain.message_id = (uint16_t)below(1 << 16);
@@ -15,7 +22,9 @@ struct plain draw_plain(uint8_t kind, uint8_t code, struct bytes token) {
     if (cancels) plain.observe.at[plain.observe.len - 1] = 1;
     plain.has_further_observe = one_in(8);
     plain.further_observe = draw_text(5);
-    plain.has_block = one_in(10);
+    plain.has_hop_limit = one_in(6);
+    plain.has_edhoc = one_in(12);
+    plain.block = draw_block();
     plain.payload = draw_text(9);
     return plain;
 }
@@ -30,7 +39,10 @@ struct text spell_plain(const struct plain *plain) {
     if (plain->has_observe) spell_option(&spelling, OBSERVE, bytes_of(&plain->observe));
     if (plain->has_observe && plain->has_further_observe) spell_option(&spelling, OBSERVE, bytes_of(&plain->further_observe));
     spell_option(&spelling, URI_PATH, (struct bytes){(const uint8_t *)"tv1", 3});
-    if (plain->has_block) spell_option(&spelling, BLOCK1, BYTES(0x06));
+    if (plain->has_hop_limit) spell_option(&spelling, HOP_LIMIT, BYTES(10));
+    if (plain->block == Q_BLOCK1) spell_option(&spelling, plain->block, BYTES(0x06));
+    if (plain->has_edhoc) spell_option(&spelling, EDHOC, (struct bytes){NULL, 0});
+    if (plain->block > EDHOC) spell_option(&spelling, plain->block, BYTES(0x06));
     if (plain->has_proxy) spell_option(&spelling, PROXY_SCHEME, (struct bytes){(const uint8_t *)"coap", 4});
     for (oscore_size i = 0; i < plain->echo_count; i++) spell_option(&spelling, ECHO, plain->echoes[i]);
     return spell_end(&spelling, bytes_of(&plain->payload));
@@ -38,9 +50,9 @@ struct text spell_plain(const struct plain *plain) {
 
 /* A plaintext, mostly with a flaw, of a message that would have a code, where one of the other kind has another. */
 static struct text draw_flawed(uint8_t code, uint8_t other_code) {
-    static const uint8_t outer[8] = {URI_HOST, OBSERVE, URI_PORT, OSCORE, BLOCK2, BLOCK1, PROXY_URI, PROXY_SCHEME};
+    static const uint8_t outer[12] = {URI_HOST, OBSERVE, URI_PORT, OSCORE, HOP_LIMIT, Q_BLOCK1, EDHOC, BLOCK2, BLOCK1, Q_BLOCK2, PROXY_URI, PROXY_SCHEME};
     static const uint8_t no_code[4] = {0, 0x20, 0x60, 0xe0}, nibbles[3] = {0x0f, 0xf0, 0xf1};
-    uint8_t outer_number = outer[below(8)], wrong_code = no_code[below(4)], wrong_nibble = nibbles[below(3)];
+    uint8_t outer_number = outer[below(12)], wrong_code = no_code[below(4)], wrong_nibble = nibbles[below(3)];
     uint64_t flaw = below(9);
     if (flaw < 2) return draw_text(flaw == 0 ? 1 : 24);
     struct spelling spelling = spell_plaintext(flaw == 2 ? other_code : flaw == 3 ? wrong_code : code);

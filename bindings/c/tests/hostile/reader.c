@@ -66,7 +66,7 @@ bool first_of(const struct body *body, uint32_t number, struct bytes *value) {
 }
 
 bool is_outer(uint32_t number) {
-    static const uint32_t numbers[] = {URI_HOST, URI_PORT, OSCORE, PROXY_URI, PROXY_SCHEME};
+    static const uint32_t numbers[] = {URI_HOST, URI_PORT, OSCORE, HOP_LIMIT, EDHOC, PROXY_URI, PROXY_SCHEME};
     for (oscore_size i = 0; i < sizeof numbers / sizeof *numbers; i++)
         if (numbers[i] == number) return true;
     return false;
@@ -103,8 +103,12 @@ bool is_notification(uint8_t code, const struct body *body) {
     return code >> 5 == 2 && has_observe(body);
 }
 
+static bool is_block(uint32_t number) {
+    return number == BLOCK2 || number == BLOCK1 || number == Q_BLOCK1 || number == Q_BLOCK2;
+}
+
 static bool is_left_out(uint32_t number, struct allowed allowed) {
-    return (number == OBSERVE && !allowed.observe) || ((number == BLOCK2 || number == BLOCK1) && !allowed.blocks);
+    return (number == OBSERVE && !allowed.observe) || (is_block(number) && !allowed.blocks);
 }
 
 uint32_t left_out_of(const struct body *body, struct allowed allowed) {

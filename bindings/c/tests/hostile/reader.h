@@ -6,7 +6,8 @@
 #include "bytes.h"
 
 enum { CON, NON, ACK, RST };
-enum { URI_HOST = 3, OBSERVE = 6, URI_PORT = 7, OSCORE = 9, URI_PATH = 11, MAX_AGE = 14, BLOCK2 = 23, BLOCK1 = 27, PROXY_URI = 35, PROXY_SCHEME = 39, ECHO = 252 };
+enum { URI_HOST = 3, OBSERVE = 6, URI_PORT = 7, OSCORE = 9, URI_PATH = 11, MAX_AGE = 14, HOP_LIMIT = 16, Q_BLOCK1 = 19, EDHOC = 21 };
+enum { BLOCK2 = 23, BLOCK1 = 27, Q_BLOCK2 = 31, PROXY_URI = 35, PROXY_SCHEME = 39, ECHO = 252 };
 /* The most bytes of Observe (RFC 7641, 2). */
 enum { MOST_OBSERVE = 3 };
 /* The codes that a sealed request, one with Observe, a sealed response and one with Observe have outside: 0.02, 0.05, 2.04 and 2.05
@@ -20,7 +21,7 @@ struct head {
     struct bytes token;
 };
 
-/* Whether Block1 and Block2, and whether Observe, may be protected. */
+/* Whether Block1, Block2, Q-Block1 and Q-Block2, and whether Observe, may be protected. */
 struct allowed {
     bool blocks, observe;
 };

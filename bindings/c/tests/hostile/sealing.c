@@ -96,12 +96,15 @@ void seal_other(struct sealed_as as, struct head head, struct bytes plain, struc
     oscore_size place;
     NEEDS(!read_datagram(plain, &seen, &place));
     /* Observe stands outside too, where it is allowed (RFC 8613, 4.1.3.5). */
-    bool sought = allowed_as(as).observe;
+    bool sought = allowed_as(as).observe, has_value = false;
     for (struct option option = begun(&seen.body); next_of(&option);) {
         bool is_sought_one = is_sought(&option, &sought);
-        if (is_outer(option.number) || is_sought_one) spell_option(&spelling, option.number, option.value);
+        if (!is_outer(option.number) && !is_sought_one) continue;
+        /* The OSCORE option has its place among them (RFC 7252, 3.1). */
+        if (option.number > OSCORE && !has_value) spell_option(&spelling, OSCORE, bytes_of(&value)), has_value = true;
+        spell_option(&spelling, option.number, option.value);
     }
-    spell_option(&spelling, OSCORE, bytes_of(&value));
+    if (!has_value) spell_option(&spelling, OSCORE, bytes_of(&value));
     *sealed = (struct sealed){.as = as, .datagram = spell_end(&spelling, bytes_of(&ciphertext))};
     add_bytes(&sealed->plaintext, plaintext);
 }

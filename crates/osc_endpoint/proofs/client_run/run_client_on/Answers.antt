@@ -18,6 +18,6 @@ loop-log-preserved g c =
       rest_is = after_is xs c.loop-log.rest.now c.split_at_mut-front.result.1.now i _ left c.split_at_mut-front.ensures.back len;
       run = λ h a.
           let (mid, run, agrees) = c.loop-log.invariant.run h a in
-          let (after, step, next) = c.run_event-entry.ensures mid agrees in
-          (after, client_run_on g.row.N h mid after xs i (vec_len c.push_reserved.new.self) c.loop-log.log.items _ _ event c.run_event-entry.result run step events_are c.push_reserved.ensures.items c.reserve.ensures.items, next);
+          let (after, step, next) = c.ask_event-entry.ensures mid agrees in
+          (after, client_run_on g.row.N h mid after xs i (vec_len c.push_reserved.new.self) c.loop-log.log.items _ _ event c.ask_event-entry.result run step events_are c.push_reserved.ensures.items c.reserve.ensures.items, next);
     }

@@ -22,17 +22,17 @@ loop-log-preserved c =
       rest_is = after_is xs c.loop-log.rest.now c.split_at_mut-front.result.1.now i _ c.loop-log.invariant.rest_is c.split_at_mut-front.ensures.back len;
       run = λ h a.
           let (mid, run, agrees) = c.loop-log.invariant.run h a in
-          let (g, serves, next) = c.serve-entry.ensures mid agrees in
+          let (g, serves, next) = c.serve_event-entry.ensures mid agrees in
           let event = c.index-front-0.result in
           let events_are = one_more xs c.loop-log.rest.now c.split_at_mut-front.result.0.now i (vec_len c.push_reserved.new.self) event c.loop-log.invariant.rest_is c.split_at_mut-front.ensures.front nonempty c.index-front-0.is len in
-          let entries_are = c.push_reserved.ensures.items ∙ ap (λ z. z ++ c.serve-entry.result.0 ∷ []) c.make_places.ensures.entries.0 in
+          let entries_are = c.push_reserved.ensures.items ∙ ap (λ z. z ++ c.serve_event-entry.result.0 ∷ []) c.make_places.ensures.entries.0 in
           let before = c.make_places.new.tickets in
           let shown : c.deref_mut.result.now ≡ c.loop-log.tickets.items = c.deref_mut.ensures.value ∙ c.make_places.ensures.tickets.0 in
-          let put : take before.len (c.serve-entry.new.tickets ++ drop (length c.serve-entry.new.tickets) before.items) ≡ c.serve-entry.new.tickets = take_at c.serve-entry.new.tickets (drop (length c.serve-entry.new.tickets) before.items) before.len (omega (arith, c.serve-entry.auto.tickets, c.deref_mut.ensures.len)) in
-          let tickets_are = c.push_reserved-in-loop-log.ensures.items ∙ ap (λ z. z ++ c.serve-entry.result.1 ∷ []) put in (
+          let put : take before.len (c.serve_event-entry.new.tickets ++ drop (length c.serve_event-entry.new.tickets) before.items) ≡ c.serve_event-entry.new.tickets = take_at c.serve_event-entry.new.tickets (drop (length c.serve_event-entry.new.tickets) before.items) before.len (omega (arith, c.serve_event-entry.auto.tickets, c.deref_mut.ensures.len)) in
+          let tickets_are = c.push_reserved-in-loop-log.ensures.items ∙ ap (λ z. z ++ c.serve_event-entry.result.1 ∷ []) put in (
             g,
-            run_on h mid g xs i (vec_len c.push_reserved.new.self) c.loop-log.log.items _ event c.serve-entry.result.0 c.loop-log.tickets.items c.serve-entry.new.tickets _ c.serve-entry.result.1 run
-                (subst (λ (ts : List (Option Ticket)). Serves mid (values_in ts) event c.serve-entry.result.0 (option_map values_of c.serve-entry.result.1) g (values_in c.serve-entry.new.tickets)) shown serves)
+            run_on h mid g xs i (vec_len c.push_reserved.new.self) c.loop-log.log.items _ event c.serve_event-entry.result.0 c.loop-log.tickets.items c.serve_event-entry.new.tickets _ c.serve_event-entry.result.1 run
+                (subst (λ (ts : List (Option Ticket)). Serves mid (values_in ts) event c.serve_event-entry.result.0 (option_map values_of c.serve_event-entry.result.1) g (values_in c.serve_event-entry.new.tickets)) shown serves)
                 events_are entries_are tickets_are,
             next,
           );

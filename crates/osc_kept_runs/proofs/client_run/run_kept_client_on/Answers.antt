@@ -19,6 +19,6 @@ loop-log-preserved g c =
       rest_is = after_is xs c.loop-log.rest.now c.split_at_mut-front.result.1.now i _ left c.split_at_mut-front.ensures.back len;
       run = λ h k.
           let (mid, run, kept) = c.loop-log.invariant.run h k in
-          let (after, step, next) = c.run_event-entry.ensures mid kept in
-          (after, run_on (ClientStep g.row.N) (client_state h c.args.client.now.source) (client_state mid c.loop-log.client.source) (client_state after c.run_event-entry.new.client.source) xs i (vec_len c.push_reserved.new.self) c.loop-log.log.items c.reserve.new.self.items c.push_reserved.new.self.items event c.run_event-entry.result run step events_are c.push_reserved.ensures.items c.reserve.ensures.items, next);
+          let (after, step, next) = c.ask_kept_event-entry.ensures mid kept in
+          (after, run_on (ClientStep g.row.N) (client_state h c.args.client.now.source) (client_state mid c.loop-log.client.source) (client_state after c.ask_kept_event-entry.new.client.source) xs i (vec_len c.push_reserved.new.self) c.loop-log.log.items c.reserve.new.self.items c.push_reserved.new.self.items event c.ask_kept_event-entry.result run step events_are c.push_reserved.ensures.items c.reserve.ensures.items, next);
     }

@@ -30,20 +30,20 @@ loop-memory-preserved g c =
           let events_are = one_more xs c.loop-memory.rest.now c.split_at_mut-front.result.0.now i (vec_len c.push_reserved.new.self) event c.loop-memory.invariant.rest_is c.split_at_mut-front.ensures.front nonempty c.index-front-0.is len in
           let before = c.make_places.new.tickets in
           let shown : c.deref_mut.result.now ≡ c.loop-memory.tickets.items = c.deref_mut.ensures.value ∙ c.make_places.ensures.tickets.0 in
-          let left = c.run_event-entry.new.tickets in
-          let put : take before.len (left ++ drop (length left) before.items) ≡ left = take_at left (drop (length left) before.items) before.len (omega (arith, c.run_event-entry.auto.tickets, c.deref_mut.ensures.len)) in
-          let ticket = c.run_event-entry.result.1 in
+          let left = c.run_peer_event-entry.new.tickets in
+          let put : take before.len (left ++ drop (length left) before.items) ≡ left = take_at left (drop (length left) before.items) before.len (omega (arith, c.run_peer_event-entry.auto.tickets, c.deref_mut.ensures.len)) in
+          let ticket = c.run_peer_event-entry.result.1 in
           let tickets_are = ap values_in (c.push_reserved-in-loop-memory.ensures.items ∙ ap (λ z. z ++ ticket ∷ []) put) ∙ values_more left ticket in
           let old = c.loop-memory.peer.source in
-          let new = c.run_event-entry.new.peer.source in
+          let new = c.run_peer_event-entry.new.peer.source in
           let echoes = echoes_of c.loop-memory.memory in
-          let next_echoes = echoes_of c.run_event-entry.new.memory in
-          let (after, then, step, next) = c.run_event-entry.ensures mid m behind in
-          let placed = subst (λ (ts : List (Option Ticket)). RunStep g.row.N (with_echoes echoes (peer_state mid m old (values_in ts))) event c.run_event-entry.result.0 (with_echoes next_echoes (peer_state after then new (values_in left ++ option_map values_of ticket ∷ [])))) shown step in
-          let whole = subst (λ (us : List (Option TicketValues)). RunStep g.row.N (with_echoes echoes (peer_state mid m old (values_in c.loop-memory.tickets.items))) event c.run_event-entry.result.0 (with_echoes next_echoes (peer_state after then new us))) (sym tickets_are) placed in (
+          let next_echoes = echoes_of c.run_peer_event-entry.new.memory in
+          let (after, then, step, next) = c.run_peer_event-entry.ensures mid m behind in
+          let placed = subst (λ (ts : List (Option Ticket)). RunStep g.row.N (with_echoes echoes (peer_state mid m old (values_in ts))) event c.run_peer_event-entry.result.0 (with_echoes next_echoes (peer_state after then new (values_in left ++ option_map values_of ticket ∷ [])))) shown step in
+          let whole = subst (λ (us : List (Option TicketValues)). RunStep g.row.N (with_echoes echoes (peer_state mid m old (values_in c.loop-memory.tickets.items))) event c.run_peer_event-entry.result.0 (with_echoes next_echoes (peer_state after then new us))) (sym tickets_are) placed in (
             after,
             then,
-            run_on g.row.N (peer_state h k c.args.peer.now.source []) (with_echoes echoes (peer_state mid m old (values_in c.loop-memory.tickets.items))) (with_echoes next_echoes (peer_state after then new _)) xs i (vec_len c.push_reserved.new.self) c.loop-memory.log.items c.make_places.new.log.items c.push_reserved.new.self.items event c.run_event-entry.result.0 run
+            run_on g.row.N (peer_state h k c.args.peer.now.source []) (with_echoes echoes (peer_state mid m old (values_in c.loop-memory.tickets.items))) (with_echoes next_echoes (peer_state after then new _)) xs i (vec_len c.push_reserved.new.self) c.loop-memory.log.items c.make_places.new.log.items c.push_reserved.new.self.items event c.run_peer_event-entry.result.0 run
                 whole events_are c.push_reserved.ensures.items c.make_places.ensures.entries.0,
             next,
           );

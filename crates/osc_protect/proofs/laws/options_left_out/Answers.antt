@@ -1,4 +1,4 @@
-use Rattle.std.proofs.Common.{refl, ◌==◌, ◌||◌, ◌∙◌, false}
+use Rattle.std.proofs.Common.{refl, ◌==◌}
 use Rattle.osc_coap.specs.OptionNumbers.{observe}
 use Rattle.osc_protect.proofs.Sides.{unsought_outside}
 use Rattle.osc_protect.proofs.Splits.{or_none}
@@ -9,7 +9,7 @@ returns c = record {
   left_out = λ n. refl;
   unsupported = λ n. refl;
   barred = λ n. refl;
-  with_blocks = λ n. or_none ((n == observe) || false) ∙ or_none (n == observe);
+  with_blocks = λ n. or_none (n == observe);
   with_observe = λ n. refl;
   with_both = λ n. refl;
   without = refl;
